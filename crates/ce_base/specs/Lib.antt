@@ -1,0 +1,3 @@
+pub mod Faults
+pub mod Outside
+pub mod Sure

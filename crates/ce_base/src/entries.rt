@@ -1,0 +1,85 @@
+// A list of entries.
+ghost use Rattle.std.specs.Prelude.{◌≡◌, ◌++◌, ◌∷◌, [], length, IfOk, OnOk, option_copied, slice_get};
+
+use crate::{NoMemory, Text};
+use std::alloc::Global;
+use std::marker::Model;
+
+/// A name and its value, as an entry list has them (HTML Standard, section "Constructing the entry
+/// list").
+#[derive(Debug, Drop)]
+pub struct Entry {
+    pub name: Text,
+    pub value: Text,
+}
+
+impl Entry {
+    /// A second entry with the same name and value.
+    pub fn copy(&self, alloc: Global) -> Result<Entry, NoMemory>
+        ensures { IfOk result (λ e. e ≡ self.now) }
+    {
+        Ok(Entry {
+            name: self.name.copy(alloc)?,
+            value: self.value.copy(alloc)?,
+        })
+    }
+}
+
+/// A list of entries.
+#[derive(Debug, Drop)]
+pub struct Entries {
+    items: Vec<Entry>,
+}
+
+impl Model for Entries {
+    ghost use Rattle.std.specs.Prelude.{List};
+    ghost use Rattle.ce_base.specs.declared.entries.Entry.{Entry};
+
+    ghost Value = { List Entry };
+
+    ghost view = { λ e. e.items.items };
+}
+
+impl Entries {
+    /// No entries.
+    pub fn make(alloc: Global) -> Entries
+        ensures { result ≡ [] }
+    {
+        Entries {
+            items: Vec::new(alloc),
+        }
+    }
+
+    /// Puts an entry at the end.
+    pub fn push(&mut self, alloc: Global, e: Entry) -> Result<(), NoMemory>
+        ensures { OnOk result (self.new ≡ self.old ++ e ∷ []) }
+    {
+        self.items.push(e)?;
+        Ok(())
+    }
+
+    /// How many entries there are.
+    pub fn len(&self) -> usize
+        ensures { result ≡ length self.now }
+    {
+        self.items.len()
+    }
+
+    /// The entry at a place, from 0. None exactly where the list ends before it.
+    pub fn get(&self, i: usize) -> Option<&Entry>
+        ensures { option_copied result ≡ slice_get self.now i }
+    {
+        self.items.get(i)
+    }
+
+    /// A second list with the same entries.
+    pub fn copy(&self, alloc: Global) -> Result<Entries, NoMemory>
+        ensures { IfOk result (λ e. e ≡ self.now) }
+    {
+        let mut items = Vec::new(alloc);
+        for e in &self.items {
+            items.push(e.copy(alloc)?)?;
+        }
+        Ok(Entries { items })
+    }
+}

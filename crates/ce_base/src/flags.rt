@@ -1,0 +1,7 @@
+// The validity flags of an element.
+
+/// The validity flags of an element (HTML Standard, section "The constraint validation API"), in this
+/// order: valueMissing, typeMismatch, patternMismatch, tooLong, tooShort, rangeUnderflow,
+/// rangeOverflow, stepMismatch, badInput, customError.
+#[derive(Clone, Copy, Debug, PartialEq, Eq)]
+pub struct Flags(pub [bool; 10]);

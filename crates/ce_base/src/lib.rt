@@ -1,0 +1,34 @@
+//! What every crate of cepage stands on: numbers, texts, lists, faults, fuel, and the outside.
+#![tactic(auto)]
+
+mod bytes;
+mod custom_state;
+mod entries;
+mod fault;
+mod flags;
+mod fuel;
+mod memory;
+mod nodes;
+mod numbers;
+mod outside;
+mod standard;
+mod stop;
+mod sure;
+mod text;
+mod texts;
+
+pub use bytes::Bytes;
+pub use custom_state::CustomState;
+pub use entries::{Entries, Entry};
+pub use fault::{Fault, Refused};
+pub use flags::Flags;
+pub use fuel::Fuel;
+pub use memory::NoMemory;
+pub use nodes::Nodes;
+pub use numbers::{ClassNo, DefNo, NodeNo, QueueNo, ReactionNo};
+pub use outside::{Got, Put, Sink, Source, write_all};
+pub use standard::{StdSink, StdSource};
+pub use stop::Stop;
+pub use sure::{SureSink, SureSource};
+pub use text::Text;
+pub use texts::Texts;

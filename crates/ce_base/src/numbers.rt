@@ -1,0 +1,73 @@
+// Numbers that name things. A contract sees each as the number that it holds.
+
+use std::marker::Model;
+
+/// A node, numbered from 1 in the order of making. Node 1 is the page's document.
+#[derive(Clone, Copy, Debug, PartialEq, Eq)]
+pub struct NodeNo(pub u64);
+
+impl Model for NodeNo {
+    ghost use Rattle.std.specs.Prelude.{ℕ};
+
+    ghost Value = { ℕ };
+
+    ghost view = { λ n. n.0 };
+
+    ghost inverse = { λ n. record { 0 = n } };
+}
+
+/// A class, numbered from 0 in the order of its declaration.
+#[derive(Clone, Copy, Debug, PartialEq, Eq)]
+pub struct ClassNo(pub u64);
+
+impl Model for ClassNo {
+    ghost use Rattle.std.specs.Prelude.{ℕ};
+
+    ghost Value = { ℕ };
+
+    ghost view = { λ n. n.0 };
+
+    ghost inverse = { λ n. record { 0 = n } };
+}
+
+/// A custom element definition, numbered from 0 in the order of defining.
+#[derive(Clone, Copy, Debug, PartialEq, Eq)]
+pub struct DefNo(pub u64);
+
+impl Model for DefNo {
+    ghost use Rattle.std.specs.Prelude.{ℕ};
+
+    ghost Value = { ℕ };
+
+    ghost view = { λ n. n.0 };
+
+    ghost inverse = { λ n. record { 0 = n } };
+}
+
+/// A reaction, numbered from 1 in the order of enqueuing.
+#[derive(Clone, Copy, Debug, PartialEq, Eq)]
+pub struct ReactionNo(pub u64);
+
+impl Model for ReactionNo {
+    ghost use Rattle.std.specs.Prelude.{ℕ};
+
+    ghost Value = { ℕ };
+
+    ghost view = { λ n. n.0 };
+
+    ghost inverse = { λ n. record { 0 = n } };
+}
+
+/// An element queue, numbered from 1 in the order of pushing. Number 0 is the backup element queue.
+#[derive(Clone, Copy, Debug, PartialEq, Eq)]
+pub struct QueueNo(pub u64);
+
+impl Model for QueueNo {
+    ghost use Rattle.std.specs.Prelude.{ℕ};
+
+    ghost Value = { ℕ };
+
+    ghost view = { λ n. n.0 };
+
+    ghost inverse = { λ n. record { 0 = n } };
+}

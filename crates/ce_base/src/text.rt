@@ -1,0 +1,45 @@
+// A text.
+ghost use Rattle.std.specs.Prelude.{◌≡◌, IfOk};
+
+use crate::NoMemory;
+use std::alloc::Global;
+use std::marker::Model;
+
+/// A text. A contract sees its bytes, which are UTF-8.
+#[derive(Debug, Drop)]
+pub struct Text {
+    inner: String,
+}
+
+impl Model for Text {
+    ghost use Rattle.std.specs.Prelude.{ℕ, List, string_bytes};
+
+    ghost Value = { List ℕ };
+
+    ghost view = { λ t. string_bytes t.inner };
+}
+
+impl Text {
+    /// The text of `s`.
+    pub fn of(alloc: Global, s: &str) -> Result<Text, NoMemory>
+        ensures { IfOk result (λ t. t ≡ s.now) }
+    {
+        Ok(Text {
+            inner: String::from_str(alloc, s)?,
+        })
+    }
+
+    /// A second text with the same bytes.
+    pub fn copy(&self, alloc: Global) -> Result<Text, NoMemory>
+        ensures { IfOk result (λ t. t ≡ self.now) }
+    {
+        Text::of(alloc, self.as_str())
+    }
+
+    /// The text, borrowed.
+    pub fn as_str(&self) -> &str
+        ensures { result.now ≡ self.now }
+    {
+        self.inner.as_str()
+    }
+}
