@@ -1,3 +1,5 @@
+pub mod Failing
 pub mod Faults
 pub mod Outside
+pub mod Standard
 pub mod Sure

@@ -2,6 +2,7 @@
 use Rattle.std.specs.Prelude.{ℕ, ◌≤◌, ◌<◌, ◌≡◌, Bool, true, false, ◌&&◌, nat_eq, nat_lt, List, [], ◌++◌, length, take, ⊤}
 use Rattle.std.specs.Io.KnownBytes.{Appends}
 use Rattle.std.specs.declared.option.Option.{Option}
+use Rattle.ce_base.specs.Faults.{next_count}
 use Rattle.ce_base.specs.declared.outside.Got.{Got}
 use Rattle.ce_base.specs.declared.outside.Got.TheVariants.{Bytes, End, Failed}
 use Rattle.ce_base.specs.declared.outside.Put.{Put}
@@ -25,6 +26,12 @@ gave_end (Bytes n) room = nat_eq n 0 && nat_lt 0 room
 gave_end End room = true
 gave_end Failed room = false
 
+-- the count of faults after a read
+abbrev pub faults_got : Got → ℕ → ℕ
+faults_got (Bytes n) faults = faults
+faults_got End faults = faults
+faults_got Failed faults = next_count faults
+
 -- the bytes of the piece that a write took
 abbrev pub bytes_put : Put → List ℕ → List ℕ
 bytes_put (Took n) piece = take n piece
@@ -36,6 +43,12 @@ abbrev pub TakesSome : Put → List ℕ → Type 0
 TakesSome (Took n) piece = (n ≤ length piece) × (0 < length piece → 0 < n)
 TakesSome put_failed piece = ⊤
 TakesSome NoMemory piece = ⊤
+
+-- the count of faults after a write
+abbrev pub faults_put : Put → ℕ → ℕ
+faults_put (Took n) faults = faults
+faults_put put_failed faults = next_count faults
+faults_put NoMemory faults = faults
 
 -- the first list stands at the front of the second
 abbrev pub IsPrefix : List ℕ → List ℕ → Type 0

@@ -4,6 +4,7 @@
 mod bytes;
 mod custom_state;
 mod entries;
+mod failing;
 mod fault;
 mod flags;
 mod fuel;
@@ -14,12 +15,15 @@ mod outside;
 mod standard;
 mod stop;
 mod sure;
+#[cfg(test)]
+mod tests;
 mod text;
 mod texts;
 
 pub use bytes::Bytes;
 pub use custom_state::CustomState;
 pub use entries::{Entries, Entry};
+pub use failing::{MemSink, MemSource};
 pub use fault::{Fault, Refused};
 pub use flags::Flags;
 pub use fuel::Fuel;

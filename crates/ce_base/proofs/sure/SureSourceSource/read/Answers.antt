@@ -1,4 +1,4 @@
-use Rattle.std.proofs.Common.{◌≡◌, length, take, drop, arith, sym, ◌∙◌}
+use Rattle.std.proofs.Common.{◌≡◌, length, take, drop, arith}
 use Rattle.std.proofs.lemmas.List.{take_rest, length-take}
 use Rattle.ce_base.proofs.Fronts.{left-copied}
 use Rattle.ce_base.proofs.sure.SureSourceSource.read.Goals as goal
