@@ -1,0 +1,37 @@
+-- A script: its bytes, its lines, what they say, and the session that they make.
+use Rattle.std.specs.Prelude.{ℕ, Bool, true, false, List, map, Result, Ok, Err}
+use Rattle.std.specs.List.{list_any}
+use Rattle.rule_script.specs.declared.line.Line.{Line}
+use Rattle.rule_script.specs.declared.refused.Bad.{Bad}
+use Rattle.rule_script.specs.Reading.{reading}
+use Rattle.ce_model.specs.Steps.{Step, Outcome, Goes, Throws, Spent}
+use Rattle.ce_model.specs.State.{State}
+use Rattle.ce_model.specs.Model.{model}
+use Rattle.ce_model.specs.Session.{run_lines, start}
+
+-- a line that was refused
+abbrev pub is_bad : Result Line Bad → Bool
+is_bad (Ok line) = false
+is_bad (Err bad) = true
+
+-- what the lines say, each of them read
+abbrev pub readings : List (List ℕ) → List (Result Line Bad)
+readings lines = map reading lines
+
+-- some line is refused
+abbrev pub has_bad : List (List ℕ) → Bool
+has_bad lines = list_any is_bad (readings lines)
+
+-- the lines from this number on
+abbrev pub run_from : ℕ → List (List ℕ) → Step State (Unit {0})
+run_from number lines = run_lines model number (readings lines)
+
+-- the session of the lines of a script, with so much fuel
+abbrev pub session : ℕ → List (List ℕ) → Outcome State (Unit {0})
+session fuel lines = run_from 1 lines (start fuel)
+
+-- the session ended before its script, since the fuel is spent
+abbrev pub is_spent : {S A : Type 0} → Outcome S A → Bool
+is_spent (Goes a s) = false
+is_spent (Throws f s) = false
+is_spent (Spent s) = true
