@@ -1,0 +1,59 @@
+// Why a call of the page stops.
+use ce_base::{Fault, NoMemory};
+use std::alloc::{AllocError, AllocFailed};
+
+/// Why a call of the page stopped.
+#[derive(Debug, Drop)]
+pub enum PageStop {
+    /// The operation throws this fault. Nothing of the page has changed.
+    Refused(Fault),
+    /// One unit of fuel was to be spent, and none was left. The page still tells its notes, and is then
+    /// only dropped.
+    FuelSpent,
+    /// Memory was refused. The page is only dropped.
+    NoMemory,
+}
+
+impl From<Fault> for PageStop {
+    ghost use Rattle.std.specs.Prelude.{◌≡◌};
+    ghost use Rattle.ce_page.specs.declared.stop.PageStop.TheVariants.{Refused};
+
+    ghost from_gives = { λ fault stop. stop ≡ Refused fault };
+
+    fn from(fault: Fault) -> Self {
+        PageStop::Refused(fault)
+    }
+}
+
+impl From<NoMemory> for PageStop {
+    ghost use Rattle.std.specs.Prelude.{◌≡◌};
+    ghost use Rattle.ce_page.specs.declared.stop.PageStop.TheVariants.{NoMemory};
+
+    ghost from_gives = { λ _ stop. stop ≡ NoMemory };
+
+    fn from(_: NoMemory) -> Self {
+        PageStop::NoMemory
+    }
+}
+
+impl From<AllocError> for PageStop {
+    ghost use Rattle.std.specs.Prelude.{◌≡◌};
+    ghost use Rattle.ce_page.specs.declared.stop.PageStop.TheVariants.{NoMemory};
+
+    ghost from_gives = { λ _ stop. stop ≡ NoMemory };
+
+    fn from(_: AllocError) -> Self {
+        PageStop::NoMemory
+    }
+}
+
+impl<T: Drop> From<AllocFailed<T>> for PageStop {
+    ghost use Rattle.std.specs.Prelude.{◌≡◌};
+    ghost use Rattle.ce_page.specs.declared.stop.PageStop.TheVariants.{NoMemory};
+
+    ghost from_gives = { λ _ stop. stop ≡ NoMemory };
+
+    fn from(_: AllocFailed<T>) -> Self {
+        PageStop::NoMemory
+    }
+}
