@@ -1,0 +1,14 @@
+pub mod HaltLaws
+pub mod FlushLaws
+pub mod BodyLaws
+pub mod DrainLaws
+pub mod OperateLaws
+pub mod CommandLaws
+pub mod MachineLaws
+pub mod LineLaws
+pub mod FeedLaws
+pub mod SittingLaws
+pub mod GatheredLaws
+pub mod PieceLaws
+pub mod ExitLaws
+pub mod WholeLaws

@@ -1,0 +1,70 @@
+-- Lines of bytes that come in pieces.
+use Rattle.std.proofs.Common.{◌≡◌, ◌≢◌, ℕ, true, false, ◌==◌, cond, List, [], ◌∷◌, ◌++◌, refl, sym, ap, ◌∙◌, append_assoc, append-nil, arith, All}
+use Rattle.std.specs.List.{AllByRecursion}
+use Rattle.std.proofs.lemmas.Grind.{common_steps}
+use Rattle.std.proofs.lemmas.List.Elements.{recursion_from_All}
+use Rattle.ce_model.specs.Lines.{whole_from, part_from, whole_lines, last_part, last_line, lines_of}
+
+-- no line feed is among the bytes
+abbrev NoFeed : List ℕ → Type 0
+NoFeed = AllByRecursion (λ b. b ≢ 10)
+
+not_feed : (b : ℕ) → b ≢ 10 → (b == 10) ≡ false
+not_feed b h = grind (arith, common_steps)
+
+-- what comes later is cut as if the part before stood in front of it
+whole_from-append : (p a b : List ℕ) → whole_from p (a ++ b) ≡ whole_from p a ++ whole_from (part_from p a) b
+whole_from-append p [] b = refl
+whole_from-append p (x ∷ a) b =
+    elim (x == 10) as (λ t. cond t (p ∷ whole_from [] (a ++ b)) (whole_from (p ++ x ∷ []) (a ++ b)) ≡ cond t (p ∷ whole_from [] a) (whole_from (p ++ x ∷ []) a) ++ whole_from (cond t (part_from [] a) (part_from (p ++ x ∷ []) a)) b) [
+      | true ↦ ap (λ l. p ∷ l) (whole_from-append [] a b)
+      | false ↦ whole_from-append (p ++ x ∷ []) a b
+    ]
+
+part_from-append : (p a b : List ℕ) → part_from p (a ++ b) ≡ part_from (part_from p a) b
+part_from-append p [] b = refl
+part_from-append p (x ∷ a) b =
+    elim (x == 10) as (λ t. cond t (part_from [] (a ++ b)) (part_from (p ++ x ∷ []) (a ++ b)) ≡ part_from (cond t (part_from [] a) (part_from (p ++ x ∷ []) a)) b) [
+      | true ↦ part_from-append [] a b
+      | false ↦ part_from-append (p ++ x ∷ []) a b
+    ]
+
+-- bytes without a line feed go onto the part before
+whole_from-no_feed : (p q b : List ℕ) → NoFeed q → whole_from p (q ++ b) ≡ whole_from (p ++ q) b
+whole_from-no_feed p [] b h = ap (λ l. whole_from l b) (sym (append-nil p))
+whole_from-no_feed p (x ∷ q) b h =
+    rw (not_feed x h.0) (whole_from-no_feed (p ++ x ∷ []) q b h.1 ∙ ap (λ l. whole_from l b) (append_assoc p (x ∷ []) q))
+
+part_from-no_feed : (p q b : List ℕ) → NoFeed q → part_from p (q ++ b) ≡ part_from (p ++ q) b
+part_from-no_feed p [] b h = ap (λ l. part_from l b) (sym (append-nil p))
+part_from-no_feed p (x ∷ q) b h =
+    rw (not_feed x h.0) (part_from-no_feed (p ++ x ∷ []) q b h.1 ∙ ap (λ l. part_from l b) (append_assoc p (x ∷ []) q))
+
+-- a line, its line feed, and other bytes
+pub whole_lines-line : (line rest : List ℕ) → All (λ b. b ≢ 10) line → whole_lines (line ++ 10 ∷ rest) ≡ line ∷ whole_lines rest
+whole_lines-line line rest h = whole_from-no_feed [] line (10 ∷ rest) (recursion_from_All _ line h)
+
+pub last_part-line : (line rest : List ℕ) → All (λ b. b ≢ 10) line → last_part (line ++ 10 ∷ rest) ≡ last_part rest
+last_part-line line rest h = part_from-no_feed [] line (10 ∷ rest) (recursion_from_All _ line h)
+
+pub whole_lines-no_feed : (bytes : List ℕ) → All (λ b. b ≢ 10) bytes → whole_lines bytes ≡ []
+whole_lines-no_feed bytes h = ap whole_lines (sym (append-nil bytes)) ∙ whole_from-no_feed [] bytes [] (recursion_from_All _ bytes h)
+
+pub last_part-no_feed : (bytes : List ℕ) → All (λ b. b ≢ 10) bytes → last_part bytes ≡ bytes
+last_part-no_feed bytes h = ap last_part (sym (append-nil bytes)) ∙ part_from-no_feed [] bytes [] (recursion_from_All _ bytes h)
+
+-- the next piece, where the part before has no line feed
+pub whole_lines-piece : (taken part piece : List ℕ) → part ≡ last_part taken → All (λ b. b ≢ 10) part → whole_lines (taken ++ piece) ≡ whole_lines taken ++ whole_lines (part ++ piece)
+whole_lines-piece taken part piece is h =
+    whole_from-append [] taken piece ∙ ap (λ l. whole_lines taken ++ l) (ap (λ l. whole_from l piece) (sym is) ∙ sym (whole_from-no_feed [] part piece (recursion_from_All _ part h)))
+
+pub last_part-piece : (taken part piece : List ℕ) → part ≡ last_part taken → All (λ b. b ≢ 10) part → last_part (taken ++ piece) ≡ last_part (part ++ piece)
+last_part-piece taken part piece is h =
+    part_from-append [] taken piece ∙ (ap (λ l. part_from l piece) (sym is) ∙ sym (part_from-no_feed [] part piece (recursion_from_All _ part h)))
+
+-- the whole lines of a front are the first lines of all
+pub lines_of-front : (front rest : List ℕ) → (more : List (List ℕ)) × (lines_of (front ++ rest) ≡ whole_lines front ++ more)
+lines_of-front front rest =
+    let more = whole_from (last_part front) rest in
+    let last = last_line (last_part (front ++ rest)) in
+    (more ++ last, ap (λ l. l ++ last) (whole_from-append [] front rest) ∙ append_assoc (whole_lines front) more last)

@@ -1,0 +1,16 @@
+use Rattle.std.proofs.Common.{Err, arith}
+use Rattle.std.proofs.lemmas.Result.{err_from_is_err_and}
+use Rattle.page_runner.proofs.HaltLaws.{did_trans, writes_trans}
+use Rattle.page_runner.proofs.DrainLaws.{queue_next, queue_halt}
+use Rattle.page_runner.proofs.state.State.drain.Goals as goal
+
+pub loop-e-preserved : goal.loop-e-preserved
+loop-e-preserved g c = record {
+  did = did_trans c.loop-e.invariant.did (queue_next _ _ _ _ _ _ _ _ _ c.in-Some.ensures.first c.next_element.ensures.state (c.in_ok-drain_element.ensures.ran c.next_element.new.elements));
+  later = omega arith;
+}
+
+pub returns-in_err-drain_element-clause-ran : goal.returns-in_err-drain_element-clause-ran
+returns-in_err-drain_element-clause-ran g c =
+    let p = err_from_is_err_and c.from_residual.result c.from_residual.ensures.1 in
+    rw (p.1, p.2) (writes_trans (Err c.in_err-drain_element.field-0.0) _ _ _ (g.K.Sink.held c.drain_element.new.sink) c.drain_element.new.self _ _ c.loop-e.invariant.did (queue_halt c.in_err-drain_element.field-0.0 _ _ _ _ _ _ _ _ _ c.in-Some.ensures.first c.next_element.ensures.state (c.in_err-drain_element.ensures.ran c.next_element.new.elements)))

@@ -1,0 +1,14 @@
+use Rattle.std.proofs.Common.{◌≤◌, length}
+use Rattle.ce_model.specs.Drain.{drain}
+use Rattle.ce_model.specs.Model.{model}
+use Rattle.ce_model.specs.Written.{Did}
+use Rattle.page_runner.proofs.state.State.drain.Given as goal
+
+abbrev pub invariant-loop-e : goal.invariant-loop-e
+invariant-loop-e g l = record {
+  did : Did l.trace (g.K.Sink.held l.initial.sink) (g.K.Sink.held l.sink) (drain model l.initial.elements l.initial.self) (drain model l.elements l.self);
+  later : g.K.Sink.failed l.initial.sink ≤ g.K.Sink.failed l.sink;
+}
+
+abbrev pub decreases-loop-e : goal.decreases-loop-e
+decreases-loop-e g l = length l.elements

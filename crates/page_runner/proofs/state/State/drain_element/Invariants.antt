@@ -1,0 +1,16 @@
+use Rattle.std.proofs.Common.{◌≡◌, ◌≤◌, ℕ, List, ◌∷◌, length}
+use Rattle.ce_model.specs.Drain.{drain}
+use Rattle.ce_model.specs.Model.{model}
+use Rattle.ce_model.specs.Page.{waiting_of}
+use Rattle.ce_model.specs.Written.{Did}
+use Rattle.page_runner.proofs.state.State.drain_element.Given as goal
+
+abbrev pub invariant-loop-number : goal.invariant-loop-number
+invariant-loop-number g l = record {
+  did : (es : List ℕ) → Did l.trace (g.K.Sink.held l.initial.sink) (g.K.Sink.held l.sink) (drain model (l.e ∷ es) l.initial.self) (drain model (l.e ∷ es) l.self);
+  backup : l.self.page.backup ≡ l.initial.self.page.backup;
+  later : g.K.Sink.failed l.initial.sink ≤ g.K.Sink.failed l.sink;
+}
+
+abbrev pub decreases-loop-number : goal.decreases-loop-number
+decreases-loop-number g l = length (waiting_of l.self.page l.e)

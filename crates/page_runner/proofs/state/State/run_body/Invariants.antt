@@ -1,0 +1,11 @@
+use Rattle.std.proofs.Common.{◌≡◌, ◌≤◌, drop}
+use Rattle.ce_model.specs.Body.{body}
+use Rattle.ce_model.specs.Written.{Did}
+use Rattle.page_runner.proofs.state.State.run_body.Given as goal
+
+abbrev pub invariant-loop-action : goal.invariant-loop-action
+invariant-loop-action g l = record {
+  did : Did l.trace (g.K.Sink.held l.initial.sink) (g.K.Sink.held l.sink) (body l.args l.action-items l.initial.self) (body l.args (drop l.action-index l.action-items) l.self);
+  page : l.self.page ≡ l.initial.self.page;
+  later : g.K.Sink.failed l.initial.sink ≤ g.K.Sink.failed l.sink;
+}

@@ -1,0 +1,130 @@
+// A session: the lines of a script, one after another.
+ghost use Rattle.std.specs.Prelude.{◌≡◌, ◌+◌, ◌<◌, ◌≤◌, ◌^◌, ◌||◌, [], false, IfOk, OnErr, IsErrOf};
+ghost use Rattle.ce_base.specs.Faults.{Rose};
+ghost use Rattle.ce_base.specs.Outside.{AppendsPart};
+ghost use Rattle.rule_script.specs.Reading.{reading};
+ghost use Rattle.ce_model.specs.Model.{model};
+ghost use Rattle.ce_model.specs.Script.{is_bad};
+ghost use Rattle.ce_model.specs.Session.{run_line, start, log_of};
+ghost use Rattle.ce_model.specs.Text.{text};
+ghost use Rattle.ce_model.specs.Written.{Did};
+ghost use Rattle.page_runner.specs.Sitting.{outcome_of};
+
+use crate::End;
+use crate::machine::Machine;
+use ce_base::{NoMemory, Sink, Stop};
+use rule_script::{Line, LineRefused, read_line};
+use std::alloc::Global;
+use std::marker::Model;
+
+/// A session: what has come of the lines so far.
+#[derive(Drop)]
+pub struct Session {
+    machine: Machine,
+    line: u64,
+    bad: bool,
+    trace: bool,
+}
+
+impl Model for Session {
+    ghost use Rattle.page_runner.specs.Sitting.{Sitting};
+
+    ghost Value = { Sitting };
+
+    ghost view = { λ s. record { state = s.machine; line = s.line; bad = s.bad; trace = s.trace } };
+}
+
+impl Session {
+    /// A session before its first line.
+    pub fn make(alloc: Global, fuel: u32, trace: bool) -> Result<Session, NoMemory>
+        ensures { IfOk result (λ s. s ≡ record { state = start fuel; line = 0; bad = false; trace = trace }) }
+    {
+        Ok(Session {
+            machine: Machine::make(alloc, fuel)?,
+            line: 0,
+            bad: false,
+            trace,
+        })
+    }
+
+    /// Whether some line was refused.
+    pub fn is_bad(&self) -> bool
+        ensures { result ≡ self.now.bad }
+    {
+        self.bad
+    }
+
+    /// Reads a line, runs it, and writes what comes of it.
+    pub fn line<K: Sink>(
+        self,
+        alloc: Global,
+        bytes: &[u8],
+        sink: &mut K,
+    ) -> Result<(Session, End), Stop>
+        requires room { self.line + 1 < 2 ^ 64 }
+        ensures ran { IfOk result (λ r. Did self.trace (K.held sink.old) (K.held sink.new) (run_line model (self.line + 1) (reading bytes.now) self.state) (outcome_of r.1 r.0.state)) }
+        ensures number { IfOk result (λ r. r.0.line ≡ self.line + 1) }
+        ensures bad { IfOk result (λ r. r.0.bad ≡ (self.bad || is_bad (reading bytes.now))) }
+        ensures trace { IfOk result (λ r. r.0.trace ≡ self.trace) }
+        ensures empty { IfOk result (λ r. r.0.state.log ≡ []) }
+        ensures part { OnErr result (AppendsPart (K.held sink.old) (K.held sink.new) (text self.trace (log_of (run_line model (self.line + 1) (reading bytes.now) self.state)))) }
+        ensures later { K.failed sink.old ≤ K.failed sink.new }
+        ensures cause { IsErrOf result Stop.WriteFault → Rose (K.failed sink.old) (K.failed sink.new) }
+    {
+        let Session {
+            machine,
+            line,
+            bad,
+            trace,
+        } = self;
+        let line = line + 1;
+        match read_line(alloc, bytes) {
+            Ok(Line::Blank) => Ok((
+                Session {
+                    machine,
+                    line,
+                    bad,
+                    trace,
+                },
+                End::Replied,
+            )),
+            Ok(Line::Command(c)) => {
+                let (machine, end) = machine.command(alloc, line, c, trace, sink)?;
+                Ok((
+                    Session {
+                        machine,
+                        line,
+                        bad,
+                        trace,
+                    },
+                    end,
+                ))
+            }
+            Ok(Line::Part(p)) => {
+                let machine = machine.part(alloc, line, p, trace, sink)?;
+                Ok((
+                    Session {
+                        machine,
+                        line,
+                        bad,
+                        trace,
+                    },
+                    End::Replied,
+                ))
+            }
+            Err(LineRefused::Bad(fault)) => {
+                let machine = machine.refused(alloc, line, fault, trace, sink)?;
+                Ok((
+                    Session {
+                        machine,
+                        line,
+                        bad: true,
+                        trace,
+                    },
+                    End::Replied,
+                ))
+            }
+            Err(LineRefused::NoMemory) => Err(Stop::NoMemory),
+        }
+    }
+}

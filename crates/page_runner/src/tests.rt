@@ -1,0 +1,192 @@
+use super::*;
+use ce_base::{MemSink, MemSource, Source, SureSink, SureSource};
+use std::alloc::Global;
+use std::test::Fail;
+
+// The status and the transcript of a script that is read in pieces of at most `cut` bytes.
+fn ran(alloc: Global, script: &[u8], cut: usize) -> Result<(Status, Vec<u8>), Fail> {
+    let mut source = SureSource::make(script.to_vec(alloc)?, cut.max(1));
+    let mut sink = SureSink::make(alloc);
+    let status = run(alloc, &Vec::new(alloc), &mut source, &mut sink);
+    Ok((status, sink.bytes().to_vec(alloc)?))
+}
+
+// The same where the read and the write with these numbers fail.
+fn ran_failing(
+    alloc: Global,
+    script: &[u8],
+    cut: usize,
+    read: u64,
+    write: u64,
+) -> Result<(Status, Vec<u8>), Fail> {
+    let reads = vec![in alloc; read]?;
+    let writes = vec![in alloc; write]?;
+    let mut source = MemSource::make(script.to_vec(alloc)?, cut.max(1), reads);
+    let mut sink = MemSink::make(alloc, writes);
+    let status = run(alloc, &Vec::new(alloc), &mut source, &mut sink);
+    Ok((status, sink.bytes().to_vec(alloc)?))
+}
+
+const FIRST: &str =
+    "class A\nobserve A k\non A attribute : log @1 @2 @3\ndefine x-a A\ncreate $e x-a\nsetattr $e k 1\nsetattr $e k 1\n";
+
+const FIRST_TRANSCRIPT: &str =
+    "4: ok\nconstruct A\n5: #2\ncall #2 attribute \"k\" null \"1\"\nlog \"k\" \"\" \"1\"\n6: ok\ncall #2 attribute \"k\" \"1\" \"1\"\nlog \"k\" \"1\" \"1\"\n7: ok\n";
+
+#[test]
+fn an_empty_script_writes_nothing(rt: HostRuntime) -> Result<(), Fail> {
+    let (status, text) = ran(rt.alloc(), b"", 16)?;
+    assert_eq!(rt; status, Status::Done);
+    assert!(rt; text.is_empty());
+    Ok(())
+}
+
+#[test]
+fn pieces_do_not_matter(rt: HostRuntime) -> Result<(), Fail> {
+    for cut in [1, 2, 16, 4096, 100_000] {
+        let (status, text) = ran(rt.alloc(), FIRST.as_bytes(), cut)?;
+        assert_eq!(rt; status, Status::Done);
+        assert_eq!(rt; text.as_slice(), FIRST_TRANSCRIPT.as_bytes());
+    }
+    Ok(())
+}
+
+#[test]
+fn faults_are_thrown_and_lines_refused(rt: HostRuntime) -> Result<(), Fail> {
+    let script =
+        b"class A\nfrob\ndefine x-a B\ndefine x-a A\ndefine x-b A\nsetattr $e k v\ncreate $e \"x-a\"\n".as_slice();
+    let (status, text) = ran(rt.alloc(), script, 4096)?;
+    assert_eq!(rt; status, Status::BadLines);
+    let wanted =
+        b"2: bad later\n3: throw TypeError\n4: ok\n5: throw NotSupportedError\n6: throw TypeError\n7: bad later\n".as_slice();
+    assert_eq!(rt; text.as_slice(), wanted);
+    Ok(())
+}
+
+#[test]
+fn odd_lines_are_refused_and_the_next_ones_run(rt: HostRuntime) -> Result<(), Fail> {
+    let script = b"create $a p\r\n\0\n\xff\n# \xc3\x81 \n\n  \ncreate $a p".as_slice();
+    let (status, text) = ran(rt.alloc(), script, 3)?;
+    assert_eq!(rt; status, Status::BadLines);
+    let wanted = b"1: bad later\n2: bad later\n3: bad later\n7: #2\n".as_slice();
+    assert_eq!(rt; text.as_slice(), wanted);
+    Ok(())
+}
+
+#[test]
+fn a_class_that_is_defined_takes_no_more_parts(rt: HostRuntime) -> Result<(), Fail> {
+    let script = b"class A\nclass A\nobserve B k\ndefine x-a A\nobserve A k\n".as_slice();
+    let (status, text) = ran(rt.alloc(), script, 4096)?;
+    assert_eq!(rt; status, Status::Done);
+    let wanted =
+        b"2: throw NotSupportedError\n3: throw TypeError\n4: ok\n5: throw NotSupportedError\n".as_slice();
+    assert_eq!(rt; text.as_slice(), wanted);
+    Ok(())
+}
+
+#[test]
+fn a_word_is_refused(rt: HostRuntime) -> Result<(), Fail> {
+    let alloc = rt.alloc();
+    let mut words = Vec::new(alloc);
+    words.push(String::from_str(alloc, "--trace")?)?;
+    let mut source = SureSource::make(FIRST.as_bytes().to_vec(alloc)?, 16);
+    let mut sink = SureSink::make(alloc);
+    let status = run(alloc, &words, &mut source, &mut sink);
+    assert_eq!(rt; status, Status::Usage);
+    assert!(rt; sink.bytes().is_empty());
+    Ok(())
+}
+
+#[test]
+fn failing_devices_end_the_run(rt: HostRuntime) -> Result<(), Fail> {
+    let alloc = rt.alloc();
+    let (status, text) = ran_failing(alloc, FIRST.as_bytes(), 16, 3, 0)?;
+    assert_eq!(rt; status, Status::ReadFault);
+    assert!(rt; text.is_empty());
+    let (status, text) = ran_failing(alloc, FIRST.as_bytes(), 4096, 0, 1)?;
+    assert_eq!(rt; status, Status::WriteFault);
+    assert!(rt; text.is_empty());
+    Ok(())
+}
+
+// A line, so many times.
+fn repeated(alloc: Global, first: &str, line: &str, times: usize) -> Result<Vec<u8>, Fail> {
+    let mut script = first.as_bytes().to_vec(alloc)?;
+    for _ in 0..times {
+        script.extend_from_slice(line.as_bytes())?;
+    }
+    Ok(script)
+}
+
+#[test]
+fn the_fuel_ends_a_session(rt: HostRuntime) -> Result<(), Fail> {
+    let alloc = rt.alloc();
+    let (status, text) = ran(alloc, &repeated(alloc, "", "create $a p\n", 10_001)?, 4096)?;
+    assert_eq!(rt; status, Status::Fuel);
+    assert!(rt; text.as_slice().ends_with(b"10000: #10001\nfuel\n"));
+    let first = "class A\nobserve A k\non A attribute : log @3\ndefine x-a A\ncreate $e x-a\n";
+    let (status, text) = ran(
+        alloc,
+        &repeated(alloc, first, "setattr $e k v\n", 7_000)?,
+        4096,
+    )?;
+    assert_eq!(rt; status, Status::Fuel);
+    assert!(rt;
+        text.as_slice().ends_with(
+            b"log \"v\"\n6670: ok\ncall #2 attribute \"k\" \"v\" \"v\"\nfuel\n"
+        )
+    );
+    Ok(())
+}
+
+#[test]
+fn a_script_has_a_greatest_length(rt: HostRuntime) -> Result<(), Fail> {
+    let alloc = rt.alloc();
+    let (status, text) = ran(alloc, &repeated(alloc, "", "\n", 16_777_217)?, 65_536)?;
+    assert_eq!(rt; status, Status::TooLong);
+    assert!(rt; text.is_empty());
+    let (status, text) = ran(alloc, &repeated(alloc, "", "\n", 16_777_216)?, 65_536)?;
+    assert_eq!(rt; status, Status::Done);
+    assert!(rt; text.is_empty());
+    Ok(())
+}
+
+#[test]
+fn a_long_line_is_refused_and_the_next_one_runs(rt: HostRuntime) -> Result<(), Fail> {
+    let alloc = rt.alloc();
+    for length in [65_536, 100_000] {
+        let mut script = repeated(alloc, "", "#", length)?;
+        script.extend_from_slice(b"\ncreate $a p\n")?;
+        let (status, text) = ran(alloc, &script, 65_536)?;
+        assert_eq!(rt; status, Status::BadLines);
+        assert_eq!(rt; text.as_slice(), b"1: bad later\n2: #2\n".as_slice());
+    }
+    Ok(())
+}
+
+#[test]
+fn lines_are_run_before_the_source_is_asked_again(rt: HostRuntime) -> Result<(), Fail> {
+    let alloc = rt.alloc();
+    let script = repeated(alloc, "", "create $a p\n", 10_001)?;
+    let reads = vec![in alloc; 3u64]?;
+    let mut source = MemSource::make(script, 65_000, reads);
+    let mut sink = SureSink::make(alloc);
+    let status = run(alloc, &Vec::new(alloc), &mut source, &mut sink);
+    assert_eq!(rt; status, Status::Fuel);
+    assert_eq!(rt; source.faults(), 0);
+    Ok(())
+}
+
+#[test]
+fn a_feed_gives_back_lines(rt: HostRuntime) -> Result<(), Fail> {
+    let alloc = rt.alloc();
+    let mut feed = Feed::make(alloc);
+    feed.piece(alloc, b"ab")?;
+    assert!(rt; feed.next_line(alloc)?.is_none());
+    feed.piece(alloc, b"c\nd")?;
+    let line = feed.next_line(alloc)?.ok_or("a line")?;
+    assert_eq!(rt; line.as_slice(), b"abc".as_slice());
+    let rest = feed.rest().ok_or("a rest")?;
+    assert_eq!(rt; rest.as_slice(), b"d".as_slice());
+    Ok(())
+}

@@ -1,0 +1,104 @@
+// A whole run, from the words and the source to the sink and a status.
+ghost use Rattle.std.specs.Prelude.{◌≡◌, ◌≤◌, ◌<◌, ◌↔◌, length, map, string_bytes, Some, IfOk, vec_len, List, ℕ};
+ghost use Rattle.ce_base.specs.Faults.{Rose};
+ghost use Rattle.page_runner.specs.Table.{RunMeets, RunsWhole, limit, status_of};
+ghost use Rattle.page_runner.specs.Words.{meaning};
+
+use crate::ask::ask;
+use crate::lines::{finish, take_piece};
+use crate::{End, Feed, Meaning, Session, Settings, Status};
+use ce_base::{Got, NoMemory, Sink, Source, Stop};
+use std::alloc::Global;
+
+// How many bytes are asked for at a time.
+const BUFFER: usize = 65_536;
+
+// How many bytes a script may have.
+const LIMIT: usize = 16_777_216;
+
+/// Runs the script that the source gives, as the words say, and writes its transcript to the sink.
+///
+/// All lines that were wholly read are run, and their answers written, before the source is asked again.
+pub fn run<S: Source, K: Sink>(
+    alloc: Global,
+    words: &Vec<String>,
+    source: &mut S,
+    sink: &mut K,
+) -> Status
+    ensures usage { (result ≡ Status.Usage) ↔ (meaning (map (λ w. string_bytes w) words.now.items) ≡ Meaning.Refused) }
+    ensures untouched { result ≡ Status.Usage → (source.new ≡ source.old) × (sink.new ≡ sink.old) }
+    ensures table { RunMeets (meaning (map (λ w. string_bytes w) words.now.items)) result (S.left source.old) (S.left source.new) (K.held sink.old) (K.held sink.new)
+        (S.ended source.new) (S.failed source.old) (S.failed source.new) (K.failed sink.old) (K.failed sink.new) }
+    ensures later { (S.failed source.old ≤ S.failed source.new) × (K.failed sink.old ≤ K.failed sink.new) }
+
+    // A script that ends within the limit is run whole, unless a count of faults rises or memory is refused.
+    ensures complete { (set : Settings) (script : List ℕ)
+        → meaning (map (λ w. string_bytes w) words.now.items) ≡ Meaning.Script set → S.left source.old ≡ Some script → length script ≤ limit
+        → ¬ Rose (S.failed source.old) (S.failed source.new) → ¬ Rose (K.failed sink.old) (K.failed sink.new)
+        → RunsWhole set script result (K.held sink.old) (K.held sink.new) }
+{
+    match Meaning::of(words) {
+        Meaning::Refused => Status::Usage,
+        Meaning::Script(settings) => Status::of(run_script(alloc, settings, source, sink)),
+    }
+}
+
+// Runs a script, piece by piece.
+fn run_script<S: Source, K: Sink>(
+    alloc: Global,
+    settings: Settings,
+    source: &mut S,
+    sink: &mut K,
+) -> Result<Status, Stop>
+    ensures table { RunMeets (Meaning.Script settings) (status_of result) (S.left source.old) (S.left source.new) (K.held sink.old) (K.held sink.new)
+        (S.ended source.new) (S.failed source.old) (S.failed source.new) (K.failed sink.old) (K.failed sink.new) }
+    ensures later { (S.failed source.old ≤ S.failed source.new) × (K.failed sink.old ≤ K.failed sink.new) }
+{
+    let mut buffer = make_buffer(alloc)?;
+    run_pieces(alloc, settings, &mut buffer, source, sink)
+}
+
+fn make_buffer(alloc: Global) -> Result<Vec<u8>, NoMemory>
+    ensures { IfOk result (λ buffer. vec_len buffer ≡ BUFFER) }
+{
+    Ok(vec![in alloc; 0u8; BUFFER]?)
+}
+
+// Asks for a piece after the other, and runs each before it asks again.
+fn run_pieces<S: Source, K: Sink>(
+    alloc: Global,
+    settings: Settings,
+    buffer: &mut [u8],
+    source: &mut S,
+    sink: &mut K,
+) -> Result<Status, Stop>
+    requires { length buffer.old ≡ BUFFER }
+    ensures table { RunMeets (Meaning.Script settings) (status_of result) (S.left source.old) (S.left source.new) (K.held sink.old) (K.held sink.new)
+        (S.ended source.new) (S.failed source.old) (S.failed source.new) (K.failed sink.old) (K.failed sink.new) }
+    ensures later { (S.failed source.old ≤ S.failed source.new) × (K.failed sink.old ≤ K.failed sink.new) }
+{
+    let mut feed = Feed::make(alloc);
+    let mut session = Session::make(alloc, settings.fuel, settings.trace)?;
+    let mut taken = 0;
+    'pieces: loop {
+        match ask(source, buffer) {
+            Got::Failed => return Ok(Status::ReadFault),
+            Got::End => {
+                let (session, end) = finish(alloc, session, feed, sink)?;
+                return Ok(Status::at_end(&session, end));
+            }
+            Got::Bytes(count) => {
+                let within = count.min(LIMIT - taken);
+                let (next, end) = take_piece(alloc, session, &mut feed, &buffer[..within], sink)?;
+                if let End::FuelSpent = end {
+                    return Ok(Status::Fuel);
+                }
+                if within < count {
+                    return Ok(Status::TooLong);
+                }
+                session = next;
+                taken += count;
+            }
+        }
+    }
+}
