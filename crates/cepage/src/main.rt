@@ -1,0 +1,36 @@
+//! Runs a script from standard input, and writes its transcript to standard output.
+#![tactic(auto)]
+
+use ce_base::{StdSink, StdSource};
+use page_runner::{Status, run};
+use std::process::ExitCode;
+use std::{env, io};
+
+fn main(rt: HostRuntime) -> ExitCode {
+    let status = match words(&rt) {
+        Ok(words) => {
+            let mut source = StdSource::make(rt.stdin());
+            let mut sink = StdSink::make(rt.stdout());
+            run(rt.alloc(), &words, &mut source, &mut sink)
+        }
+        Err(error) => status_without_words(&error),
+    };
+    ExitCode::from(status.number())
+}
+
+// The words after the program's name.
+fn words(rt: &HostRuntime) -> io::Result<Vec<String>> {
+    let mut words = Vec::new(rt.alloc());
+    for word in env::args(rt)?.skip(1) {
+        words.push(word)?;
+    }
+    Ok(words)
+}
+
+// A word that is no text is refused, as any word is.
+fn status_without_words(error: &io::Error) -> Status {
+    match error.kind() {
+        io::ErrorKind::OutOfMemory => Status::NoMemory,
+        _ => Status::Usage,
+    }
+}
