@@ -1,4 +1,5 @@
 pub mod Failing
+pub mod Gathered
 pub mod Faults
 pub mod Outside
 pub mod Standard

@@ -1,9 +1,10 @@
 // A source of bytes and a sink for bytes, each with a count of its faults.
-ghost use Rattle.std.specs.Prelude.{◌≡◌, ◌≤◌, ℕ, List, Bool, true, length, OnOk, OnErr, IsErrOf};
+ghost use Rattle.std.specs.Prelude.{◌≡◌, ◌≤◌, ℕ, List, Bool, true, length, take, OnOk, OnErr, IsErrOf};
 ghost use Rattle.std.specs.Io.KnownBytes.{Consumes, Appends, IsAtEnd};
 ghost use Rattle.std.specs.declared.option.Option.{Option};
 ghost use Rattle.ce_base.specs.Faults.{Rose};
 ghost use Rattle.ce_base.specs.Outside.{bytes_got, IsWithin, gave_end, bytes_put, TakesSome, AppendsPart};
+ghost use base.Fml.{GName};
 
 use crate::Stop;
 
@@ -62,6 +63,12 @@ pub trait Sink {
     /// How often it has failed.
     ghost failed: { Self → ℕ };
 
+    /// Whose bytes they are in the end: of a sink over another one, which one that is.
+    ghost home: { Self → GName } = { λ _. 0 };
+
+    /// Of a sink over another one, how many bytes that one holds.
+    ghost below: { Self → ℕ } = { λ _. 0 };
+
     /// How often it has failed. The count stays at the greatest u64 once it is there.
     fn faults(&self) -> u64
         ensures { result ≡ failed self.now };
@@ -71,23 +78,42 @@ pub trait Sink {
         ensures took { TakesSome result piece.now }
         ensures bytes { Appends (held self.old) (held self.new) (bytes_put result piece.now) }
         ensures later { failed self.old ≤ failed self.new }
-        ensures cause { result ≡ Put.Failed → Rose (failed self.old) (failed self.new) };
+        ensures cause { result ≡ Put.Failed → Rose (failed self.old) (failed self.new) }
+        ensures home { home self.new ≡ home self.old }
+        ensures below { below self.old ≤ below self.new };
 }
 
 /// Writes all of the bytes, in as many writes as it takes. Where it stops, a front of them is written.
+#[tactic(auto, using(crate::proofs::Written::wrote_part))]
 pub fn write_all<K: Sink>(sink: &mut K, bytes: &[u8]) -> Result<(), Stop>
     ensures all { OnOk result (Appends (K.held sink.old) (K.held sink.new) bytes.now) }
     ensures part { OnErr result (AppendsPart (K.held sink.old) (K.held sink.new) bytes.now) }
     ensures later { K.failed sink.old ≤ K.failed sink.new }
     ensures cause { IsErrOf result Stop.WriteFault → Rose (K.failed sink.old) (K.failed sink.new) }
+    ensures home { K.home sink.new ≡ K.home sink.old }
+    ensures below { K.below sink.old ≤ K.below sink.new }
 {
-    let mut rest = bytes;
-    while !rest.is_empty() {
-        match sink.write(rest) {
-            Put::Took(count) => rest = &rest[count..],
-            Put::Failed => return Err(Stop::WriteFault),
-            Put::NoMemory => return Err(Stop::NoMemory),
+    let (_, end) = write_on(sink, bytes);
+    end
+}
+
+// Writes bytes until all are written or it stops, and says how many were written.
+pub(crate) fn write_on<K: Sink>(sink: &mut K, bytes: &[u8]) -> (usize, Result<(), Stop>)
+    ensures count { result.0 ≤ length bytes.now }
+    ensures written { Appends (K.held sink.old) (K.held sink.new) (take result.0 bytes.now) }
+    ensures all { OnOk result.1 (result.0 ≡ length bytes.now) }
+    ensures later { K.failed sink.old ≤ K.failed sink.new }
+    ensures cause { IsErrOf result.1 Stop.WriteFault → Rose (K.failed sink.old) (K.failed sink.new) }
+    ensures home { K.home sink.new ≡ K.home sink.old }
+    ensures below { K.below sink.old ≤ K.below sink.new }
+{
+    let mut count = 0;
+    while count < bytes.len() {
+        match sink.write(&bytes[count..]) {
+            Put::Took(more) => count += more,
+            Put::Failed => return (count, Err(Stop::WriteFault)),
+            Put::NoMemory => return (count, Err(Stop::NoMemory)),
         }
     }
-    Ok(())
+    (count, Ok(()))
 }

@@ -142,6 +142,24 @@ fn a_write_that_fails_in_the_middle_leaves_a_front(rt: HostRuntime) -> Result<()
 }
 
 #[test]
+fn a_sink_over_a_sink_passes_on_what_is_too_much(rt: HostRuntime) -> Result<(), Fail> {
+    let alloc = rt.alloc();
+    let mut sink = MemSink::make(alloc, vec![in alloc; 2]?);
+    let mut pending = Pending::make(alloc);
+    let mut out = Gathering::make(&mut sink, &mut pending);
+    let full = vec![in alloc; b'a'; 65_536]?;
+    assert_eq!(rt; write_all(&mut out, &full), Ok(()));
+    assert_eq!(rt; (write_all(&mut out, b"bc"), out.faults()), (Ok(()), 0));
+    assert_eq!(rt; (out.pass_on(), out.faults()), (Err(Stop::WriteFault), 1));
+    assert_eq!(rt; pending.as_slice(), &b"bc"[..]);
+    assert_eq!(rt; sink.bytes() == full.as_slice(), true);
+    let mut out = Gathering::make(&mut sink, &mut pending);
+    assert_eq!(rt; out.pass_on(), Ok(()));
+    assert_eq!(rt; (sink.bytes().len(), pending.as_slice().len()), (65_538, 0));
+    Ok(())
+}
+
+#[test]
 fn a_source_gives_its_bytes_in_pieces(rt: HostRuntime) -> Result<(), Fail> {
     let mut source = SureSource::make(b"abcde".to_vec(rt.alloc())?, 2);
     let mut buf = *b"....";

@@ -8,6 +8,7 @@ pub mod MachineLaws
 pub mod LineLaws
 pub mod FeedLaws
 pub mod SittingLaws
+pub mod LoopLaws
 pub mod GatheredLaws
 pub mod PieceLaws
 pub mod ExitLaws

@@ -1,5 +1,5 @@
 -- Lines of bytes that come in pieces.
-use Rattle.std.proofs.Common.{◌≡◌, ◌≢◌, ℕ, true, false, ◌==◌, cond, List, [], ◌∷◌, ◌++◌, refl, sym, ap, ◌∙◌, append_assoc, append-nil, arith, All}
+use Rattle.std.proofs.Common.{◌≡◌, ◌≢◌, ◌<◌, ℕ, true, false, ◌==◌, cond, length, List, [], ◌∷◌, ◌++◌, refl, sym, ap, ◌∙◌, append_assoc, append-nil, arith, All}
 use Rattle.std.specs.List.{AllByRecursion}
 use Rattle.std.proofs.lemmas.Grind.{common_steps}
 use Rattle.std.proofs.lemmas.List.Elements.{recursion_from_All}
@@ -68,3 +68,8 @@ lines_of-front front rest =
     let more = whole_from (last_part front) rest in
     let last = last_line (last_part (front ++ rest)) in
     (more ++ last, ap (λ l. l ++ last) (whole_from-append [] front rest) ∙ append_assoc (whole_lines front) more last)
+
+-- what is left, if anything, is the last line
+pub last_line-some : (feed line : List ℕ) → line ≡ feed → 0 < length line → last_line feed ≡ line ∷ []
+last_line-some [] line is some = absurd (omega (arith, ap length is))
+last_line-some (b ∷ feed) line is some = ap (λ l. l ∷ []) (sym is)

@@ -3,7 +3,6 @@ pub mod Halts
 pub mod HaltsOf
 pub mod Steps
 pub mod Operands
-pub mod Gathered
 pub mod Ran
 pub mod Words
 pub mod Table

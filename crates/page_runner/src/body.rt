@@ -92,6 +92,8 @@ impl State {
         ensures page { OnOk result (self.new.page ≡ self.old.page) }
         ensures later { K.failed sink.old ≤ K.failed sink.new }
         ensures cause { IsErrOf result Halt.WriteFault → Rose (K.failed sink.old) (K.failed sink.new) }
+        ensures home { K.home sink.new ≡ K.home sink.old }
+        ensures below { K.below sink.old ≤ K.below sink.new }
     {
         for action in actions.as_slice() {
             self.spend()?;

@@ -49,6 +49,8 @@ impl State {
         ensures part { OnErr result (AppendsPart (K.held sink.old) (K.held sink.new) (text trace (log_of (command model line c self.old)))) }
         ensures later { K.failed sink.old ≤ K.failed sink.new }
         ensures cause { IsErrOf result Stop.WriteFault → Rose (K.failed sink.old) (K.failed sink.new) }
+        ensures home { K.home sink.new ≡ K.home sink.old }
+        ensures below { K.below sink.old ≤ K.below sink.new }
     {
         match self.reply_to_command(alloc, line, c, trace, sink) {
             Ok(()) => Ok(End::Replied),
@@ -70,6 +72,8 @@ impl State {
         ensures ran { Writes trace (K.held sink.old) (K.held sink.new) result self.new (command model line c self.old) }
         ensures later { K.failed sink.old ≤ K.failed sink.new }
         ensures cause { IsErrOf result Halt.WriteFault → Rose (K.failed sink.old) (K.failed sink.new) }
+        ensures home { K.home sink.new ≡ K.home sink.old }
+        ensures below { K.below sink.old ≤ K.below sink.new }
     {
         self.spend()?;
         let outcome = self.attempt(alloc, c, trace, sink)?;
@@ -90,6 +94,8 @@ impl State {
         ensures ran { Wrote trace (K.held sink.old) (K.held sink.new) (λ r. r) result self.new (attempt_in (perform model c self.old)) }
         ensures later { K.failed sink.old ≤ K.failed sink.new }
         ensures cause { IsErrOf result Halt.WriteFault → Rose (K.failed sink.old) (K.failed sink.new) }
+        ensures home { K.home sink.new ≡ K.home sink.old }
+        ensures below { K.below sink.old ≤ K.below sink.new }
     {
         match self.perform(alloc, c, trace, sink) {
             Ok(given) => Ok(Ok(given)),
@@ -111,6 +117,8 @@ impl State {
         ensures ran { Wrote trace (K.held sink.old) (K.held sink.new) (λ g. g) result self.new (perform model c self.old) }
         ensures later { K.failed sink.old ≤ K.failed sink.new }
         ensures cause { IsErrOf result Halt.WriteFault → Rose (K.failed sink.old) (K.failed sink.new) }
+        ensures home { K.home sink.new ≡ K.home sink.old }
+        ensures below { K.below sink.old ≤ K.below sink.new }
     {
         match c {
             Cmd::Both(op) => self.operate(alloc, op, trace, sink),

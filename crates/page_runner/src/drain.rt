@@ -27,6 +27,8 @@ impl State {
         ensures ran { Writes trace (K.held sink.old) (K.held sink.new) result self.new (checkpoint model self.old) }
         ensures later { K.failed sink.old ≤ K.failed sink.new }
         ensures cause { IsErrOf result Halt.WriteFault → Rose (K.failed sink.old) (K.failed sink.new) }
+        ensures home { K.home sink.new ≡ K.home sink.old }
+        ensures below { K.below sink.old ≤ K.below sink.new }
     {
         if self.page.has_backup() {
             return self.drain_all_backup(alloc, trace, sink);
@@ -43,6 +45,8 @@ impl State {
         ensures ran { Writes trace (K.held sink.old) (K.held sink.new) result self.new (drain_all_backup model self.old) }
         ensures later { K.failed sink.old ≤ K.failed sink.new }
         ensures cause { IsErrOf result Halt.WriteFault → Rose (K.failed sink.old) (K.failed sink.new) }
+        ensures home { K.home sink.new ≡ K.home sink.old }
+        ensures below { K.below sink.old ≤ K.below sink.new }
     {
         self.log(Event::DrainBegun(QueueNo(0)))?;
         self.drain_backup(alloc, trace, sink)?;
@@ -60,6 +64,8 @@ impl State {
         ensures ran { Writes trace (K.held sink.old) (K.held sink.new) result self.new (drain_backup model self.old) }
         ensures later { K.failed sink.old ≤ K.failed sink.new }
         ensures cause { IsErrOf result Halt.WriteFault → Rose (K.failed sink.old) (K.failed sink.new) }
+        ensures home { K.home sink.new ≡ K.home sink.old }
+        ensures below { K.below sink.old ≤ K.below sink.new }
     {
         while let Some(e) = self.next_backup() {
             self.drain_element(alloc, e, trace, sink)?;
@@ -85,6 +91,8 @@ impl State {
         ensures ran { Writes trace (K.held sink.old) (K.held sink.new) result self.new (drain_popped model number self.old) }
         ensures later { K.failed sink.old ≤ K.failed sink.new }
         ensures cause { IsErrOf result Halt.WriteFault → Rose (K.failed sink.old) (K.failed sink.new) }
+        ensures home { K.home sink.new ≡ K.home sink.old }
+        ensures below { K.below sink.old ≤ K.below sink.new }
     {
         let elements = self.page.end();
         self.log(Event::DrainBegun(number))?;
@@ -104,6 +112,8 @@ impl State {
         ensures ran { Writes trace (K.held sink.old) (K.held sink.new) result self.new (drain model elements self.old) }
         ensures later { K.failed sink.old ≤ K.failed sink.new }
         ensures cause { IsErrOf result Halt.WriteFault → Rose (K.failed sink.old) (K.failed sink.new) }
+        ensures home { K.home sink.new ≡ K.home sink.old }
+        ensures below { K.below sink.old ≤ K.below sink.new }
     {
         while let Some(e) = self.next_element(&mut elements) {
             self.drain_element(alloc, e, trace, sink)?;
@@ -130,6 +140,8 @@ impl State {
         ensures backup { OnOk result (self.new.page.backup ≡ self.old.page.backup) }
         ensures later { K.failed sink.old ≤ K.failed sink.new }
         ensures cause { IsErrOf result Halt.WriteFault → Rose (K.failed sink.old) (K.failed sink.new) }
+        ensures home { K.home sink.new ≡ K.home sink.old }
+        ensures below { K.below sink.old ≤ K.below sink.new }
     {
         while let Some((number, r)) = self.next_reaction(e) {
             self.react(alloc, e, number, &r, trace, sink)?;
@@ -158,6 +170,8 @@ impl State {
         ensures page { OnOk result (self.new.page ≡ self.old.page) }
         ensures later { K.failed sink.old ≤ K.failed sink.new }
         ensures cause { IsErrOf result Halt.WriteFault → Rose (K.failed sink.old) (K.failed sink.new) }
+        ensures home { K.home sink.new ≡ K.home sink.old }
+        ensures below { K.below sink.old ≤ K.below sink.new }
     {
         self.log(Event::Started(number))?;
         self.report(alloc, e, r, trace, sink)?;
@@ -178,6 +192,8 @@ impl State {
         ensures page { OnOk result (self.new.page ≡ self.old.page) }
         ensures later { K.failed sink.old ≤ K.failed sink.new }
         ensures cause { IsErrOf result Halt.WriteFault → Rose (K.failed sink.old) (K.failed sink.new) }
+        ensures home { K.home sink.new ≡ K.home sink.old }
+        ensures below { K.below sink.old ≤ K.below sink.new }
     {
         match self.run_reaction(alloc, e, r, trace, sink) {
             Ok(()) => Ok(()),
@@ -204,6 +220,8 @@ impl State {
         ensures page { OnOk result (self.new.page ≡ self.old.page) }
         ensures later { K.failed sink.old ≤ K.failed sink.new }
         ensures cause { IsErrOf result Halt.WriteFault → Rose (K.failed sink.old) (K.failed sink.new) }
+        ensures home { K.home sink.new ≡ K.home sink.old }
+        ensures below { K.below sink.old ≤ K.below sink.new }
     {
         match self.callee(e, r) {
             None => Ok(()),
@@ -240,6 +258,8 @@ impl State {
         ensures page { OnOk result (self.new.page ≡ self.old.page) }
         ensures later { K.failed sink.old ≤ K.failed sink.new }
         ensures cause { IsErrOf result Halt.WriteFault → Rose (K.failed sink.old) (K.failed sink.new) }
+        ensures home { K.home sink.new ≡ K.home sink.old }
+        ensures below { K.below sink.old ≤ K.below sink.new }
     {
         let line = call_event(alloc, e, r)?;
         self.log(line)?;

@@ -25,6 +25,8 @@ impl State {
         ensures part { OnErr result (AppendsPart (K.held sink.old) (K.held sink.new) (text trace self.old.log)) }
         ensures later { K.failed sink.old ≤ K.failed sink.new }
         ensures cause { IsErrOf result Stop.WriteFault → Rose (K.failed sink.old) (K.failed sink.new) }
+        ensures home { K.home sink.new ≡ K.home sink.old }
+        ensures below { K.below sink.old ≤ K.below sink.new }
     {
         write_log(alloc, trace, &self.log, sink)?;
         self.log.clear();
@@ -38,6 +40,8 @@ fn write_log<K: Sink>(alloc: Global, trace: bool, log: &[Event], sink: &mut K) -
     ensures part { OnErr result (AppendsPart (K.held sink.old) (K.held sink.new) (text trace log.now)) }
     ensures later { K.failed sink.old ≤ K.failed sink.new }
     ensures cause { IsErrOf result Stop.WriteFault → Rose (K.failed sink.old) (K.failed sink.new) }
+    ensures home { K.home sink.new ≡ K.home sink.old }
+    ensures below { K.below sink.old ≤ K.below sink.new }
 {
     for e in log {
         write_out(alloc, sink, trace, e)?;

@@ -1,6 +1,7 @@
 //! Runs a script line by line, from a source to a sink.
 #![tactic(auto)]
 
+mod answers;
 mod ask;
 mod body;
 mod calls;
@@ -10,7 +11,6 @@ mod drain;
 mod end;
 mod feed;
 mod flush;
-mod gather;
 mod halt;
 mod lines;
 mod machine;

@@ -33,6 +33,8 @@ impl State {
         ensures ran { Wrote trace (K.held sink.old) (K.held sink.new) (λ g. g) result self.new (operate model op self.old) }
         ensures later { K.failed sink.old ≤ K.failed sink.new }
         ensures cause { IsErrOf result Halt.WriteFault → Rose (K.failed sink.old) (K.failed sink.new) }
+        ensures home { K.home sink.new ≡ K.home sink.old }
+        ensures below { K.below sink.old ≤ K.below sink.new }
     {
         match op {
             Op::Create {
@@ -64,6 +66,8 @@ impl State {
         ensures ran { Wrote trace (K.held sink.old) (K.held sink.new) (λ g. g) result self.new (operate model (ops.Create var local.now is.now document.now) self.old) }
         ensures later { K.failed sink.old ≤ K.failed sink.new }
         ensures cause { IsErrOf result Halt.WriteFault → Rose (K.failed sink.old) (K.failed sink.new) }
+        ensures home { K.home sink.new ≡ K.home sink.old }
+        ensures below { K.below sink.old ≤ K.below sink.new }
     {
         let _document = self.document_or_page(document)?;
         let number = self.open_queue(alloc)?;
@@ -86,6 +90,8 @@ impl State {
         ensures ran { Wrote trace (K.held sink.old) (K.held sink.new) (λ g. g) result self.new (operate model (ops.SetAttr node.now name value.now) self.old) }
         ensures later { K.failed sink.old ≤ K.failed sink.new }
         ensures cause { IsErrOf result Halt.WriteFault → Rose (K.failed sink.old) (K.failed sink.new) }
+        ensures home { K.home sink.new ≡ K.home sink.old }
+        ensures below { K.below sink.old ≤ K.below sink.new }
     {
         let n = self.element(node)?;
         let number = self.open_queue(alloc)?;
@@ -108,6 +114,8 @@ impl State {
         ensures ran { Wrote trace (K.held sink.old) (K.held sink.new) (λ g. g) result self.new (operate model (ops.Define name.now class.now base.now) self.old) }
         ensures later { K.failed sink.old ≤ K.failed sink.new }
         ensures cause { IsErrOf result Halt.WriteFault → Rose (K.failed sink.old) (K.failed sink.new) }
+        ensures home { K.home sink.new ≡ K.home sink.old }
+        ensures below { K.below sink.old ≤ K.below sink.new }
     {
         let k = self.class(class.as_str())?;
         let number = self.open_queue(alloc)?;
@@ -139,6 +147,8 @@ impl State {
         ensures ran { (o : Outcome IsState (Unit {0})) → Does outcome self.old o → Writes trace (K.held sink.old) (K.held sink.new) result self.new (finally_in o (drain_popped model number)) }
         ensures later { K.failed sink.old ≤ K.failed sink.new }
         ensures cause { IsErrOf result Halt.WriteFault → Rose (K.failed sink.old) (K.failed sink.new) }
+        ensures home { K.home sink.new ≡ K.home sink.old }
+        ensures below { K.below sink.old ≤ K.below sink.new }
     {
         match outcome {
             Ok(()) => {
@@ -166,6 +176,8 @@ impl State {
         ensures ran { (o : Outcome IsState ℕ) → Ends (λ n. n) outcome self.old o → Wrote trace (K.held sink.old) (K.held sink.new) (λ n. n) result self.new (finally_in o (drain_popped model number)) }
         ensures later { K.failed sink.old ≤ K.failed sink.new }
         ensures cause { IsErrOf result Halt.WriteFault → Rose (K.failed sink.old) (K.failed sink.new) }
+        ensures home { K.home sink.new ≡ K.home sink.old }
+        ensures below { K.below sink.old ≤ K.below sink.new }
     {
         match outcome {
             Ok(n) => {

@@ -70,6 +70,8 @@ impl Session {
         ensures part { OnErr result (AppendsPart (K.held sink.old) (K.held sink.new) (text self.trace (log_of (run_line model (self.line + 1) (reading bytes.now) self.state)))) }
         ensures later { K.failed sink.old ≤ K.failed sink.new }
         ensures cause { IsErrOf result Stop.WriteFault → Rose (K.failed sink.old) (K.failed sink.new) }
+        ensures home { K.home sink.new ≡ K.home sink.old }
+        ensures below { K.below sink.old ≤ K.below sink.new }
     {
         let Session {
             machine,

@@ -178,6 +178,36 @@ fn lines_are_run_before_the_source_is_asked_again(rt: HostRuntime) -> Result<(),
 }
 
 #[test]
+fn answers_are_passed_on_within_a_command(rt: HostRuntime) -> Result<(), Fail> {
+    let alloc = rt.alloc();
+    let value = repeated(alloc, "", "v", 4_000)?;
+    let mut script = repeated(
+        alloc,
+        "class A\nobserve A k\n",
+        "on A attribute : log @3\n",
+        20,
+    )?;
+    script.extend_from_slice(b"define x-a A\ncreate $e x-a\nsetattr $e k ")?;
+    script.extend_from_slice(&value)?;
+    script.push(b'\n')?;
+    let mut wanted = b"23: ok\nconstruct A\n24: #2\ncall #2 attribute \"k\" null \"".to_vec(alloc)?;
+    wanted.extend_from_slice(&value)?;
+    for _ in 0..20 {
+        wanted.extend_from_slice(b"\"\nlog \"")?;
+        wanted.extend_from_slice(&value)?;
+    }
+    wanted.extend_from_slice(b"\"\n25: ok\n")?;
+    let (status, text) = ran_failing(alloc, &script, 100_000, 0, 2)?;
+    assert_eq!(rt; status, Status::WriteFault);
+    assert_eq!(rt; text.len(), 65_536);
+    assert!(rt; wanted.as_slice().starts_with(text.as_slice()));
+    let (status, text) = ran_failing(alloc, &script, 100_000, 0, 3)?;
+    assert_eq!(rt; status, Status::Done);
+    assert!(rt; text.as_slice() == wanted.as_slice());
+    Ok(())
+}
+
+#[test]
 fn a_feed_gives_back_lines(rt: HostRuntime) -> Result<(), Fail> {
     let alloc = rt.alloc();
     let mut feed = Feed::make(alloc);

@@ -4,8 +4,8 @@ ghost use Rattle.ce_base.specs.Faults.{Rose};
 ghost use Rattle.page_runner.specs.Table.{RunMeets, RunsWhole, limit, status_of};
 ghost use Rattle.page_runner.specs.Words.{meaning};
 
+use crate::answers::{finish, take_piece};
 use crate::ask::ask;
-use crate::lines::{finish, take_piece};
 use crate::{End, Feed, Meaning, Session, Settings, Status};
 use ce_base::{Got, NoMemory, Sink, Source, Stop};
 use std::alloc::Global;

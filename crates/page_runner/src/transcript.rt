@@ -152,6 +152,8 @@ pub(crate) fn write_out<K: Sink>(
     ensures part { OnErr result (AppendsPart (K.held sink.old) (K.held sink.new) (shown trace e.now)) }
     ensures later { K.failed sink.old ≤ K.failed sink.new }
     ensures cause { IsErrOf result Stop.WriteFault → Rose (K.failed sink.old) (K.failed sink.new) }
+    ensures home { K.home sink.new ≡ K.home sink.old }
+    ensures below { K.below sink.old ≤ K.below sink.new }
 {
     if !trace && is_trace(e) {
         return Ok(());

@@ -1,4 +1,4 @@
-use Rattle.std.proofs.Common.{[], Err, arith}
+use Rattle.std.proofs.Common.{◌∙◌, [], Err, arith}
 use Rattle.std.proofs.lemmas.Result.{err_from_is_err_and}
 use Rattle.page_runner.proofs.HaltLaws.{did_trans, writes_trans}
 use Rattle.page_runner.proofs.DrainLaws.{backup_next, backup_halt}
@@ -8,6 +8,8 @@ pub loop-e-preserved : goal.loop-e-preserved
 loop-e-preserved g c = record {
   did = did_trans c.loop-e.invariant.did (backup_next _ _ _ _ _ _ _ c.in-Some.ensures.first (c.in_ok-drain_element.ensures.ran []));
   later = omega arith;
+  home = c.in_ok-drain_element.ensures.home ∙ c.loop-e.invariant.home;
+  below = omega arith;
 }
 
 pub returns-in_err-drain_element-clause-ran : goal.returns-in_err-drain_element-clause-ran

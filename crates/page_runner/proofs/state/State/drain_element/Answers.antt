@@ -20,6 +20,8 @@ loop-number-preserved-in_ok-react g c =
       did = λ es. did_trans (c.loop-number.invariant.did es) (element_next _ _ _ c.args.e es _ _ _ _ k c.in_ok-react.ensures.ran);
       backup = backup_stays _ _ _ _ c.react.new.self k c.in_ok-react.ensures.page ∙ c.loop-number.invariant.backup;
       later = omega arith;
+      home = c.in_ok-react.ensures.home ∙ c.loop-number.invariant.home;
+      below = omega arith;
     }
 
 pub loop-number-smaller : goal.loop-number-smaller
@@ -32,4 +34,6 @@ loop-number-preserved g c =
       did = λ es. did_trans (c.loop-number.invariant.did es) (element_next _ _ _ c.args.e es _ _ _ _ k c.in_ok-react.ensures.ran);
       backup = backup_stays _ _ _ _ c.react.new.self k c.in_ok-react.ensures.page ∙ c.loop-number.invariant.backup;
       later = omega arith;
+      home = c.in_ok-react.ensures.home ∙ c.loop-number.invariant.home;
+      below = omega arith;
     }

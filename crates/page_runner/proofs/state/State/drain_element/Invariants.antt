@@ -10,6 +10,8 @@ invariant-loop-number g l = record {
   did : (es : List ℕ) → Did l.trace (g.K.Sink.held l.initial.sink) (g.K.Sink.held l.sink) (drain model (l.e ∷ es) l.initial.self) (drain model (l.e ∷ es) l.self);
   backup : l.self.page.backup ≡ l.initial.self.page.backup;
   later : g.K.Sink.failed l.initial.sink ≤ g.K.Sink.failed l.sink;
+  home : g.K.Sink.home l.sink ≡ g.K.Sink.home l.initial.sink;
+  below : g.K.Sink.below l.initial.sink ≤ g.K.Sink.below l.sink;
 }
 
 abbrev pub decreases-loop-number : goal.decreases-loop-number

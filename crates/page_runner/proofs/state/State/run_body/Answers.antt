@@ -12,6 +12,8 @@ loop-action-preserved g c = record {
       c.loop-action.invariant.did c.in_ok-spend.ensures.step c.in_ok-act.ensures.step (did_flush c.args.trace _ _ tt c.act.new.self c.flush.new.self c.in_ok-flush.ensures.written c.in_ok-flush.ensures.state);
   page = ap (λ (s : State). s.page) c.in_ok-flush.ensures.state ∙ (c.in_ok-act.ensures.page ∙ (c.in_ok-spend.ensures.page ∙ c.loop-action.invariant.page));
   later = omega arith;
+  home = c.in_ok-flush.ensures.home ∙ c.loop-action.invariant.home;
+  below = omega arith;
 }
 
 pub returns-in_err-spend-clause-ran : goal.returns-in_err-spend-clause-ran

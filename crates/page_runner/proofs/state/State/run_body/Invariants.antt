@@ -8,4 +8,6 @@ invariant-loop-action g l = record {
   did : Did l.trace (g.K.Sink.held l.initial.sink) (g.K.Sink.held l.sink) (body l.args l.action-items l.initial.self) (body l.args (drop l.action-index l.action-items) l.self);
   page : l.self.page ≡ l.initial.self.page;
   later : g.K.Sink.failed l.initial.sink ≤ g.K.Sink.failed l.sink;
+  home : g.K.Sink.home l.sink ≡ g.K.Sink.home l.initial.sink;
+  below : g.K.Sink.below l.initial.sink ≤ g.K.Sink.below l.sink;
 }

@@ -1,7 +1,7 @@
 use Rattle.std.proofs.Common.{ap, length, length-append, arith}
 use Rattle.std.proofs.lemmas.Result.{IfOk-weaker, err_from_is_err_and}
 use Rattle.ce_model.proofs.Writing.{part_none}
-use Rattle.page_runner.proofs.lines.take_piece.Goals as goal
+use Rattle.page_runner.proofs.answers.take_piece.Goals as goal
 
 pub returns-in_err-piece-clause-part : goal.returns-in_err-piece-clause-part
 returns-in_err-piece-clause-part g c =
@@ -12,4 +12,4 @@ pub returns-clause-number : goal.returns-clause-number
 returns-clause-number g c =
     let fed = ap length c.in_ok-piece.ensures in
     let sum = length-append c.args.feed.now c.args.piece.now in
-    IfOk-weaker c.run_lines.result _ _ (λ r h. omega (arith, fed, sum, h)) c.run_lines.ensures.number
+    IfOk-weaker c.answer_lines.result _ _ (λ r h. omega (arith, fed, sum, h)) c.answer_lines.ensures.number

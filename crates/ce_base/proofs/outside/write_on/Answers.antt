@@ -1,0 +1,15 @@
+use Rattle.std.proofs.Common.{◌≤◌, ◌-◌, length, arith, ◌∙◌}
+use Rattle.std.proofs.lemmas.List.{take_rest, length-drop}
+use Rattle.ce_base.proofs.Written.{wrote_more}
+use Rattle.ce_base.proofs.outside.write_on.Goals as goal
+
+pub loop-count-preserved : goal.loop-count-preserved
+loop-count-preserved g c =
+    let more : c.in-Took.more ≤ length c.args.bytes.now - c.loop-count.count = rw (take_rest, length-drop) at c.in-Took.ensures.took.0 in
+    record {
+      count = omega (arith, more);
+      written = wrote_more (g.K.Sink.held c.args.sink.now) (g.K.Sink.held c.loop-count.sink) (g.K.Sink.held c.write.new.self) c.args.bytes.now c.loop-count.count c.in-Took.more c.loop-count.invariant.written (rw take_rest at c.in-Took.ensures.bytes);
+      later = omega arith;
+      home = c.write.ensures.home ∙ c.loop-count.invariant.home;
+      below = omega arith;
+    }
