@@ -1,0 +1,4 @@
+pub mod Laws
+pub mod Names
+pub mod Reserved
+pub mod Table

@@ -1,0 +1,17 @@
+//! The names of elements and attributes: which texts are local names, attribute names and custom
+//! elements' names.
+#![tactic(auto)]
+
+mod attr_name;
+mod custom_name;
+mod laws;
+mod local_name;
+mod name_char;
+mod reserved;
+#[cfg(test)]
+mod tests;
+
+pub use attr_name::is_attr_name;
+pub use custom_name::is_custom_name;
+pub use laws::custom_names_are_local_names;
+pub use local_name::is_local_name;
