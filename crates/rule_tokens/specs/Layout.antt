@@ -1,0 +1,110 @@
+-- How a line is laid out. In front stand spaces and tokens, each token with the space behind it. What comes
+-- last is nothing, or a token, or what is wrong with the quotes. (32 is a space, 34 a quote, 92 a backslash.)
+use Rattle.std.specs.Prelude.{◌≡◌, ◌≢◌, ℕ, true, false, List, [], ◌∷◌, ◌++◌, ◌⊎◌}
+use Rattle.rule_tokens.specs.declared.cutting.Raw.{Raw}
+use Rattle.rule_tokens.specs.Cut.{raw}
+
+-- between quotes: a character, or a backslash and the character that it protects
+pub data Piece : Type 0 where
+  Plain : ℕ → Piece
+  Guarded : ℕ → Piece
+
+abbrev pub pieces : List Piece → List ℕ
+pieces [] = []
+pieces (Plain c ∷ ps) = c ∷ pieces ps
+pieces (Guarded c ∷ ps) = 92 ∷ c ∷ pieces ps
+
+-- a quote or a backslash stands between quotes only where a backslash protects it
+abbrev pub ArePieces : List Piece → Type 0
+ArePieces [] = Unit {0}
+ArePieces (Plain c ∷ ps) = ((c ≢ 34) × (c ≢ 92)) × ArePieces ps
+ArePieces (Guarded c ∷ ps) = ArePieces ps
+
+-- no space and no quote
+abbrev pub AreBare : List ℕ → Type 0
+AreBare [] = Unit {0}
+AreBare (c ∷ cs) = ((c ≢ 32) × (c ≢ 34)) × AreBare cs
+
+-- a bare token: one or more such characters
+abbrev pub IsBare : List ℕ → Type 0
+IsBare [] = ⊥
+IsBare (c ∷ cs) = AreBare (c ∷ cs)
+
+-- a space, or a token and the space behind it
+pub data Front : Type 0 where
+  Space : Front
+  BareToken : List ℕ → Front
+  QuotedToken : List Piece → Front
+
+abbrev pub front : List Front → List ℕ
+front [] = []
+front (Space ∷ fs) = 32 ∷ front fs
+front (BareToken w ∷ fs) = w ++ 32 ∷ front fs
+front (QuotedToken ps ∷ fs) = 34 ∷ (pieces ps ++ 34 ∷ 32 ∷ front fs)
+
+abbrev pub AreFronts : List Front → Type 0
+AreFronts [] = Unit {0}
+AreFronts (Space ∷ fs) = AreFronts fs
+AreFronts (BareToken w ∷ fs) = IsBare w × AreFronts fs
+AreFronts (QuotedToken ps ∷ fs) = ArePieces ps × AreFronts fs
+
+-- the tokens in front
+abbrev pub raws : List Front → List Raw
+raws [] = []
+raws (Space ∷ fs) = raws fs
+raws (BareToken w ∷ fs) = raw false w ∷ raws fs
+raws (QuotedToken ps ∷ fs) = raw true (pieces ps) ∷ raws fs
+
+-- what comes last, behind the tokens in front, is so
+pub record Behind (IsLast : List ℕ → List Raw → Type 0) (line : List ℕ) (tokens : List Raw) : Type 0 where
+  pub fronts : List Front
+  pub fit : AreFronts fronts
+  pub last : List ℕ
+  pub last_tokens : List Raw
+  pub line_is : line ≡ front fronts ++ last
+  pub tokens_are : tokens ≡ raws fronts ++ last_tokens
+  pub is_last : IsLast last last_tokens
+
+-- nothing, or one more token
+abbrev pub IsEnd : List ℕ → List Raw → Type 0
+IsEnd last tokens =
+    ((last ≡ []) × (tokens ≡ []))
+    ⊎ ((IsBare last × (tokens ≡ raw false last ∷ []))
+    ⊎ ((ps : List Piece) × (ArePieces ps × (last ≡ 34 ∷ (pieces ps ++ 34 ∷ [])) × (tokens ≡ raw true (pieces ps) ∷ []))))
+
+-- the line is laid out as these tokens
+abbrev pub LaidOut : List ℕ → List Raw → Type 0
+LaidOut = Behind IsEnd
+
+-- a quoted token that has no end: it goes on to the end of the line, perhaps to a backslash that protects nothing
+abbrev pub HasNoEnd : List ℕ → Type 0
+HasNoEnd last = (ps : List Piece) × (tail : List ℕ) × (ArePieces ps × ((tail ≡ []) ⊎ (tail ≡ 92 ∷ [])) × (last ≡ 34 ∷ (pieces ps ++ tail)))
+
+-- a quoted token whose end is followed by something other than a space
+abbrev pub HasTextBehind : List ℕ → Type 0
+HasTextBehind last = (ps : List Piece) × (c : ℕ) × (more : List ℕ) × (ArePieces ps × (c ≢ 32) × (last ≡ 34 ∷ (pieces ps ++ 34 ∷ c ∷ more)))
+
+-- a bare token with a quote in it
+abbrev pub HasQuoteInside : List ℕ → Type 0
+HasQuoteInside last = (w : List ℕ) × (more : List ℕ) × (IsBare w × (last ≡ w ++ 34 ∷ more))
+
+-- what stands behind some spaces and tokens is so
+pub record Follows (Is : List ℕ → Type 0) (line : List ℕ) : Type 0 where
+  pub fronts : List Front
+  pub fit : AreFronts fronts
+  pub last : List ℕ
+  pub line_is : line ≡ front fronts ++ last
+  pub is : Is last
+
+abbrev pub OpenQuote : List ℕ → Type 0
+OpenQuote = Follows HasNoEnd
+
+abbrev pub TextAfterQuote : List ℕ → Type 0
+TextAfterQuote = Follows HasTextBehind
+
+abbrev pub QuoteInBare : List ℕ → Type 0
+QuoteInBare = Follows HasQuoteInside
+
+-- one of the three
+abbrev pub MisquotedBy : List ℕ → Type 0
+MisquotedBy line = OpenQuote line ⊎ (TextAfterQuote line ⊎ QuoteInBare line)

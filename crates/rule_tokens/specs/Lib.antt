@@ -1,0 +1,11 @@
+pub mod Callbacks
+pub mod Cases
+pub mod Cut
+pub mod Escapes
+pub mod Flags
+pub mod Gives
+pub mod Layout
+pub mod Operands
+pub mod Quoted
+pub mod Signs
+pub mod Tokens

@@ -1,0 +1,113 @@
+// Cuts a line at its spaces, and knows what stands between quotes.
+ghost use Rattle.std.specs.Prelude.{◌≡◌, ℕ, List};
+ghost use Rattle.rule_tokens.specs.Cut.{cut, Steps};
+ghost use Rattle.rule_tokens.specs.Gives.{GivesSeen};
+ghost use Rattle.rule_tokens.specs.declared.cutting.Within.TheVariants.{Gap};
+
+use crate::chars::Chars;
+use crate::{Bad, LineRefused};
+use std::alloc::Global;
+
+/// A token as it stands in the line, without its quotes.
+#[derive(Debug, Drop)]
+pub struct Raw {
+    pub quoted: bool,
+    pub chars: Chars,
+}
+
+/// Within what a character stands, with what came of its token before it.
+#[derive(Debug, Drop)]
+pub enum Within {
+    /// Between tokens.
+    Gap,
+    /// A bare token.
+    Bare(Chars),
+    /// A quoted token.
+    Quoted(Chars),
+    /// A quoted token, behind a backslash that protects what comes.
+    Protected(Chars),
+    /// Behind the end of a quoted token.
+    Closed,
+}
+
+#[tactic(auto, unfolding(crate::specs::Cut::cut))]
+fn step(alloc: Global, done: &mut Vec<Raw>, within: Within, c: char) -> Result<Within, LineRefused>
+    ensures { Steps done.old.items within c done.new.items result }
+{
+    match within {
+        Within::Gap => {
+            if c == ' ' {
+                return Ok(Within::Gap);
+            }
+            let mut chars = Chars::make(alloc);
+            if c == '"' {
+                return Ok(Within::Quoted(chars));
+            }
+            chars.push(c)?;
+            Ok(Within::Bare(chars))
+        }
+        Within::Bare(mut chars) => {
+            if c == ' ' {
+                done.push(Raw {
+                    quoted: false,
+                    chars,
+                })?;
+                return Ok(Within::Gap);
+            }
+            if c == '"' {
+                return Err(LineRefused::Bad(Bad::Quote));
+            }
+            chars.push(c)?;
+            Ok(Within::Bare(chars))
+        }
+        Within::Quoted(mut chars) => {
+            if c == '"' {
+                done.push(Raw {
+                    quoted: true,
+                    chars,
+                })?;
+                return Ok(Within::Closed);
+            }
+            chars.push(c)?;
+            if c == '\\' {
+                return Ok(Within::Protected(chars));
+            }
+            Ok(Within::Quoted(chars))
+        }
+        Within::Protected(mut chars) => {
+            chars.push(c)?;
+            Ok(Within::Quoted(chars))
+        }
+        Within::Closed => {
+            if c == ' ' {
+                return Ok(Within::Gap);
+            }
+            Err(LineRefused::Bad(Bad::Quote))
+        }
+    }
+}
+
+/// The tokens of a line as they stand in it, from left to right.
+#[tactic(auto, unfolding(crate::specs::Cut::cut))]
+pub(crate) fn cut(alloc: Global, line: &[char]) -> Result<Vec<Raw>, LineRefused>
+    ensures { GivesSeen (λ raws. raws.items) result (cut line.now Gap) }
+{
+    let mut done = Vec::new(alloc);
+    let mut within = Within::Gap;
+    for c in line {
+        within = step(alloc, &mut done, within, *c)?;
+    }
+    match within {
+        Within::Gap => Ok(done),
+        Within::Closed => Ok(done),
+        Within::Bare(chars) => {
+            done.push(Raw {
+                quoted: false,
+                chars,
+            })?;
+            Ok(done)
+        }
+        Within::Quoted(_) => Err(LineRefused::Bad(Bad::Quote)),
+        Within::Protected(_) => Err(LineRefused::Bad(Bad::Quote)),
+    }
+}

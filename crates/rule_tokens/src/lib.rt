@@ -1,0 +1,25 @@
+//! The lexical part of the script language: the tokens of a line, with their quotes and escapes, and what
+//! a token says as an operand.
+#![tactic(auto)]
+
+mod callback;
+mod chars;
+mod cutting;
+mod escapes;
+mod operand;
+mod quoting;
+mod refused;
+mod token;
+mod tokens;
+mod validity;
+
+pub use callback::{CallName, CallOrUpgrade};
+pub use operand::{Operand, Val, call_name, class_name, is_word, node, text, value, variable};
+pub use quoting::{push_quoted, quoted};
+pub use refused::{Bad, LineRefused};
+pub use token::{Token, Tokens};
+pub use tokens::tokens_of;
+pub use validity::flags;
+
+#[cfg(test)]
+mod tests;

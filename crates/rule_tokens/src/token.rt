@@ -1,0 +1,54 @@
+// Tokens.
+ghost use Rattle.std.specs.Prelude.{◌≡◌, ◌++◌, ◌∷◌, [], OnOk};
+
+use ce_base::{NoMemory, Text};
+use std::alloc::Global;
+use std::marker::Model;
+
+/// A token: the text that it says, and whether it stood in quotes.
+#[derive(Debug, Drop)]
+pub struct Token {
+    pub quoted: bool,
+    pub text: Text,
+}
+
+/// A list of tokens.
+#[derive(Debug, Drop)]
+pub struct Tokens {
+    items: Vec<Token>,
+}
+
+impl Model for Tokens {
+    ghost use Rattle.std.specs.Prelude.{List};
+    ghost use Rattle.rule_tokens.specs.declared.token.Token.{Token};
+
+    ghost Value = { List Token };
+
+    ghost view = { λ t. t.items.items };
+}
+
+impl Tokens {
+    /// No tokens.
+    pub fn make(alloc: Global) -> Tokens
+        ensures { result ≡ [] }
+    {
+        Tokens {
+            items: Vec::new(alloc),
+        }
+    }
+
+    /// Puts a token at the end.
+    pub fn push(&mut self, t: Token) -> Result<(), NoMemory>
+        ensures { OnOk result (self.new ≡ self.old ++ t ∷ []) }
+    {
+        self.items.push(t)?;
+        Ok(())
+    }
+
+    /// The tokens, borrowed.
+    pub fn as_slice(&self) -> &[Token]
+        ensures { result.now ≡ self.now }
+    {
+        self.items.as_slice()
+    }
+}

@@ -1,0 +1,148 @@
+// The tokens of a line, or what is wrong with it.
+ghost use Rattle.std.specs.Prelude.{◌≡◌, ℕ, List, IfOk, Ok, Option, Some, None, encode_utf8_all, option_copied, if◌then◌else◌};
+ghost use Rattle.std.specs.List.{list_any};
+ghost use Rattle.std.specs.Str.{chars, is_utf8};
+ghost use Rattle.rule_tokens.specs.Cases.{ReadsTo, RefusedFor};
+ghost use Rattle.rule_tokens.specs.Gives.{Gives, IfBad};
+ghost use Rattle.rule_tokens.specs.declared.token.Token.{Token};
+ghost use Rattle.rule_tokens.specs.Tokens.{has_bare_backslash, is_backslash, is_blank, is_control, lexed, token_of, tokens_in, tokens_of};
+
+use crate::cutting::{Raw, cut};
+use crate::escapes::unescape;
+use crate::{Bad, LineRefused, Token, Tokens};
+use ce_base::{NoMemory, Text};
+use std::alloc::{AllocError, Global};
+
+#[tactic(auto, using(crate::proofs::Utf8::utf8_tests))]
+fn text_in(bytes: &[u8]) -> Option<&str>
+    ensures { option_copied result ≡ (if is_utf8 bytes.now then Some bytes.now else None) }
+{
+    match std::str::from_utf8(bytes) {
+        Ok(text) => Some(text),
+        Err(_) => None,
+    }
+}
+
+#[tactic(auto, using(crate::proofs::Utf8::char_lists))]
+pub(crate) fn chars_in(alloc: Global, text: &str) -> Result<Vec<char>, AllocError>
+    ensures { IfOk result (λ v. v.items ≡ chars text.now) }
+{
+    text.chars().collect(alloc)
+}
+
+fn is_blank(line: &[char]) -> bool
+    ensures { result ≡ is_blank line.now }
+{
+    for c in line {
+        if *c != ' ' {
+            return *c == '#';
+        }
+    }
+    true
+}
+
+fn text_of(alloc: Global, chars: &[char]) -> Result<Text, NoMemory>
+    ensures { IfOk result (λ text. text ≡ encode_utf8_all chars.now) }
+{
+    let mut s = String::new(alloc);
+    for c in chars {
+        s.push(*c)?;
+    }
+    Text::of(alloc, s.as_str())
+}
+
+fn token_of(alloc: Global, raw: &Raw) -> Result<Token, LineRefused>
+    ensures { Gives result (token_of raw.now) }
+{
+    if raw.quoted {
+        let chars = unescape(alloc, raw.chars.as_slice())?;
+        let text = text_of(alloc, chars.as_slice())?;
+        return Ok(Token { quoted: true, text });
+    }
+    let text = text_of(alloc, raw.chars.as_slice())?;
+    Ok(Token {
+        quoted: false,
+        text,
+    })
+}
+
+fn tokens_in(alloc: Global, raws: &[Raw]) -> Result<Tokens, LineRefused>
+    ensures { Gives result (tokens_in raws.now) }
+{
+    let mut tokens = Tokens::make(alloc);
+    for raw in raws {
+        tokens.push(token_of(alloc, raw)?)?;
+    }
+    Ok(tokens)
+}
+
+fn has_control(chars: &[char]) -> bool
+    ensures { result ≡ list_any is_control chars.now }
+{
+    chars.iter().any(|c| c.is_ascii_control())
+}
+
+fn has_backslash(chars: &[char]) -> bool
+    ensures { result ≡ list_any is_backslash chars.now }
+{
+    chars.iter().any(|c| *c == '\\')
+}
+
+fn has_bare_backslash(raw: &Raw) -> bool
+    ensures { result ≡ has_bare_backslash raw.now }
+{
+    !raw.quoted && has_backslash(raw.chars.as_slice())
+}
+
+fn any_bare_backslash(raws: &[Raw]) -> bool
+    ensures { result ≡ list_any has_bare_backslash raws.now }
+{
+    raws.iter().any(|raw| has_bare_backslash(raw))
+}
+
+#[tactic(auto, unfolding(crate::specs::Tokens::tokens_of))]
+fn tokens_of_chars(alloc: Global, line: &[char]) -> Result<Tokens, LineRefused>
+    ensures { Gives result (tokens_of line.now) }
+{
+    let raws = cut(alloc, line)?;
+    let tokens = tokens_in(alloc, raws.as_slice())?;
+    if has_control(line) || any_bare_backslash(raws.as_slice()) {
+        return Err(LineRefused::Bad(Bad::Word));
+    }
+    Ok(tokens)
+}
+
+fn lex(alloc: Global, limit: usize, bytes: &[u8]) -> Result<Option<Tokens>, LineRefused>
+    ensures { Gives result (lexed limit bytes.now) }
+{
+    if bytes.len() > limit {
+        return Err(LineRefused::Bad(Bad::Long));
+    }
+    let Some(text) = text_in(bytes) else {
+        return Err(LineRefused::Bad(Bad::Utf8));
+    };
+    let line = chars_in(alloc, text)?;
+    if is_blank(line.as_slice()) {
+        return Ok(None);
+    }
+    Ok(Some(tokens_of_chars(alloc, line.as_slice())?))
+}
+
+/// The tokens of a line, without its end, or the first thing that is wrong with it. None for a blank line:
+/// one of spaces alone or of nothing, or a comment. A line may have `limit` bytes. `NoMemory` comes only
+/// where memory was refused, and tells nothing of the line.
+pub fn tokens_of(alloc: Global, limit: usize, bytes: &[u8]) -> Result<Option<Tokens>, LineRefused>
+    // What is wrong with the line is the first case that holds.
+    ensures refused { IfBad result (RefusedFor limit bytes.now) }
+
+    // What is read is what the line says, and no case holds.
+    ensures read { IfOk result (ReadsTo limit bytes.now) }
+
+    // What a line says without a fault is read, unless memory is refused: so a line says one thing at most.
+    ensures only { (said : Option (List Token)) → ReadsTo limit bytes.now said → Gives result (Ok said) }
+
+    // Which it is, as a function that computes.
+    ensures exact { Gives result (lexed limit bytes.now) }
+{
+    lex(alloc, limit, bytes)
+}

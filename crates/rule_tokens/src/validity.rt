@@ -1,0 +1,90 @@
+// Validity flags, as a token names them.
+ghost use Rattle.std.specs.Prelude.{◌≡◌, IfOk, map};
+ghost use Rattle.std.specs.List.{list_all, slice_split};
+ghost use Rattle.rule_tokens.specs.Flags.{flag_names, flags, is_comma, is_one_of, raised};
+ghost use Rattle.rule_tokens.specs.Gives.{GivesSeen, or_word};
+
+use crate::{Bad, LineRefused, Token};
+use ce_base::{Flags, NoMemory, Text, Texts};
+use std::alloc::{AllocError, Global};
+
+fn is_flag_name(name: &str) -> bool
+    ensures { result ≡ is_one_of flag_names name.now }
+{
+    match name {
+        "valueMissing" => true,
+        "typeMismatch" => true,
+        "patternMismatch" => true,
+        "tooLong" => true,
+        "tooShort" => true,
+        "rangeUnderflow" => true,
+        "rangeOverflow" => true,
+        "stepMismatch" => true,
+        "badInput" => true,
+        "customError" => true,
+        _ => false,
+    }
+}
+
+fn are_flag_names(names: &[Text]) -> bool
+    ensures { result ≡ list_all (is_one_of flag_names) names.now }
+{
+    names.iter().all(|name| is_flag_name(name.as_str()))
+}
+
+fn has(names: &[Text], flag: &str) -> bool
+    ensures { result ≡ is_one_of names.now flag.now }
+{
+    names.iter().any(|name| flag == name.as_str())
+}
+
+fn raised(names: &[Text]) -> Flags
+    ensures { result.0 ≡ raised names.now }
+{
+    Flags([
+        has(names, "valueMissing"),
+        has(names, "typeMismatch"),
+        has(names, "patternMismatch"),
+        has(names, "tooLong"),
+        has(names, "tooShort"),
+        has(names, "rangeUnderflow"),
+        has(names, "rangeOverflow"),
+        has(names, "stepMismatch"),
+        has(names, "badInput"),
+        has(names, "customError"),
+    ])
+}
+
+fn pieces(alloc: Global, text: &str) -> Result<Vec<&str>, AllocError>
+    ensures { IfOk result (λ v. map (λ x. x.now) v.items ≡ slice_split is_comma text.now) }
+{
+    text.split(',').collect(alloc)
+}
+
+fn names_in(alloc: Global, text: &str) -> Result<Texts, NoMemory>
+    ensures { IfOk result (λ names. names ≡ slice_split is_comma text.now) }
+{
+    let parts = pieces(alloc, text)?;
+    let mut names = Texts::make(alloc);
+    for part in &parts {
+        names.push(alloc, Text::of(alloc, part)?)?;
+    }
+    Ok(names)
+}
+
+/// The flags that the token names: `none`, or names joined by commas. A flag named twice is raised once.
+pub fn flags(alloc: Global, t: &Token) -> Result<Flags, LineRefused>
+    ensures { GivesSeen (λ f. f.0) result (or_word (flags t.now)) }
+{
+    if t.quoted {
+        return Err(LineRefused::Bad(Bad::Word));
+    }
+    if t.text.as_str() == "none" {
+        return Ok(raised(&[]));
+    }
+    let names = names_in(alloc, t.text.as_str())?;
+    if !are_flag_names(names.as_slice()) {
+        return Err(LineRefused::Bad(Bad::Word));
+    }
+    Ok(raised(names.as_slice()))
+}
