@@ -7,6 +7,7 @@ pub mod CommandLaws
 pub mod MachineLaws
 pub mod LineLaws
 pub mod FeedLaws
+pub mod GivenLaws
 pub mod SittingLaws
 pub mod LoopLaws
 pub mod GatheredLaws

@@ -70,6 +70,6 @@ lines_of-front front rest =
     (more ++ last, ap (λ l. l ++ last) (whole_from-append [] front rest) ∙ append_assoc (whole_lines front) more last)
 
 -- what is left, if anything, is the last line
-pub last_line-some : (feed line : List ℕ) → line ≡ feed → 0 < length line → last_line feed ≡ line ∷ []
-last_line-some [] line is some = absurd (omega (arith, ap length is))
-last_line-some (b ∷ feed) line is some = ap (λ l. l ∷ []) (sym is)
+pub last_line-some : (feed : List ℕ) → 0 < length feed → last_line feed ≡ feed ∷ []
+last_line-some [] some = absurd (omega arith)
+last_line-some (b ∷ feed) some = refl

@@ -1,21 +1,24 @@
 -- What a loop over the lines of a feed has done.
-use Rattle.std.proofs.Common.{◌≡◌, ◌≢◌, ◌≤◌, ◌+◌, ℕ, List, [], ◌∷◌, ◌++◌, ◌||◌, length, refl, sym, ap, subst, ◌∙◌, append_assoc, append-nil, arith, length-append, All}
+use Rattle.std.proofs.Common.{◌≡◌, ◌≢◌, ◌≤◌, ◌<◌, ◌+◌, ℕ, List, [], ◌∷◌, ◌++◌, ◌||◌, length, refl, sym, ap, subst, ◌∙◌, append_assoc, append-nil, arith, length-append, All}
 use Rattle.std.proofs.KnownBytes.{Appends-nil}
 use Rattle.std.specs.declared.option.Option.{Option}
 use Rattle.ce_base.specs.Outside.{AppendsPart}
 use Rattle.rule_script.specs.Reading.{reading}
-use Rattle.ce_model.specs.Lines.{whole_lines, last_part}
+use Rattle.rule_script.specs.Tokens.{longest}
+use Rattle.ce_model.specs.Lines.{whole_lines, last_part, last_line}
 use Rattle.ce_model.specs.Model.{model}
 use Rattle.ce_model.specs.Script.{is_bad, readings, run_from}
 use Rattle.ce_model.specs.Session.{run_line, log_of}
 use Rattle.ce_model.specs.Text.{text}
 use Rattle.ce_model.specs.Written.{Did}
+use Rattle.page_runner.specs.Feed.{given, GivesLine}
 use Rattle.page_runner.specs.Ran.{Answered, Drained, answers}
 use Rattle.page_runner.specs.Sitting.{Sitting, outcome_of}
 use Rattle.page_runner.specs.declared.end.End.{End}
 use Rattle.page_runner.specs.declared.end.End.TheVariants.{Replied, FuelSpent}
-use Rattle.page_runner.proofs.LineLaws.{whole_lines-line, last_part-line, whole_lines-no_feed, last_part-no_feed}
-use Rattle.page_runner.proofs.SittingLaws.{ran_line, answered_nothing, answered_more, answered_spent, answered_part}
+use Rattle.page_runner.proofs.GivenLaws.{reading_given, reading_line}
+use Rattle.page_runner.proofs.LineLaws.{last_line-some, whole_lines-line, last_part-line, whole_lines-no_feed, last_part-no_feed}
+use Rattle.page_runner.proofs.SittingLaws.{ran_line, answers_same, answered_same, answered_nothing, answered_more, answered_spent, answered_part}
 use Rattle.ce_model.proofs.FramedSteps.{framed_run_lines}
 use Rattle.ce_model.proofs.Writing.{part_then}
 
@@ -48,35 +51,44 @@ runs_nothing s feed held empty = record {
   number = omega arith;
 }
 
-first_line : (feed line feed' : List ℕ) → feed ≡ line ++ 10 ∷ feed' → All (λ b. b ≢ 10) line → whole_lines feed ≡ line ∷ whole_lines feed'
-first_line feed line feed' is clean = ap whole_lines is ∙ whole_lines-line line feed' clean
+-- the line that was given is the first one
+first_line : (feed feed' line : List ℕ) (gives : GivesLine longest feed feed' line) → whole_lines feed ≡ gives.whole ∷ whole_lines feed'
+first_line feed feed' line gives = ap whole_lines gives.split ∙ whole_lines-line gives.whole feed' gives.clean
+
+-- what was given of the first line says what the line says
+reads_first : (feed feed' line : List ℕ) (gives : GivesLine longest feed feed' line) (more : List (List ℕ)) → readings (line ∷ more) ≡ readings (gives.whole ∷ more)
+reads_first feed feed' line gives more = ap (λ said. said ∷ readings more) (reading_line feed feed' line gives)
 
 -- one more line
 pub runs_line : (a s t : Sitting) (fed feed feed' line : List ℕ) (held mid held' : Option (List ℕ))
-    → RunsOn a s fed feed held mid → feed ≡ line ++ 10 ∷ feed' → All (λ b. b ≢ 10) line
+    → RunsOn a s fed feed held mid → GivesLine longest feed feed' line
     → Did s.trace mid held' (run_line model (s.line + 1) (reading line) s.state) (outcome_of Replied t.state)
     → t.state.log ≡ [] → t.trace ≡ s.trace → t.line ≡ s.line + 1 → t.bad ≡ (s.bad || is_bad (reading line))
     → RunsOn a t fed feed' held held'
-runs_line a s t fed feed feed' line held mid held' runs is clean did empty trace number bad = record {
-  lines = runs.lines ++ line ∷ [];
-  split = runs.split ∙ (ap (λ l. runs.lines ++ l) (first_line feed line feed' is clean) ∙ sym (append_assoc runs.lines (line ∷ []) (whole_lines feed')));
-  done = answered_more a s t runs.lines (line ∷ []) Replied held mid held' runs.done (answered_line s t Replied line mid held' did empty trace number bad);
-  part = runs.part ∙ (ap last_part is ∙ last_part-line line feed' clean);
-  number = omega (arith, runs.number, number, ap length is, length-append line (10 ∷ feed'));
-}
+runs_line a s t fed feed feed' line held mid held' runs gives did empty trace number bad =
+    let front = answered_line s t Replied line mid held' did empty trace number bad in
+    let one = answered_same s t (line ∷ []) (gives.whole ∷ []) Replied mid held' (reads_first feed feed' line gives []) front in
+    record {
+      lines = runs.lines ++ gives.whole ∷ [];
+      split = runs.split ∙ (ap (λ l. runs.lines ++ l) (first_line feed feed' line gives) ∙ sym (append_assoc runs.lines (gives.whole ∷ []) (whole_lines feed')));
+      done = answered_more a s t runs.lines (gives.whole ∷ []) Replied held mid held' runs.done one;
+      part = runs.part ∙ (ap last_part gives.split ∙ last_part-line gives.whole feed' gives.clean);
+      number = omega (arith, runs.number, number, ap length gives.split, length-append gives.whole (10 ∷ feed'));
+    }
 
 -- the fuel is spent in a line
 pub runs_spent : (a s t : Sitting) (fed feed feed' line : List ℕ) (held mid held' : Option (List ℕ))
-    → RunsOn a s fed feed held mid → feed ≡ line ++ 10 ∷ feed' → All (λ b. b ≢ 10) line
+    → RunsOn a s fed feed held mid → GivesLine longest feed feed' line
     → Did s.trace mid held' (run_line model (s.line + 1) (reading line) s.state) (outcome_of FuelSpent t.state)
     → t.state.log ≡ [] → t.trace ≡ s.trace → t.line ≡ s.line + 1 → t.bad ≡ (s.bad || is_bad (reading line))
     → Answered a (whole_lines fed) FuelSpent t held held'
-runs_spent a s t fed feed feed' line held mid held' runs is clean did empty trace number bad =
+runs_spent a s t fed feed feed' line held mid held' runs gives did empty trace number bad =
     let P : List (List ℕ) → Type 0 = λ l. Answered a l FuelSpent t held held' in
-    let one = answered_line s t FuelSpent line mid held' did empty trace number bad in
-    let rest = answered_spent s t (line ∷ []) (whole_lines feed') mid held' one in
-    let lines : whole_lines fed ≡ runs.lines ++ (line ∷ whole_lines feed') = runs.split ∙ ap (λ l. runs.lines ++ l) (first_line feed line feed' is clean) in
-    subst P (sym lines) (answered_more a s t runs.lines (line ∷ whole_lines feed') FuelSpent held mid held' runs.done rest)
+    let front = answered_line s t FuelSpent line mid held' did empty trace number bad in
+    let one = answered_same s t (line ∷ []) (gives.whole ∷ []) FuelSpent mid held' (reads_first feed feed' line gives []) front in
+    let rest = answered_spent s t (gives.whole ∷ []) (whole_lines feed') mid held' one in
+    let lines : whole_lines fed ≡ runs.lines ++ (gives.whole ∷ whole_lines feed') = runs.split ∙ ap (λ l. runs.lines ++ l) (first_line feed feed' line gives) in
+    subst P (sym lines) (answered_more a s t runs.lines (gives.whole ∷ whole_lines feed') FuelSpent held mid held' runs.done rest)
 
 -- all lines ran
 pub runs_all : (a s : Sitting) (fed feed : List ℕ) (held held' : Option (List ℕ))
@@ -101,9 +113,15 @@ runs_stop a s fed feed held held' runs = runs_front a s fed feed held held' held
 
 -- in a line
 pub runs_part : (a s : Sitting) (fed feed feed' line : List ℕ) (held mid held' : Option (List ℕ))
-    → RunsOn a s fed feed held mid → feed ≡ line ++ 10 ∷ feed' → All (λ b. b ≢ 10) line
+    → RunsOn a s fed feed held mid → GivesLine longest feed feed' line
     → AppendsPart mid held' (text s.trace (log_of (run_line model (s.line + 1) (reading line) s.state)))
     → AppendsPart held held' (answers a (whole_lines fed))
-runs_part a s fed feed feed' line held mid held' runs is clean part =
-    let P : List (List ℕ) → Type 0 = λ l. AppendsPart mid held' (answers s l) in
-    runs_front a s fed feed held mid held' runs (subst P (sym (first_line feed line feed' is clean)) (part_lines s line (whole_lines feed') mid held' part))
+runs_part a s fed feed feed' line held mid held' runs gives part =
+    let P : List ℕ → Type 0 = λ l. AppendsPart mid held' l in
+    let same : answers s (line ∷ whole_lines feed') ≡ answers s (whole_lines feed) =
+    answers_same s (line ∷ whole_lines feed') (gives.whole ∷ whole_lines feed') (reads_first feed feed' line gives (whole_lines feed')) ∙ ap (answers s) (sym (first_line feed feed' line gives)) in
+    runs_front a s fed feed held mid held' runs (subst P same (part_lines s line (whole_lines feed') mid held' part))
+
+-- what was given of what is left at the end says what the last line says
+pub reads_last : (feed line : List ℕ) → line ≡ given longest feed → 0 < length feed → readings (line ∷ []) ≡ readings (last_line feed)
+reads_last feed line cut some = ap (λ said. said ∷ []) (ap reading cut ∙ reading_given feed) ∙ ap readings (sym (last_line-some feed some))

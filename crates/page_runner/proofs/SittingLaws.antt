@@ -2,16 +2,17 @@
 use Rattle.std.proofs.Common.{◌≡◌, ℕ, ◌+◌, Bool, false, true, ◌||◌, List, [], ◌∷◌, ◌++◌, length, refl, sym, ap, subst, ◌∙◌, append_assoc, append-nil, add-zero, add_assoc, arith, length-append}
 use Rattle.std.proofs.KnownBytes.{Appends-nil, Appends-trans}
 use Rattle.std.proofs.Math.Bool.{or_assoc}
-use Rattle.std.proofs.lemmas.List.{map-append}
+use Rattle.std.proofs.lemmas.List.{map-append, length-map}
 use Rattle.std.proofs.lemmas.List.Folds.{list_any-append}
 use Rattle.std.specs.Io.KnownBytes.{Appends}
+use Rattle.std.specs.List.{list_any}
 use Rattle.std.specs.declared.option.Option.{Option}
 use Rattle.ce_base.specs.Outside.{AppendsPart, IsPrefix}
 use Rattle.rule_script.specs.Reading.{reading}
 use Rattle.ce_model.specs.declared.event.Event.{Event}
 use Rattle.ce_model.specs.Model.{model}
 use Rattle.ce_model.specs.Script.{run_from, readings, has_bad, is_bad}
-use Rattle.ce_model.specs.Session.{run_line, log_of}
+use Rattle.ce_model.specs.Session.{run_line, run_lines, log_of}
 use Rattle.ce_model.specs.State.{State}
 use Rattle.ce_model.specs.Steps.{Goes, Throws, Spent, then_do}
 use Rattle.ce_model.specs.Text.{text}
@@ -119,6 +120,25 @@ answers_front a b xs ys Replied events ran = (answers b ys, sym (answers_more a 
 answers_front a b xs ys FuelSpent events ran = ([], append-nil (text a.trace events) ∙ sym (ran_answers a b (xs ++ ys) FuelSpent events (ran_spent a b xs ys events ran)))
 
 -- ---- with what was written
+
+-- lines that say the same write the same
+pub answers_same : (s : Sitting) (xs ys : List (List ℕ)) → readings xs ≡ readings ys → answers s xs ≡ answers s ys
+answers_same s xs ys same = ap (λ said. text s.trace (log_of (run_lines model (s.line + 1) said s.state))) same
+
+pub answered_same : (s t : Sitting) (xs ys : List (List ℕ)) (end : End) (held held' : Option (List ℕ)) → readings xs ≡ readings ys → Answered s xs end t held held' → Answered s ys end t held held'
+answered_same s t xs ys end held held' same done =
+    let as_many : length xs ≡ length ys = sym (length-map xs reading) ∙ (ap length same ∙ length-map ys reading) in
+    record {
+      events = done.events;
+      ran = record {
+        same = sym (ap (λ said. run_lines model (s.line + 1) said s.state) same) ∙ done.ran.same;
+        empty = done.ran.empty;
+        trace = done.ran.trace;
+        line = λ goes. done.ran.line goes ∙ ap (λ n. s.line + n) as_many;
+        bad = λ goes. done.ran.bad goes ∙ ap (λ said. s.bad || list_any is_bad said) same;
+      };
+      wrote = done.wrote;
+    }
 
 pub answered_nothing : (s : Sitting) (held : Option (List ℕ)) → s.state.log ≡ [] → Answered s [] Replied s held held
 answered_nothing s held empty = record { events = []; ran = ran_nothing s empty; wrote = Appends-nil held }

@@ -4,5 +4,6 @@ pub mod HaltsOf
 pub mod Steps
 pub mod Operands
 pub mod Ran
+pub mod Feed
 pub mod Words
 pub mod Table

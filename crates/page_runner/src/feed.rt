@@ -1,14 +1,19 @@
-// Bytes that come in pieces, given back in whole lines.
-ghost use Rattle.std.specs.Prelude.{◌≡◌, ◌≢◌, ◌≤◌, ◌<◌, ◌++◌, ◌∷◌, [], ℕ, drop, length, slice_index, vec_len, IfOk, OnOk, IfSome, IfNone, All};
+// Bytes that come in pieces, given back line by line.
+ghost use Rattle.std.specs.Prelude.{◌≡◌, ◌≢◌, ◌≤◌, ◌<◌, ◌++◌, [], ℕ, drop, length, slice_index, vec_len, IfOk, OnOk, IfSome, OnSome, IfNone, All};
+ghost use Rattle.rule_script.specs.Tokens.{longest};
+ghost use Rattle.page_runner.specs.Feed.{GivesLine, given};
 
 use ce_base::{Bytes, NoMemory};
 use std::alloc::Global;
 use std::marker::Model;
 
-/// The bytes that were fed and not given back. A contract sees them as a list.
+// How many bytes a line may have. Of a longer one a byte more is given, which shows that it is too long.
+const LONGEST: usize = 4096;
+
+/// The bytes that were fed and whose lines were not given back. A contract sees them as a list.
 ///
-/// The time is linear in what is fed: each byte is searched once, and no more bytes are moved than were
-/// given back since the last move.
+/// The time is linear in what is fed: each byte is searched once, no more bytes are moved to the front than
+/// have left since the last move, and of a line at most 4097 bytes are copied.
 #[derive(Debug, Drop)]
 pub struct Feed {
     bytes: Vec<u8>,
@@ -53,10 +58,10 @@ impl Feed {
         Ok(())
     }
 
-    /// The next whole line, without its line feed. None exactly where no line feed is left.
+    /// The next line that a line feed ends, without it: of one of more than 4096 bytes the first 4097. None
+    /// exactly where no line feed is left.
     pub fn next_line(&mut self, alloc: Global) -> Result<Option<Bytes>, NoMemory>
-        ensures line { IfOk result (λ o. IfSome o (λ line. self.old ≡ line ++ 10 ∷ self.new)) }
-        ensures no_feed { IfOk result (λ o. IfSome o (λ line. All (λ b. b ≢ 10) line)) }
+        ensures line { IfOk result (λ o. IfSome o (λ line. GivesLine longest self.old self.new line)) }
         ensures none { IfOk result (λ o. IfNone o (self.new ≡ self.old)) }
         ensures all { IfOk result (λ o. IfNone o (All (λ b. b ≢ 10) self.old)) }
     {
@@ -66,7 +71,7 @@ impl Feed {
                 Ok(None)
             }
             Some(end) => {
-                let line = self.bytes[self.start..end].to_vec(alloc)?;
+                let line = front(&self.bytes[self.start..end], LONGEST).to_vec(alloc)?;
                 self.start = end + 1;
                 self.searched = end + 1;
                 Ok(Some(Bytes::of(line)))
@@ -74,20 +79,44 @@ impl Feed {
         }
     }
 
-    /// All that is left, if anything. It takes no memory.
+    /// All that is left, if anything: of more than 4096 bytes the first 4097. It takes no memory.
     pub fn rest(self) -> Option<Bytes>
-        ensures some { IfSome result (λ rest. rest ≡ self) }
+        ensures some { IfSome result (λ rest. rest ≡ given longest self) }
+        ensures left { OnSome result (0 < length self) }
         ensures none { IfNone result (self ≡ []) }
-        ensures line { IfSome result (λ rest. 0 < length rest) }
     {
         let mut bytes = self.bytes;
-        drop_front(&mut bytes, self.start);
+        keep_front(&mut bytes, self.start, LONGEST);
         if bytes.is_empty() {
             None
         } else {
             Some(Bytes::of(bytes))
         }
     }
+}
+
+// What is given of a line.
+#[tactic(auto, unfolding(crate::specs::Feed::given))]
+fn front(line: &[u8], limit: usize) -> &[u8]
+    ensures { result.now ≡ given limit line.now }
+{
+    if line.len() > limit {
+        &line[..limit + 1]
+    } else {
+        line
+    }
+}
+
+// Leaves what is given of the bytes from a place on, in place.
+#[tactic(auto, unfolding(crate::specs::Feed::given))]
+fn keep_front(bytes: &mut Vec<u8>, start: usize, limit: usize)
+    requires { start ≤ vec_len bytes.old }
+    ensures { bytes.new.items ≡ given limit (drop start bytes.old.items) }
+{
+    if bytes.len() - start > limit {
+        bytes.truncate(start + limit + 1);
+    }
+    drop_front(bytes, start);
 }
 
 // Takes so many bytes off the front, in place.

@@ -220,3 +220,24 @@ fn a_feed_gives_back_lines(rt: HostRuntime) -> Result<(), Fail> {
     assert_eq!(rt; rest.as_slice(), b"d".as_slice());
     Ok(())
 }
+
+#[test]
+fn a_feed_gives_the_first_bytes_of_a_long_line(rt: HostRuntime) -> Result<(), Fail> {
+    let alloc = rt.alloc();
+    for (length, given) in [(4096, 4096), (4097, 4097), (5000, 4097)] {
+        let mut line = b"first".to_vec(alloc)?;
+        line.resize(length, b'x')?;
+        let mut feed = Feed::make(alloc);
+        feed.piece(alloc, &line)?;
+        feed.piece(alloc, b"\nabc\n")?;
+        feed.piece(alloc, &line)?;
+        let long = feed.next_line(alloc)?.ok_or("a long line")?;
+        assert_eq!(rt; long.as_slice().len(), given);
+        assert!(rt; line.as_slice().starts_with(long.as_slice()));
+        let next = feed.next_line(alloc)?.ok_or("the next line")?;
+        assert_eq!(rt; next.as_slice(), b"abc".as_slice());
+        let rest = feed.rest().ok_or("a rest")?;
+        assert!(rt; rest.as_slice() == long.as_slice());
+    }
+    Ok(())
+}

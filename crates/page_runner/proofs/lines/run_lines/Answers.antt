@@ -18,26 +18,23 @@ returns-in_err-line-clause-part g c =
 
 pub returns-in_err-next-clause-part : goal.returns-in_err-next-clause-part
 returns-in_err-next-clause-part g c =
-    let is = rw c.in-Some.is at c.in_ok-line.ensures.line in
-    let clean = rw c.in-Some.is at c.in_ok-line.ensures.no_feed in
+    let gives = rw c.in-Some.is at c.in_ok-line.ensures.line in
     let p = err_from_is_err_and c.from_residual-in_err-next.result c.from_residual-in_err-next.ensures.1 in
     rw p.1 (runs_part _ _ _ _ c.next_line.new.self c.as_slice.result.now _ _ _ c.loop-session.invariant.runs
-    (rw c.as_slice.ensures is) (rw c.as_slice.ensures clean) c.in_err-next.ensures.part)
+    (rw c.as_slice.ensures gives) c.in_err-next.ensures.part)
 
 pub returns-in-FuelSpent-clause-ran : goal.returns-in-FuelSpent-clause-ran
 returns-in-FuelSpent-clause-ran g c =
-    let is = rw c.in-Some.is at c.in_ok-line.ensures.line in
-    let clean = rw c.in-Some.is at c.in_ok-line.ensures.no_feed in
+    let gives = rw c.in-Some.is at c.in_ok-line.ensures.line in
     rw c.in-FuelSpent.is (runs_spent _ _ c.in_ok-next.next _ _ c.next_line.new.self c.as_slice.result.now _ _ _ c.loop-session.invariant.runs
-    (rw c.as_slice.ensures is) (rw c.as_slice.ensures clean) (rw c.in-FuelSpent.is at c.in_ok-next.ensures.ran) c.in_ok-next.ensures.empty c.in_ok-next.ensures.trace c.in_ok-next.ensures.number c.in_ok-next.ensures.bad)
+    (rw c.as_slice.ensures gives) (rw c.in-FuelSpent.is at c.in_ok-next.ensures.ran) c.in_ok-next.ensures.empty c.in_ok-next.ensures.trace c.in_ok-next.ensures.number c.in_ok-next.ensures.bad)
 
 pub loop-session-preserved : goal.loop-session-preserved
 loop-session-preserved g c =
-    let is = rw c.in-Some.is at c.in_ok-line.ensures.line in
-    let clean = rw c.in-Some.is at c.in_ok-line.ensures.no_feed in
+    let gives = rw c.in-Some.is at c.in_ok-line.ensures.line in
     record {
       runs = runs_line _ _ c.in_ok-next.next _ _ c.next_line.new.self c.as_slice.result.now _ _ _ c.loop-session.invariant.runs
-          (rw c.as_slice.ensures is) (rw c.as_slice.ensures clean) (rw c.in_default-end.is at c.in_ok-next.ensures.ran) c.in_ok-next.ensures.empty c.in_ok-next.ensures.trace c.in_ok-next.ensures.number c.in_ok-next.ensures.bad;
+          (rw c.as_slice.ensures gives) (rw c.in_default-end.is at c.in_ok-next.ensures.ran) c.in_ok-next.ensures.empty c.in_ok-next.ensures.trace c.in_ok-next.ensures.number c.in_ok-next.ensures.bad;
       home = c.in_ok-next.ensures.home ∙ c.loop-session.invariant.home;
       below = omega arith;
       later = omega arith;

@@ -1,0 +1,45 @@
+-- What is given of a line says what the line says.
+use Rattle.std.proofs.Common.{◌≡◌, ◌<◌, ◌≤◌, ◌+◌, ℕ, List, [], ◌∷◌, true, Err, nat_lt, length, refl, sym, ap, ◌∙◌, inl, inr, arith}
+use Rattle.std.proofs.lemmas.Bool.{cases_lt}
+use Rattle.std.proofs.lemmas.Bool.Decides.{nat_tests}
+use Rattle.std.proofs.lemmas.List.{take_all, length-take}
+use Rattle.rule_script.specs.Reading.{reading}
+use Rattle.rule_script.specs.Tokens.{longest}
+use Rattle.rule_script.specs.declared.refused.Bad.TheVariants.{Later}
+use Rattle.page_runner.specs.Feed.{given, GivesLine}
+
+-- a line within the limit is given whole
+pub given_within : (limit : ℕ) (line : List ℕ) → length line ≤ limit → given limit line ≡ line
+unfolding given
+given_within limit line within = take_all (limit + 1) line (omega arith)
+
+-- what is given of a line over the limit is over it too
+pub given_over : (limit : ℕ) (line : List ℕ) → limit < length line → limit < length (given limit line)
+unfolding given
+given_over limit line over = omega (arith, length-take (limit + 1) line)
+
+-- where something is given something is there, and where nothing is given nothing is
+pub given_some : (limit : ℕ) (line : List ℕ) → 0 < length (given limit line) → 0 < length line
+unfolding given
+given_some limit line some = omega (arith, length-take (limit + 1) line)
+
+pub given_none : (limit : ℕ) (line : List ℕ) → length (given limit line) ≡ 0 → line ≡ []
+unfolding given
+given_none limit [] none = refl
+given_none limit (b ∷ line) none = absurd (omega (arith, none, length-take (limit + 1) (b ∷ line)))
+
+-- a line over the limit is refused
+reading_over : (line : List ℕ) → longest < length line → reading line ≡ Err Later
+reading_over line over =
+    let long : nat_lt longest (length line) ≡ true = grind (arith, nat_tests) in
+    rw long refl
+
+-- so reading what is given of a line is reading the line
+pub reading_given : (line : List ℕ) → reading (given longest line) ≡ reading line
+reading_given line = elim (cases_lt longest (length line)) [
+  | inl over ↦ reading_over (given longest line) (given_over longest line over) ∙ sym (reading_over line over)
+  | inr within ↦ ap reading (given_within longest line within)
+]
+
+pub reading_line : (old new line : List ℕ) (gives : GivesLine longest old new line) → reading line ≡ reading gives.whole
+reading_line old new line gives = ap reading gives.cut ∙ reading_given gives.whole
