@@ -121,6 +121,7 @@ fn the_first_fault_is_told(rt: HostRuntime) -> Result<(), Fail> {
         ("\\", "Word"),
         ("a \u{7f}", "Word"),
         ("\t", "Word"),
+        ("a \u{c}", "Word"),
         ("a\r", "Word"),
         ("\"\u{1}\"", "Word"),
         ("\"\\\\\" a", "\"\\|a|"),
