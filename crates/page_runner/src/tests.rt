@@ -65,10 +65,11 @@ fn faults_are_thrown_and_lines_refused(rt: HostRuntime) -> Result<(), Fail> {
 
 #[test]
 fn odd_lines_are_refused_and_the_next_ones_run(rt: HostRuntime) -> Result<(), Fail> {
-    let script = b"create $a p\r\n\0\n\xff\n# \xc3\x81 \n\n  \ncreate $a p".as_slice();
+    let script =
+        b"create $a p\r\n\0\n\xff\ncreate $a p\rcreate $b p\n# \xc3\x81 \r\n\n  \ncreate $a p".as_slice();
     let (status, text) = ran(rt.alloc(), script, 3)?;
     assert_eq!(rt; status, Status::BadLines);
-    let wanted = b"1: bad later\n2: bad later\n3: bad later\n7: #2\n".as_slice();
+    let wanted = b"1: bad later\n2: bad later\n3: bad later\n4: bad later\n8: #2\n".as_slice();
     assert_eq!(rt; text.as_slice(), wanted);
     Ok(())
 }
