@@ -1,7 +1,7 @@
 -- A line in the middle of bytes.
 use Rattle.std.proofs.Common.{◌≡◌, ◌≢◌, ◌≤◌, ◌<◌, ◌+◌, ◌-◌, ℕ, List, ◌∷◌, ◌++◌, length, take, drop, get_or, sym, ap, ◌∙◌, take-append-drop, add-one, drop-cons, arith, All}
 use Rattle.std.proofs.lemmas.Grind.{common_steps}
-use Rattle.std.proofs.lemmas.List.{get_or-take, get_or-drop, length-take}
+use Rattle.std.proofs.lemmas.List.{get_or-take, get_or-drop, length-drop, length-take}
 use Rattle.std.proofs.lemmas.List.Elements.{All-from_get_or}
 
 drop_twice : (xs : List ℕ) (start n : ℕ) → drop n (drop start xs) ≡ drop (start + n) xs
@@ -20,3 +20,9 @@ pub no_feed_between : (xs : List ℕ) (start end : ℕ) → start ≤ end → en
 no_feed_between xs start end le lt clean = All-from_get_or (λ b. b ≢ 10) (take (end - start) (drop start xs)) 0 (λ i within.
     let small : i < end - start = omega (arith, length-take (end - start) (drop start xs)) in
     λ feed. clean (start + i) (omega arith) (omega arith) (sym (get_or-drop start xs i 0) ∙ (sym (get_or-take (end - start) (drop start xs) i 0 small) ∙ feed)))
+
+-- and so have all that stand behind a place
+pub no_feed_behind : (xs : List ℕ) (start : ℕ) → ((k : ℕ) → start ≤ k → k < length xs → get_or xs k 0 ≢ 10) → All (λ b. b ≢ 10) (drop start xs)
+no_feed_behind xs start clean = All-from_get_or (λ b. b ≢ 10) (drop start xs) 0 (λ i within.
+    let small : start + i < length xs = omega (arith, within, length-drop start xs) in
+    λ feed. clean (start + i) (omega arith) small (sym (get_or-drop start xs i 0) ∙ feed))

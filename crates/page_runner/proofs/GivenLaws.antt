@@ -1,5 +1,5 @@
 -- What is given of a line says what the line says.
-use Rattle.std.proofs.Common.{◌≡◌, ◌<◌, ◌≤◌, ◌+◌, ℕ, List, [], ◌∷◌, true, Err, nat_lt, length, refl, sym, ap, ◌∙◌, inl, inr, arith}
+use Rattle.std.proofs.Common.{◌≡◌, ◌<◌, ◌≤◌, ◌+◌, ℕ, List, true, Err, nat_lt, length, refl, sym, ap, ◌∙◌, inl, inr, arith}
 use Rattle.std.proofs.lemmas.Bool.{cases_lt}
 use Rattle.std.proofs.lemmas.Bool.Decides.{nat_tests}
 use Rattle.std.proofs.lemmas.List.{take_all, length-take}
@@ -17,16 +17,6 @@ given_within limit line within = take_all (limit + 1) line (omega arith)
 pub given_over : (limit : ℕ) (line : List ℕ) → limit < length line → limit < length (given limit line)
 unfolding given
 given_over limit line over = omega (arith, length-take (limit + 1) line)
-
--- where something is given something is there, and where nothing is given nothing is
-pub given_some : (limit : ℕ) (line : List ℕ) → 0 < length (given limit line) → 0 < length line
-unfolding given
-given_some limit line some = omega (arith, length-take (limit + 1) line)
-
-pub given_none : (limit : ℕ) (line : List ℕ) → length (given limit line) ≡ 0 → line ≡ []
-unfolding given
-given_none limit [] none = refl
-given_none limit (b ∷ line) none = absurd (omega (arith, none, length-take (limit + 1) (b ∷ line)))
 
 -- a line over the limit is refused
 reading_over : (line : List ℕ) → longest < length line → reading line ≡ Err Later

@@ -70,6 +70,10 @@ lines_of-front front rest =
     (more ++ last, ap (λ l. l ++ last) (whole_from-append [] front rest) ∙ append_assoc (whole_lines front) more last)
 
 -- what is left, if anything, is the last line
-pub last_line-some : (feed : List ℕ) → 0 < length feed → last_line feed ≡ feed ∷ []
-last_line-some [] some = absurd (omega arith)
-last_line-some (b ∷ feed) some = refl
+pub last_line-some : (feed line : List ℕ) → line ≡ last_part feed → All (λ b. b ≢ 10) feed → 0 < length line → last_line feed ≡ line ∷ []
+last_line-some [] line is clean some = absurd (omega (arith, ap length is))
+last_line-some (b ∷ feed) line is clean some = ap (λ l. l ∷ []) (sym (is ∙ last_part-no_feed (b ∷ feed) clean))
+
+pub last_line-none : (feed : List ℕ) → last_part feed ≡ [] → All (λ b. b ≢ 10) feed → last_line feed ≡ []
+last_line-none [] is clean = refl
+last_line-none (b ∷ feed) is clean = absurd (omega (arith, ap length (sym is ∙ last_part-no_feed (b ∷ feed) clean)))

@@ -1,23 +1,23 @@
 -- What a loop over the lines of a feed has done.
-use Rattle.std.proofs.Common.{◌≡◌, ◌≢◌, ◌≤◌, ◌<◌, ◌+◌, ℕ, List, [], ◌∷◌, ◌++◌, ◌||◌, length, refl, sym, ap, subst, ◌∙◌, append_assoc, append-nil, arith, length-append, All}
+use Rattle.std.proofs.Common.{◌≡◌, ◌≢◌, ◌≤◌, ◌+◌, ℕ, List, [], ◌∷◌, ◌++◌, ◌||◌, length, refl, sym, ap, subst, ◌∙◌, append_assoc, append-nil, arith, length-append, All}
 use Rattle.std.proofs.KnownBytes.{Appends-nil}
 use Rattle.std.specs.declared.option.Option.{Option}
 use Rattle.ce_base.specs.Outside.{AppendsPart}
 use Rattle.rule_script.specs.Reading.{reading}
 use Rattle.rule_script.specs.Tokens.{longest}
-use Rattle.ce_model.specs.Lines.{whole_lines, last_part, last_line}
+use Rattle.ce_model.specs.Lines.{whole_lines, last_part}
 use Rattle.ce_model.specs.Model.{model}
 use Rattle.ce_model.specs.Script.{is_bad, readings, run_from}
 use Rattle.ce_model.specs.Session.{run_line, log_of}
 use Rattle.ce_model.specs.Text.{text}
 use Rattle.ce_model.specs.Written.{Did}
-use Rattle.page_runner.specs.Feed.{given, GivesLine}
+use Rattle.page_runner.specs.Feed.{GivesLine}
 use Rattle.page_runner.specs.Ran.{Answered, Drained, answers}
 use Rattle.page_runner.specs.Sitting.{Sitting, outcome_of}
 use Rattle.page_runner.specs.declared.end.End.{End}
 use Rattle.page_runner.specs.declared.end.End.TheVariants.{Replied, FuelSpent}
-use Rattle.page_runner.proofs.GivenLaws.{reading_given, reading_line}
-use Rattle.page_runner.proofs.LineLaws.{last_line-some, whole_lines-line, last_part-line, whole_lines-no_feed, last_part-no_feed}
+use Rattle.page_runner.proofs.GivenLaws.{reading_line}
+use Rattle.page_runner.proofs.LineLaws.{whole_lines-line, last_part-line, whole_lines-no_feed, last_part-no_feed}
 use Rattle.page_runner.proofs.SittingLaws.{ran_line, answers_same, answered_same, answered_nothing, answered_more, answered_spent, answered_part}
 use Rattle.ce_model.proofs.FramedSteps.{framed_run_lines}
 use Rattle.ce_model.proofs.Writing.{part_then}
@@ -121,7 +121,3 @@ runs_part a s fed feed feed' line held mid held' runs gives part =
     let same : answers s (line ∷ whole_lines feed') ≡ answers s (whole_lines feed) =
     answers_same s (line ∷ whole_lines feed') (gives.whole ∷ whole_lines feed') (reads_first feed feed' line gives (whole_lines feed')) ∙ ap (answers s) (sym (first_line feed feed' line gives)) in
     runs_front a s fed feed held mid held' runs (subst P same (part_lines s line (whole_lines feed') mid held' part))
-
--- what was given of what is left at the end says what the last line says
-pub reads_last : (feed line : List ℕ) → line ≡ given longest feed → 0 < length feed → readings (line ∷ []) ≡ readings (last_line feed)
-reads_last feed line cut some = ap (λ said. said ∷ []) (ap reading cut ∙ reading_given feed) ∙ ap readings (sym (last_line-some feed some))

@@ -1,5 +1,5 @@
 // Answers to lines are gathered, so that few and large writes reach the sink.
-ghost use Rattle.std.specs.Prelude.{◌≡◌, ◌≤◌, ◌<◌, ◌+◌, ◌^◌, ◌++◌, ◌∷◌, [], length, IfOk, OnErr, IsErrOf};
+ghost use Rattle.std.specs.Prelude.{◌≡◌, ◌≢◌, ◌≤◌, ◌<◌, ◌+◌, ◌^◌, ◌++◌, ◌∷◌, [], length, IfOk, OnErr, IsErrOf, All};
 ghost use Rattle.ce_base.specs.Faults.{Rose};
 ghost use Rattle.ce_base.specs.Outside.{AppendsPart};
 ghost use Rattle.ce_model.specs.Lines.{whole_lines, last_line};
@@ -42,6 +42,7 @@ pub(crate) fn finish<K: Sink>(
 ) -> Result<(Session, End), Stop>
     requires room { session.line < 2 ^ 63 }
     requires empty { session.state.log ≡ [] }
+    requires clean { All (λ b. b ≢ 10) feed }
     ensures ran { IfOk result (λ r. Answered session (last_line feed) r.1 r.0 (K.held sink.old) (K.held sink.new)) }
     ensures part { OnErr result (AppendsPart (K.held sink.old) (K.held sink.new) (answers session (last_line feed))) }
     ensures later { K.failed sink.old ≤ K.failed sink.new }

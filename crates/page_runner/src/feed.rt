@@ -1,5 +1,6 @@
 // Bytes that come in pieces, given back line by line.
-ghost use Rattle.std.specs.Prelude.{◌≡◌, ◌≢◌, ◌≤◌, ◌<◌, ◌++◌, [], ℕ, drop, length, slice_index, vec_len, IfOk, OnOk, IfSome, OnSome, IfNone, All};
+ghost use Rattle.std.specs.Prelude.{◌≡◌, ◌≢◌, ◌≤◌, ◌<◌, ◌++◌, [], ℕ, drop, length, slice_index, vec_len, IfOk, OnOk, IfSome, IfNone, All};
+ghost use Rattle.ce_model.specs.Lines.{last_part};
 ghost use Rattle.rule_script.specs.Tokens.{longest};
 ghost use Rattle.page_runner.specs.Feed.{GivesLine, given};
 
@@ -12,8 +13,8 @@ const LONGEST: usize = 4096;
 
 /// The bytes that were fed and whose lines were not given back. A contract sees them as a list.
 ///
-/// The time is linear in what is fed: each byte is searched once, no more bytes are moved to the front than
-/// have left since the last move, and of a line at most 4097 bytes are copied.
+/// The time is linear in what is fed: each byte is searched once, and those left at the end once more, no more
+/// bytes are moved to the front than have left since the last move, and of a line at most 4097 are copied.
 #[derive(Debug, Drop)]
 pub struct Feed {
     bytes: Vec<u8>,
@@ -63,9 +64,9 @@ impl Feed {
     pub fn next_line(&mut self, alloc: Global) -> Result<Option<Bytes>, NoMemory>
         ensures line { IfOk result (λ o. IfSome o (λ line. GivesLine longest self.old self.new line)) }
         ensures none { IfOk result (λ o. IfNone o (self.new ≡ self.old)) }
-        ensures all { IfOk result (λ o. IfNone o (All (λ b. b ≢ 10) self.old)) }
+        ensures no_line_feed { IfOk result (λ o. IfNone o (All (λ b. b ≢ 10) self.old)) }
     {
-        match find_feed(&self.bytes, self.searched) {
+        match find_line_feed(&self.bytes, self.searched) {
             None => {
                 self.searched = self.bytes.len();
                 Ok(None)
@@ -79,14 +80,16 @@ impl Feed {
         }
     }
 
-    /// All that is left, if anything: of more than 4096 bytes the first 4097. It takes no memory.
+    /// The bytes behind the last line feed: a last line without one, whole. None exactly where there are
+    /// none. It takes no memory.
     pub fn rest(self) -> Option<Bytes>
-        ensures some { IfSome result (λ rest. rest ≡ given longest self) }
-        ensures left { OnSome result (0 < length self) }
-        ensures none { IfNone result (self ≡ []) }
+        ensures some { IfSome result (λ rest. rest ≡ last_part self) }
+        ensures line { IfSome result (λ rest. 0 < length rest) }
+        ensures none { IfNone result (last_part self ≡ []) }
     {
         let mut bytes = self.bytes;
-        keep_front(&mut bytes, self.start, LONGEST);
+        let start = last_start(&bytes, self.start);
+        drop_front(&mut bytes, start);
         if bytes.is_empty() {
             None
         } else {
@@ -107,18 +110,6 @@ fn front(line: &[u8], limit: usize) -> &[u8]
     }
 }
 
-// Leaves what is given of the bytes from a place on, in place.
-#[tactic(auto, unfolding(crate::specs::Feed::given))]
-fn keep_front(bytes: &mut Vec<u8>, start: usize, limit: usize)
-    requires { start ≤ vec_len bytes.old }
-    ensures { bytes.new.items ≡ given limit (drop start bytes.old.items) }
-{
-    if bytes.len() - start > limit {
-        bytes.truncate(start + limit + 1);
-    }
-    drop_front(bytes, start);
-}
-
 // Takes so many bytes off the front, in place.
 fn drop_front(bytes: &mut Vec<u8>, count: usize)
     requires { count ≤ vec_len bytes.old }
@@ -129,8 +120,21 @@ fn drop_front(bytes: &mut Vec<u8>, count: usize)
     bytes.truncate(left);
 }
 
+// Where the bytes behind the last line feed begin, from a place on.
+fn last_start(bytes: &[u8], from: usize) -> usize
+    requires { from ≤ length bytes.now }
+    ensures within { result ≤ length bytes.now }
+    ensures part { drop result bytes.now ≡ last_part (drop from bytes.now) }
+{
+    let mut start = from;
+    while let Some(end) = find_line_feed(bytes, start) {
+        start = end + 1;
+    }
+    start
+}
+
 // Where the first line feed from a place on is.
-fn find_feed(bytes: &[u8], from: usize) -> Option<usize>
+fn find_line_feed(bytes: &[u8], from: usize) -> Option<usize>
     requires { from ≤ length bytes.now }
     ensures found { IfSome result (λ at. (from ≤ at) × (at < length bytes.now) × (slice_index bytes.now at ≡ 10)) }
     ensures before { IfSome result (λ at. (k : ℕ) → from ≤ k → k < at → slice_index bytes.now k ≢ 10) }

@@ -238,7 +238,27 @@ fn a_feed_gives_the_first_bytes_of_a_long_line(rt: HostRuntime) -> Result<(), Fa
         let next = feed.next_line(alloc)?.ok_or("the next line")?;
         assert_eq!(rt; next.as_slice(), b"abc".as_slice());
         let rest = feed.rest().ok_or("a rest")?;
-        assert!(rt; rest.as_slice() == long.as_slice());
+        assert!(rt; rest.as_slice() == line.as_slice());
+    }
+    Ok(())
+}
+
+#[test]
+fn the_rest_stands_behind_the_last_line_feed(rt: HostRuntime) -> Result<(), Fail> {
+    let alloc = rt.alloc();
+    for (fed, want) in [
+        ("", None),
+        ("a", Some("a")),
+        ("a\n", None),
+        ("a\nb\n\nc", Some("c")),
+    ] {
+        let mut feed = Feed::make(alloc);
+        feed.piece(alloc, fed.as_bytes())?;
+        let rest = feed.rest();
+        assert_eq!(rt;
+            rest.as_ref().map(|rest| rest.as_slice()),
+            want.map(|s| s.as_bytes())
+        );
     }
     Ok(())
 }

@@ -41,10 +41,10 @@ loop-session-preserved g c =
     }
 
 pub returns-clause-ran : goal.returns-clause-ran
-returns-clause-ran g c = runs_all _ _ _ _ _ _ c.loop-session.invariant.runs (rw c.in_default.is at c.in_ok-line.ensures.all)
+returns-clause-ran g c = runs_all _ _ _ _ _ _ c.loop-session.invariant.runs (rw c.in_default.is at c.in_ok-line.ensures.no_line_feed)
 
 pub returns-clause-drained : goal.returns-clause-drained
 returns-clause-drained g c = λ _.
-    let clean = rw c.in_default.is at c.in_ok-line.ensures.all in
+    let clean = rw c.in_default.is at c.in_ok-line.ensures.no_line_feed in
     let same = rw c.in_default.is at c.in_ok-line.ensures.none in
     rw same (runs_drained _ _ _ _ _ _ c.loop-session.invariant.runs clean)

@@ -1,5 +1,5 @@
 use Rattle.std.proofs.Common.{◌≢◌, ◌≤◌, ◌<◌, ◌-◌, ℕ, length, get_or}
-use Rattle.page_runner.proofs.feed.find_feed.Given as goal
+use Rattle.page_runner.proofs.feed.find_line_feed.Given as goal
 
 abbrev pub invariant-loop-at : goal.invariant-loop-at
 invariant-loop-at l = record {
