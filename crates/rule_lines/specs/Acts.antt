@@ -56,11 +56,11 @@ part_of (parts.DisableInternals name) = DisableInternals name
 
 -- what a line says
 pub data Said : Type 0 where
-  Nothing : Said
+  Blank : Said
   Command : Cmd → Said
   Declares : Part → Said
 
 abbrev pub line_of : Line → Said
-line_of lines.Blank = Nothing
+line_of lines.Blank = Blank
 line_of (lines.Command c) = Command c
 line_of (lines.Part p) = Declares (part_of p)

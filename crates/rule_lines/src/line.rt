@@ -29,9 +29,9 @@ pub enum Cmd {
     UserChoose { node: Operand, on: bool },
     /// `user reset form`: the user resets a form.
     UserReset { form: Operand },
-    /// `user restore node value`: the browser restores a state.
+    /// `user restore node value`: the user agent restores a state.
     UserRestore { node: Operand, value: Text },
-    /// `user autofill node value`: the browser fills in a state.
+    /// `user autofill node value`: the user agent fills in a state.
     UserAutofill { node: Operand, value: Text },
     /// `user press node`: the user presses a button.
     UserPress { node: Operand },
@@ -60,8 +60,10 @@ pub enum ClassPart {
     },
     /// `associate class`: the class is form-associated.
     Associate(Text),
-    /// `disable class shadow`: its elements have no shadow root.
+    /// `disable class shadow`: its elements may not get a shadow root (HTML Standard, section "Core concepts",
+    /// disable shadow).
     DisableShadow(Text),
-    /// `disable class internals`: its elements have no internals.
+    /// `disable class internals`: its elements may not get internals (HTML Standard, section "Core concepts",
+    /// disable internals).
     DisableInternals(Text),
 }

@@ -54,7 +54,7 @@ pub enum Op {
         parent: Operand,
         node: Operand,
     },
-    /// `detach node`: removes a node from its parent, if it has one (DOM Standard, section "Interface
+    /// `detach node`: removes a node from its parent, if it has one (DOM Standard, section "Mixin
     /// ChildNode", `remove`).
     Detach {
         node: Operand,
@@ -90,8 +90,8 @@ pub enum Op {
         class: Text,
         base: Option<Text>,
     },
-    /// `upgrade node`: upgrades the elements of a tree (HTML Standard, section "The
-    /// CustomElementRegistry interface", `upgrade`).
+    /// `upgrade node`: tries to upgrade each element of a node's shadow-including tree (HTML Standard, section
+    /// "The CustomElementRegistry interface", `upgrade`).
     Upgrade {
         node: Operand,
     },
@@ -99,7 +99,7 @@ pub enum Op {
     Reset {
         form: Operand,
     },
-    /// `internals node`: attaches internals (HTML Standard, section "The ElementInternals interface",
+    /// `internals node`: attaches internals (HTML Standard, section "Element internals",
     /// `attachInternals`).
     Internals {
         node: Operand,
@@ -111,7 +111,7 @@ pub enum Op {
         value: Val,
         saved: Option<Val>,
     },
-    /// `formlist node name value ..`: sets the submission value to a list of entries.
+    /// `formlist node name value ..`: sets the submission value and the state to a list of entries.
     FormList {
         node: Operand,
         entries: Entries,

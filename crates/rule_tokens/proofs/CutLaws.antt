@@ -8,45 +8,45 @@ use Rattle.rule_tokens.specs.declared.cutting.Within.{Within}
 use Rattle.rule_tokens.specs.declared.cutting.Within.TheVariants.{Gap, Bare, Quoted, Protected, Closed}
 use Rattle.rule_tokens.specs.Cut.{cut, raw}
 use Rattle.rule_tokens.specs.Gives.{with_front}
-use Rattle.rule_tokens.specs.Layout.{Piece, Plain, Guarded, pieces, ArePieces, AreBare, IsBare, Front, Space, BareToken, QuotedToken, front, AreFronts, raws, IsEnd, LaidOut, HasNoEnd, HasTextBehind, HasQuoteInside, Follows, MisquotedBy}
+use Rattle.rule_tokens.specs.Layout.{Piece, Plain, Guarded, pieces, ArePieces, AreBare, IsBare, Item, Space, BareToken, QuotedToken, items_text, AreItems, raws, IsEnd, LaidOut, HasNoEnd, HasTextBehind, HasQuoteInside, EndsIn, IsMisquoted}
 
 -- ---- what a cut says of the line
 
 -- one of the three faults
-abbrev pub IsMisquoted : List ℕ → Type 0
-IsMisquoted last = HasNoEnd last ⊎ (HasTextBehind last ⊎ HasQuoteInside last)
+abbrev pub IsMisquotedEnd : List ℕ → Type 0
+IsMisquotedEnd last = HasNoEnd last ⊎ (HasTextBehind last ⊎ HasQuoteInside last)
 
 abbrev pub Cuts : List ℕ → Result (List Raw) Bad → Type 0
 Cuts line (Ok tokens) = LaidOut line tokens
-Cuts line (Err b) = (b ≡ Quote) × Follows IsMisquoted line
+Cuts line (Err b) = (b ≡ Quote) × EndsIn IsMisquotedEnd line
 
 cuts_as : (line line' : List ℕ) (r r' : Result (List Raw) Bad) → line ≡ line' → r ≡ r' → Cuts line r → Cuts line' r'
 cuts_as line line' r r' p q cuts = subst (λ (x : List ℕ). Cuts x r') p (subst (λ (x : Result (List Raw) Bad). Cuts line x) q cuts)
 
 put_space : (line : List ℕ) (r : Result (List Raw) Bad) → Cuts line r → Cuts (32 ∷ line) r
-put_space line (Ok tokens) c = record { fronts = Space ∷ c.fronts; fit = c.fit; last = c.last; last_tokens = c.last_tokens; line_is = ap (λ (l : List ℕ). 32 ∷ l) c.line_is; tokens_are = c.tokens_are; is_last = c.is_last }
-put_space line (Err b) c = (c.0, record { fronts = Space ∷ c.1.fronts; fit = c.1.fit; last = c.1.last; line_is = ap (λ (l : List ℕ). 32 ∷ l) c.1.line_is; is = c.1.is })
+put_space line (Ok tokens) c = record { items = Space ∷ c.items; fit = c.fit; last = c.last; last_tokens = c.last_tokens; line_is = ap (λ (l : List ℕ). 32 ∷ l) c.line_is; tokens_are = c.tokens_are; is_last = c.is_last }
+put_space line (Err b) c = (c.0, record { items = Space ∷ c.1.items; fit = c.1.fit; last = c.1.last; line_is = ap (λ (l : List ℕ). 32 ∷ l) c.1.line_is; is = c.1.is })
 
 bare_line : (w fs last line : List ℕ) → line ≡ fs ++ last → w ++ 32 ∷ line ≡ (w ++ 32 ∷ fs) ++ last
 bare_line w fs last line is = ap (λ (l : List ℕ). w ++ 32 ∷ l) is ∙ sym (append_assoc w (32 ∷ fs) last)
 
 put_bare : (w line : List ℕ) (r : Result (List Raw) Bad) → IsBare w → Cuts line r → Cuts (w ++ 32 ∷ line) (with_front (raw false w ∷ []) r)
-put_bare w line (Ok tokens) bare c = record { fronts = BareToken w ∷ c.fronts; fit = (bare, c.fit); last = c.last; last_tokens = c.last_tokens; line_is = bare_line w (front c.fronts) c.last line c.line_is; tokens_are = ap (λ (t : List Raw). raw false w ∷ t) c.tokens_are; is_last = c.is_last }
-put_bare w line (Err b) bare c = (c.0, record { fronts = BareToken w ∷ c.1.fronts; fit = (bare, c.1.fit); last = c.1.last; line_is = bare_line w (front c.1.fronts) c.1.last line c.1.line_is; is = c.1.is })
+put_bare w line (Ok tokens) bare c = record { items = BareToken w ∷ c.items; fit = (bare, c.fit); last = c.last; last_tokens = c.last_tokens; line_is = bare_line w (items_text c.items) c.last line c.line_is; tokens_are = ap (λ (t : List Raw). raw false w ∷ t) c.tokens_are; is_last = c.is_last }
+put_bare w line (Err b) bare c = (c.0, record { items = BareToken w ∷ c.1.items; fit = (bare, c.1.fit); last = c.1.last; line_is = bare_line w (items_text c.1.items) c.1.last line c.1.line_is; is = c.1.is })
 
 quoted_line : (inside fs last line : List ℕ) → line ≡ fs ++ last → 34 ∷ (inside ++ 34 ∷ 32 ∷ line) ≡ (34 ∷ (inside ++ 34 ∷ 32 ∷ fs)) ++ last
 quoted_line inside fs last line is = ap (λ (l : List ℕ). 34 ∷ (inside ++ 34 ∷ 32 ∷ l)) is ∙ ap (λ (l : List ℕ). 34 ∷ l) (sym (append_assoc inside (34 ∷ 32 ∷ fs) last))
 
 put_quoted : (ps : List Piece) (line : List ℕ) (r : Result (List Raw) Bad) → ArePieces ps → Cuts line r → Cuts (34 ∷ (pieces ps ++ 34 ∷ 32 ∷ line)) (with_front (raw true (pieces ps) ∷ []) r)
-put_quoted ps line (Ok tokens) fit c = record { fronts = QuotedToken ps ∷ c.fronts; fit = (fit, c.fit); last = c.last; last_tokens = c.last_tokens; line_is = quoted_line (pieces ps) (front c.fronts) c.last line c.line_is; tokens_are = ap (λ (t : List Raw). raw true (pieces ps) ∷ t) c.tokens_are; is_last = c.is_last }
-put_quoted ps line (Err b) fit c = (c.0, record { fronts = QuotedToken ps ∷ c.1.fronts; fit = (fit, c.1.fit); last = c.1.last; line_is = quoted_line (pieces ps) (front c.1.fronts) c.1.last line c.1.line_is; is = c.1.is })
+put_quoted ps line (Ok tokens) fit c = record { items = QuotedToken ps ∷ c.items; fit = (fit, c.fit); last = c.last; last_tokens = c.last_tokens; line_is = quoted_line (pieces ps) (items_text c.items) c.last line c.line_is; tokens_are = ap (λ (t : List Raw). raw true (pieces ps) ∷ t) c.tokens_are; is_last = c.is_last }
+put_quoted ps line (Err b) fit c = (c.0, record { items = QuotedToken ps ∷ c.1.items; fit = (fit, c.1.fit); last = c.1.last; line_is = quoted_line (pieces ps) (items_text c.1.items) c.1.last line c.1.line_is; is = c.1.is })
 
--- nothing stands in front of it
+-- nothing stands in items_text of it
 at_end : (last : List ℕ) (tokens : List Raw) → IsEnd last tokens → Cuts last (Ok tokens)
-at_end last tokens is = record { fronts = []; fit = tt; last = last; last_tokens = tokens; line_is = refl; tokens_are = refl; is_last = is }
+at_end last tokens is = record { items = []; fit = tt; last = last; last_tokens = tokens; line_is = refl; tokens_are = refl; is_last = is }
 
-at_fault : (last : List ℕ) → IsMisquoted last → Cuts last (Err Quote)
-at_fault last is = (refl, record { fronts = []; fit = tt; last = last; line_is = refl; is = is })
+at_fault : (last : List ℕ) → IsMisquotedEnd last → Cuts last (Err Quote)
+at_fault last is = (refl, record { items = []; fit = tt; last = last; line_is = refl; is = is })
 
 -- ---- one more character
 
@@ -183,18 +183,18 @@ over_inside : (ps : List Piece) (rest : List ℕ) → ArePieces ps → cut (34 �
 unfolding cut
 over_inside ps rest fit = over_pieces ps [] rest fit
 
-over_fronts : (fs : List Front) (rest : List ℕ) → AreFronts fs → cut (front fs ++ rest) Gap ≡ with_front (raws fs) (cut rest Gap)
+over_items : (fs : List Item) (rest : List ℕ) → AreItems fs → cut (items_text fs ++ rest) Gap ≡ with_front (raws fs) (cut rest Gap)
 unfolding cut
-over_fronts [] rest fit = sym (with_none (cut rest Gap))
-over_fronts (Space ∷ fs) rest fit = over_fronts fs rest fit
-over_fronts (BareToken w ∷ fs) rest fit =
-    ap (λ (l : List ℕ). cut l Gap) (append_assoc w (32 ∷ front fs) rest)
-    ∙ (over_token w (32 ∷ (front fs ++ rest)) fit.0
-    ∙ (ap (with_front (raw false w ∷ [])) (over_fronts fs rest fit.1) ∙ with_more (raw false w ∷ []) (raws fs) (cut rest Gap)))
-over_fronts (QuotedToken ps ∷ fs) rest fit =
-    ap (λ (l : List ℕ). cut (34 ∷ l) Gap) (append_assoc (pieces ps) (34 ∷ 32 ∷ front fs) rest)
-    ∙ (over_inside ps (34 ∷ 32 ∷ (front fs ++ rest)) fit.0
-    ∙ (ap (with_front (raw true (pieces ps) ∷ [])) (over_fronts fs rest fit.1) ∙ with_more (raw true (pieces ps) ∷ []) (raws fs) (cut rest Gap)))
+over_items [] rest fit = sym (with_none (cut rest Gap))
+over_items (Space ∷ fs) rest fit = over_items fs rest fit
+over_items (BareToken w ∷ fs) rest fit =
+    ap (λ (l : List ℕ). cut l Gap) (append_assoc w (32 ∷ items_text fs) rest)
+    ∙ (over_token w (32 ∷ (items_text fs ++ rest)) fit.0
+    ∙ (ap (with_front (raw false w ∷ [])) (over_items fs rest fit.1) ∙ with_more (raw false w ∷ []) (raws fs) (cut rest Gap)))
+over_items (QuotedToken ps ∷ fs) rest fit =
+    ap (λ (l : List ℕ). cut (34 ∷ l) Gap) (append_assoc (pieces ps) (34 ∷ 32 ∷ items_text fs) rest)
+    ∙ (over_inside ps (34 ∷ 32 ∷ (items_text fs ++ rest)) fit.0
+    ∙ (ap (with_front (raw true (pieces ps) ∷ [])) (over_items fs rest fit.1) ∙ with_more (raw true (pieces ps) ∷ []) (raws fs) (cut rest Gap)))
 
 cut_end : (last : List ℕ) (tokens : List Raw) → IsEnd last tokens → cut last Gap ≡ Ok tokens
 unfolding cut
@@ -205,8 +205,8 @@ cut_end last tokens (inr (inr (ps, e))) = ap (λ (l : List ℕ). cut l Gap) e.1 
 pub cut_laid_out : (line : List ℕ) (tokens : List Raw) → LaidOut line tokens → cut line Gap ≡ Ok tokens
 cut_laid_out line tokens l =
     ap (λ (x : List ℕ). cut x Gap) l.line_is
-    ∙ (over_fronts l.fronts l.last l.fit
-    ∙ (ap (with_front (raws l.fronts)) (cut_end l.last l.last_tokens l.is_last) ∙ ap Ok (sym l.tokens_are)))
+    ∙ (over_items l.items l.last l.fit
+    ∙ (ap (with_front (raws l.items)) (cut_end l.last l.last_tokens l.is_last) ∙ ap Ok (sym l.tokens_are)))
 
 cut_tail : (w tail : List ℕ) → (tail ≡ []) ⊎ (tail ≡ 92 ∷ []) → cut tail (Quoted w) ≡ Err Quote
 unfolding cut
@@ -221,30 +221,30 @@ cut_inside : (w more : List ℕ) → cut (34 ∷ more) (Bare w) ≡ Err Quote
 unfolding cut
 cut_inside w more = refl
 
-cut_last : (last : List ℕ) → IsMisquoted last → cut last Gap ≡ Err Quote
+cut_last : (last : List ℕ) → IsMisquotedEnd last → cut last Gap ≡ Err Quote
 cut_last last (inl (ps, tail, e)) = ap (λ (l : List ℕ). cut l Gap) e.2 ∙ (over_inside ps tail e.0 ∙ cut_tail (pieces ps) tail e.1)
 cut_last last (inr (inl (ps, c, more, e))) = ap (λ (l : List ℕ). cut l Gap) e.2 ∙ (over_inside ps (34 ∷ c ∷ more) e.0 ∙ cut_behind ps c more e.1)
 cut_last last (inr (inr (w, more, e))) = ap (λ (l : List ℕ). cut l Gap) e.1 ∙ (over_token w (34 ∷ more) e.0 ∙ cut_inside w more)
 
-cut_misquoted : (line : List ℕ) → Follows IsMisquoted line → cut line Gap ≡ Err Quote
+cut_misquoted : (line : List ℕ) → EndsIn IsMisquotedEnd line → cut line Gap ≡ Err Quote
 cut_misquoted line f =
     ap (λ (x : List ℕ). cut x Gap) f.line_is
-    ∙ (over_fronts f.fronts f.last f.fit ∙ ap (with_front (raws f.fronts)) (cut_last f.last f.is))
+    ∙ (over_items f.items f.last f.fit ∙ ap (with_front (raws f.items)) (cut_last f.last f.is))
 
 -- ---- the three faults apart
 
-follows : (Is Also : List ℕ → Type 0) → ((last : List ℕ) → Is last → Also last) → (line : List ℕ) → Follows Is line → Follows Also line
-follows Is Also also line f = record { fronts = f.fronts; fit = f.fit; last = f.last; line_is = f.line_is; is = also f.last f.is }
+follows : (Is Also : List ℕ → Type 0) → ((last : List ℕ) → Is last → Also last) → (line : List ℕ) → EndsIn Is line → EndsIn Also line
+follows Is Also also line f = record { items = f.items; fit = f.fit; last = f.last; line_is = f.line_is; is = also f.last f.is }
 
-pub misquoted_apart : (line : List ℕ) → Follows IsMisquoted line → MisquotedBy line
+pub misquoted_apart : (line : List ℕ) → EndsIn IsMisquotedEnd line → IsMisquoted line
 misquoted_apart line f = go f.is
   where
-    go : IsMisquoted f.last → MisquotedBy line
-    go (inl is) = inl (record { fronts = f.fronts; fit = f.fit; last = f.last; line_is = f.line_is; is = is })
-    go (inr (inl is)) = inr (inl (record { fronts = f.fronts; fit = f.fit; last = f.last; line_is = f.line_is; is = is }))
-    go (inr (inr is)) = inr (inr (record { fronts = f.fronts; fit = f.fit; last = f.last; line_is = f.line_is; is = is }))
+    go : IsMisquotedEnd f.last → IsMisquoted line
+    go (inl is) = inl (record { items = f.items; fit = f.fit; last = f.last; line_is = f.line_is; is = is })
+    go (inr (inl is)) = inr (inl (record { items = f.items; fit = f.fit; last = f.last; line_is = f.line_is; is = is }))
+    go (inr (inr is)) = inr (inr (record { items = f.items; fit = f.fit; last = f.last; line_is = f.line_is; is = is }))
 
-pub cut_misquoted_by : (line : List ℕ) → MisquotedBy line → cut line Gap ≡ Err Quote
-cut_misquoted_by line (inl f) = cut_misquoted line (follows HasNoEnd IsMisquoted (λ last is. inl is) line f)
-cut_misquoted_by line (inr (inl f)) = cut_misquoted line (follows HasTextBehind IsMisquoted (λ last is. inr (inl is)) line f)
-cut_misquoted_by line (inr (inr f)) = cut_misquoted line (follows HasQuoteInside IsMisquoted (λ last is. inr (inr is)) line f)
+pub cut_misquoted_by : (line : List ℕ) → IsMisquoted line → cut line Gap ≡ Err Quote
+cut_misquoted_by line (inl f) = cut_misquoted line (follows HasNoEnd IsMisquotedEnd (λ last is. inl is) line f)
+cut_misquoted_by line (inr (inl f)) = cut_misquoted line (follows HasTextBehind IsMisquotedEnd (λ last is. inr (inl is)) line f)
+cut_misquoted_by line (inr (inr f)) = cut_misquoted line (follows HasQuoteInside IsMisquotedEnd (λ last is. inr (inr is)) line f)

@@ -5,10 +5,10 @@ use Rattle.std.specs.Char.{digit_value}
 use Rattle.std.proofs.Math.Utf8.{scalar}
 use Rattle.std.proofs.lemmas.Bool.Decides.{eqb_tells}
 use Rattle.rule_tokens.specs.declared.refused.Bad.{Bad}
-use Rattle.rule_tokens.specs.declared.refused.Bad.TheVariants.{Escape as BadEscape}
-use Rattle.rule_tokens.specs.declared.escapes.Escape.{Escape}
-use Rattle.rule_tokens.specs.declared.escapes.Escape.TheVariants.{Outside, Backslash, Brace, Digits}
-use Rattle.rule_tokens.specs.Escapes.{hex_from, named, simple, one, unescape}
+use Rattle.rule_tokens.specs.declared.refused.Bad.TheVariants.{Escape}
+use Rattle.rule_tokens.specs.declared.escapes.InEscape.{InEscape}
+use Rattle.rule_tokens.specs.declared.escapes.InEscape.TheVariants.{Outside, AfterBackslash, AfterU, Digits}
+use Rattle.rule_tokens.specs.Escapes.{hex_from, named, short_escape, then_char, unescape}
 use Rattle.rule_tokens.specs.Gives.{with_front}
 use Rattle.rule_tokens.specs.Signs.{Sign, Itself, Letter, Code, signs, SaysOne, Say, IsReadAs, BeginsEscape, WrongEscape}
 use Rattle.rule_tokens.proofs.CutLaws.{Tells, not_same, with_none, with_more}
@@ -69,7 +69,7 @@ same_digits (d ∷ ds) (e ∷ es) more rest one two is =
 
 abbrev pub Reads : List ℕ → Result (List ℕ) Bad → Type 0
 Reads inside (Ok text) = IsReadAs inside text
-Reads inside (Err b) = (b ≡ BadEscape) × WrongEscape inside
+Reads inside (Err b) = (b ≡ Escape) × WrongEscape inside
 
 reads_as : (x x' : List ℕ) (r r' : Result (List ℕ) Bad) → x ≡ x' → r ≡ r' → Reads x r → Reads x' r'
 reads_as x x' r r' p q reads = subst (λ (y : List ℕ). Reads y r') p (subst (λ (y : Result (List ℕ) Bad). Reads x y) q reads)
@@ -91,7 +91,7 @@ put_sign s d spelled inside (Err b) says spells (is, w) = (
 )
 
 -- a backslash that begins no escape
-at_wrong : (rest : List ℕ) → (BeginsEscape rest → ⊥) → Reads (92 ∷ rest) (Err BadEscape)
+at_wrong : (rest : List ℕ) → (BeginsEscape rest → ⊥) → Reads (92 ∷ rest) (Err Escape)
 at_wrong rest wrong = (refl, record { before = []; text = []; said = tt; rest = rest; inside_is = refl; wrong = wrong })
 
 -- ---- what begins no escape
@@ -103,12 +103,12 @@ nothing_behind : BeginsEscape [] → ⊥
 nothing_behind (inl (l, d, more, e)) = absurd cc
 nothing_behind (inr (ds, d, more, e)) = absurd cc
 
-no_letter : (c : ℕ) (rest : List ℕ) → c ≢ 117 → simple c ≡ None → BeginsEscape (c ∷ rest) → ⊥
-no_letter c rest differ letter (inl (l, d, more, e)) = let same : c ≡ l = (cc) in none_some d (sym letter ∙ (ap simple same ∙ e.0))
+no_letter : (c : ℕ) (rest : List ℕ) → c ≢ 117 → short_escape c ≡ None → BeginsEscape (c ∷ rest) → ⊥
+no_letter c rest differ letter (inl (l, d, more, e)) = let same : c ≡ l = (cc) in none_some d (sym letter ∙ (ap short_escape same ∙ e.0))
 no_letter c rest differ letter (inr (ds, d, more, e)) = let same : c ≡ 117 = (cc) in differ same
 
-not_u : (l d : ℕ) → simple l ≡ Some d → l ≢ 117
-not_u l d e is = none_some d (ap simple (sym is) ∙ e)
+not_u : (l d : ℕ) → short_escape l ≡ Some d → l ≢ 117
+not_u l d e is = none_some d (ap short_escape (sym is) ∙ e)
 
 nothing_behind_u : BeginsEscape (117 ∷ []) → ⊥
 nothing_behind_u (inl (l, d, more, e)) = let same : l ≡ 117 = (cc) in not_u l d e.0 same
@@ -131,61 +131,61 @@ no_name ds rest none unnamed (inr (es, d, more, e)) =
 
 -- ---- where in an escape the rest stands, and what it says then
 
-abbrev ReadsIn : Escape → List ℕ → Type 0
+abbrev ReadsIn : InEscape → List ℕ → Type 0
 ReadsIn Outside cs = Reads cs (unescape cs Outside)
-ReadsIn Backslash cs = Reads (92 ∷ cs) (unescape cs Backslash)
-ReadsIn Brace cs = Reads (92 ∷ 117 ∷ cs) (unescape cs Brace)
+ReadsIn AfterBackslash cs = Reads (92 ∷ cs) (unescape cs AfterBackslash)
+ReadsIn AfterU cs = Reads (92 ∷ 117 ∷ cs) (unescape cs AfterU)
 ReadsIn (Digits ds) cs = NoBrace ds → Reads (92 ∷ 117 ∷ 123 ∷ (ds ++ cs)) (unescape cs (Digits ds))
 
-outside : (c : ℕ) (cs : List ℕ) → ((e : Escape) → ReadsIn e cs) → Tells c 92 → ReadsIn Outside (c ∷ cs)
+outside : (c : ℕ) (cs : List ℕ) → ((e : InEscape) → ReadsIn e cs) → Tells c 92 → ReadsIn Outside (c ∷ cs)
 unfolding unescape
-outside c cs next (inl b) = reads_as (92 ∷ cs) (c ∷ cs) (unescape cs Backslash) (unescape (c ∷ cs) Outside) (ap (λ (x : ℕ). x ∷ cs) (sym b.1)) (rw b.0 refl) (next Backslash)
+outside c cs next (inl b) = reads_as (92 ∷ cs) (c ∷ cs) (unescape cs AfterBackslash) (unescape (c ∷ cs) Outside) (ap (λ (x : ℕ). x ∷ cs) (sym b.1)) (rw b.0 refl) (next AfterBackslash)
 outside c cs next (inr b) = reads_as (c ∷ cs) (c ∷ cs) (with_front (c ∷ []) (unescape cs Outside)) (unescape (c ∷ cs) Outside) refl (rw b.0 refl)
     (put_sign (Itself c) c (c ∷ []) cs (unescape cs Outside) (b.1, refl) (λ ss more. refl) (next Outside))
 
-behind_letter : (c : ℕ) (cs : List ℕ) (o : Option ℕ) → simple c ≡ o → c ≢ 117 → Reads cs (unescape cs Outside) → Reads (92 ∷ c ∷ cs) (one o (unescape cs Outside))
+behind_letter : (c : ℕ) (cs : List ℕ) (o : Option ℕ) → short_escape c ≡ o → c ≢ 117 → Reads cs (unescape cs Outside) → Reads (92 ∷ c ∷ cs) (then_char o (unescape cs Outside))
 behind_letter c cs None is differ reads = at_wrong (c ∷ cs) (no_letter c cs differ is)
 behind_letter c cs (Some d) is differ reads = put_sign (Letter c) d (92 ∷ c ∷ []) cs (unescape cs Outside) is (λ ss more. refl) reads
 
-behind_backslash : (c : ℕ) (cs : List ℕ) → ((e : Escape) → ReadsIn e cs) → Tells c 117 → ReadsIn Backslash (c ∷ cs)
+behind_backslash : (c : ℕ) (cs : List ℕ) → ((e : InEscape) → ReadsIn e cs) → Tells c 117 → ReadsIn AfterBackslash (c ∷ cs)
 unfolding unescape
-behind_backslash c cs next (inl u) = reads_as (92 ∷ 117 ∷ cs) (92 ∷ c ∷ cs) (unescape cs Brace) (unescape (c ∷ cs) Backslash) (ap (λ (x : ℕ). 92 ∷ x ∷ cs) (sym u.1)) (rw u.0 refl) (next Brace)
-behind_backslash c cs next (inr u) = reads_as (92 ∷ c ∷ cs) (92 ∷ c ∷ cs) (one (simple c) (unescape cs Outside)) (unescape (c ∷ cs) Backslash) refl (rw u.0 refl) (behind_letter c cs (simple c) refl u.1 (next Outside))
+behind_backslash c cs next (inl u) = reads_as (92 ∷ 117 ∷ cs) (92 ∷ c ∷ cs) (unescape cs AfterU) (unescape (c ∷ cs) AfterBackslash) (ap (λ (x : ℕ). 92 ∷ x ∷ cs) (sym u.1)) (rw u.0 refl) (next AfterU)
+behind_backslash c cs next (inr u) = reads_as (92 ∷ c ∷ cs) (92 ∷ c ∷ cs) (then_char (short_escape c) (unescape cs Outside)) (unescape (c ∷ cs) AfterBackslash) refl (rw u.0 refl) (behind_letter c cs (short_escape c) refl u.1 (next Outside))
 
-behind_u : (c : ℕ) (cs : List ℕ) → ((e : Escape) → ReadsIn e cs) → Tells c 123 → ReadsIn Brace (c ∷ cs)
+behind_u : (c : ℕ) (cs : List ℕ) → ((e : InEscape) → ReadsIn e cs) → Tells c 123 → ReadsIn AfterU (c ∷ cs)
 unfolding unescape
-behind_u c cs next (inl b) = reads_as (92 ∷ 117 ∷ 123 ∷ cs) (92 ∷ 117 ∷ c ∷ cs) (unescape cs (Digits [])) (unescape (c ∷ cs) Brace) (ap (λ (x : ℕ). 92 ∷ 117 ∷ x ∷ cs) (sym b.1)) (rw b.0 refl) (next (Digits []) tt)
-behind_u c cs next (inr b) = reads_as (92 ∷ 117 ∷ c ∷ cs) (92 ∷ 117 ∷ c ∷ cs) (Err BadEscape) (unescape (c ∷ cs) Brace) refl (rw b.0 refl) (at_wrong (117 ∷ c ∷ cs) (no_brace_behind_u c cs b.1))
+behind_u c cs next (inl b) = reads_as (92 ∷ 117 ∷ 123 ∷ cs) (92 ∷ 117 ∷ c ∷ cs) (unescape cs (Digits [])) (unescape (c ∷ cs) AfterU) (ap (λ (x : ℕ). 92 ∷ 117 ∷ x ∷ cs) (sym b.1)) (rw b.0 refl) (next (Digits []) tt)
+behind_u c cs next (inr b) = reads_as (92 ∷ 117 ∷ c ∷ cs) (92 ∷ 117 ∷ c ∷ cs) (Err Escape) (unescape (c ∷ cs) AfterU) refl (rw b.0 refl) (at_wrong (117 ∷ c ∷ cs) (no_brace_behind_u c cs b.1))
 
 code_spelled : (ds : List ℕ) (ss : List Sign) (more : List ℕ) → signs (Code ds ∷ ss) ++ more ≡ (92 ∷ 117 ∷ 123 ∷ (ds ++ 125 ∷ [])) ++ (signs ss ++ more)
 code_spelled ds ss more = ap (λ (l : List ℕ). 92 ∷ 117 ∷ 123 ∷ l) (append_assoc ds (125 ∷ signs ss) more ∙ sym (append_assoc ds (125 ∷ []) (signs ss ++ more)))
 
-behind_code : (ds cs : List ℕ) (o : Option ℕ) → named ds ≡ o → NoBrace ds → Reads cs (unescape cs Outside) → Reads (92 ∷ 117 ∷ 123 ∷ (ds ++ 125 ∷ cs)) (one o (unescape cs Outside))
+behind_code : (ds cs : List ℕ) (o : Option ℕ) → named ds ≡ o → NoBrace ds → Reads cs (unescape cs Outside) → Reads (92 ∷ 117 ∷ 123 ∷ (ds ++ 125 ∷ cs)) (then_char o (unescape cs Outside))
 behind_code ds cs None is none reads = at_wrong (117 ∷ 123 ∷ (ds ++ 125 ∷ cs)) (no_name ds cs none is)
 behind_code ds cs (Some d) is none reads = reads_as ((92 ∷ 117 ∷ 123 ∷ (ds ++ 125 ∷ [])) ++ cs) (92 ∷ 117 ∷ 123 ∷ (ds ++ 125 ∷ cs)) (with_front (d ∷ []) (unescape cs Outside)) (with_front (d ∷ []) (unescape cs Outside))
     (ap (λ (l : List ℕ). 92 ∷ 117 ∷ 123 ∷ l) (append_assoc ds (125 ∷ []) cs)) refl (put_sign (Code ds) d (92 ∷ 117 ∷ 123 ∷ (ds ++ 125 ∷ [])) cs (unescape cs Outside) is (code_spelled ds) reads)
 
-in_digits : (c : ℕ) (cs ds : List ℕ) → ((e : Escape) → ReadsIn e cs) → Tells c 125 → ReadsIn (Digits ds) (c ∷ cs)
+in_digits : (c : ℕ) (cs ds : List ℕ) → ((e : InEscape) → ReadsIn e cs) → Tells c 125 → ReadsIn (Digits ds) (c ∷ cs)
 unfolding unescape
-in_digits c cs ds next (inl b) none = reads_as (92 ∷ 117 ∷ 123 ∷ (ds ++ 125 ∷ cs)) (92 ∷ 117 ∷ 123 ∷ (ds ++ c ∷ cs)) (one (named ds) (unescape cs Outside)) (unescape (c ∷ cs) (Digits ds))
+in_digits c cs ds next (inl b) none = reads_as (92 ∷ 117 ∷ 123 ∷ (ds ++ 125 ∷ cs)) (92 ∷ 117 ∷ 123 ∷ (ds ++ c ∷ cs)) (then_char (named ds) (unescape cs Outside)) (unescape (c ∷ cs) (Digits ds))
     (ap (λ (x : ℕ). 92 ∷ 117 ∷ 123 ∷ (ds ++ x ∷ cs)) (sym b.1)) (rw b.0 refl) (behind_code ds cs (named ds) refl none (next Outside))
 in_digits c cs ds next (inr b) none = reads_as (92 ∷ 117 ∷ 123 ∷ ((ds ++ c ∷ []) ++ cs)) (92 ∷ 117 ∷ 123 ∷ (ds ++ c ∷ cs)) (unescape cs (Digits (ds ++ c ∷ []))) (unescape (c ∷ cs) (Digits ds))
     (ap (λ (l : List ℕ). 92 ∷ 117 ∷ 123 ∷ l) (append_assoc ds (c ∷ []) cs)) (rw b.0 refl) (next (Digits (ds ++ c ∷ [])) (no_brace_more ds c none b.1))
 
-reads_more : (c : ℕ) (cs : List ℕ) → ((e : Escape) → ReadsIn e cs) → (e : Escape) → ReadsIn e (c ∷ cs)
+reads_more : (c : ℕ) (cs : List ℕ) → ((e : InEscape) → ReadsIn e cs) → (e : InEscape) → ReadsIn e (c ∷ cs)
 reads_more c cs next Outside = outside c cs next (eqb_tells c 92)
-reads_more c cs next Backslash = behind_backslash c cs next (eqb_tells c 117)
-reads_more c cs next Brace = behind_u c cs next (eqb_tells c 123)
+reads_more c cs next AfterBackslash = behind_backslash c cs next (eqb_tells c 117)
+reads_more c cs next AfterU = behind_u c cs next (eqb_tells c 123)
 reads_more c cs next (Digits ds) = in_digits c cs ds next (eqb_tells c 125)
 
-reads_none : (e : Escape) → ReadsIn e []
+reads_none : (e : InEscape) → ReadsIn e []
 unfolding unescape
 reads_none Outside = ([], (refl, tt))
-reads_none Backslash = at_wrong [] nothing_behind
-reads_none Brace = at_wrong (117 ∷ []) nothing_behind_u
-reads_none (Digits ds) = λ none. reads_as (92 ∷ 117 ∷ 123 ∷ ds) (92 ∷ 117 ∷ 123 ∷ (ds ++ [])) (Err BadEscape) (Err BadEscape) (ap (λ (l : List ℕ). 92 ∷ 117 ∷ 123 ∷ l) (sym (append-nil ds))) refl (at_wrong (117 ∷ 123 ∷ ds) (no_end ds none))
+reads_none AfterBackslash = at_wrong [] nothing_behind
+reads_none AfterU = at_wrong (117 ∷ []) nothing_behind_u
+reads_none (Digits ds) = λ none. reads_as (92 ∷ 117 ∷ 123 ∷ ds) (92 ∷ 117 ∷ 123 ∷ (ds ++ [])) (Err Escape) (Err Escape) (ap (λ (l : List ℕ). 92 ∷ 117 ∷ 123 ∷ l) (sym (append-nil ds))) refl (at_wrong (117 ∷ 123 ∷ ds) (no_end ds none))
 
-reads_in : (cs : List ℕ) (e : Escape) → ReadsIn e cs
+reads_in : (cs : List ℕ) (e : InEscape) → ReadsIn e cs
 reads_in [] e = reads_none e
 reads_in (c ∷ cs) e = reads_more c cs (λ f. reads_in cs f) e
 
@@ -202,11 +202,11 @@ over_digits (e ∷ es) ds rest none = rw (not_same e 125 none.0) (over_digits es
 
 over_code : (ds : List ℕ) (d : ℕ) (rest : List ℕ) → named ds ≡ Some d → unescape (92 ∷ 117 ∷ 123 ∷ (ds ++ 125 ∷ rest)) Outside ≡ with_front (d ∷ []) (unescape rest Outside)
 unfolding unescape
-over_code ds d rest is = over_digits ds [] (125 ∷ rest) (named_no_brace ds d is) ∙ ap (λ (o : Option ℕ). one o (unescape rest Outside)) is
+over_code ds d rest is = over_digits ds [] (125 ∷ rest) (named_no_brace ds d is) ∙ ap (λ (o : Option ℕ). then_char o (unescape rest Outside)) is
 
-over_letter : (l d : ℕ) (rest : List ℕ) → simple l ≡ Some d → unescape (92 ∷ l ∷ rest) Outside ≡ with_front (d ∷ []) (unescape rest Outside)
+over_letter : (l d : ℕ) (rest : List ℕ) → short_escape l ≡ Some d → unescape (92 ∷ l ∷ rest) Outside ≡ with_front (d ∷ []) (unescape rest Outside)
 unfolding unescape
-over_letter l d rest is = rw (not_same l 117 (not_u l d is)) (ap (λ (o : Option ℕ). one o (unescape rest Outside)) is)
+over_letter l d rest is = rw (not_same l 117 (not_u l d is)) (ap (λ (o : Option ℕ). then_char o (unescape rest Outside)) is)
 
 over_itself : (c d : ℕ) (rest : List ℕ) → (c ≢ 92) × (c ≡ d) → unescape (c ∷ rest) Outside ≡ with_front (d ∷ []) (unescape rest Outside)
 unfolding unescape
@@ -240,11 +240,11 @@ begins rest (Itself c ∷ ss) (d ∷ text) is say = let same : 92 ≡ c = (cc) i
 begins rest (Letter l ∷ ss) (d ∷ text) is say = let same : rest ≡ l ∷ signs ss = (cc) in inl (l, d, signs ss, (say.0, same))
 begins rest (Code ds ∷ ss) (d ∷ text) is say = let same : rest ≡ 117 ∷ 123 ∷ (ds ++ 125 ∷ signs ss) = (cc) in inr (ds, d, signs ss, (say.0, same))
 
-wrong_at : (rest : List ℕ) (r : Result (List ℕ) Bad) → (BeginsEscape rest → ⊥) → Reads (92 ∷ rest) r → r ≡ Err BadEscape
+wrong_at : (rest : List ℕ) (r : Result (List ℕ) Bad) → (BeginsEscape rest → ⊥) → Reads (92 ∷ rest) r → r ≡ Err Escape
 wrong_at rest (Ok text) wrong (ss, read) = absurd (wrong (begins rest ss text read.0 read.1))
 wrong_at rest (Err b) wrong (is, w) = ap Err is
 
-pub unescape_wrong : (inside : List ℕ) → WrongEscape inside → unescape inside Outside ≡ Err BadEscape
+pub unescape_wrong : (inside : List ℕ) → WrongEscape inside → unescape inside Outside ≡ Err Escape
 unescape_wrong inside w =
     ap (λ (l : List ℕ). unescape l Outside) w.inside_is
     ∙ (over_signs w.before w.text (92 ∷ w.rest) w.said ∙ ap (with_front w.text) (wrong_at w.rest (unescape (92 ∷ w.rest) Outside) w.wrong (reads (92 ∷ w.rest))))

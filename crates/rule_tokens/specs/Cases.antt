@@ -1,15 +1,16 @@
--- What a line says by its tokens, and the case of each fault. The first case that holds is the one that a line is
--- refused for.
-use Rattle.std.specs.Prelude.{◌≡◌, ℕ, ◌<◌, Bool, true, false, List, [], ◌∷◌, length, Option, Some, None, ◌⊎◌, encode_utf8_all}
+-- What a line says by its tokens, and the case of each fault that its tokens show. The first case that holds is
+-- the one that a line is refused for.
+use Rattle.std.specs.Prelude.{◌≡◌, ℕ, ◌<◌, ◌≤◌, Bool, true, false, List, [], ◌∷◌, length, Option, Some, None, ◌⊎◌, encode_utf8_all}
+use Rattle.std.specs.Char.{is_ascii_control}
 use Rattle.std.specs.List.{list_any}
 use Rattle.std.specs.Str.{chars, IsUtf8}
 use Rattle.rule_tokens.specs.declared.refused.Bad.{Bad}
-use Rattle.rule_tokens.specs.declared.refused.Bad.TheVariants.{Long, Utf8, Quote, Escape, Word, Arity, Place, Later}
+use Rattle.rule_tokens.specs.declared.refused.Bad.TheVariants.{Long, Utf8, Quote, Escape, Word}
 use Rattle.rule_tokens.specs.declared.cutting.Raw.{Raw}
 use Rattle.rule_tokens.specs.declared.token.Token.{Token}
-use Rattle.rule_tokens.specs.Layout.{LaidOut, MisquotedBy}
+use Rattle.rule_tokens.specs.Layout.{LaidOut, IsMisquoted}
 use Rattle.rule_tokens.specs.Signs.{IsReadAs, WrongEscape}
-use Rattle.rule_tokens.specs.Tokens.{has_bare_backslash, is_blank, is_control}
+use Rattle.rule_tokens.specs.Tokens.{has_bare_backslash, is_blank}
 
 -- in quotes the signs are read; a bare token says itself
 abbrev pub SaysBy : Bool → List ℕ → List ℕ → Type 0
@@ -40,41 +41,32 @@ HasWrongEscape line = (rs : List Raw) × (LaidOut line rs × SomeWrong rs)
 
 -- below U+0020, or U+007F
 abbrev pub HasControl : List ℕ → Type 0
-HasControl line = list_any is_control line ≡ true
+HasControl line = list_any is_ascii_control line ≡ true
 
 -- the line is laid out as tokens, and a backslash stands in a bare one
 abbrev pub HasBareBackslash : List ℕ → Type 0
 HasBareBackslash line = (rs : List Raw) × (LaidOut line rs × (list_any has_bare_backslash rs ≡ true))
 
--- the case of each fault that is found in the tokens of a line
-abbrev pub LineCase : List ℕ → Bad → Type 0
-LineCase line Long = ⊥
-LineCase line Utf8 = ⊥
-LineCase line Quote = MisquotedBy line
-LineCase line Escape = HasWrongEscape line
-LineCase line Word = HasControl line ⊎ HasBareBackslash line
-LineCase line Arity = ⊥
-LineCase line Place = ⊥
-LineCase line Later = ⊥
+-- the case of each fault that the tokens of a line show
+abbrev pub TokenCase : List ℕ → Bad → Type 0
+TokenCase line Quote = IsMisquoted line
+TokenCase line Escape = HasWrongEscape line
+TokenCase line Word = HasControl line ⊎ HasBareBackslash line
+TokenCase line _ = ⊥
 
--- a line that isn't blank
-abbrev pub IsSaid : List ℕ → Type 0
-IsSaid bytes = is_blank (chars bytes) ≡ false
+abbrev pub IsNotBlank : List ℕ → Type 0
+IsNotBlank line = is_blank line ≡ false
 
--- the case of each fault of a line that may have so many bytes
-abbrev pub Case : ℕ → List ℕ → Bad → Type 0
-Case limit bytes Long = limit < length bytes
-Case limit bytes Utf8 = IsUtf8 bytes → ⊥
-Case limit bytes Quote = IsSaid bytes × LineCase (chars bytes) Quote
-Case limit bytes Escape = IsSaid bytes × LineCase (chars bytes) Escape
-Case limit bytes Word = IsSaid bytes × LineCase (chars bytes) Word
-Case limit bytes Arity = ⊥
-Case limit bytes Place = ⊥
-Case limit bytes Later = ⊥
+-- the case of each fault of a line that may have so many bytes, as far as its tokens show it: what its words and
+-- operands must be, and where a form may stand, is not asked here
+abbrev pub LexicalCase : ℕ → List ℕ → Bad → Type 0
+LexicalCase limit bytes Long = limit < length bytes
+LexicalCase limit bytes Utf8 = IsUtf8 bytes → ⊥
+LexicalCase limit bytes bad = IsNotBlank (chars bytes) × TokenCase (chars bytes) bad
 
 -- the order in which they are looked for
-abbrev pub order : List Bad
-order = Long ∷ Utf8 ∷ Quote ∷ Escape ∷ Word ∷ []
+abbrev pub lexical_order : List Bad
+lexical_order = Long ∷ Utf8 ∷ Quote ∷ Escape ∷ Word ∷ []
 
 -- of these faults it is the first whose case holds
 abbrev pub FirstOf : (Bad → Type 0) → List Bad → Bad → Type 0
@@ -92,15 +84,18 @@ pub record SaysTokens (line : List ℕ) (ts : List Token) : Type 0 where
   pub laid_out : LaidOut line raws
   pub say : AllSay raws ts
 
--- what the line says: nothing where it is blank, else its tokens
+-- a blank line says None, another one its tokens
 abbrev pub SaysLine : List ℕ → Option (List Token) → Type 0
 SaysLine line None = is_blank line ≡ true
-SaysLine line (Some ts) = (is_blank line ≡ false) × SaysTokens line ts
+SaysLine line (Some ts) = IsNotBlank line × SaysTokens line ts
 
 -- it is refused for the first case that holds
 abbrev pub RefusedFor : ℕ → List ℕ → Bad → Type 0
-RefusedFor limit bytes b = FirstOf (Case limit bytes) order b
+RefusedFor limit bytes b = FirstOf (LexicalCase limit bytes) lexical_order b
 
--- no case holds, and the line says this
-abbrev pub ReadsTo : ℕ → List ℕ → Option (List Token) → Type 0
-ReadsTo limit bytes said = NoneOf (Case limit bytes) order × SaysLine (chars bytes) said
+-- the line is within the limit, is UTF-8, has no fault, and says this
+pub record ReadsTo (limit : ℕ) (bytes : List ℕ) (said : Option (List Token)) : Type 0 where
+  pub short : length bytes ≤ limit
+  pub utf8 : IsUtf8 bytes
+  pub faultless : NoneOf (LexicalCase limit bytes) lexical_order
+  pub says : SaysLine (chars bytes) said

@@ -26,6 +26,6 @@ cut (c ∷ cs) (Protected w) = cut cs (Quoted (w ++ c ∷ []))
 cut (c ∷ cs) Closed = if c == 32 then cut cs Gap else Err Quote
 
 -- after one more character the tokens of the line are the same, whatever follows
-abbrev pub Steps : List Raw → Within → ℕ → List Raw → Result Within LineRefused → Type 0
-Steps old within c new (Ok next) = (cs : List ℕ) → with_front old (cut (c ∷ cs) within) ≡ with_front new (cut cs next)
-Steps old within c new (Err e) = (cs : List ℕ) → Fails e (cut (c ∷ cs) within)
+abbrev pub CutStep : List Raw → Within → ℕ → List Raw → Result Within LineRefused → Type 0
+CutStep old within c new (Ok next) = (cs : List ℕ) → with_front old (cut (c ∷ cs) within) ≡ with_front new (cut cs next)
+CutStep old within c new (Err e) = (cs : List ℕ) → Fails e (cut (c ∷ cs) within)

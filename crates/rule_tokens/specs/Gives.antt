@@ -1,4 +1,4 @@
--- What a function returned is what a function on lists gives, unless memory was refused.
+-- What a function returned is what a definition gives, unless memory was refused.
 use Rattle.std.specs.Prelude.{◌≡◌, List, ◌++◌, Option, Some, None, Result, Ok, Err}
 use Rattle.rule_tokens.specs.declared.refused.Bad.{Bad}
 use Rattle.rule_tokens.specs.declared.refused.Bad.TheVariants.{Word}
@@ -15,17 +15,17 @@ abbrev pub ◌>>=◌ : {A B : Type 0} → Result A Bad → (A → Result B Bad) 
 abbrev pub with_front : {A : Type 0} → List A → Result (List A) Bad → Result (List A) Bad
 with_front front read = read >>= λ rest. Ok (front ++ rest)
 
--- a refusal is the one that the lists give; want of memory says nothing
+-- a refusal is the one that the definition gives; want of memory says nothing
 abbrev pub Fails : {Y : Type 0} → LineRefused → Result Y Bad → Type 0
 Fails refused.NoMemory read = Unit {0}
 Fails (refused.Bad b) read = read ≡ Err b
 
--- what was returned, seen so, is what the lists give
+-- what was returned, seen so, is what the definition gives
 abbrev pub GivesSeen : {X Y : Type 0} → (X → Y) → Result X LineRefused → Result Y Bad → Type 0
 GivesSeen see (Ok x) read = read ≡ Ok (see x)
 GivesSeen see (Err e) read = Fails e read
 
--- what was returned is what the lists give
+-- what was returned is what the definition gives
 abbrev pub Gives : {X : Type 0} → Result X LineRefused → Result X Bad → Type 0
 Gives (Ok x) read = read ≡ Ok x
 Gives (Err e) read = Fails e read

@@ -1,5 +1,5 @@
--- How a line is laid out. In front stand spaces and tokens, each token with the space behind it. What comes
--- last is nothing, or a token, or what is wrong with the quotes. (32 is a space, 34 a quote, 92 a backslash.)
+-- How a line is laid out. First come items: spaces, and tokens with the space behind each. What comes last is
+-- nothing, or a token, or what is wrong with the quotes. (32 is a space, 34 a quote, 92 a backslash.)
 use Rattle.std.specs.Prelude.{◌≡◌, ◌≢◌, ℕ, true, false, List, [], ◌∷◌, ◌++◌, ◌⊎◌}
 use Rattle.rule_tokens.specs.declared.cutting.Raw.{Raw}
 use Rattle.rule_tokens.specs.Cut.{raw}
@@ -31,38 +31,38 @@ IsBare [] = ⊥
 IsBare (c ∷ cs) = AreBare (c ∷ cs)
 
 -- a space, or a token and the space behind it
-pub data Front : Type 0 where
-  Space : Front
-  BareToken : List ℕ → Front
-  QuotedToken : List Piece → Front
+pub data Item : Type 0 where
+  Space : Item
+  BareToken : List ℕ → Item
+  QuotedToken : List Piece → Item
 
-abbrev pub front : List Front → List ℕ
-front [] = []
-front (Space ∷ fs) = 32 ∷ front fs
-front (BareToken w ∷ fs) = w ++ 32 ∷ front fs
-front (QuotedToken ps ∷ fs) = 34 ∷ (pieces ps ++ 34 ∷ 32 ∷ front fs)
+abbrev pub items_text : List Item → List ℕ
+items_text [] = []
+items_text (Space ∷ more) = 32 ∷ items_text more
+items_text (BareToken w ∷ more) = w ++ 32 ∷ items_text more
+items_text (QuotedToken ps ∷ more) = 34 ∷ (pieces ps ++ 34 ∷ 32 ∷ items_text more)
 
-abbrev pub AreFronts : List Front → Type 0
-AreFronts [] = Unit {0}
-AreFronts (Space ∷ fs) = AreFronts fs
-AreFronts (BareToken w ∷ fs) = IsBare w × AreFronts fs
-AreFronts (QuotedToken ps ∷ fs) = ArePieces ps × AreFronts fs
+abbrev pub AreItems : List Item → Type 0
+AreItems [] = Unit {0}
+AreItems (Space ∷ more) = AreItems more
+AreItems (BareToken w ∷ more) = IsBare w × AreItems more
+AreItems (QuotedToken ps ∷ more) = ArePieces ps × AreItems more
 
--- the tokens in front
-abbrev pub raws : List Front → List Raw
+-- the tokens of items
+abbrev pub raws : List Item → List Raw
 raws [] = []
-raws (Space ∷ fs) = raws fs
-raws (BareToken w ∷ fs) = raw false w ∷ raws fs
-raws (QuotedToken ps ∷ fs) = raw true (pieces ps) ∷ raws fs
+raws (Space ∷ more) = raws more
+raws (BareToken w ∷ more) = raw false w ∷ raws more
+raws (QuotedToken ps ∷ more) = raw true (pieces ps) ∷ raws more
 
--- what comes last, behind the tokens in front, is so
-pub record Behind (IsLast : List ℕ → List Raw → Type 0) (line : List ℕ) (tokens : List Raw) : Type 0 where
-  pub fronts : List Front
-  pub fit : AreFronts fronts
+-- the line is items and then a last part, which is so, and the tokens are those of both
+pub record ItemsThen (IsLast : List ℕ → List Raw → Type 0) (line : List ℕ) (tokens : List Raw) : Type 0 where
+  pub items : List Item
+  pub fit : AreItems items
   pub last : List ℕ
   pub last_tokens : List Raw
-  pub line_is : line ≡ front fronts ++ last
-  pub tokens_are : tokens ≡ raws fronts ++ last_tokens
+  pub line_is : line ≡ items_text items ++ last
+  pub tokens_are : tokens ≡ raws items ++ last_tokens
   pub is_last : IsLast last last_tokens
 
 -- nothing, or one more token
@@ -74,7 +74,7 @@ IsEnd last tokens =
 
 -- the line is laid out as these tokens
 abbrev pub LaidOut : List ℕ → List Raw → Type 0
-LaidOut = Behind IsEnd
+LaidOut = ItemsThen IsEnd
 
 -- a quoted token that has no end: it goes on to the end of the line, perhaps to a backslash that protects nothing
 abbrev pub HasNoEnd : List ℕ → Type 0
@@ -88,23 +88,23 @@ HasTextBehind last = (ps : List Piece) × (c : ℕ) × (more : List ℕ) × (Are
 abbrev pub HasQuoteInside : List ℕ → Type 0
 HasQuoteInside last = (w : List ℕ) × (more : List ℕ) × (IsBare w × (last ≡ w ++ 34 ∷ more))
 
--- what stands behind some spaces and tokens is so
-pub record Follows (Is : List ℕ → Type 0) (line : List ℕ) : Type 0 where
-  pub fronts : List Front
-  pub fit : AreFronts fronts
+-- the line is items and then a last part, which is so
+pub record EndsIn (Is : List ℕ → Type 0) (line : List ℕ) : Type 0 where
+  pub items : List Item
+  pub fit : AreItems items
   pub last : List ℕ
-  pub line_is : line ≡ front fronts ++ last
+  pub line_is : line ≡ items_text items ++ last
   pub is : Is last
 
 abbrev pub OpenQuote : List ℕ → Type 0
-OpenQuote = Follows HasNoEnd
+OpenQuote = EndsIn HasNoEnd
 
 abbrev pub TextAfterQuote : List ℕ → Type 0
-TextAfterQuote = Follows HasTextBehind
+TextAfterQuote = EndsIn HasTextBehind
 
 abbrev pub QuoteInBare : List ℕ → Type 0
-QuoteInBare = Follows HasQuoteInside
+QuoteInBare = EndsIn HasQuoteInside
 
 -- one of the three
-abbrev pub MisquotedBy : List ℕ → Type 0
-MisquotedBy line = OpenQuote line ⊎ (TextAfterQuote line ⊎ QuoteInBare line)
+abbrev pub IsMisquoted : List ℕ → Type 0
+IsMisquoted line = OpenQuote line ⊎ (TextAfterQuote line ⊎ QuoteInBare line)

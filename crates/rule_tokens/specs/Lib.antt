@@ -4,6 +4,7 @@ pub mod Cut
 pub mod Escapes
 pub mod Flags
 pub mod Gives
+pub mod Laws
 pub mod Layout
 pub mod Operands
 pub mod Quoted

@@ -1,7 +1,7 @@
 -- How the inside of a quoted token is written: characters as they stand, and escapes. (92 is a backslash, 117 a
 -- u, 123 and 125 are braces.)
 use Rattle.std.specs.Prelude.{◌≡◌, ◌≢◌, ℕ, List, [], ◌∷◌, ◌++◌, Some, ◌⊎◌}
-use Rattle.rule_tokens.specs.Escapes.{named, simple}
+use Rattle.rule_tokens.specs.Escapes.{named, short_escape}
 
 -- a character as it stands, a backslash and a letter, or \u{..} with digits
 pub data Sign : Type 0 where
@@ -18,7 +18,7 @@ signs (Code ds ∷ ss) = 92 ∷ 117 ∷ 123 ∷ (ds ++ 125 ∷ signs ss)
 -- the sign says this character
 abbrev pub SaysOne : Sign → ℕ → Type 0
 SaysOne (Itself c) d = (c ≢ 92) × (c ≡ d)
-SaysOne (Letter l) d = simple l ≡ Some d
+SaysOne (Letter l) d = short_escape l ≡ Some d
 SaysOne (Code ds) d = named ds ≡ Some d
 
 -- each says the character at its place
@@ -35,7 +35,7 @@ IsReadAs inside text = (ss : List Sign) × ((inside ≡ signs ss) × Say ss text
 -- behind a backslash: a letter of a short escape, or u and digits in braces that name a character
 abbrev pub BeginsEscape : List ℕ → Type 0
 BeginsEscape rest =
-    ((l : ℕ) × (d : ℕ) × (more : List ℕ) × ((simple l ≡ Some d) × (rest ≡ l ∷ more)))
+    ((l : ℕ) × (d : ℕ) × (more : List ℕ) × ((short_escape l ≡ Some d) × (rest ≡ l ∷ more)))
     ⊎ ((ds : List ℕ) × (d : ℕ) × (more : List ℕ) × ((named ds ≡ Some d) × (rest ≡ 117 ∷ 123 ∷ (ds ++ 125 ∷ more))))
 
 -- behind some signs stands a backslash that begins no escape

@@ -7,7 +7,7 @@ use Rattle.rule_tokens.specs.declared.refused.Bad.{Bad}
 use Rattle.rule_tokens.specs.declared.refused.Bad.TheVariants.{Long, Utf8, Word}
 use Rattle.rule_tokens.specs.declared.cutting.Raw.{Raw}
 use Rattle.rule_tokens.specs.declared.cutting.Within.TheVariants.{Gap}
-use Rattle.rule_tokens.specs.declared.escapes.Escape.TheVariants.{Outside}
+use Rattle.rule_tokens.specs.declared.escapes.InEscape.TheVariants.{Outside}
 use Rattle.rule_tokens.specs.declared.token.Token.{Token}
 use Rattle.rule_tokens.specs.Cut.{cut}
 use Rattle.rule_tokens.specs.Escapes.{unescape}
@@ -31,10 +31,6 @@ abbrev pub tokens_in : List Raw → Result (List Token) Bad
 tokens_in [] = Ok []
 tokens_in (r ∷ rs) = token_of r >>= λ t. with_front (t ∷ []) (tokens_in rs)
 
--- below U+0020, or U+007F
-abbrev pub is_control : ℕ → Bool
-is_control c = is_ascii_control c
-
 abbrev pub is_backslash : ℕ → Bool
 is_backslash c = c == 92
 
@@ -43,19 +39,19 @@ abbrev pub has_bare_backslash : Raw → Bool
 has_bare_backslash r = not r.quoted && list_any is_backslash r.chars
 
 -- the tokens of a line that isn't blank: first it is cut, then its escapes are read, then stray characters are looked for
-unfoldable pub tokens_of : List ℕ → Result (List Token) Bad
-tokens_of line = do
+unfoldable pub tokens_of_chars : List ℕ → Result (List Token) Bad
+tokens_of_chars line = do
   raws ← cut line Gap
   tokens ← tokens_in raws
-  if list_any is_control line || list_any has_bare_backslash raws then Err Word else Ok tokens
+  if list_any is_ascii_control line || list_any has_bare_backslash raws then Err Word else Ok tokens
 
 -- None for a blank line
 abbrev pub unless_blank : List ℕ → Result (Option (List Token)) Bad
-unless_blank line = if is_blank line then Ok None else (tokens_of line >>= λ ts. Ok (Some ts))
+unless_blank line = if is_blank line then Ok None else (tokens_of_chars line >>= λ ts. Ok (Some ts))
 
 -- the tokens of a line of at most so many bytes
-abbrev pub lexed : ℕ → List ℕ → Result (Option (List Token)) Bad
-lexed limit bytes =
+abbrev pub tokens_of : ℕ → List ℕ → Result (Option (List Token)) Bad
+tokens_of limit bytes =
     if nat_lt limit (length bytes) then Err Long
     else (if not (is_utf8 bytes) then Err Utf8
     else unless_blank (chars bytes))

@@ -1,6 +1,6 @@
 // Cuts a line at its spaces, and knows what stands between quotes.
 ghost use Rattle.std.specs.Prelude.{◌≡◌, ℕ, List};
-ghost use Rattle.rule_tokens.specs.Cut.{cut, Steps};
+ghost use Rattle.rule_tokens.specs.Cut.{cut, CutStep};
 ghost use Rattle.rule_tokens.specs.Gives.{GivesSeen};
 ghost use Rattle.rule_tokens.specs.declared.cutting.Within.TheVariants.{Gap};
 
@@ -32,7 +32,7 @@ pub enum Within {
 
 #[tactic(auto, unfolding(crate::specs::Cut::cut))]
 fn step(alloc: Global, done: &mut Vec<Raw>, within: Within, c: char) -> Result<Within, LineRefused>
-    ensures { Steps done.old.items within c done.new.items result }
+    ensures { CutStep done.old.items within c done.new.items result }
 {
     match within {
         Within::Gap => {

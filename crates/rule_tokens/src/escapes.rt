@@ -1,8 +1,8 @@
 // Reads the escapes of a quoted token.
 ghost use Rattle.std.specs.Prelude.{◌≡◌};
-ghost use Rattle.rule_tokens.specs.Escapes.{EscapeSteps, named, simple, unescape};
+ghost use Rattle.rule_tokens.specs.Escapes.{EscapeStep, named, short_escape, unescape};
 ghost use Rattle.rule_tokens.specs.Gives.{Gives};
-ghost use Rattle.rule_tokens.specs.declared.escapes.Escape.TheVariants.{Outside};
+ghost use Rattle.rule_tokens.specs.declared.escapes.InEscape.TheVariants.{Outside};
 
 use crate::chars::Chars;
 use crate::{Bad, LineRefused};
@@ -10,13 +10,13 @@ use std::alloc::Global;
 
 /// Where in an escape a character stands.
 #[derive(Debug, Drop)]
-pub enum Escape {
+pub enum InEscape {
     /// In none.
     Outside,
     /// Behind the backslash.
-    Backslash,
+    AfterBackslash,
     /// Behind the `u`.
-    Brace,
+    AfterU,
     /// Behind the opening brace, with what came after it.
     Digits(Chars),
 }
@@ -37,8 +37,8 @@ fn named(digits: &[char]) -> Option<char>
     char::from_u32(code)
 }
 
-fn simple(c: char) -> Option<char>
-    ensures { result ≡ simple c }
+fn short_escape(c: char) -> Option<char>
+    ensures { result ≡ short_escape c }
 {
     match c {
         '\\' => Some('\\'),
@@ -51,47 +51,47 @@ fn simple(c: char) -> Option<char>
 }
 
 #[tactic(auto, unfolding(crate::specs::Escapes::unescape))]
-fn step(alloc: Global, text: &mut Chars, escape: Escape, c: char) -> Result<Escape, LineRefused>
-    ensures { EscapeSteps text.old escape c text.new result }
+fn step(alloc: Global, text: &mut Chars, escape: InEscape, c: char) -> Result<InEscape, LineRefused>
+    ensures { EscapeStep text.old escape c text.new result }
 {
     match escape {
-        Escape::Outside => {
+        InEscape::Outside => {
             if c == '\\' {
-                return Ok(Escape::Backslash);
+                return Ok(InEscape::AfterBackslash);
             }
             text.push(c)?;
-            Ok(Escape::Outside)
+            Ok(InEscape::Outside)
         }
-        Escape::Backslash => {
+        InEscape::AfterBackslash => {
             if c == 'u' {
-                return Ok(Escape::Brace);
+                return Ok(InEscape::AfterU);
             }
-            match simple(c) {
+            match short_escape(c) {
                 None => Err(LineRefused::Bad(Bad::Escape)),
                 Some(d) => {
                     text.push(d)?;
-                    Ok(Escape::Outside)
+                    Ok(InEscape::Outside)
                 }
             }
         }
-        Escape::Brace => {
+        InEscape::AfterU => {
             if c == '{' {
-                return Ok(Escape::Digits(Chars::make(alloc)));
+                return Ok(InEscape::Digits(Chars::make(alloc)));
             }
             Err(LineRefused::Bad(Bad::Escape))
         }
-        Escape::Digits(mut digits) => {
+        InEscape::Digits(mut digits) => {
             if c == '}' {
                 return match named(digits.as_slice()) {
                     None => Err(LineRefused::Bad(Bad::Escape)),
                     Some(d) => {
                         text.push(d)?;
-                        Ok(Escape::Outside)
+                        Ok(InEscape::Outside)
                     }
                 };
             }
             digits.push(c)?;
-            Ok(Escape::Digits(digits))
+            Ok(InEscape::Digits(digits))
         }
     }
 }
@@ -102,14 +102,14 @@ pub(crate) fn unescape(alloc: Global, chars: &[char]) -> Result<Chars, LineRefus
     ensures { Gives result (unescape chars.now Outside) }
 {
     let mut text = Chars::make(alloc);
-    let mut escape = Escape::Outside;
+    let mut escape = InEscape::Outside;
     for c in chars {
         escape = step(alloc, &mut text, escape, *c)?;
     }
     match escape {
-        Escape::Outside => Ok(text),
-        Escape::Backslash => Err(LineRefused::Bad(Bad::Escape)),
-        Escape::Brace => Err(LineRefused::Bad(Bad::Escape)),
-        Escape::Digits(_) => Err(LineRefused::Bad(Bad::Escape)),
+        InEscape::Outside => Ok(text),
+        InEscape::AfterBackslash => Err(LineRefused::Bad(Bad::Escape)),
+        InEscape::AfterU => Err(LineRefused::Bad(Bad::Escape)),
+        InEscape::Digits(_) => Err(LineRefused::Bad(Bad::Escape)),
     }
 }

@@ -6,6 +6,7 @@ mod callback;
 mod chars;
 mod cutting;
 mod escapes;
+mod laws;
 mod operand;
 mod quoting;
 mod refused;
@@ -14,6 +15,7 @@ mod tokens;
 mod validity;
 
 pub use callback::{CallName, CallOrUpgrade};
+pub use laws::a_line_says_one_thing;
 pub use operand::{Operand, Val, call_name, class_name, is_word, node, text, value, variable};
 pub use quoting::{push_quoted, quoted};
 pub use refused::{Bad, LineRefused};

@@ -215,15 +215,12 @@ pub fn value(alloc: Global, t: &Token) -> Result<Val, LineRefused>
     Ok(Val::Fixed(text(alloc, t)?))
 }
 
-/// The callback that the token names. It takes no memory.
-pub fn call_name(t: &Token) -> Result<CallName, LineRefused>
-    ensures { Gives result (or_word (call_name t.now)) }
+/// The callback that the token names.
+pub fn call_name(t: &Token) -> Option<CallName>
+    ensures { result ≡ call_name t.now }
 {
     if t.quoted {
-        return Err(LineRefused::Bad(Bad::Word));
+        return None;
     }
-    match CallName::named(t.text.as_str()) {
-        None => Err(LineRefused::Bad(Bad::Word)),
-        Some(call) => Ok(call),
-    }
+    CallName::named(t.text.as_str())
 }

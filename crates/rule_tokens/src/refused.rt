@@ -31,7 +31,7 @@ pub enum Bad {
 /// Why a line was not read.
 #[derive(Debug, Drop)]
 pub enum LineRefused {
-    /// The line says nothing.
+    /// The line is refused for this.
     Bad(Bad),
     /// Memory was refused. It tells nothing of the line.
     NoMemory,

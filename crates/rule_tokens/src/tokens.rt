@@ -1,11 +1,12 @@
 // The tokens of a line, or what is wrong with it.
 ghost use Rattle.std.specs.Prelude.{◌≡◌, ℕ, List, IfOk, Ok, Option, Some, None, encode_utf8_all, option_copied, if◌then◌else◌};
+ghost use Rattle.std.specs.Char.{is_ascii_control};
 ghost use Rattle.std.specs.List.{list_any};
 ghost use Rattle.std.specs.Str.{chars, is_utf8};
 ghost use Rattle.rule_tokens.specs.Cases.{ReadsTo, RefusedFor};
 ghost use Rattle.rule_tokens.specs.Gives.{Gives, IfBad};
 ghost use Rattle.rule_tokens.specs.declared.token.Token.{Token};
-ghost use Rattle.rule_tokens.specs.Tokens.{has_bare_backslash, is_backslash, is_blank, is_control, lexed, token_of, tokens_in, tokens_of};
+ghost use Rattle.rule_tokens.specs.Tokens.{has_bare_backslash, is_backslash, is_blank, token_of, tokens_in, tokens_of, tokens_of_chars};
 
 use crate::cutting::{Raw, cut};
 use crate::escapes::unescape;
@@ -77,7 +78,7 @@ fn tokens_in(alloc: Global, raws: &[Raw]) -> Result<Tokens, LineRefused>
 }
 
 fn has_control(chars: &[char]) -> bool
-    ensures { result ≡ list_any is_control chars.now }
+    ensures { result ≡ list_any is_ascii_control chars.now }
 {
     chars.iter().any(|c| c.is_ascii_control())
 }
@@ -100,9 +101,9 @@ fn any_bare_backslash(raws: &[Raw]) -> bool
     raws.iter().any(|raw| has_bare_backslash(raw))
 }
 
-#[tactic(auto, unfolding(crate::specs::Tokens::tokens_of))]
+#[tactic(auto, unfolding(crate::specs::Tokens::tokens_of_chars))]
 fn tokens_of_chars(alloc: Global, line: &[char]) -> Result<Tokens, LineRefused>
-    ensures { Gives result (tokens_of line.now) }
+    ensures { Gives result (tokens_of_chars line.now) }
 {
     let raws = cut(alloc, line)?;
     let tokens = tokens_in(alloc, raws.as_slice())?;
@@ -113,7 +114,7 @@ fn tokens_of_chars(alloc: Global, line: &[char]) -> Result<Tokens, LineRefused>
 }
 
 fn lex(alloc: Global, limit: usize, bytes: &[u8]) -> Result<Option<Tokens>, LineRefused>
-    ensures { Gives result (lexed limit bytes.now) }
+    ensures { Gives result (tokens_of limit bytes.now) }
 {
     if bytes.len() > limit {
         return Err(LineRefused::Bad(Bad::Long));
@@ -128,21 +129,21 @@ fn lex(alloc: Global, limit: usize, bytes: &[u8]) -> Result<Option<Tokens>, Line
     Ok(Some(tokens_of_chars(alloc, line.as_slice())?))
 }
 
-/// The tokens of a line, without its end, or the first thing that is wrong with it. None for a blank line:
-/// one of spaces alone or of nothing, or a comment. A line may have `limit` bytes. `NoMemory` comes only
+/// The tokens of a line, without its end, or the first thing that is wrong with them. None for a blank
+/// line: one of spaces alone or of nothing, or a comment. A line may have `limit` bytes. `NoMemory` comes only
 /// where memory was refused, and tells nothing of the line.
 pub fn tokens_of(alloc: Global, limit: usize, bytes: &[u8]) -> Result<Option<Tokens>, LineRefused>
-    // What is wrong with the line is the first case that holds.
+    // What is wrong with the line is the first of the cases that tokens show.
     ensures refused { IfBad result (RefusedFor limit bytes.now) }
 
-    // What is read is what the line says, and no case holds.
+    // What is read is what the line says, and none of these cases holds.
     ensures read { IfOk result (ReadsTo limit bytes.now) }
 
-    // What a line says without a fault is read, unless memory is refused: so a line says one thing at most.
+    // What a line says without such a fault is read, unless memory is refused.
     ensures only { (said : Option (List Token)) → ReadsTo limit bytes.now said → Gives result (Ok said) }
 
     // Which it is, as a function that computes.
-    ensures exact { Gives result (lexed limit bytes.now) }
+    ensures exact { Gives result (tokens_of limit bytes.now) }
 {
     lex(alloc, limit, bytes)
 }

@@ -1,7 +1,7 @@
 use Rattle.std.proofs.Common.{◌≡◌, drop}
 use Rattle.rule_tokens.specs.Escapes.{unescape}
 use Rattle.rule_tokens.specs.Gives.{with_front}
-use Rattle.rule_tokens.specs.declared.escapes.Escape.TheVariants.{Outside}
+use Rattle.rule_tokens.specs.declared.escapes.InEscape.TheVariants.{Outside}
 use Rattle.rule_tokens.proofs.escapes.unescape.Given as goal
 
 abbrev pub invariant-loop-c : goal.invariant-loop-c
