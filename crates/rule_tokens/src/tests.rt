@@ -199,65 +199,77 @@ fn a_quoted_word_is_no_word(rt: HostRuntime) -> Result<(), Fail> {
 }
 
 #[test]
-fn operands_have_their_forms(rt: HostRuntime) -> Result<(), Fail> {
+fn variables_have_their_form(rt: HostRuntime) -> Result<(), Fail> {
     let alloc = rt.alloc();
-    for (quoted, word, as_variable, as_class, as_text) in [
-        (false, "$a", "a", "Word", "Word"),
-        (false, "$a1_b", "a1_b", "Word", "Word"),
-        (false, "$", "Word", "Word", "Word"),
-        (false, "$A", "Word", "Word", "Word"),
-        (false, "$1", "Word", "Word", "Word"),
-        (false, "$a-b", "Word", "Word", "Word"),
-        (false, "$aB", "Word", "Word", "Word"),
-        (false, "$_a", "Word", "Word", "Word"),
-        (false, "$\u{e9}", "Word", "Word", "Word"),
-        (false, "_A", "Word", "Word", "_A"),
-        (false, "1A", "Word", "Word", "1A"),
-        (false, "A\u{e9}", "Word", "Word", "A\u{e9}"),
-        (false, "a@b", "Word", "Word", "a@b"),
-        (false, "x$", "Word", "Word", "x$"),
-        (true, "$a", "Word", "Word", "$a"),
-        (false, "A", "Word", "A", "A"),
-        (false, "Ab_1", "Word", "Ab_1", "Ab_1"),
-        (false, "aB", "Word", "Word", "aB"),
-        (false, "A-", "Word", "Word", "A-"),
-        (true, "A", "Word", "Word", "A"),
-        (false, "@x", "Word", "Word", "Word"),
-        (true, "@x", "Word", "Word", "@x"),
-        (true, "", "Word", "Word", ""),
+    for (quoted, word, want) in [
+        (false, "$a", "a"),
+        (false, "$a1_b", "a1_b"),
         (
             false,
             "$abcdefghijabcdefghijabcdefghijab",
             "abcdefghijabcdefghijabcdefghijab",
-            "Word",
-            "Word",
         ),
-        (
-            false,
-            "$abcdefghijabcdefghijabcdefghijabc",
-            "Word",
-            "Word",
-            "Word",
-        ),
-        (
-            false,
-            "Abcdefghijabcdefghijabcdefghijab",
-            "Word",
-            "Abcdefghijabcdefghijabcdefghijab",
-            "Abcdefghijabcdefghijabcdefghijab",
-        ),
-        (
-            false,
-            "Abcdefghijabcdefghijabcdefghijabc",
-            "Word",
-            "Word",
-            "Abcdefghijabcdefghijabcdefghijabc",
-        ),
+        (false, "$abcdefghijabcdefghijabcdefghijabc", "Word"),
+        (false, "$", "Word"),
+        (false, "$A", "Word"),
+        (false, "$1", "Word"),
+        (false, "$_a", "Word"),
+        (false, "$aB", "Word"),
+        (false, "$a-b", "Word"),
+        (false, "$\u{e9}", "Word"),
+        (false, "a", "Word"),
+        (true, "$a", "Word"),
     ] {
         let t = token(alloc, quoted, word)?;
-        assert_eq!(rt; row(alloc, variable(alloc, &t))?.as_str(), as_variable);
-        assert_eq!(rt; row(alloc, class_name(alloc, &t))?.as_str(), as_class);
-        assert_eq!(rt; row(alloc, text(alloc, &t))?.as_str(), as_text);
+        assert_eq!(rt; row(alloc, variable(alloc, &t))?.as_str(), want);
+    }
+    Ok(())
+}
+
+#[test]
+fn classes_have_their_form(rt: HostRuntime) -> Result<(), Fail> {
+    let alloc = rt.alloc();
+    for (quoted, word, want) in [
+        (false, "A", "A"),
+        (false, "Ab_1", "Ab_1"),
+        (
+            false,
+            "Abcdefghijabcdefghijabcdefghijab",
+            "Abcdefghijabcdefghijabcdefghijab",
+        ),
+        (false, "Abcdefghijabcdefghijabcdefghijabc", "Word"),
+        (false, "aB", "Word"),
+        (false, "_A", "Word"),
+        (false, "1A", "Word"),
+        (false, "A-", "Word"),
+        (false, "A\u{e9}", "Word"),
+        (false, "$a", "Word"),
+        (true, "A", "Word"),
+        (true, "", "Word"),
+    ] {
+        let t = token(alloc, quoted, word)?;
+        assert_eq!(rt; row(alloc, class_name(alloc, &t))?.as_str(), want);
+    }
+    Ok(())
+}
+
+#[test]
+fn texts_have_their_form(rt: HostRuntime) -> Result<(), Fail> {
+    let alloc = rt.alloc();
+    for (quoted, word, want) in [
+        (false, "a", "a"),
+        (false, "a@b", "a@b"),
+        (false, "x$", "x$"),
+        (false, "\u{e9}", "\u{e9}"),
+        (false, "$a", "Word"),
+        (false, "$", "Word"),
+        (false, "@x", "Word"),
+        (true, "$a", "$a"),
+        (true, "@x", "@x"),
+        (true, "", ""),
+    ] {
+        let t = token(alloc, quoted, word)?;
+        assert_eq!(rt; row(alloc, text(alloc, &t))?.as_str(), want);
     }
     Ok(())
 }
