@@ -1,0 +1,7 @@
+pub mod Grammar
+pub mod Laws
+pub mod Read
+pub mod Rows
+pub mod Whole
+pub mod Words
+pub mod Worked

@@ -1,0 +1,15 @@
+//! The forms of a line: which words and operands each wants, and what a line's tokens are refused for.
+#![tactic(auto)]
+
+mod got;
+mod keyword;
+mod laws;
+mod word;
+
+pub use got::{Got, Kind};
+pub use keyword::Keyword;
+pub use laws::{forms_are_read, worked_forms};
+pub use word::Word;
+
+#[cfg(test)]
+mod tests;
