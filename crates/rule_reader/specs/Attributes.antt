@@ -1,0 +1,18 @@
+-- The forms for attributes.
+use Rattle.std.specs.Prelude.{List, Result, Ok}
+use Rattle.rule_tokens.specs.declared.refused.Bad.{Bad}
+use Rattle.rule_tokens.specs.declared.token.Token.{Token}
+use Rattle.rule_tokens.specs.Gives.{◌>>=◌}
+use Rattle.rule_tokens.specs.Operands.{node, text, value}
+use Rattle.rule_lines.specs.declared.op.Op.TheVariants as ops
+use Rattle.rule_reader.specs.declared.form.Leaf.{Leaf}
+use Rattle.rule_reader.specs.declared.form.Leaf.TheVariants as leaves
+use Rattle.rule_reader.specs.Takes.{take_one, ended}
+
+abbrev pub set_attr_of : List Token → Result Leaf Bad
+set_attr_of ts = do
+  place ← take_one node ts
+  name ← take_one text place.1
+  val ← take_one value name.1
+  end ← ended val.1
+  Ok (leaves.Both (ops.SetAttr place.0 name.0 val.0))

@@ -1,0 +1,19 @@
+// The forms for attributes.
+ghost use Rattle.rule_tokens.specs.Gives.{Gives};
+ghost use Rattle.rule_reader.specs.Attributes.{set_attr_of};
+
+use crate::Leaf;
+use crate::operands::{ended, node_at, text_at, value_at};
+use rule_lines::Op;
+use rule_tokens::{LineRefused, Token};
+use std::alloc::Global;
+
+pub(crate) fn set_attr(alloc: Global, tokens: &[Token]) -> Result<Leaf, LineRefused>
+    ensures { Gives result (set_attr_of tokens.now) }
+{
+    let (node, rest) = node_at(alloc, tokens)?;
+    let (name, rest) = text_at(alloc, rest)?;
+    let (value, rest) = value_at(alloc, rest)?;
+    ended(rest)?;
+    Ok(Leaf::Both(Op::SetAttr { node, name, value }))
+}
