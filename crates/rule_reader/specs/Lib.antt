@@ -1,3 +1,9 @@
 pub mod Attributes
+pub mod Bodies
+pub mod Classes
+pub mod Controls
+pub mod CustomElements
+pub mod Internals
 pub mod Takes
 pub mod Tree
+pub mod Users

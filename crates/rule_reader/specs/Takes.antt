@@ -1,6 +1,7 @@
 -- Operands from the left. A token that does not have the form of its operand is a wrong word; where one is
 -- missing or left over, their number is wrong.
 use Rattle.std.specs.Prelude.{ℕ, ◌-◌, ◌==◌, Bool, true, false, List, [], ◌∷◌, Option, Some, None, Result, Ok, Err, if◌then◌else◌}
+use Rattle.ce_base.specs.declared.entries.Entry.{Entry}
 use Rattle.rule_tokens.specs.declared.refused.Bad.{Bad}
 use Rattle.rule_tokens.specs.declared.refused.Bad.TheVariants.{Word, Arity}
 use Rattle.rule_tokens.specs.declared.token.Token.{Token}
@@ -44,6 +45,22 @@ maybe kind (t ∷ ts) = or_word (kind t) >>= λ a. Ok (Some a, ts)
 abbrev pub up_to : {A : Type 0} → ℕ → (Token → Option A) → List Token → Result (List A) Bad
 up_to n kind [] = Ok []
 up_to n kind (t ∷ ts) = if n == 0 then Err Arity else (or_word (kind t) >>= λ a. with_front (a ∷ []) (up_to (n - 1) kind ts))
+
+abbrev pub entry : List ℕ → List ℕ → Entry
+entry name val = record { name = name; value = val }
+
+-- all that are left as pairs of a name and a value, at most n pairs
+abbrev pub entries_up_to : ℕ → List Token → Result (List Entry) Bad
+entries_up_to n [] = Ok []
+entries_up_to n (t ∷ []) = if n == 0 then Err Arity else (or_word (text t) >>= λ name. Err Arity)
+entries_up_to n (t ∷ u ∷ ts) = if n == 0 then Err Arity else (or_word (text t) >>= λ name. or_word (text u) >>= λ val. with_front (entry name val ∷ []) (entries_up_to (n - 1) ts))
+
+-- a name and a value, and the tokens after them
+abbrev pub entry_at : List Token → Result (Entry × List Token) Bad
+entry_at ts = do
+  name ← take_one text ts
+  val ← take_one text name.1
+  Ok (entry name.0 val.0, val.1)
 
 -- no token is left
 abbrev pub ended : List Token → Result (Unit {0}) Bad

@@ -14,14 +14,85 @@ abbrev pub create_of : List Token → Result Leaf Bad
 create_of ts = do
   var ← take_one variable ts
   local ← take_one text var.1
-  is ← optional keywords.Is text local.1
-  within ← optional keywords.In node is.1
-  end ← ended within.1
-  Ok (leaves.Both (ops.Create var.0 local.0 is.0 within.0))
+  is_value ← optional keywords.Is text local.1
+  document ← optional keywords.In node is_value.1
+  end ← ended document.1
+  Ok (leaves.Both (ops.Create var.0 local.0 is_value.0 document.0))
+
+abbrev pub new_of : List Token → Result Leaf Bad
+new_of ts = do
+  var ← take_one variable ts
+  class ← take_one class_name var.1
+  end ← ended class.1
+  Ok (leaves.Both (ops.New var.0 class.0))
+
+abbrev pub make_text_of : List Token → Result Leaf Bad
+make_text_of ts = do
+  var ← take_one variable ts
+  chars ← take_one text var.1
+  document ← optional keywords.In node chars.1
+  end ← ended document.1
+  Ok (leaves.Both (ops.MakeText var.0 chars.0 document.0))
+
+abbrev pub shadow_of : List Token → Result Leaf Bad
+shadow_of ts = do
+  var ← take_one variable ts
+  host ← take_one node var.1
+  end ← ended host.1
+  Ok (leaves.Both (ops.Shadow var.0 host.0))
 
 abbrev pub append_of : List Token → Result Leaf Bad
 append_of ts = do
   parent ← take_one node ts
-  child ← take_one node parent.1
-  end ← ended child.1
-  Ok (leaves.Both (ops.Append parent.0 child.0))
+  place ← take_one node parent.1
+  end ← ended place.1
+  Ok (leaves.Both (ops.Append parent.0 place.0))
+
+abbrev pub before_of : List Token → Result Leaf Bad
+before_of ts = do
+  parent ← take_one node ts
+  place ← take_one node parent.1
+  before ← take_one node place.1
+  end ← ended before.1
+  Ok (leaves.Both (ops.Before parent.0 place.0 before.0))
+
+abbrev pub remove_of : List Token → Result Leaf Bad
+remove_of ts = do
+  parent ← take_one node ts
+  place ← take_one node parent.1
+  end ← ended place.1
+  Ok (leaves.Both (ops.Remove parent.0 place.0))
+
+abbrev pub detach_of : List Token → Result Leaf Bad
+detach_of ts = do
+  place ← take_one node ts
+  end ← ended place.1
+  Ok (leaves.Both (ops.Detach place.0))
+
+abbrev pub clone_of : List Token → Result Leaf Bad
+clone_of ts = do
+  var ← take_one variable ts
+  place ← take_one node var.1
+  deep ← Ok (marked keywords.Deep place.1)
+  end ← ended deep.1
+  Ok (leaves.Both (ops.Clone var.0 place.0 deep.0))
+
+abbrev pub adopt_of : List Token → Result Leaf Bad
+adopt_of ts = do
+  document ← take_one node ts
+  place ← take_one node document.1
+  end ← ended place.1
+  Ok (leaves.Both (ops.Adopt document.0 place.0))
+
+abbrev pub let_variable_of : List Token → Result Leaf Bad
+let_variable_of ts = do
+  var ← take_one variable ts
+  place ← take_one node var.1
+  end ← ended place.1
+  Ok (leaves.Both (ops.Let var.0 place.0))
+
+abbrev pub doc_of : List Token → Result Leaf Bad
+doc_of ts = do
+  var ← take_one variable ts
+  end ← ended var.1
+  Ok (leaves.Doc var.0)

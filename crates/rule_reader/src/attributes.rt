@@ -1,6 +1,6 @@
 // The forms for attributes.
 ghost use Rattle.rule_tokens.specs.Gives.{Gives};
-ghost use Rattle.rule_reader.specs.Attributes.{set_attr_of};
+ghost use Rattle.rule_reader.specs.Attributes.{del_attr_of, set_attr_of};
 
 use crate::Leaf;
 use crate::operands::{ended, node_at, text_at, value_at};
@@ -16,4 +16,13 @@ pub(crate) fn set_attr(alloc: Global, tokens: &[Token]) -> Result<Leaf, LineRefu
     let (value, rest) = value_at(alloc, rest)?;
     ended(rest)?;
     Ok(Leaf::Both(Op::SetAttr { node, name, value }))
+}
+
+pub(crate) fn del_attr(alloc: Global, tokens: &[Token]) -> Result<Leaf, LineRefused>
+    ensures { Gives result (del_attr_of tokens.now) }
+{
+    let (node, rest) = node_at(alloc, tokens)?;
+    let (name, rest) = text_at(alloc, rest)?;
+    ended(rest)?;
+    Ok(Leaf::Both(Op::DelAttr { node, name }))
 }

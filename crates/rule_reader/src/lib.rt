@@ -2,8 +2,14 @@
 #![tactic(auto)]
 
 mod attributes;
+mod bodies;
+mod classes;
+mod controls;
+mod custom_elements;
 mod form;
+mod internals;
 mod operands;
 mod tree;
+mod users;
 
 pub use form::{Leaf, Wrap};

@@ -4,9 +4,9 @@ ghost use Rattle.rule_tokens.specs.Flags.{flags};
 ghost use Rattle.rule_tokens.specs.Gives.{Gives, GivesSeen, or_word};
 ghost use Rattle.rule_tokens.specs.Operands.{call_name, class_name, node, text, value, variable};
 ghost use Rattle.rule_forms.specs.Words.{spelling};
-ghost use Rattle.rule_reader.specs.Takes.{behind, ended, marked, maybe, next, on_off, optional, take_one, up_to};
+ghost use Rattle.rule_reader.specs.Takes.{behind, ended, entries_up_to, entry_at, marked, maybe, next, on_off, optional, take_one, up_to};
 
-use ce_base::{Flags, Text, Texts};
+use ce_base::{Entries, Entry, Flags, Text, Texts};
 use rule_forms::{Keyword, Word};
 use rule_lines::Vals;
 use rule_tokens::{Bad, CallName, LineRefused, Operand, Token, Val, call_name, class_name, flags, is_word, node, text, value, variable};
@@ -218,6 +218,32 @@ pub(crate) fn texts(alloc: Global, tokens: &[Token]) -> Result<Texts, LineRefuse
         }
         room -= 1;
         all.push(alloc, text(alloc, t)?)?;
+    }
+    Ok(all)
+}
+
+fn entry_at(alloc: Global, tokens: &[Token]) -> Result<(Entry, &[Token]), LineRefused>
+    ensures { GivesSeen (λ x. (x.0, x.1.now)) result (entry_at tokens.now) }
+{
+    let (name, rest) = text_at(alloc, tokens)?;
+    let (value, rest) = text_at(alloc, rest)?;
+    Ok((Entry { name, value }, rest))
+}
+
+pub(crate) fn entries(alloc: Global, tokens: &[Token]) -> Result<Entries, LineRefused>
+    ensures { Gives result (entries_up_to 32 tokens.now) }
+{
+    let mut all = Entries::make(alloc);
+    let mut room: u8 = 32;
+    let mut rest = tokens;
+    'pairs: while !rest.is_empty() {
+        if room == 0 {
+            return Err(LineRefused::Bad(Bad::Arity));
+        }
+        room -= 1;
+        let (entry, after) = entry_at(alloc, rest)?;
+        all.push(alloc, entry)?;
+        rest = after;
     }
     Ok(all)
 }

@@ -1,0 +1,88 @@
+-- The forms for element internals.
+use Rattle.std.specs.Prelude.{List, Result, Ok, Err, if◌then◌else◌}
+use Rattle.rule_tokens.specs.declared.refused.Bad.{Bad}
+use Rattle.rule_tokens.specs.declared.refused.Bad.TheVariants.{Word}
+use Rattle.rule_tokens.specs.declared.token.Token.{Token}
+use Rattle.rule_tokens.specs.declared.operand.Operand.{Operand}
+use Rattle.rule_tokens.specs.Flags.{flags}
+use Rattle.rule_tokens.specs.Gives.{◌>>=◌}
+use Rattle.rule_tokens.specs.Operands.{is_word, node, text, value}
+use Rattle.rule_lines.specs.declared.op.Op.TheVariants as ops
+use Rattle.rule_forms.specs.declared.keyword.Keyword.TheVariants as keywords
+use Rattle.rule_forms.specs.declared.word.Word.TheVariants as words
+use Rattle.rule_forms.specs.Words.{spelling}
+use Rattle.rule_reader.specs.declared.form.Leaf.{Leaf}
+use Rattle.rule_reader.specs.declared.form.Leaf.TheVariants as leaves
+use Rattle.rule_reader.specs.Takes.{next, take_one, optional, entries_up_to, ended}
+
+abbrev pub internals_of : List Token → Result Leaf Bad
+internals_of ts = do
+  place ← take_one node ts
+  end ← ended place.1
+  Ok (leaves.Both (ops.Internals place.0))
+
+abbrev pub form_value_of : List Token → Result Leaf Bad
+form_value_of ts = do
+  place ← take_one node ts
+  val ← take_one value place.1
+  saved ← optional keywords.State value val.1
+  end ← ended saved.1
+  Ok (leaves.Both (ops.FormValue place.0 val.0 saved.0))
+
+abbrev pub form_null_of : List Token → Result Leaf Bad
+form_null_of ts = do
+  place ← take_one node ts
+  end ← ended place.1
+  Ok (leaves.Both (ops.FormNull place.0))
+
+abbrev pub validity_of : List Token → Result Leaf Bad
+validity_of ts = do
+  place ← take_one node ts
+  raised ← take_one flags place.1
+  message ← take_one value raised.1
+  end ← ended message.1
+  Ok (leaves.Both (ops.Validity place.0 (record { 0 = raised.0 }) message.0))
+
+abbrev pub custom_of : List Token → Result Leaf Bad
+custom_of ts = do
+  place ← take_one node ts
+  message ← take_one value place.1
+  end ← ended message.1
+  Ok (leaves.Both (ops.Custom place.0 message.0))
+
+abbrev pub state_add_of : Operand → List Token → Result Leaf Bad
+state_add_of place ts = do
+  word ← take_one text ts
+  end ← ended word.1
+  Ok (leaves.Both (ops.StateAdd place word.0))
+
+abbrev pub state_delete_of : Operand → List Token → Result Leaf Bad
+state_delete_of place ts = do
+  word ← take_one text ts
+  end ← ended word.1
+  Ok (leaves.Both (ops.StateDelete place word.0))
+
+abbrev pub state_clear_of : Operand → List Token → Result Leaf Bad
+state_clear_of place ts = do
+  end ← ended ts
+  Ok (leaves.Both (ops.StateClear place))
+
+-- what the word says that is done to the states
+abbrev pub state_change_of : Operand → Token → List Token → Result Leaf Bad
+state_change_of place t ts =
+    if is_word (spelling words.Add) t then state_add_of place ts
+    else (if is_word (spelling words.Delete) t then state_delete_of place ts
+    else (if is_word (spelling words.Clear) t then state_clear_of place ts
+    else Err Word))
+
+abbrev pub state_of : List Token → Result Leaf Bad
+state_of ts = do
+  place ← take_one node ts
+  change ← next place.1
+  state_change_of place.0 change.0 change.1
+
+abbrev pub form_list_of : List Token → Result Leaf Bad
+form_list_of ts = do
+  place ← take_one node ts
+  entries ← entries_up_to 32 place.1
+  Ok (leaves.Both (ops.FormList place.0 entries))

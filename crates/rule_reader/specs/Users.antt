@@ -1,0 +1,76 @@
+-- What a user does.
+use Rattle.std.specs.Prelude.{List, Result, Ok, Err, if◌then◌else◌}
+use Rattle.rule_tokens.specs.declared.refused.Bad.{Bad}
+use Rattle.rule_tokens.specs.declared.refused.Bad.TheVariants.{Word}
+use Rattle.rule_tokens.specs.declared.token.Token.{Token}
+use Rattle.rule_tokens.specs.Gives.{◌>>=◌}
+use Rattle.rule_tokens.specs.Operands.{is_word, node, text}
+use Rattle.rule_forms.specs.declared.word.Word.TheVariants as words
+use Rattle.rule_forms.specs.Words.{spelling}
+use Rattle.rule_reader.specs.declared.form.Leaf.{Leaf}
+use Rattle.rule_reader.specs.declared.form.Leaf.TheVariants as leaves
+use Rattle.rule_reader.specs.Takes.{next, take_one, ended, on_off}
+
+abbrev pub edit_of : List Token → Result Leaf Bad
+edit_of ts = do
+  place ← take_one node ts
+  val ← take_one text place.1
+  end ← ended val.1
+  Ok (leaves.UserEdit place.0 val.0)
+
+abbrev pub check_of : List Token → Result Leaf Bad
+check_of ts = do
+  place ← take_one node ts
+  on ← take_one on_off place.1
+  end ← ended on.1
+  Ok (leaves.UserCheck place.0 on.0)
+
+abbrev pub choose_of : List Token → Result Leaf Bad
+choose_of ts = do
+  place ← take_one node ts
+  on ← take_one on_off place.1
+  end ← ended on.1
+  Ok (leaves.UserChoose place.0 on.0)
+
+abbrev pub reset_of : List Token → Result Leaf Bad
+reset_of ts = do
+  place ← take_one node ts
+  end ← ended place.1
+  Ok (leaves.UserReset place.0)
+
+abbrev pub restore_of : List Token → Result Leaf Bad
+restore_of ts = do
+  place ← take_one node ts
+  val ← take_one text place.1
+  end ← ended val.1
+  Ok (leaves.UserRestore place.0 val.0)
+
+abbrev pub autofill_of : List Token → Result Leaf Bad
+autofill_of ts = do
+  place ← take_one node ts
+  val ← take_one text place.1
+  end ← ended val.1
+  Ok (leaves.UserAutofill place.0 val.0)
+
+abbrev pub press_of : List Token → Result Leaf Bad
+press_of ts = do
+  place ← take_one node ts
+  end ← ended place.1
+  Ok (leaves.UserPress place.0)
+
+-- what the word says that the user does
+abbrev pub deed_of : Token → List Token → Result Leaf Bad
+deed_of t ts =
+    if is_word (spelling words.Edit) t then edit_of ts
+    else (if is_word (spelling words.Check) t then check_of ts
+    else (if is_word (spelling words.Choose) t then choose_of ts
+    else (if is_word (spelling words.Reset) t then reset_of ts
+    else (if is_word (spelling words.Restore) t then restore_of ts
+    else (if is_word (spelling words.Autofill) t then autofill_of ts
+    else (if is_word (spelling words.Press) t then press_of ts
+    else Err Word))))))
+
+abbrev pub user_of : List Token → Result Leaf Bad
+user_of ts = do
+  first ← next ts
+  deed_of first.0 first.1

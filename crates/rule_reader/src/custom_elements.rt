@@ -1,0 +1,28 @@
+// The forms for custom elements.
+ghost use Rattle.rule_tokens.specs.Gives.{Gives};
+ghost use Rattle.rule_reader.specs.CustomElements.{define_of, upgrade_of};
+
+use crate::Leaf;
+use crate::operands::{class_at, ended, node_at, optional_text, text_at};
+use rule_forms::Keyword;
+use rule_lines::Op;
+use rule_tokens::{LineRefused, Token};
+use std::alloc::Global;
+
+pub(crate) fn define(alloc: Global, tokens: &[Token]) -> Result<Leaf, LineRefused>
+    ensures { Gives result (define_of tokens.now) }
+{
+    let (name, rest) = text_at(alloc, tokens)?;
+    let (class, rest) = class_at(alloc, rest)?;
+    let (base, rest) = optional_text(alloc, rest, Keyword::Extends)?;
+    ended(rest)?;
+    Ok(Leaf::Both(Op::Define { name, class, base }))
+}
+
+pub(crate) fn upgrade(alloc: Global, tokens: &[Token]) -> Result<Leaf, LineRefused>
+    ensures { Gives result (upgrade_of tokens.now) }
+{
+    let (node, rest) = node_at(alloc, tokens)?;
+    ended(rest)?;
+    Ok(Leaf::Both(Op::Upgrade { node }))
+}

@@ -1,0 +1,109 @@
+// The forms for element internals.
+ghost use Rattle.rule_tokens.specs.Gives.{Gives};
+ghost use Rattle.rule_reader.specs.Internals.{custom_of, form_list_of, form_null_of, form_value_of, internals_of, state_add_of, state_change_of, state_clear_of, state_delete_of, state_of, validity_of};
+
+use crate::Leaf;
+use crate::operands::{ended, entries, flags_at, next, node_at, optional_value, text_at, value_at};
+use rule_forms::{Keyword, Word};
+use rule_lines::Op;
+use rule_tokens::{Bad, LineRefused, Operand, Token, is_word};
+use std::alloc::Global;
+
+pub(crate) fn internals(alloc: Global, tokens: &[Token]) -> Result<Leaf, LineRefused>
+    ensures { Gives result (internals_of tokens.now) }
+{
+    let (node, rest) = node_at(alloc, tokens)?;
+    ended(rest)?;
+    Ok(Leaf::Both(Op::Internals { node }))
+}
+
+pub(crate) fn form_value(alloc: Global, tokens: &[Token]) -> Result<Leaf, LineRefused>
+    ensures { Gives result (form_value_of tokens.now) }
+{
+    let (node, rest) = node_at(alloc, tokens)?;
+    let (value, rest) = value_at(alloc, rest)?;
+    let (saved, rest) = optional_value(alloc, rest, Keyword::State)?;
+    ended(rest)?;
+    Ok(Leaf::Both(Op::FormValue { node, value, saved }))
+}
+
+pub(crate) fn form_null(alloc: Global, tokens: &[Token]) -> Result<Leaf, LineRefused>
+    ensures { Gives result (form_null_of tokens.now) }
+{
+    let (node, rest) = node_at(alloc, tokens)?;
+    ended(rest)?;
+    Ok(Leaf::Both(Op::FormNull { node }))
+}
+
+pub(crate) fn validity(alloc: Global, tokens: &[Token]) -> Result<Leaf, LineRefused>
+    ensures { Gives result (validity_of tokens.now) }
+{
+    let (node, rest) = node_at(alloc, tokens)?;
+    let (flags, rest) = flags_at(alloc, rest)?;
+    let (message, rest) = value_at(alloc, rest)?;
+    ended(rest)?;
+    Ok(Leaf::Both(Op::Validity { node, flags, message }))
+}
+
+pub(crate) fn custom(alloc: Global, tokens: &[Token]) -> Result<Leaf, LineRefused>
+    ensures { Gives result (custom_of tokens.now) }
+{
+    let (node, rest) = node_at(alloc, tokens)?;
+    let (message, rest) = value_at(alloc, rest)?;
+    ended(rest)?;
+    Ok(Leaf::Both(Op::Custom { node, message }))
+}
+
+fn state_add(alloc: Global, node: Operand, tokens: &[Token]) -> Result<Leaf, LineRefused>
+    ensures { Gives result (state_add_of node tokens.now) }
+{
+    let (word, rest) = text_at(alloc, tokens)?;
+    ended(rest)?;
+    Ok(Leaf::Both(Op::StateAdd { node, word }))
+}
+
+fn state_delete(alloc: Global, node: Operand, tokens: &[Token]) -> Result<Leaf, LineRefused>
+    ensures { Gives result (state_delete_of node tokens.now) }
+{
+    let (word, rest) = text_at(alloc, tokens)?;
+    ended(rest)?;
+    Ok(Leaf::Both(Op::StateDelete { node, word }))
+}
+
+fn state_clear(node: Operand, tokens: &[Token]) -> Result<Leaf, LineRefused>
+    ensures { Gives result (state_clear_of node tokens.now) }
+{
+    ended(tokens)?;
+    Ok(Leaf::Both(Op::StateClear { node }))
+}
+
+fn state_change(alloc: Global, node: Operand, t: &Token, tokens: &[Token]) -> Result<Leaf, LineRefused>
+    ensures { Gives result (state_change_of node t.now tokens.now) }
+{
+    if is_word(t, Word::Add.text()) {
+        return state_add(alloc, node, tokens);
+    }
+    if is_word(t, Word::Delete.text()) {
+        return state_delete(alloc, node, tokens);
+    }
+    if is_word(t, Word::Clear.text()) {
+        return state_clear(node, tokens);
+    }
+    Err(LineRefused::Bad(Bad::Word))
+}
+
+pub(crate) fn state(alloc: Global, tokens: &[Token]) -> Result<Leaf, LineRefused>
+    ensures { Gives result (state_of tokens.now) }
+{
+    let (node, rest) = node_at(alloc, tokens)?;
+    let (t, rest) = next(rest)?;
+    state_change(alloc, node, t, rest)
+}
+
+pub(crate) fn form_list(alloc: Global, tokens: &[Token]) -> Result<Leaf, LineRefused>
+    ensures { Gives result (form_list_of tokens.now) }
+{
+    let (node, rest) = node_at(alloc, tokens)?;
+    let entries = entries(alloc, rest)?;
+    Ok(Leaf::Both(Op::FormList { node, entries }))
+}
