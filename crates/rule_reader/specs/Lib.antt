@@ -1,9 +1,13 @@
+pub mod Around
 pub mod Attributes
 pub mod Bodies
 pub mod Classes
 pub mod Controls
 pub mod CustomElements
+pub mod First
 pub mod Internals
+pub mod Leaves
+pub mod Pieces
 pub mod Takes
 pub mod Tree
 pub mod Users

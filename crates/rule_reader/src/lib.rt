@@ -1,15 +1,20 @@
 //! Reads the tokens of a line into a flat form: what stands around an action, and the form in it.
 #![tactic(auto)]
 
+mod around;
 mod attributes;
 mod bodies;
 mod classes;
 mod controls;
 mod custom_elements;
+mod first;
 mod form;
 mod internals;
+mod leaves;
 mod operands;
+mod pieces;
 mod tree;
 mod users;
 
 pub use form::{Leaf, Wrap};
+pub use pieces::{Form, Wraps, form_of};

@@ -230,6 +230,7 @@ fn entry_at(alloc: Global, tokens: &[Token]) -> Result<(Entry, &[Token]), LineRe
     Ok((Entry { name, value }, rest))
 }
 
+#[tactic(auto, using(crate::proofs::Pairs::one_more))]
 pub(crate) fn entries(alloc: Global, tokens: &[Token]) -> Result<Entries, LineRefused>
     ensures { Gives result (entries_up_to 32 tokens.now) }
 {
