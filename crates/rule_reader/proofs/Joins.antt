@@ -6,13 +6,12 @@ use Rattle.rule_tokens.specs.declared.refused.Bad.TheVariants.{Arity}
 use Rattle.rule_tokens.specs.declared.refused.LineRefused.{LineRefused}
 use Rattle.rule_tokens.specs.declared.refused.LineRefused.TheVariants as refused
 use Rattle.rule_tokens.specs.declared.token.Token.{Token}
-use Rattle.rule_tokens.specs.Gives.{◌>>=◌, Fails}
+use Rattle.rule_tokens.specs.Gives.{Fails}
 use Rattle.rule_reader.specs.declared.form.Leaf.{Leaf}
 use Rattle.rule_reader.specs.declared.form.Wrap.{Wrap}
 use Rattle.rule_reader.specs.declared.pieces.Form.{Form}
-use Rattle.rule_reader.specs.declared.pieces.Piece.{Piece}
 use Rattle.rule_reader.specs.declared.pieces.Piece.TheVariants.{Around, Within}
-use Rattle.rule_reader.specs.Pieces.{form, around, joined, piece_at, form_at}
+use Rattle.rule_reader.specs.Pieces.{form, around, piece_at, form_at}
 
 around_around : (ws : List Wrap) (w : Wrap) (read : Result Form Bad) → around ws (around (w ∷ []) read) ≡ around (ws ++ w ∷ []) read
 around_around ws w (Ok f) = ap (λ (all : List Wrap). Ok (form all f.leaf)) (sym (append_assoc ws (w ∷ []) f.wraps))

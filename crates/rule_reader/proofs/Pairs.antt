@@ -1,9 +1,9 @@
 -- One more pair of a list of entries.
-use Rattle.std.proofs.Common.{◌≡◌, ℕ, ◌-◌, ◌<◌, ◌==◌, List, [], ◌∷◌, ◌++◌, Option, Some, None, Result, Ok, Err, refl, sym, ap, append_assoc, arith}
+use Rattle.std.proofs.Common.{◌≡◌, ℕ, ◌-◌, ◌<◌, List, [], ◌∷◌, ◌++◌, Result, Ok, Err, refl, sym, ap, append_assoc, arith}
 use Rattle.ce_base.specs.declared.entries.Entry.{Entry}
 use Rattle.rule_tokens.specs.declared.refused.Bad.{Bad}
 use Rattle.rule_tokens.specs.declared.token.Token.{Token}
-use Rattle.rule_tokens.specs.Gives.{◌>>=◌, with_front, or_word}
+use Rattle.rule_tokens.specs.Gives.{with_front}
 use Rattle.rule_reader.specs.Takes.{entries_up_to, entry_at}
 
 front_front : (front : List Entry) (e : Entry) (read : Result (List Entry) Bad) → with_front front (with_front (e ∷ []) read) ≡ with_front (front ++ e ∷ []) read

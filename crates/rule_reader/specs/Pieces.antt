@@ -18,7 +18,7 @@ abbrev pub form : List Wrap → Leaf → Form
 form around leaf = record { wraps = around; leaf = leaf }
 
 -- one piece: what stands around an action and the action's tokens, or a form without an action
-abbrev pub piece_at : List Token → Result (Piece × List Token) Bad
+unfoldable pub piece_at : List Token → Result (Piece × List Token) Bad
 piece_at ts = do
   first ← next ts
   word ← or_word (first_word first.0)

@@ -38,10 +38,7 @@ fn comparison_at(tokens: &[Token]) -> Result<(bool, &[Token]), LineRefused>
     Ok((comparison(t)?, rest))
 }
 
-fn compared(
-    alloc: Global,
-    tokens: &[Token],
-) -> Result<((bool, Val, Val), &[Token]), LineRefused>
+fn compared(alloc: Global, tokens: &[Token]) -> Result<((bool, Val, Val), &[Token]), LineRefused>
     ensures { GivesSeen (λ x. (x.0, x.1.now)) result (compared tokens.now) }
 {
     let (equal, rest) = comparison_at(tokens)?;

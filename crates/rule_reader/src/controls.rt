@@ -81,7 +81,11 @@ fn asked_at(tokens: &[Token]) -> Result<(AskWord, &[Token]), LineRefused>
     Ok((asked(t)?, rest))
 }
 
-fn name_for(alloc: Global, word: AskWord, tokens: &[Token]) -> Result<(Option<Text>, &[Token]), LineRefused>
+fn name_for(
+    alloc: Global,
+    word: AskWord,
+    tokens: &[Token],
+) -> Result<(Option<Text>, &[Token]), LineRefused>
     ensures { GivesSeen (λ x. (x.0, x.1.now)) result (name_for word tokens.now) }
 {
     match word {

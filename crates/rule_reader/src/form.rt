@@ -7,18 +7,11 @@ use rule_tokens::{CallName, Operand, Val};
 #[derive(Debug, Drop)]
 pub enum Wrap {
     /// `on class call : action`
-    On {
-        class: Text,
-        call: CallName,
-    },
+    On { class: Text, call: CallName },
     /// `try action`
     Try,
     /// `if eq left right : action`, and with `ne`
-    If {
-        equal: bool,
-        left: Val,
-        right: Val,
-    },
+    If { equal: bool, left: Val, right: Val },
 }
 
 /// A form without an action after it.
@@ -41,15 +34,9 @@ pub enum Leaf {
     /// `class name`
     Class(Text),
     /// `has class call`
-    Has {
-        class: Text,
-        call: CallName,
-    },
+    Has { class: Text, call: CallName },
     /// `observe class name ..`
-    Observe {
-        class: Text,
-        names: Texts,
-    },
+    Observe { class: Text, names: Texts },
     /// `associate class`
     Associate(Text),
     /// `disable class shadow`
@@ -57,40 +44,19 @@ pub enum Leaf {
     /// `disable class internals`
     DisableInternals(Text),
     /// `doc $var`
-    Doc {
-        var: Text,
-    },
+    Doc { var: Text },
     /// `user edit node value`
-    UserEdit {
-        node: Operand,
-        value: Text,
-    },
+    UserEdit { node: Operand, value: Text },
     /// `user check node on`
-    UserCheck {
-        node: Operand,
-        on: bool,
-    },
+    UserCheck { node: Operand, on: bool },
     /// `user choose node on`
-    UserChoose {
-        node: Operand,
-        on: bool,
-    },
+    UserChoose { node: Operand, on: bool },
     /// `user reset form`
-    UserReset {
-        form: Operand,
-    },
+    UserReset { form: Operand },
     /// `user restore node value`
-    UserRestore {
-        node: Operand,
-        value: Text,
-    },
+    UserRestore { node: Operand, value: Text },
     /// `user autofill node value`
-    UserAutofill {
-        node: Operand,
-        value: Text,
-    },
+    UserAutofill { node: Operand, value: Text },
     /// `user press node`
-    UserPress {
-        node: Operand,
-    },
+    UserPress { node: Operand },
 }

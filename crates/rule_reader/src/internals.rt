@@ -42,7 +42,11 @@ pub(crate) fn validity(alloc: Global, tokens: &[Token]) -> Result<Leaf, LineRefu
     let (flags, rest) = flags_at(alloc, rest)?;
     let (message, rest) = value_at(alloc, rest)?;
     ended(rest)?;
-    Ok(Leaf::Both(Op::Validity { node, flags, message }))
+    Ok(Leaf::Both(Op::Validity {
+        node,
+        flags,
+        message,
+    }))
 }
 
 pub(crate) fn custom(alloc: Global, tokens: &[Token]) -> Result<Leaf, LineRefused>
@@ -77,7 +81,12 @@ fn state_clear(node: Operand, tokens: &[Token]) -> Result<Leaf, LineRefused>
     Ok(Leaf::Both(Op::StateClear { node }))
 }
 
-fn state_change(alloc: Global, node: Operand, t: &Token, tokens: &[Token]) -> Result<Leaf, LineRefused>
+fn state_change(
+    alloc: Global,
+    node: Operand,
+    t: &Token,
+    tokens: &[Token],
+) -> Result<Leaf, LineRefused>
     ensures { Gives result (state_change_of node t.now tokens.now) }
 {
     if is_word(t, Word::Add.text()) {

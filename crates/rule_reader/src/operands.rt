@@ -9,7 +9,10 @@ ghost use Rattle.rule_reader.specs.Takes.{behind, ended, entries_up_to, entry_at
 use ce_base::{Entries, Entry, Flags, Text, Texts};
 use rule_forms::{Keyword, Word};
 use rule_lines::Vals;
-use rule_tokens::{Bad, CallName, LineRefused, Operand, Token, Val, call_name, class_name, flags, is_word, node, text, value, variable};
+use rule_tokens::{
+    Bad, CallName, LineRefused, Operand, Token, Val, call_name, class_name, flags, is_word, node,
+    text, value, variable,
+};
 use std::alloc::Global;
 
 pub(crate) fn next(tokens: &[Token]) -> Result<(&Token, &[Token]), LineRefused>

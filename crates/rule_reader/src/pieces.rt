@@ -84,6 +84,7 @@ fn first_word(t: &Token) -> Result<Word, LineRefused>
     }
 }
 
+#[tactic(auto, unfolding(crate::specs::Pieces::piece_at))]
 fn piece_at(alloc: Global, tokens: &[Token]) -> Result<(Piece, &[Token]), LineRefused>
     ensures { GivesSeen (λ x. (x.0, x.1.now)) result (piece_at tokens.now) }
 {

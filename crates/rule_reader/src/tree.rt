@@ -3,7 +3,9 @@ ghost use Rattle.rule_tokens.specs.Gives.{Gives};
 ghost use Rattle.rule_reader.specs.Tree.{adopt_of, append_of, before_of, clone_of, create_of, detach_of, doc_of, let_variable_of, make_text_of, new_of, remove_of, shadow_of};
 
 use crate::Leaf;
-use crate::operands::{class_at, ended, marked, node_at, optional_node, optional_text, text_at, variable_at};
+use crate::operands::{
+    class_at, ended, marked, node_at, optional_node, optional_text, text_at, variable_at,
+};
 use rule_forms::Keyword;
 use rule_lines::Op;
 use rule_tokens::{LineRefused, Token};
@@ -17,7 +19,12 @@ pub(crate) fn create(alloc: Global, tokens: &[Token]) -> Result<Leaf, LineRefuse
     let (is_value, rest) = optional_text(alloc, rest, Keyword::Is)?;
     let (document, rest) = optional_node(alloc, rest, Keyword::In)?;
     ended(rest)?;
-    Ok(Leaf::Both(Op::Create { var, local, is_value, document }))
+    Ok(Leaf::Both(Op::Create {
+        var,
+        local,
+        is_value,
+        document,
+    }))
 }
 
 pub(crate) fn new(alloc: Global, tokens: &[Token]) -> Result<Leaf, LineRefused>
@@ -36,7 +43,11 @@ pub(crate) fn make_text(alloc: Global, tokens: &[Token]) -> Result<Leaf, LineRef
     let (chars, rest) = text_at(alloc, rest)?;
     let (document, rest) = optional_node(alloc, rest, Keyword::In)?;
     ended(rest)?;
-    Ok(Leaf::Both(Op::MakeText { var, chars, document }))
+    Ok(Leaf::Both(Op::MakeText {
+        var,
+        chars,
+        document,
+    }))
 }
 
 pub(crate) fn shadow(alloc: Global, tokens: &[Token]) -> Result<Leaf, LineRefused>
@@ -64,7 +75,11 @@ pub(crate) fn before(alloc: Global, tokens: &[Token]) -> Result<Leaf, LineRefuse
     let (node, rest) = node_at(alloc, rest)?;
     let (before, rest) = node_at(alloc, rest)?;
     ended(rest)?;
-    Ok(Leaf::Both(Op::Before { parent, node, before }))
+    Ok(Leaf::Both(Op::Before {
+        parent,
+        node,
+        before,
+    }))
 }
 
 pub(crate) fn remove(alloc: Global, tokens: &[Token]) -> Result<Leaf, LineRefused>

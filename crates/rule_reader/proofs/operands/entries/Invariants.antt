@@ -1,4 +1,4 @@
-use Rattle.std.proofs.Common.{◌≡◌, length}
+use Rattle.std.proofs.Common.{◌≡◌}
 use Rattle.rule_tokens.specs.Gives.{with_front}
 use Rattle.rule_reader.specs.Takes.{entries_up_to}
 use Rattle.rule_reader.proofs.operands.entries.Given as goal
