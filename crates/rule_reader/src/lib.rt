@@ -18,3 +18,6 @@ mod users;
 
 pub use form::{Leaf, Wrap};
 pub use pieces::{Form, Wraps, form_of};
+
+#[cfg(test)]
+mod tests;
