@@ -1,2 +1,5 @@
 pub mod Joins
 pub mod Pairs
+pub mod Same
+pub mod SameForms
+pub mod SameRest

@@ -5,6 +5,7 @@ pub mod Classes
 pub mod Controls
 pub mod CustomElements
 pub mod First
+pub mod Gots
 pub mod Internals
 pub mod Leaves
 pub mod Pieces
