@@ -3,3 +3,4 @@ pub mod Pairs
 pub mod Same
 pub mod SameForms
 pub mod SameRest
+pub mod SameAround

@@ -51,16 +51,16 @@ pub keys_end : {B : Type 0} (front : List Got) (x : B) (see : B → List Got) �
 keys_end front x see is [] = ap Ok is
 keys_end front x see is (t ∷ ts) = refl
 
-abbrev after : {A : Type 0} → Option A → List Token → Result (A × List Token) Bad
+abbrev pub after : {A : Type 0} → Option A → List Token → Result (A × List Token) Bad
 after o ts = or_word o >>= λ a. Ok (a, ts)
 
-abbrev then_some : {A : Type 0} → Result (A × List Token) Bad → Result (Option A × List Token) Bad
+abbrev pub then_some : {A : Type 0} → Result (A × List Token) Bad → Result (Option A × List Token) Bad
 then_some read = read >>= λ x. Ok (Some x.0, x.1)
 
 abbrev some_after : {A : Type 0} → Option A → List Token → Result (Option A × List Token) Bad
 some_after o ts = then_some (after o ts)
 
-abbrev some_one : {A : Type 0} → (Token → Option A) → List Token → Result (Option A × List Token) Bad
+abbrev pub some_one : {A : Type 0} → (Token → Option A) → List Token → Result (Option A × List Token) Bad
 some_one f ts = then_some (take_one f ts)
 
 behind_one : {A B : Type 0} (kind : Kind) (f : Token → Option A) (g : A → Got) (keys : List Key) (k : Option A × List Token → Result B Bad) (see : B → List Got) (front : List Got) → ((t : Token) → said_as kind t ≡ option_map g (f t)) → ((o : Option A) (ts : List Token) → with_front (front ++ part g o ∷ []) (read_keys keys ts) ≡ shows see (k (o, ts))) → (ts : List Token) → with_front front (behind_key (Some kind) (read_keys keys) ts) ≡ shows see (some_one f ts >>= k)

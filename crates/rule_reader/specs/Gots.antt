@@ -1,5 +1,5 @@
 -- What each token of a line is read as, by the form that the line says.
-use Rattle.std.specs.Prelude.{ℕ, Bool, true, false, List, [], ◌∷◌, map, Option, Some, None}
+use Rattle.std.specs.Prelude.{ℕ, Bool, true, false, List, [], ◌∷◌, ◌++◌, map, Option, Some, None}
 use Rattle.ce_base.specs.declared.entries.Entry.{Entry}
 use Rattle.rule_lines.specs.declared.ask_word.AskWord.{AskWord}
 use Rattle.rule_lines.specs.declared.ask_word.AskWord.TheVariants as asks
@@ -10,6 +10,9 @@ use Rattle.rule_forms.specs.declared.word.Word.{Word}
 use Rattle.rule_forms.specs.declared.word.Word.TheVariants as words
 use Rattle.rule_reader.specs.declared.form.Leaf.{Leaf}
 use Rattle.rule_reader.specs.declared.form.Leaf.TheVariants as leaves
+use Rattle.rule_reader.specs.declared.form.Wrap.{Wrap}
+use Rattle.rule_reader.specs.declared.form.Wrap.TheVariants as wraps
+use Rattle.rule_reader.specs.declared.pieces.Form.{Form}
 
 -- an optional part
 abbrev pub part : {A : Type 0} → (A → Got) → Option A → Got
@@ -24,6 +27,10 @@ mark false = gots.NotThere
 abbrev pub switch : Bool → Word
 switch true = words.On
 switch false = words.Off
+
+abbrev pub test : Bool → Word
+test true = words.Eq
+test false = words.Ne
 
 abbrev pub pairs : List Entry → List Got
 pairs [] = []
@@ -102,3 +109,17 @@ leaf_gots (leaves.Log vals) = gots.Word words.Log ∷ map gots.Value vals
 leaf_gots (leaves.Observe class names) = gots.Word words.Observe ∷ gots.Class class ∷ map gots.Chars names
 leaf_gots (leaves.DisableShadow class) = gots.Word words.Disable ∷ gots.Class class ∷ gots.Word words.Shadow ∷ []
 leaf_gots (leaves.DisableInternals class) = gots.Word words.Disable ∷ gots.Class class ∷ gots.Word words.Internals ∷ []
+
+-- what the tokens of a form up to its action are read as
+abbrev pub wrap_gots : Wrap → List Got
+wrap_gots (wraps.On class call) = gots.Word words.On ∷ gots.Class class ∷ gots.Callback call ∷ gots.Word words.Colon ∷ []
+wrap_gots wraps.Try = gots.Word words.Try ∷ []
+wrap_gots (wraps.If equal left right) = gots.Word words.If ∷ gots.Word (test equal) ∷ gots.Value left ∷ gots.Value right ∷ gots.Word words.Colon ∷ []
+
+abbrev pub wraps_gots : List Wrap → List Got → List Got
+wraps_gots [] inside = inside
+wraps_gots (w ∷ ws) inside = wrap_gots w ++ wraps_gots ws inside
+
+-- what the tokens of a line are read as
+abbrev pub form_gots : Form → List Got
+form_gots f = wraps_gots f.wraps (leaf_gots f.leaf)

@@ -1,5 +1,5 @@
 -- A line, read piece by piece: what stands around its action, and the form in it.
-use Rattle.std.specs.Prelude.{ℕ, zero, suc, List, [], ◌∷◌, ◌++◌, length, Result, Ok, Err, if◌then◌else◌}
+use Rattle.std.specs.Prelude.{ℕ, zero, suc, ◌+◌, List, [], ◌∷◌, ◌++◌, length, Result, Ok, Err, if◌then◌else◌}
 use Rattle.rule_tokens.specs.declared.refused.Bad.{Bad}
 use Rattle.rule_tokens.specs.declared.refused.Bad.TheVariants.{Arity}
 use Rattle.rule_tokens.specs.declared.token.Token.{Token}
@@ -33,11 +33,11 @@ abbrev pub joined : Piece → Result Form Bad → Result Form Bad
 joined (Around w) read = around (w ∷ []) read
 joined (Within leaf) read = Ok (form [] leaf)
 
--- each piece takes a token at least, so a number of pieces as large as that of the tokens is enough
+-- each piece takes a token at least, so one more than there are tokens is never reached
 unfoldable pub form_at : ℕ → List Token → Result Form Bad
 form_at zero ts = Err Arity
 form_at (suc n) ts = piece_at ts >>= λ p. joined p.0 (form_at n p.1)
 
 -- what the tokens of a line say
 abbrev pub form_of : List Token → Result Form Bad
-form_of ts = form_at (length ts) ts
+form_of ts = form_at (length ts + 1) ts

@@ -105,7 +105,7 @@ pub fn form_of(alloc: Global, tokens: &[Token]) -> Result<Form, LineRefused>
 {
     let mut wraps = Wraps::make(alloc);
     let mut rest = tokens;
-    let mut left = tokens.len();
+    let mut left = tokens.len() + 1;
     'left: while left > 0 {
         left -= 1;
         let (piece, after) = piece_at(alloc, rest)?;
