@@ -79,9 +79,8 @@ pub opt : {A B : Type 0} (word : Keyword) (kind : Kind) (f : Token → Option A)
 opt word kind f g keys k see front said rest [] = fronts front gots.NotThere (Ok (no_keys keys)) ∙ (ap (λ (r : Reads). with_front (front ++ gots.NotThere ∷ []) r) (sym (no_more keys)) ∙ rest None [])
 opt word kind f g keys k see front said rest (t ∷ ts) =
     by_test (is_word (keyword word) t) front (behind_key (Some kind) (read_keys keys) ts) (with_front (gots.NotThere ∷ []) (read_keys keys (t ∷ ts))) (some_one f ts) (Ok (None, t ∷ ts)) k see
-      (behind_one kind f g keys k see front said rest ts)
-      (fronts front gots.NotThere (read_keys keys (t ∷ ts)) ∙ rest None (t ∷ ts))
-
+    (behind_one kind f g keys k see front said rest ts)
+    (fronts front gots.NotThere (read_keys keys (t ∷ ts)) ∙ rest None (t ∷ ts))
 
 pub marks : {B : Type 0} (word : Keyword) (keys : List Key) (k : Bool × List Token → Result B Bad) (see : B → List Got) (front : List Got) → ((m : Bool) (ts : List Token) → with_front (front ++ mark m ∷ []) (read_keys keys ts) ≡ shows see (k (m, ts))) → (ts : List Token) → with_front front (read_keys (record { word = word; operand = None } ∷ keys) ts) ≡ shows see (k (marked word ts))
 marks word keys k see front rest [] = fronts front gots.NotThere (Ok (no_keys keys)) ∙ (ap (λ (r : Reads). with_front (front ++ gots.NotThere ∷ []) r) (sym (no_more keys)) ∙ rest false [])

@@ -103,6 +103,7 @@ pair_got (Some n) (Some v) front others more rest = both others ∙ (rest (entry
     both : (r : Reads) → with_front front (with_front (gots.Chars n ∷ []) (with_front (gots.Chars v ∷ []) r)) ≡ with_front (front ++ gots.Chars n ∷ gots.Chars v ∷ []) r
     both (Ok xs) = ap Ok (sym (append_assoc front (gots.Chars n ∷ gots.Chars v ∷ []) xs))
     both (Err e) = refl
+
     shift : (r : Result (List Entry) Bad) → shows (λ es. (front ++ gots.Chars n ∷ gots.Chars v ∷ []) ++ pairs es) r ≡ shows (λ es. front ++ pairs es) (with_front (entry n v ∷ []) r)
     shift (Ok es) = ap Ok (append_assoc front (gots.Chars n ∷ gots.Chars v ∷ []) (pairs es))
     shift (Err e) = refl
