@@ -1,2 +1,4 @@
 pub mod ReadLaws
 pub mod FormLaws
+pub mod SpellLaws
+pub mod ApartLaws

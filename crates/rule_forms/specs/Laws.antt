@@ -1,8 +1,10 @@
 -- What holds of reading a form.
-use Rattle.std.specs.Prelude.{List, Ok, Err}
+use Rattle.std.specs.Prelude.{◌≡◌, ◌↔◌, List, Ok, Err}
 use Rattle.rule_tokens.specs.declared.refused.Bad.TheVariants.{Word, Arity}
 use Rattle.rule_tokens.specs.declared.token.Token.{Token}
+use Rattle.rule_forms.specs.declared.got.Got.{Got}
 use Rattle.rule_forms.specs.Read.{Reads, read_tokens}
+use Rattle.rule_forms.specs.Spells.{Spelled}
 use Rattle.rule_forms.specs.Whole.{IsForm, HasWrongWord, HasWrongNumber}
 
 -- what is read is a form; what is refused has a wrong word, or a wrong number of operands
@@ -15,3 +17,16 @@ IsAnswer ts (Err _) = ⊥
 -- each reading is answered by the case that holds
 abbrev pub FormsAreRead : Type 0
 FormsAreRead = (ts : List Token) → IsAnswer ts (read_tokens ts)
+
+-- what is read is what the tokens spell, and only that
+abbrev pub SpelledIsRead : Type 0
+SpelledIsRead = (ts : List Token) (gots : List Got) → Spelled ts gots ↔ (read_tokens ts ≡ Ok gots)
+
+-- these tokens are a form or have one of the two faults, and no two of these
+pub record OneFault (ts : List Token) : Type 0 where
+  pub form_word : IsForm ts → HasWrongWord IsForm ts → ⊥
+  pub form_number : IsForm ts → HasWrongNumber IsForm ts → ⊥
+  pub word_number : HasWrongWord IsForm ts → HasWrongNumber IsForm ts → ⊥
+
+abbrev pub FaultsAreApart : Type 0
+FaultsAreApart = (ts : List Token) → OneFault ts

@@ -16,7 +16,7 @@ mark word = record { word = word; operand = None }
 abbrev on_off : Wants
 on_off = Pick (Row words.On End (LastRow words.Off End))
 
-abbrev ask_rows : Rows
+abbrev pub ask_rows : Rows
 ask_rows =
     Row words.Attr (One kinds.Node (One kinds.Chars End))
     (Row words.Parent (One kinds.Node End)
@@ -33,7 +33,7 @@ ask_rows =
     (Row words.Checked (One kinds.Node End)
     (LastRow words.States (One kinds.Node End))))))))))))))
 
-abbrev user_rows : Rows
+abbrev pub user_rows : Rows
 user_rows =
     Row words.Edit (One kinds.Node (One kinds.Chars End))
     (Row words.Check (One kinds.Node on_off)
@@ -43,7 +43,7 @@ user_rows =
     (Row words.Autofill (One kinds.Node (One kinds.Chars End))
     (LastRow words.Press (One kinds.Node End)))))))
 
-abbrev state_rows : Rows
+abbrev pub state_rows : Rows
 state_rows = Row words.Add (One kinds.Chars End) (Row words.Delete (One kinds.Chars End) (LastRow words.Clear End))
 
 abbrev compared : Wants

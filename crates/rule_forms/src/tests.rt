@@ -15,4 +15,6 @@ fn words_have_their_text(rt: HostRuntime) {
     }
     forms_are_read();
     worked_forms();
+    what_is_spelled_is_read();
+    faults_are_apart();
 }

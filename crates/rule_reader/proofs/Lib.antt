@@ -4,3 +4,4 @@ pub mod Same
 pub mod SameForms
 pub mod SameRest
 pub mod SameAround
+pub mod Table

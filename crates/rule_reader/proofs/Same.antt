@@ -1,14 +1,13 @@
 -- What the table of forms gives is what the forms give.
-use Rattle.std.proofs.Common.{◌≡◌, ℕ, Bool, true, false, List, [], ◌∷◌, ◌++◌, Option, Some, None, Result, Ok, Err, if◌then◌else◌, refl, sym, ap, ◌∙◌, append_assoc}
+use Rattle.std.proofs.Common.{◌≡◌, Bool, true, false, List, [], ◌∷◌, ◌++◌, Option, Some, None, Result, Ok, Err, if◌then◌else◌, refl, sym, ap, ◌∙◌, append_assoc}
 use Rattle.std.specs.Option.{option_map}
 use Rattle.rule_tokens.specs.declared.refused.Bad.{Bad}
 use Rattle.rule_tokens.specs.declared.refused.Bad.TheVariants.{Word as BadWord, Arity}
 use Rattle.rule_tokens.specs.declared.operand.Operand.{Operand}
 use Rattle.rule_tokens.specs.declared.token.Token.{Token}
 use Rattle.rule_tokens.specs.Gives.{◌>>=◌, with_front, or_word}
-use Rattle.rule_tokens.specs.Operands.{is_word, variable, node, class_name, text, value, call_name}
-use Rattle.rule_lines.specs.declared.op.Op.TheVariants as ops
-use Rattle.rule_forms.specs.Grammar.{said_as, Key, Wants, End, One, Pick, Keys, Maybe, Many, Pairs, Inner, Rows, LastRow, Row}
+use Rattle.rule_tokens.specs.Operands.{is_word, node}
+use Rattle.rule_forms.specs.Grammar.{said_as, Key, Wants, End, One, Pick, Maybe, LastRow, Row}
 use Rattle.rule_forms.specs.Read.{Reads, then_got, no_keys, behind_key, read_keys, read}
 use Rattle.rule_forms.specs.Words.{keyword, spelling}
 use Rattle.rule_forms.specs.declared.got.Kind.{Kind}
@@ -16,10 +15,7 @@ use Rattle.rule_forms.specs.declared.got.Kind.TheVariants as kinds
 use Rattle.rule_forms.specs.declared.got.Got.{Got}
 use Rattle.rule_forms.specs.declared.got.Got.TheVariants as gots
 use Rattle.rule_forms.specs.declared.keyword.Keyword.{Keyword}
-use Rattle.rule_forms.specs.declared.keyword.Keyword.TheVariants as keywords
 use Rattle.rule_forms.specs.declared.word.Word.TheVariants as words
-use Rattle.rule_reader.specs.declared.form.Leaf.{Leaf}
-use Rattle.rule_reader.specs.declared.form.Leaf.TheVariants as leaves
 use Rattle.rule_reader.specs.Gots.{part, mark, switch}
 use Rattle.rule_reader.specs.Takes.{take_one, optional, marked, maybe, on_off, ended}
 

@@ -1,16 +1,14 @@
 -- The same for what is asked, and for the forms around an action.
-use Rattle.std.proofs.Common.{◌≡◌, ℕ, zero, suc, ◌-◌, ◌==◌, Bool, true, false, List, [], ◌∷◌, ◌++◌, map, Option, Some, None, Result, Ok, Err, if◌then◌else◌, refl, sym, ap, ◌∙◌, append_assoc, arith}
+use Rattle.std.proofs.Common.{◌≡◌, ℕ, Bool, true, false, List, [], ◌∷◌, ◌++◌, Option, Some, None, Result, Ok, Err, if◌then◌else◌, refl, sym, ap, ◌∙◌}
 use Rattle.std.specs.Option.{option_map}
-use Rattle.ce_base.specs.declared.entries.Entry.{Entry}
 use Rattle.rule_tokens.specs.declared.refused.Bad.{Bad}
-use Rattle.rule_tokens.specs.declared.refused.Bad.TheVariants.{Word as BadWord, Arity}
-use Rattle.rule_tokens.specs.declared.operand.Operand.{Operand}
+use Rattle.rule_tokens.specs.declared.refused.Bad.TheVariants.{Word as BadWord}
 use Rattle.rule_tokens.specs.declared.token.Token.{Token}
-use Rattle.rule_tokens.specs.Gives.{◌>>=◌, with_front, or_word}
+use Rattle.rule_tokens.specs.Gives.{◌>>=◌, with_front}
 use Rattle.rule_tokens.specs.Operands.{is_word, node, class_name, text, value}
 use Rattle.rule_lines.specs.declared.op.Op.TheVariants as ops
-use Rattle.rule_forms.specs.Grammar.{said_as, Wants, End, One, Pick, Many, Pairs, Rows, LastRow, Row}
-use Rattle.rule_forms.specs.Read.{Reads, then_got, read_many, read_pairs, read}
+use Rattle.rule_forms.specs.Grammar.{said_as, Wants, End, One, Pick, LastRow, Row}
+use Rattle.rule_forms.specs.Read.{Reads, then_got, read}
 use Rattle.rule_forms.specs.Words.{spelling}
 use Rattle.rule_forms.specs.declared.got.Kind.{Kind}
 use Rattle.rule_forms.specs.declared.got.Kind.TheVariants as kinds
@@ -19,14 +17,9 @@ use Rattle.rule_forms.specs.declared.got.Got.TheVariants as gots
 use Rattle.rule_forms.specs.declared.word.Word.TheVariants as words
 use Rattle.rule_reader.specs.declared.form.Leaf.{Leaf}
 use Rattle.rule_reader.specs.declared.form.Leaf.TheVariants as leaves
-use Rattle.rule_reader.specs.Bodies.{log_of}
-use Rattle.rule_reader.specs.Classes.{observe_of, disable_of, disabled_of}
-use Rattle.rule_reader.specs.Gots.{pairs, leaf_gots}
-use Rattle.rule_reader.specs.Internals.{state_of, state_change_of, form_list_of}
-use Rattle.rule_reader.specs.Takes.{next, take_one, up_to, entry, entries_up_to, ended}
-use Rattle.rule_reader.specs.Users.{user_of}
+use Rattle.rule_reader.specs.Gots.{leaf_gots}
+use Rattle.rule_reader.specs.Takes.{take_one, ended}
 use Rattle.rule_reader.proofs.Same.{shows, fronts, one, the_end}
-use Rattle.rule_reader.proofs.SameForms.{same_user_edit, same_user_check, same_user_choose, same_user_reset, same_user_restore, same_user_autofill, same_user_press}
 use Rattle.std.specs.Str.{bytes_eq}
 use Rattle.rule_tokens.specs.Operands.{call_name}
 use Rattle.rule_tokens.specs.declared.operand.Val.{Val}
@@ -36,7 +29,7 @@ use Rattle.rule_forms.specs.Grammar.{Inner}
 use Rattle.rule_forms.specs.Read.{read_row}
 use Rattle.rule_reader.specs.declared.form.Wrap.{Wrap}
 use Rattle.rule_reader.specs.declared.form.Wrap.TheVariants as wraps
-use Rattle.rule_reader.specs.Around.{on_of, if_of, comparison, compared}
+use Rattle.rule_reader.specs.Around.{on_of, if_of, compared}
 use Rattle.rule_reader.specs.Controls.{name_for, ask_of}
 use Rattle.rule_reader.specs.Gots.{wrap_gots, test}
 use Rattle.rule_reader.specs.Takes.{behind}
@@ -109,7 +102,7 @@ compared_wants = One kinds.Value (One kinds.Value colon_wants)
 abbrev if_after : (Bool × Val × Val) × List Token → Result (Wrap × List Token) Bad
 if_after test = behind (spelling words.Colon) test.1 >>= λ rest. Ok (wraps.If test.0.0 test.0.1 test.0.2, rest)
 
-assoc : {A B C : Type 0} (r : Result A Bad) (k : A → Result B Bad) (l : B → Result C Bad) → ((r >>= k) >>= l) ≡ (r >>= λ x. k x >>= l)
+pub assoc : {A B C : Type 0} (r : Result A Bad) (k : A → Result B Bad) (l : B → Result C Bad) → ((r >>= k) >>= l) ≡ (r >>= λ x. k x >>= l)
 assoc (Ok x) k l = refl
 assoc (Err b) k l = refl
 

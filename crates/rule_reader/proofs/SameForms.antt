@@ -1,27 +1,18 @@
 -- What the table wants of each form is what the form reads.
-use Rattle.std.proofs.Common.{◌≡◌, ℕ, Bool, true, false, List, [], ◌∷◌, ◌++◌, Option, Some, None, Result, Ok, Err, if◌then◌else◌, refl, sym, ap, ◌∙◌, append_assoc}
-use Rattle.std.specs.Option.{option_map}
-use Rattle.rule_tokens.specs.declared.refused.Bad.{Bad}
-use Rattle.rule_tokens.specs.declared.refused.Bad.TheVariants.{Word as BadWord, Arity}
-use Rattle.rule_tokens.specs.declared.operand.Operand.{Operand}
+use Rattle.std.proofs.Common.{◌≡◌, List, [], ◌∷◌, Some, None, Ok, refl}
 use Rattle.rule_tokens.specs.declared.token.Token.{Token}
-use Rattle.rule_tokens.specs.Gives.{◌>>=◌, with_front, or_word}
-use Rattle.rule_tokens.specs.Operands.{is_word, variable, node, class_name, text, value, call_name}
+use Rattle.rule_tokens.specs.Gives.{◌>>=◌, with_front}
+use Rattle.rule_tokens.specs.Operands.{variable, node, class_name, text, value, call_name}
 use Rattle.rule_lines.specs.declared.op.Op.TheVariants as ops
-use Rattle.rule_forms.specs.Grammar.{said_as, Key, Wants, End, One, Pick, Keys, Maybe, Many, Pairs, Inner, Rows, LastRow, Row}
-use Rattle.rule_forms.specs.Read.{Reads, then_got, no_keys, behind_key, read_keys, read}
-use Rattle.rule_forms.specs.Words.{keyword, spelling}
-use Rattle.rule_forms.specs.declared.got.Kind.{Kind}
+use Rattle.rule_forms.specs.Grammar.{End, One, Keys, Maybe}
+use Rattle.rule_forms.specs.Read.{Reads, read}
 use Rattle.rule_forms.specs.declared.got.Kind.TheVariants as kinds
-use Rattle.rule_forms.specs.declared.got.Got.{Got}
 use Rattle.rule_forms.specs.declared.got.Got.TheVariants as gots
-use Rattle.rule_forms.specs.declared.keyword.Keyword.{Keyword}
 use Rattle.rule_forms.specs.declared.keyword.Keyword.TheVariants as keywords
 use Rattle.rule_forms.specs.declared.word.Word.TheVariants as words
-use Rattle.rule_reader.specs.declared.form.Leaf.{Leaf}
 use Rattle.rule_reader.specs.declared.form.Leaf.TheVariants as leaves
-use Rattle.rule_reader.specs.Gots.{part, mark, switch, leaf_gots}
-use Rattle.rule_reader.specs.Takes.{take_one, optional, marked, maybe, on_off, ended}
+use Rattle.rule_reader.specs.Gots.{part, mark, leaf_gots}
+use Rattle.rule_reader.specs.Takes.{ended}
 use Rattle.rule_reader.specs.Tree.{create_of, new_of, make_text_of, shadow_of, append_of, before_of, remove_of, detach_of, clone_of, adopt_of, let_variable_of, doc_of}
 use Rattle.rule_reader.specs.Attributes.{set_attr_of, del_attr_of}
 use Rattle.rule_reader.specs.CustomElements.{define_of, upgrade_of}

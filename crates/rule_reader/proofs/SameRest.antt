@@ -3,7 +3,7 @@ use Rattle.std.proofs.Common.{◌≡◌, ℕ, zero, suc, ◌-◌, ◌==◌, Bool
 use Rattle.std.specs.Option.{option_map}
 use Rattle.ce_base.specs.declared.entries.Entry.{Entry}
 use Rattle.rule_tokens.specs.declared.refused.Bad.{Bad}
-use Rattle.rule_tokens.specs.declared.refused.Bad.TheVariants.{Word as BadWord, Arity}
+use Rattle.rule_tokens.specs.declared.refused.Bad.TheVariants.{Arity}
 use Rattle.rule_tokens.specs.declared.operand.Operand.{Operand}
 use Rattle.rule_tokens.specs.declared.token.Token.{Token}
 use Rattle.rule_tokens.specs.Gives.{◌>>=◌, with_front, or_word}
@@ -17,13 +17,12 @@ use Rattle.rule_forms.specs.declared.got.Kind.TheVariants as kinds
 use Rattle.rule_forms.specs.declared.got.Got.{Got}
 use Rattle.rule_forms.specs.declared.got.Got.TheVariants as gots
 use Rattle.rule_forms.specs.declared.word.Word.TheVariants as words
-use Rattle.rule_reader.specs.declared.form.Leaf.{Leaf}
 use Rattle.rule_reader.specs.declared.form.Leaf.TheVariants as leaves
 use Rattle.rule_reader.specs.Bodies.{log_of}
 use Rattle.rule_reader.specs.Classes.{observe_of, disable_of, disabled_of}
 use Rattle.rule_reader.specs.Gots.{pairs, leaf_gots}
 use Rattle.rule_reader.specs.Internals.{state_of, state_change_of, form_list_of}
-use Rattle.rule_reader.specs.Takes.{next, take_one, up_to, entry, entries_up_to, ended}
+use Rattle.rule_reader.specs.Takes.{next, up_to, entry, entries_up_to}
 use Rattle.rule_reader.specs.Users.{user_of}
 use Rattle.rule_reader.proofs.Same.{shows, fronts, one, the_end}
 use Rattle.rule_reader.proofs.SameForms.{same_user_edit, same_user_check, same_user_choose, same_user_reset, same_user_restore, same_user_autofill, same_user_press}

@@ -7,6 +7,7 @@ pub mod CustomElements
 pub mod First
 pub mod Gots
 pub mod Internals
+pub mod Laws
 pub mod Leaves
 pub mod Pieces
 pub mod Takes

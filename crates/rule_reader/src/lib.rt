@@ -10,6 +10,7 @@ mod custom_elements;
 mod first;
 mod form;
 mod internals;
+mod laws;
 mod leaves;
 mod operands;
 mod pieces;
@@ -17,6 +18,7 @@ mod tree;
 mod users;
 
 pub use form::{Leaf, Wrap};
+pub use laws::lines_are_read_by_the_table;
 pub use pieces::{Form, Wraps, form_of};
 
 #[cfg(test)]

@@ -1,0 +1,7 @@
+// What holds of reading a line, as the contract of a function that does nothing.
+ghost use Rattle.rule_reader.specs.Laws.{IsReadByTable};
+
+/// A line is read as the table of forms says, operand by operand, and is refused where the table refuses it.
+pub fn lines_are_read_by_the_table()
+    ensures { IsReadByTable }
+{}
