@@ -5,3 +5,4 @@ pub mod SameForms
 pub mod SameRest
 pub mod SameAround
 pub mod Table
+pub mod Back

@@ -34,7 +34,7 @@ use Rattle.rule_reader.specs.Controls.{name_for, ask_of}
 use Rattle.rule_reader.specs.Gots.{wrap_gots, test}
 use Rattle.rule_reader.specs.Takes.{behind}
 use Rattle.rule_reader.proofs.Same.{after, then_some, some_one}
-use Rattle.rule_reader.proofs.SameRest.{ask_rows}
+use Rattle.rule_forms.specs.Rows.{ask_rows}
 
 one_some : {A B : Type 0} (action : List Token → Reads) (kind : Kind) (f : Token → Option A) (g : A → Got) (more : Wants) (k : Option A × List Token → Result B Bad) (see : B → List Got) (front : List Got) → ((t : Token) → said_as kind t ≡ option_map g (f t)) → ((a : A) (ts : List Token) → with_front (front ++ g a ∷ []) (read action more ts) ≡ shows see (k (Some a, ts))) → (ts : List Token) → with_front front (read action (One kind more) ts) ≡ shows see (some_one f ts >>= k)
 one_some action kind f g more k see front said rest [] = refl

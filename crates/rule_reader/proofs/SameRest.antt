@@ -11,6 +11,7 @@ use Rattle.rule_tokens.specs.Operands.{is_word, node, class_name, text, value}
 use Rattle.rule_lines.specs.declared.op.Op.TheVariants as ops
 use Rattle.rule_forms.specs.Grammar.{said_as, Wants, End, One, Pick, Many, Pairs, Rows, LastRow, Row}
 use Rattle.rule_forms.specs.Read.{Reads, then_got, read_many, read_pairs, read}
+use Rattle.rule_forms.specs.Rows.{state_rows, user_rows}
 use Rattle.rule_forms.specs.Words.{spelling}
 use Rattle.rule_forms.specs.declared.got.Kind.{Kind}
 use Rattle.rule_forms.specs.declared.got.Kind.TheVariants as kinds
@@ -26,40 +27,6 @@ use Rattle.rule_reader.specs.Takes.{next, up_to, entry, entries_up_to}
 use Rattle.rule_reader.specs.Users.{user_of}
 use Rattle.rule_reader.proofs.Same.{shows, fronts, one, the_end}
 use Rattle.rule_reader.proofs.SameForms.{same_user_edit, same_user_check, same_user_choose, same_user_reset, same_user_restore, same_user_autofill, same_user_press}
-
--- ---- rows of the table
-abbrev pub on_off : Wants
-on_off = Pick (Row words.On End (LastRow words.Off End))
-
-abbrev pub ask_rows : Rows
-ask_rows =
-    Row words.Attr (One kinds.Node (One kinds.Chars End))
-    (Row words.Parent (One kinds.Node End)
-    (Row words.Kids (One kinds.Node End)
-    (Row words.State (One kinds.Node End)
-    (Row words.Owner (One kinds.Node End)
-    (Row words.Controls (One kinds.Node End)
-    (Row words.Disabled (One kinds.Node End)
-    (Row words.Candidate (One kinds.Node End)
-    (Row words.Valid (One kinds.Node End)
-    (Row words.Message (One kinds.Node End)
-    (Row words.Value (One kinds.Node End)
-    (Row words.Saved (One kinds.Node End)
-    (Row words.Checked (One kinds.Node End)
-    (LastRow words.States (One kinds.Node End))))))))))))))
-
-abbrev pub user_rows : Rows
-user_rows =
-    Row words.Edit (One kinds.Node (One kinds.Chars End))
-    (Row words.Check (One kinds.Node on_off)
-    (Row words.Choose (One kinds.Node on_off)
-    (Row words.Reset (One kinds.Node End)
-    (Row words.Restore (One kinds.Node (One kinds.Chars End))
-    (Row words.Autofill (One kinds.Node (One kinds.Chars End))
-    (LastRow words.Press (One kinds.Node End)))))))
-
-abbrev pub state_rows : Rows
-state_rows = Row words.Add (One kinds.Chars End) (Row words.Delete (One kinds.Chars End) (LastRow words.Clear End))
 
 -- ---- lists of operands
 

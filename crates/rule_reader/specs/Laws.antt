@@ -3,6 +3,7 @@ use Rattle.std.specs.Prelude.{◌≡◌, List, Ok}
 use Rattle.rule_tokens.specs.declared.token.Token.{Token}
 use Rattle.rule_tokens.specs.Gives.{◌>>=◌}
 use Rattle.rule_forms.specs.Read.{read_tokens}
+use Rattle.rule_reader.specs.declared.pieces.Form.{Form}
 use Rattle.rule_reader.specs.Gots.{form_gots}
 use Rattle.rule_reader.specs.Pieces.{form_of}
 
@@ -10,3 +11,7 @@ use Rattle.rule_reader.specs.Pieces.{form_of}
 -- refused where it refuses them, for the same
 abbrev pub IsReadByTable : Type 0
 IsReadByTable = (ts : List Token) → read_tokens ts ≡ (form_of ts >>= λ f. Ok (form_gots f))
+
+-- forms whose tokens are read as the same operands are the same
+abbrev pub OperandsTellForms : Type 0
+OperandsTellForms = (f g : Form) → form_gots f ≡ form_gots g → f ≡ g
