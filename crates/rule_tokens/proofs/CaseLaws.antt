@@ -18,7 +18,7 @@ use Rattle.rule_tokens.specs.Cases.{Says, AllSay, SomeWrong, HasWrongEscape, Tok
 use Rattle.rule_tokens.specs.Cut.{cut, raw}
 use Rattle.rule_tokens.specs.Escapes.{unescape}
 use Rattle.rule_tokens.specs.Gives.{◌>>=◌, with_front, Gives, IfBad}
-use Rattle.rule_tokens.specs.Laws.{SaidOnce}
+use Rattle.rule_tokens.specs.Laws.{IsAnswer, LinesAreAnswered, SaidOnce}
 use Rattle.rule_tokens.specs.Layout.{LaidOut, IsMisquoted}
 use Rattle.rule_tokens.specs.Signs.{WrongEscape}
 use Rattle.rule_tokens.specs.Tokens.{has_bare_backslash, is_blank, tokens_of, token, token_of, tokens_in, tokens_of_chars, unless_blank}
@@ -148,12 +148,8 @@ line_reads line = at_cut line (cut line Gap) refl (cuts line)
 not_long : (limit : ℕ) (bytes : List ℕ) → length bytes ≤ limit → limit < length bytes → ⊥
 not_long limit bytes short long = absurd (omega (arith, short, long))
 
-abbrev pub LexReads : ℕ → List ℕ → Result (Option (List Token)) Bad → Type 0
-LexReads limit bytes (Ok said) = ReadsTo limit bytes said
-LexReads limit bytes (Err b) = RefusedFor limit bytes b
-
 said_reads : (limit : ℕ) (bytes : List ℕ) (read : Result (List Token) Bad) → length bytes ≤ limit → IsUtf8 bytes → IsNotBlank (chars bytes) → LineReads (chars bytes) read
-    → LexReads limit bytes (read >>= λ ts. Ok (Some ts))
+    → IsAnswer limit bytes (read >>= λ ts. Ok (Some ts))
 said_reads limit bytes (Ok ts) short utf8 said (none, says) = record { short = short; utf8 = utf8; faultless = (not_long limit bytes short, (λ other. other utf8, ((λ c. none.0 c.1), ((λ c. none.1.0 c.1), ((λ c. none.1.1.0 c.1), tt))))); says = (said, says) }
 said_reads limit bytes (Err b) short utf8 said (inl q) = inr (not_long limit bytes short, inr (λ other. other utf8, inl (q.0, (said, q.1))))
 said_reads limit bytes (Err b) short utf8 said (inr (nq, inl e)) = inr (not_long limit bytes short, inr (λ other. other utf8, inr ((λ c. nq c.1), inl (e.0, (said, e.1)))))
@@ -164,22 +160,22 @@ not_said : (bytes : List ℕ) → is_blank (chars bytes) ≡ true → IsNotBlank
 not_said bytes blank said = let clash : true ≡ false = sym blank ∙ said in absurd cc
 
 blank_reads : (limit : ℕ) (bytes : List ℕ) (b : Bool) → length bytes ≤ limit → IsUtf8 bytes → is_blank (chars bytes) ≡ b
-    → LexReads limit bytes (cond b (Ok None) (tokens_of_chars (chars bytes) >>= λ ts. Ok (Some ts)))
+    → IsAnswer limit bytes (cond b (Ok None) (tokens_of_chars (chars bytes) >>= λ ts. Ok (Some ts)))
 blank_reads limit bytes true short utf8 blank = record { short = short; utf8 = utf8; faultless = (not_long limit bytes short, (λ other. other utf8, ((λ c. not_said bytes blank c.0), ((λ c. not_said bytes blank c.0), ((λ c. not_said bytes blank c.0), tt))))); says = blank }
 blank_reads limit bytes false short utf8 said = said_reads limit bytes (tokens_of_chars (chars bytes)) short utf8 said (line_reads (chars bytes))
 
-utf8_reads : (limit : ℕ) (bytes : List ℕ) (b : Bool) → length bytes ≤ limit → is_utf8 bytes ≡ b → LexReads limit bytes (cond (not b) (Err Utf8) (unless_blank (chars bytes)))
+utf8_reads : (limit : ℕ) (bytes : List ℕ) (b : Bool) → length bytes ≤ limit → is_utf8 bytes ≡ b → IsAnswer limit bytes (cond (not b) (Err Utf8) (unless_blank (chars bytes)))
 utf8_reads limit bytes true short is = blank_reads limit bytes (is_blank (chars bytes)) short (IsUtf8-from_is_utf8 bytes is) refl
 utf8_reads limit bytes false short is = inr (not_long limit bytes short, inl (refl, λ utf8. clash utf8))
   where
     clash : IsUtf8 bytes → ⊥
     clash utf8 = let both : true ≡ false = sym (is_utf8-from_IsUtf8 bytes utf8) ∙ is in absurd cc
 
-long_reads : (limit : ℕ) (bytes : List ℕ) (b : Bool) → nat_lt limit (length bytes) ≡ b → LexReads limit bytes (cond b (Err Long) (cond (not (is_utf8 bytes)) (Err Utf8) (unless_blank (chars bytes))))
+long_reads : (limit : ℕ) (bytes : List ℕ) (b : Bool) → nat_lt limit (length bytes) ≡ b → IsAnswer limit bytes (cond b (Err Long) (cond (not (is_utf8 bytes)) (Err Utf8) (unless_blank (chars bytes))))
 long_reads limit bytes true is = inl (refl, ltb-true limit (length bytes) is)
 long_reads limit bytes false is = utf8_reads limit bytes (is_utf8 bytes) (ltb-false limit (length bytes) is) refl
 
-pub lex_reads : (limit : ℕ) (bytes : List ℕ) → LexReads limit bytes (tokens_of limit bytes)
+pub lex_reads : LinesAreAnswered
 lex_reads limit bytes = long_reads limit bytes (nat_lt limit (length bytes)) refl
 
 -- ---- what it says is said once
@@ -204,7 +200,7 @@ none_first Holds [] b none first = first
 none_first Holds (f ∷ fs) b none (inl e) = none.0 e.1
 none_first Holds (f ∷ fs) b none (inr more) = none_first Holds fs b none.1 more.1
 
-reads_once : (limit : ℕ) (bytes : List ℕ) (said : Option (List Token)) (read : Result (Option (List Token)) Bad) → ReadsTo limit bytes said → LexReads limit bytes read → read ≡ Ok said
+reads_once : (limit : ℕ) (bytes : List ℕ) (said : Option (List Token)) (read : Result (Option (List Token)) Bad) → ReadsTo limit bytes said → IsAnswer limit bytes read → read ≡ Ok said
 reads_once limit bytes said (Ok other) to reads = ap Ok (same_line (chars bytes) other said reads.says to.says)
 reads_once limit bytes said (Err b) to reads = absurd (none_first (LexicalCase limit bytes) lexical_order b to.faultless reads)
 
@@ -217,10 +213,10 @@ said_once limit bytes x y one two = same_line (chars bytes) x y one.says two.say
 pub refused_for : (limit : ℕ) (bytes : List ℕ) (r : Result (Option (List Token)) LineRefused) → Gives r (tokens_of limit bytes) → IfBad r (RefusedFor limit bytes)
 refused_for limit bytes (Ok said) gives = tt
 refused_for limit bytes (Err refused.NoMemory) gives = tt
-refused_for limit bytes (Err (refused.Bad b)) gives = let P : Result (Option (List Token)) Bad → Type 0 = λ x. LexReads limit bytes x in subst P gives (lex_reads limit bytes)
+refused_for limit bytes (Err (refused.Bad b)) gives = let P : Result (Option (List Token)) Bad → Type 0 = λ x. IsAnswer limit bytes x in subst P gives (lex_reads limit bytes)
 
 pub read_to : (limit : ℕ) (bytes : List ℕ) (r : Result (Option (List Token)) LineRefused) → Gives r (tokens_of limit bytes) → IfOk r (ReadsTo limit bytes)
-read_to limit bytes (Ok said) gives = let P : Result (Option (List Token)) Bad → Type 0 = λ x. LexReads limit bytes x in subst P gives (lex_reads limit bytes)
+read_to limit bytes (Ok said) gives = let P : Result (Option (List Token)) Bad → Type 0 = λ x. IsAnswer limit bytes x in subst P gives (lex_reads limit bytes)
 read_to limit bytes (Err e) gives = tt
 
 pub only_read : (limit : ℕ) (bytes : List ℕ) (r : Result (Option (List Token)) LineRefused) → Gives r (tokens_of limit bytes) → (said : Option (List Token)) → ReadsTo limit bytes said → Gives r (Ok said)

@@ -16,7 +16,8 @@ use Rattle.rule_tokens.specs.Layout.{Piece, Plain, Guarded, pieces, ArePieces, L
 use Rattle.rule_tokens.specs.Quoted.{IsReadBack, escape, escape_by, escaped, hex, in_quotes, short_letter}
 use Rattle.rule_tokens.specs.Signs.{Sign, Itself, Letter, Code, signs, SaysOne, Say, IsReadAs}
 use Rattle.rule_tokens.specs.Tokens.{tokens_of, tokens_in, tokens_of_chars}
-use Rattle.rule_tokens.proofs.CaseLaws.{LexReads, lex_reads}
+use Rattle.rule_tokens.specs.Laws.{IsAnswer}
+use Rattle.rule_tokens.proofs.CaseLaws.{lex_reads}
 use Rattle.rule_tokens.proofs.CutLaws.{cut_laid_out, pieces_more, are_more}
 use Rattle.rule_tokens.proofs.EscapeLaws.{unescape_read}
 
@@ -213,7 +214,7 @@ quoted_again text t limit utf8 t_utf8 is short =
     rw (le-ltb limit (length t) short, is_utf8-from_IsUtf8 t t_utf8, line, quoted_tokens (chars text), encodes-chars text utf8) refl
 
 as_read : (limit : ℕ) (t : List ℕ) (said : Option (List Token)) → tokens_of limit t ≡ Ok said → ReadsTo limit t said
-as_read limit t said is = let P : Result (Option (List Token)) Bad → Type 0 = λ x. LexReads limit t x in subst P is (lex_reads limit t)
+as_read limit t said is = let P : Result (Option (List Token)) Bad → Type 0 = λ x. IsAnswer limit t x in subst P is (lex_reads limit t)
 
 pub read_back : {E : Type 0} (text : List ℕ) (r : Result (List ℕ) E) → IsUtf8 text → IfOk r (λ t. t ≡ in_quotes text) → IfOk r (λ t. IsUtf8 t) → IfOk r (λ t. IsReadBack text t)
 read_back text (Ok t) utf8 is t_utf8 = λ limit short. as_read limit t (Some (record { quoted = true; text = text } ∷ [])) (quoted_again text t limit utf8 t_utf8 is short)

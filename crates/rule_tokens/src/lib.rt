@@ -15,7 +15,7 @@ mod tokens;
 mod validity;
 
 pub use callback::{CallName, CallOrUpgrade};
-pub use laws::a_line_says_one_thing;
+pub use laws::{a_line_says_one_thing, lines_are_answered};
 pub use operand::{Operand, Val, call_name, class_name, is_word, node, text, value, variable};
 pub use quoting::{push_quoted, quoted};
 pub use refused::{Bad, LineRefused};
