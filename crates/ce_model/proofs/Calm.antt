@@ -1,7 +1,7 @@
 -- What never throws: a command does not, nor does what drains the element queues. A fault of a reaction is reported, and a fault of an operation is a reply.
 use Rattle.std.proofs.Common.{◌≡◌, ℕ, zero, suc, Bool, true, false, List, [], ◌∷◌, subst}
 use Rattle.ce_base.specs.declared.fault.Fault.{Fault}
-use Rattle.rule_script.specs.declared.line.Cmd.{Cmd}
+use Rattle.rule_lines.specs.declared.line.Cmd.{Cmd}
 use Rattle.ce_model.specs.declared.event.Event.{Event}
 use Rattle.ce_model.specs.declared.reaction.Reaction.{Reaction}
 use Rattle.ce_model.specs.Steps.{Step, Outcome, Goes, Throws, Spent, then_do, ◌>>=◌, ◌>>◌, give, done, read, change, for_each, catch, catch_in, attempt, attempt_in}

@@ -1,7 +1,6 @@
 -- What drains the element queues reads no log, and so neither does the model.
 use Rattle.std.proofs.Common.{ℕ, zero, suc, List, [], ◌∷◌, Option, Some, None, refl}
-use Rattle.rule_script.specs.declared.line.Action.{Action}
-use Rattle.rule_script.specs.declared.line.Action.TheVariants.{Log}
+use Rattle.rule_lines.specs.Acts.{Act, Log}
 use Rattle.ce_model.specs.declared.definition.Definition.{Definition}
 use Rattle.ce_model.specs.declared.reaction.Reaction.{Reaction}
 use Rattle.ce_model.specs.Page.{waiting_of, with_waiting}
@@ -12,11 +11,12 @@ use Rattle.ce_model.specs.Model.{clock, level, run, model}
 use Rattle.ce_model.proofs.Framed.{Framed, framed_steps, framed_log, framed_done, framed_spend, framed_seq, framed_bind, framed_list, framed_read_page, framed_change_page}
 
 -- an action
-pub framed_act : (args : Args) (a : Action) → Framed (act args a)
+pub framed_act : (args : Args) (a : Act) → Framed (act args a)
 framed_act args (Log vals) = framed_log _
+framed_act args _ = framed_done
 
 -- a body
-pub framed_body : (args : Args) (actions : List Action) → Framed (body args actions)
+pub framed_body : (args : Args) (actions : List Act) → Framed (body args actions)
 framed_body args [] = framed_done
 framed_body args (a ∷ rest) = framed_seq framed_spend (framed_seq (framed_act args a) (framed_body args rest))
 

@@ -1,7 +1,6 @@
 -- The model is the fixed point of its algorithms: the number of levels does not matter.
 use Rattle.std.proofs.Common.{◌≡◌, ℕ, zero, suc, ◌+◌, ◌<◌, ◌≤◌, List, [], ◌∷◌, length, refl, ap, ◌∙◌, arith}
-use Rattle.rule_script.specs.declared.line.Action.{Action}
-use Rattle.rule_script.specs.declared.line.Action.TheVariants.{Log}
+use Rattle.rule_lines.specs.Acts.{Act, Log}
 use Rattle.std.specs.Prelude.{Option, Some, None}
 use Rattle.ce_model.specs.declared.definition.Definition.{Definition}
 use Rattle.ce_model.specs.declared.reaction.Reaction.{Reaction}
@@ -17,11 +16,12 @@ use Rattle.ce_model.proofs.Tied.{Tied, Tame, clock_after, tame_le, tied_bind, ti
 ruleset tied_steps = (tied_bind, tied_seq, tied_read, tied_read_page, tied_done, tied_log, tied_spend, tied_each, tied_catch)
 
 -- an action does not raise the clock
-act_tied : {b : ℕ} (args : Args) (a : Action) → Tied b (act args a) (act args a)
+act_tied : {b : ℕ} (args : Args) (a : Act) → Tied b (act args a) (act args a)
 act_tied args (Log vals) = tied_log _
+act_tied args _ = tied_done
 
 -- nor does a body
-body_tied : {b : ℕ} (args : Args) (actions : List Action) → Tied b (body args actions) (body args actions)
+body_tied : {b : ℕ} (args : Args) (actions : List Act) → Tied b (body args actions) (body args actions)
 body_tied args [] = tied_done
 body_tied args (a ∷ rest) = tied_seq tied_spend (tied_seq (act_tied args a) (body_tied args rest))
 

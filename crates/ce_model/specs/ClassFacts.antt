@@ -1,11 +1,12 @@
 -- The callbacks of a class.
-use Rattle.std.specs.Prelude.{Bool, true, List}
+use Rattle.std.specs.Prelude.{Bool, List, bytes_eq}
 use Rattle.std.specs.List.{list_any}
-use Rattle.rule_script.specs.declared.line.CallName.{CallName}
-use Rattle.rule_script.specs.declared.line.CallName.TheVariants.{Attribute}
+use Rattle.rule_tokens.specs.declared.callback.CallName.{CallName}
+use Rattle.rule_tokens.specs.Callbacks.{call_word}
 
+-- each callback has a word of its own
 abbrev pub same_call : CallName → CallName → Bool
-same_call Attribute Attribute = true
+same_call a b = bytes_eq (call_word a) (call_word b)
 
 -- the class has the callback
 abbrev pub has_call : CallName → List CallName → Bool

@@ -1,11 +1,12 @@
 -- Creating an element (DOM Standard, section "Interface Element", "create an element").
-use Rattle.std.specs.Prelude.{ℕ, if◌then◌else◌, ◌||◌, List, Option, Some, None, is_some, slice_get}
+use Rattle.std.specs.Prelude.{ℕ, if◌then◌else◌, ◌||◌, not, List, Option, Some, None, is_some, slice_get}
 use Rattle.ce_base.specs.declared.custom_state.CustomState.{CustomState}
 use Rattle.ce_base.specs.declared.custom_state.CustomState.TheVariants.{Undefined, Uncustomized}
-use Rattle.ce_base.specs.declared.fault.Fault.TheVariants.{TypeError}
-use Rattle.rule_script.specs.Operands.{is_custom_name}
+use Rattle.ce_base.specs.declared.fault.Fault.TheVariants.{TypeError, InvalidCharacterError}
+use Rattle.std.specs.Str.{str_to_ascii_lowercase}
+use Rattle.element_names.specs.Names.{custom_name, local_name}
 use Rattle.ce_model.specs.Registry.{lookup}
-use Rattle.ce_model.specs.Steps.{Step, ◌>>◌, ◌>>=◌, give, find_or}
+use Rattle.ce_model.specs.Steps.{Step, ◌>>◌, ◌>>=◌, give, find_or, throw_where}
 use Rattle.ce_model.specs.Page.{Work, with_state}
 use Rattle.ce_model.specs.Page as page
 use Rattle.ce_model.specs.Primitives.{make_element}
@@ -14,7 +15,7 @@ use Rattle.ce_model.specs.Construct.{construct}
 
 -- the state of an element without a definition: undefined where its local name is a custom element name or an `is` value is given
 abbrev pub first_state : List ℕ → Option (List ℕ) → CustomState
-first_state local is = if is_custom_name local || is_some is then Undefined else Uncustomized
+first_state local is = if custom_name local || is_some is then Undefined else Uncustomized
 
 abbrev pub make_in_state : List ℕ → Option (List ℕ) → CustomState → Step Work ℕ
 make_in_state local is state = do
@@ -29,7 +30,13 @@ create_defined (Some d) local is = do
   x ← find_or (λ (s : State). slice_get s.page.definitions d) TypeError
   construct x.class
 
-abbrev pub create : List ℕ → Option (List ℕ) → Step State ℕ
-create local is = do
+abbrev pub create_named : List ℕ → Option (List ℕ) → Step State ℕ
+create_named local is = do
   d ← read_page (λ p. lookup p.definitions local is)
   create_defined d local is
+
+-- the name is tested, and then lowercased (DOM Standard, section "Interface Document", `createElement`)
+abbrev pub create : List ℕ → Option (List ℕ) → Step State ℕ
+create name is = do
+  throw_where (λ (s : State). not (local_name name)) InvalidCharacterError
+  create_named (str_to_ascii_lowercase name) is

@@ -1,9 +1,9 @@
 -- Enqueuing reactions (HTML Standard, section "Custom element reactions").
 use Rattle.std.specs.Prelude.{ℕ, ◌+◌, Bool, false, ◌&&◌, List, [], ◌∷◌, ◌++◌, Option, Some, None, bytes_eq}
 use Rattle.std.specs.List.{list_any}
-use Rattle.rule_script.specs.declared.line.CallName.{CallName}
-use Rattle.rule_script.specs.declared.line.CallName.TheVariants.{Attribute as AttributeName}
-use Rattle.rule_script.specs.declared.line.CallOrUpgrade.TheVariants.{Call}
+use Rattle.rule_tokens.specs.declared.callback.CallName.{CallName}
+use Rattle.rule_tokens.specs.declared.callback.CallName.TheVariants.{Attribute as AttributeName}
+use Rattle.rule_tokens.specs.declared.callback.CallOrUpgrade.TheVariants.{Call}
 use Rattle.ce_model.specs.declared.definition.Definition.{Definition}
 use Rattle.ce_model.specs.declared.reaction.Reaction.{Reaction}
 use Rattle.ce_model.specs.declared.reaction.Reaction.TheVariants.{Attribute}

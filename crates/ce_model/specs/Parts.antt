@@ -1,11 +1,11 @@
 -- The parts of classes. They spend no fuel, and write nothing where they are accepted.
 use Rattle.std.specs.Prelude.{ℕ, List, [], ◌∷◌, ◌++◌, is_some}
 use Rattle.ce_base.specs.declared.fault.Fault.TheVariants.{TypeError, NotSupportedError}
-use Rattle.rule_script.specs.declared.line.CallName.{CallName}
-use Rattle.rule_script.specs.declared.line.ClassPart.{ClassPart}
-use Rattle.rule_script.specs.declared.line.ClassPart.TheVariants.{Class as NewClass, On, Observe}
+use Rattle.rule_tokens.specs.declared.callback.CallName.{CallName}
+use Rattle.rule_lines.specs.Acts.{Part, On, Observe}
+use Rattle.rule_lines.specs.Acts.{Class as NewClass}
 use Rattle.ce_model.specs.declared.class_facts.ClassFacts.{ClassFacts}
-use Rattle.ce_model.specs.Steps.{Step, ◌>>◌, ◌>>=◌, give, change, find_or, throw_where}
+use Rattle.ce_model.specs.Steps.{Step, ◌>>◌, ◌>>=◌, give, done, change, find_or, throw_where}
 use Rattle.ce_model.specs.State.{State, Class, class_named, class_of, change_class, new_class}
 
 abbrev pub add_class : List ℕ → Step State (Unit {0})
@@ -31,7 +31,9 @@ with_call call x = record x { calls = x.calls ++ call ∷ [] }
 abbrev pub with_observed : List (List ℕ) → ClassFacts → ClassFacts
 with_observed names x = record x { observed = x.observed ++ names }
 
-abbrev pub part : ClassPart → Step State (Unit {0})
+-- one part. The others are not built yet: no line that is read says them
+abbrev pub part : Part → Step State (Unit {0})
 part (NewClass name) = add_class name
 part (On name call action) = change_open name (λ (k : Class). record k { facts = with_call call k.facts; bodies = k.bodies ++ (call, action) ∷ [] })
 part (Observe name names) = change_open name (λ (k : Class). record k { facts = with_observed names k.facts })
+part _ = done

@@ -1,8 +1,9 @@
 -- The custom element registry: the definitions in the order of defining (HTML Standard, section "The CustomElementRegistry interface").
-use Rattle.std.specs.Prelude.{ℕ, ◌&&◌, ◌==◌, if◌then◌else◌, List, Option, Some, None, bytes_eq, is_some}
+use Rattle.std.specs.Prelude.{ℕ, ◌&&◌, ◌==◌, not, if◌then◌else◌, List, Option, Some, None, bytes_eq, is_some}
 use Rattle.std.specs.List.{position}
 use Rattle.ce_base.specs.declared.fault.Fault.{Fault}
-use Rattle.ce_base.specs.declared.fault.Fault.TheVariants.{NotSupportedError}
+use Rattle.ce_base.specs.declared.fault.Fault.TheVariants.{NotSupportedError, SyntaxError}
+use Rattle.element_names.specs.Names.{custom_name}
 use Rattle.ce_model.specs.declared.definition.Definition.{Definition}
 
 -- the definition with this name, by its number
@@ -13,10 +14,11 @@ by_name ds name = position (λ (d : Definition). bytes_eq d.name name) ds
 abbrev pub by_class : List Definition → ℕ → Option ℕ
 by_class ds class = position (λ (d : Definition). d.class == class) ds
 
--- why a definition is refused: the first that holds of "a definition has the name", "a definition has the class", "it extends an element" (no element can be extended yet)
+-- why a definition is refused: the first that holds of "the name is no custom element's", "a definition has the name", "a definition has the class", "it extends an element" (no element can be extended yet)
 abbrev pub may_define : List Definition → List ℕ → ℕ → Option (List ℕ) → Option Fault
 may_define ds name class base =
-    if is_some (by_name ds name) then Some NotSupportedError
+    if not (custom_name name) then Some SyntaxError
+    else if is_some (by_name ds name) then Some NotSupportedError
     else if is_some (by_class ds class) then Some NotSupportedError
     else if is_some base then Some NotSupportedError
     else None

@@ -1,8 +1,8 @@
 -- A script: its bytes, its lines, what they say, and the session that they make.
 use Rattle.std.specs.Prelude.{ℕ, Bool, true, false, List, map, Result, Ok, Err}
 use Rattle.std.specs.List.{list_any}
-use Rattle.rule_script.specs.declared.line.Line.{Line}
-use Rattle.rule_script.specs.declared.refused.Bad.{Bad}
+use Rattle.rule_lines.specs.Acts.{Said}
+use Rattle.rule_tokens.specs.declared.refused.Bad.{Bad}
 use Rattle.rule_script.specs.Reading.{reading}
 use Rattle.ce_model.specs.Steps.{Step, Outcome, Goes, Throws, Spent}
 use Rattle.ce_model.specs.State.{State}
@@ -10,12 +10,12 @@ use Rattle.ce_model.specs.Model.{model}
 use Rattle.ce_model.specs.Session.{run_lines, start}
 
 -- a line that was refused
-abbrev pub is_bad : Result Line Bad → Bool
+abbrev pub is_bad : Result Said Bad → Bool
 is_bad (Ok line) = false
 is_bad (Err bad) = true
 
 -- what the lines say, each of them read
-abbrev pub readings : List (List ℕ) → List (Result Line Bad)
+abbrev pub readings : List (List ℕ) → List (Result Said Bad)
 readings lines = map reading lines
 
 -- some line is refused

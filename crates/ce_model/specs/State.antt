@@ -1,8 +1,8 @@
 -- The state of a session: the page and its fuel, the classes, the variables, the log.
 use Rattle.std.specs.Prelude.{ℕ, zero, suc, Bool, false, List, [], ◌∷◌, ◌++◌, map, Option, Some, None, slice_get, slice_set, bytes_eq, option_map}
 use Rattle.std.specs.List.{find, position}
-use Rattle.rule_script.specs.declared.line.CallName.{CallName}
-use Rattle.rule_script.specs.declared.line.Action.{Action}
+use Rattle.rule_tokens.specs.declared.callback.CallName.{CallName}
+use Rattle.rule_lines.specs.Acts.{Act}
 use Rattle.ce_model.specs.declared.class_facts.ClassFacts.{ClassFacts}
 use Rattle.ce_model.specs.declared.event.Event.{Event}
 use Rattle.ce_model.specs.declared.event.Event.TheVariants.{Enqueued, FuelLine}
@@ -13,7 +13,7 @@ use Rattle.ce_model.specs.Page.{Page, Work}
 pub record Class : Type 0 where
   pub name : List ℕ
   pub facts : ClassFacts
-  pub bodies : List (CallName × Action)  -- in the order of their lines
+  pub bodies : List (CallName × Act)  -- in the order of their lines
   pub frozen : Bool  -- a definition has it
 
 pub record State : Type 0 where

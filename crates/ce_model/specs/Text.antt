@@ -3,12 +3,11 @@ use Rattle.std.specs.Prelude.{ℕ, ◌==◌, nat_lt, Bool, true, false, ◌||◌
 use Rattle.std.specs.Fmt.{decimal, digits}
 use Rattle.ce_base.specs.declared.fault.Fault.{Fault}
 use Rattle.ce_base.specs.declared.fault.Fault.TheVariants.{TypeError, ReferenceError, SyntaxError, NotSupportedError, HierarchyRequestError, NotFoundError, InvalidCharacterError, UserThrow}
-use Rattle.rule_script.specs.declared.line.CallName.{CallName}
-use Rattle.rule_script.specs.declared.line.CallName.TheVariants.{Attribute as AttributeName}
-use Rattle.rule_script.specs.declared.line.CallOrUpgrade.{CallOrUpgrade}
-use Rattle.rule_script.specs.declared.line.CallOrUpgrade.TheVariants.{Call}
-use Rattle.rule_script.specs.declared.refused.Bad.{Bad}
-use Rattle.rule_script.specs.declared.refused.Bad.TheVariants.{Later}
+use Rattle.rule_tokens.specs.Callbacks.{call_word}
+use Rattle.rule_tokens.specs.declared.callback.CallOrUpgrade.{CallOrUpgrade}
+use Rattle.rule_tokens.specs.declared.callback.CallOrUpgrade.TheVariants.{Call, Upgrade}
+use Rattle.rule_tokens.specs.declared.refused.Bad.{Bad}
+use Rattle.rule_tokens.specs.declared.refused.Bad.TheVariants.{Long, Utf8, Quote, Escape, Word, Arity, Place, Later}
 use Rattle.ce_model.specs.declared.event.Event.{Event}
 use Rattle.ce_model.specs.declared.event.Event.TheVariants.{Construct, Attribute, Logged, Reported, Fine, Gave, Threw, WasBad, FuelLine, QueueOpened, Enqueued, DrainBegun, Started, Finished, QueueClosed}
 
@@ -52,13 +51,18 @@ fault NotFoundError = codes "NotFoundError"
 fault InvalidCharacterError = codes "InvalidCharacterError"
 fault (UserThrow text) = codes "user " ++ quoted text
 
-abbrev pub call_name : CallName → List ℕ
-call_name AttributeName = codes "attribute"
-
 abbrev pub what : CallOrUpgrade → List ℕ
-what (Call name) = call_name name
+what (Call name) = call_word name
+what Upgrade = codes "upgrade"
 
 abbrev pub bad_word : Bad → List ℕ
+bad_word Long = codes "long"
+bad_word Utf8 = codes "utf8"
+bad_word Quote = codes "quote"
+bad_word Escape = codes "escape"
+bad_word Word = codes "word"
+bad_word Arity = codes "arity"
+bad_word Place = codes "place"
 bad_word Later = codes "later"
 
 -- the line of an event, without its line feed

@@ -1,25 +1,23 @@
 -- Worked scripts, each with its log.
 use Rattle.std.specs.Prelude.{List, [], ◌∷◌, Result, Ok, Some, None, codes}
-use Rattle.rule_script.specs.declared.line.Line.{Line}
-use Rattle.rule_script.specs.declared.line.Line.TheVariants.{Command, Part}
-use Rattle.rule_script.specs.declared.line.Cmd.TheVariants.{Both}
-use Rattle.rule_script.specs.declared.line.Op.TheVariants.{Create, SetAttr, Define}
-use Rattle.rule_script.specs.declared.line.Operand.TheVariants.{Variable}
-use Rattle.rule_script.specs.declared.line.Val.TheVariants.{Fixed, First, Second, Third}
-use Rattle.rule_script.specs.declared.line.Action.TheVariants.{Log}
-use Rattle.rule_script.specs.declared.line.CallName.TheVariants.{Attribute as AttributeName}
-use Rattle.rule_script.specs.declared.line.CallOrUpgrade.TheVariants.{Call}
-use Rattle.rule_script.specs.declared.line.ClassPart.TheVariants.{Class as NewClass, On, Observe}
-use Rattle.rule_script.specs.declared.refused.Bad.{Bad}
+use Rattle.rule_lines.specs.Acts.{Said, Command, Declares, Log, On, Observe}
+use Rattle.rule_lines.specs.Acts.{Class as NewClass}
+use Rattle.rule_lines.specs.declared.line.Cmd.TheVariants.{Both}
+use Rattle.rule_lines.specs.declared.op.Op.TheVariants.{Create, SetAttr, Define}
+use Rattle.rule_tokens.specs.declared.operand.Operand.TheVariants.{Variable}
+use Rattle.rule_tokens.specs.declared.operand.Val.TheVariants.{Fixed, First, Second, Third}
+use Rattle.rule_tokens.specs.declared.callback.CallName.TheVariants.{Attribute as AttributeName}
+use Rattle.rule_tokens.specs.declared.callback.CallOrUpgrade.TheVariants.{Call}
+use Rattle.rule_tokens.specs.declared.refused.Bad.{Bad}
 use Rattle.ce_model.specs.declared.event.Event.{Event}
 use Rattle.ce_model.specs.declared.event.Event.TheVariants.{Construct, Attribute, Logged, Fine, Gave, QueueOpened, Enqueued, DrainBegun, Started, Finished, QueueClosed}
 
 -- the first script: a class that logs its attribute's changes, its definition, an element, and a change to an equal value
-abbrev pub first_script : List (Result Line Bad)
+abbrev pub first_script : List (Result Said Bad)
 first_script =
-    Ok (Part (NewClass (codes "A")))
-    ∷ Ok (Part (Observe (codes "A") (codes "k" ∷ [])))
-    ∷ Ok (Part (On (codes "A") AttributeName (Log (First ∷ Second ∷ Third ∷ []))))
+    Ok (Declares (NewClass (codes "A")))
+    ∷ Ok (Declares (Observe (codes "A") (codes "k" ∷ [])))
+    ∷ Ok (Declares (On (codes "A") AttributeName (Log (First ∷ Second ∷ Third ∷ []))))
     ∷ Ok (Command (Both (Define (codes "x-a") (codes "A") None)))
     ∷ Ok (Command (Both (Create (codes "e") (codes "x-a") None None)))
     ∷ Ok (Command (Both (SetAttr (Variable (codes "e")) (codes "k") (Fixed (codes "1")))))

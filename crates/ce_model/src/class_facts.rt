@@ -16,7 +16,7 @@ pub struct Calls {
 
 impl Model for Calls {
     ghost use Rattle.std.specs.Prelude.{List};
-    ghost use Rattle.rule_script.specs.declared.line.CallName.{CallName};
+    ghost use Rattle.rule_tokens.specs.declared.callback.CallName.{CallName};
 
     ghost Value = { List CallName };
 
@@ -60,12 +60,11 @@ impl Calls {
     }
 }
 
-fn same_call(a: CallName, b: CallName) -> bool
+/// Whether both are the same callback.
+pub fn same_call(a: CallName, b: CallName) -> bool
     ensures { result ≡ same_call a b }
 {
-    match (a, b) {
-        (CallName::Attribute, CallName::Attribute) => true,
-    }
+    a.word() == b.word()
 }
 
 /// What a definition takes over from its class (HTML Standard, section "Core concepts": a definition's

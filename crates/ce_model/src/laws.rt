@@ -1,8 +1,8 @@
 // What holds of the model: statements about its definitions, each proved as the contract of a function
 // that does nothing.
 ghost use Rattle.std.specs.Prelude.{◌≡◌, ℕ, List, Result, true};
-ghost use Rattle.rule_script.specs.declared.line.Line.{Line};
-ghost use Rattle.rule_script.specs.declared.refused.Bad.{Bad};
+ghost use Rattle.rule_lines.specs.Acts.{Said};
+ghost use Rattle.rule_tokens.specs.declared.refused.Bad.{Bad};
 ghost use Rattle.ce_model.specs.declared.event.Event.{Event};
 ghost use Rattle.ce_model.specs.Calls.{Call};
 ghost use Rattle.ce_model.specs.Model.{level, model};
@@ -22,7 +22,7 @@ pub fn each_calls_the_others()
 /// What a line does depends on nothing that was logged before it: the log is written, and never read.
 #[tactic(auto, using(crate::proofs::FramedSteps::run_line_behind))]
 pub fn no_step_reads_the_log()
-    ensures { (line : ℕ) (l : Result Line Bad) (events : List Event) (s : State) → run_line model line l (behind events s) ≡ behind_in events (run_line model line l s) }
+    ensures { (line : ℕ) (l : Result Said Bad) (events : List Event) (s : State) → run_line model line l (behind events s) ≡ behind_in events (run_line model line l s) }
 {}
 
 /// The model computes: the first script's log, with nine units of fuel, which are just enough.

@@ -12,7 +12,7 @@ mod reaction;
 #[cfg(test)]
 mod tests;
 
-pub use class_facts::{Calls, ClassFacts};
+pub use class_facts::{Calls, ClassFacts, same_call};
 pub use definition::Definition;
 pub use event::{Event, Given};
 pub use laws::{each_calls_the_others, no_step_reads_the_log, worked_scripts};

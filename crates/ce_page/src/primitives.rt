@@ -199,8 +199,9 @@ impl Page {
     }
 
     /// Adds a definition (HTML Standard, section "The CustomElementRegistry interface", `define`), and
-    /// gives its number. It refuses with a NotSupportedError where the name has a definition, where the
-    /// class has one, and where an element is to be extended, which none can be yet.
+    /// gives its number. It refuses with a SyntaxError where the name is no custom element's, and then with
+    /// a NotSupportedError where the name has a definition, where the class has one, and where an element
+    /// is to be extended, which none can be yet.
     pub fn define_name(
         &mut self,
         alloc: Global,

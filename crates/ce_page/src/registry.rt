@@ -4,6 +4,7 @@ ghost use Rattle.ce_model.specs.Registry.{by_name, by_class, by_names, by_is_val
 
 use ce_base::{ClassNo, DefNo, Fault, NoMemory};
 use ce_model::Definition;
+use element_names::is_custom_name;
 use std::alloc::Global;
 use std::marker::Model;
 
@@ -97,11 +98,15 @@ impl Registry {
         }
     }
 
-    /// Why a definition is refused, the first reason that holds: its name is defined, its class is
-    /// defined, it extends an element, which none does yet. None exactly where it is not refused.
+    /// Why a definition is refused, the first reason that holds: its name is no custom element's, its name
+    /// is defined, its class is defined, it extends an element, which none does yet. None exactly where it
+    /// is not refused.
     pub(crate) fn refusal(&self, name: &str, class: ClassNo, base: Option<&str>) -> Option<Fault>
         ensures { result ≡ may_define self.now name.now class (option_copied base.entry) }
     {
+        if !is_custom_name(name) {
+            return Some(Fault::SyntaxError);
+        }
         if self.get(name).is_some() || self.by_class(class).is_some() || base.is_some() {
             return Some(Fault::NotSupportedError);
         }

@@ -3,7 +3,7 @@ use Rattle.std.proofs.Common.{◌≡◌, ℕ, Bool, List, Option, ap, sym, ◌�
 use Rattle.std.specs.Prelude.{Result, Err}
 use Rattle.ce_base.specs.declared.fault.Fault.{Fault}
 use Rattle.ce_base.specs.Outside.{AppendsPart}
-use Rattle.rule_script.specs.declared.line.Cmd.{Cmd}
+use Rattle.rule_lines.specs.declared.line.Cmd.{Cmd}
 use Rattle.ce_model.specs.declared.event.Event.{Event}
 use Rattle.ce_model.specs.declared.event.Given.{Given}
 use Rattle.ce_model.specs.Drain.{checkpoint}

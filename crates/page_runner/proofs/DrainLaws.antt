@@ -4,8 +4,7 @@ use Rattle.std.specs.Prelude.{Err, slice_get, slice_set, MatchOption, IfSome}
 use Rattle.std.proofs.lemmas.Bool.{cases_lt}
 use Rattle.std.proofs.lemmas.Option.{slice_get-get_or, slice_get_past}
 use Rattle.std.proofs.lemmas.List.{get_or-set_same, length-set}
-use Rattle.rule_script.specs.declared.line.Action.{Action}
-use Rattle.rule_script.specs.declared.line.Action.TheVariants.{Log}
+use Rattle.rule_lines.specs.Acts.{Act, Log}
 use Rattle.ce_base.specs.declared.fault.Fault.{Fault}
 use Rattle.ce_base.specs.Outside.{AppendsPart}
 use Rattle.ce_model.specs.declared.definition.Definition.{Definition}
@@ -33,10 +32,11 @@ use Rattle.page_runner.proofs.HaltLaws.{writes_then}
 
 -- no callback throws
 
-calm_act : (args : Args) (a : Action) → Calm (act args a)
+calm_act : (args : Args) (a : Act) → Calm (act args a)
 calm_act args (Log vals) = calm_log _
+calm_act args _ = calm_done
 
-calm_body : (args : Args) (actions : List Action) → Calm (body args actions)
+calm_body : (args : Args) (actions : List Act) → Calm (body args actions)
 calm_body args [] = calm_done
 calm_body args (a ∷ rest) = calm_seq calm_spend (calm_seq (calm_act args a) (calm_body args rest))
 

@@ -3,9 +3,8 @@ use Rattle.std.proofs.Common.{◌≡◌, ◌<◌, ◌≤◌, ◌+◌, ℕ, List,
 use Rattle.std.proofs.lemmas.Bool.{cases_lt}
 use Rattle.std.proofs.lemmas.Bool.Decides.{nat_tests}
 use Rattle.std.proofs.lemmas.List.{take_all, length-take}
-use Rattle.rule_script.specs.Reading.{reading}
-use Rattle.rule_script.specs.Tokens.{longest}
-use Rattle.rule_script.specs.declared.refused.Bad.TheVariants.{Later}
+use Rattle.rule_script.specs.Reading.{longest, reading}
+use Rattle.rule_tokens.specs.declared.refused.Bad.TheVariants.{Long}
 use Rattle.page_runner.specs.Feed.{given, GivesLine}
 
 -- a line within the limit is given whole
@@ -19,7 +18,8 @@ unfolding given
 given_over limit line over = omega (arith, length-take (limit + 1) line)
 
 -- a line over the limit is refused
-reading_over : (line : List ℕ) → longest < length line → reading line ≡ Err Later
+reading_over : (line : List ℕ) → longest < length line → reading line ≡ Err Long
+unfolding reading
 reading_over line over =
     let long : nat_lt longest (length line) ≡ true = grind (arith, nat_tests) in
     rw long refl

@@ -3,8 +3,7 @@ use Rattle.std.proofs.Common.{◌≡◌, ◌≢◌, ◌≤◌, ◌+◌, ℕ, Lis
 use Rattle.std.proofs.KnownBytes.{Appends-nil}
 use Rattle.std.specs.declared.option.Option.{Option}
 use Rattle.ce_base.specs.Outside.{AppendsPart}
-use Rattle.rule_script.specs.Reading.{reading}
-use Rattle.rule_script.specs.Tokens.{longest}
+use Rattle.rule_script.specs.Reading.{longest, reading}
 use Rattle.ce_model.specs.Lines.{whole_lines, last_part}
 use Rattle.ce_model.specs.Model.{model}
 use Rattle.ce_model.specs.Script.{is_bad, readings, run_from}

@@ -4,6 +4,7 @@ pub mod HaltsOf
 pub mod Steps
 pub mod Operands
 pub mod Ran
+pub mod Bodies
 pub mod Feed
 pub mod Words
 pub mod Table

@@ -1,6 +1,7 @@
 // The body of a callback.
 ghost use Rattle.std.specs.Prelude.{◌≡◌, ◌≤◌, map, IfOk, OnOk, IsErrOf};
 ghost use Rattle.ce_base.specs.Faults.{Rose};
+ghost use Rattle.rule_lines.specs.Acts.{act_of};
 ghost use Rattle.ce_model.specs.Body.{text_of, act, body};
 ghost use Rattle.ce_model.specs.Drain.{args_of, or_empty};
 ghost use Rattle.ce_model.specs.Steps.{Goes};
@@ -51,6 +52,7 @@ impl Args {
     {
         match v {
             Val::Fixed(t) => t.copy(alloc),
+            Val::Count | Val::Kept => Text::of(alloc, ""),
             Val::First => self.first.copy(alloc),
             Val::Second => self.second.copy(alloc),
             Val::Third => self.third.copy(alloc),
@@ -103,9 +105,9 @@ impl State {
         Ok(())
     }
 
-    // One action.
+    // One action. Those that are not built yet do nothing: no line that is read says them.
     fn act(&mut self, alloc: Global, action: &Action, args: &Args) -> Result<(), NoMemory>
-        ensures step { OnOk result (Goes tt self.new ≡ act args.now action.now self.old) }
+        ensures step { OnOk result (Goes tt self.new ≡ act args.now (act_of action.now) self.old) }
         ensures page { OnOk result (self.new.page ≡ self.old.page) }
     {
         match action {
@@ -113,6 +115,7 @@ impl State {
                 let texts = args.texts(alloc, vals)?;
                 self.log(Event::Logged(texts))
             }
+            _ => Ok(()),
         }
     }
 }

@@ -1,10 +1,11 @@
 // The primitives of the page, as steps of a session.
 ghost use Rattle.std.specs.Prelude.{◌≡◌, ℕ, List, Some, option_copied, IfOk};
 ghost use Rattle.std.specs.declared.option.Option.{Option};
-ghost use Rattle.ce_model.specs.Create.{create, create_defined, make_in_state, first_state};
+ghost use Rattle.std.specs.Str.{str_to_ascii_lowercase};
+ghost use Rattle.ce_model.specs.Create.{create, create_named, create_defined, make_in_state, first_state};
 ghost use Rattle.ce_model.specs.Construct.{base_call, construct};
 ghost use Rattle.ce_model.specs.Primitives.{set_attribute, define_name, make_custom};
-ghost use Rattle.ce_model.specs.Perform.{define};
+ghost use Rattle.ce_model.specs.Perform.{define, set_attr};
 ghost use Rattle.ce_model.specs.State.{on_page, class_of};
 ghost use Rattle.ce_page.specs.Elements.{IsElement};
 ghost use Rattle.ce_page.specs.Ends.{Ends, Does, work};
@@ -15,12 +16,31 @@ use crate::state::{State, is_spent};
 use ce_base::{ClassNo, CustomState, DefNo, Fault, Fuel, NoMemory, NodeNo, Text};
 use ce_model::Event;
 use ce_page::{Page, PageStop};
-use rule_script::is_custom_name;
+use element_names::{is_attr_name, is_custom_name, is_local_name};
 use std::alloc::Global;
 
 impl State {
-    /// Sets an attribute, with its enqueue.
-    pub(crate) fn set_attribute(
+    /// Sets an attribute by a name that is tested and lowercased (DOM Standard, section "Interface Element",
+    /// `setAttribute`).
+    pub(crate) fn set_attr(
+        &mut self,
+        alloc: Global,
+        n: NodeNo,
+        name: &Text,
+        value: Text,
+    ) -> Result<(), PageStop>
+        requires { IsElement self.old.page n }
+        ensures { Does result self.new (set_attr n name.now value self.old) }
+    {
+        if !is_attr_name(name.as_str()) {
+            return Err(PageStop::Refused(Fault::InvalidCharacterError));
+        }
+        let name = lowercased(alloc, name)?;
+        self.set_attribute(alloc, n, name, value)
+    }
+
+    // Sets an attribute, with its enqueue.
+    fn set_attribute(
         &mut self,
         alloc: Global,
         n: NodeNo,
@@ -92,14 +112,31 @@ impl State {
         outcome
     }
 
-    /// Creates an element (DOM Standard, section "Interface Element", "create an element").
+    /// Creates an element by a name that is tested and lowercased (DOM Standard, section "Interface Document",
+    /// `createElement`).
     pub(crate) fn create(
+        &mut self,
+        alloc: Global,
+        name: &Text,
+        is: &Option<Text>,
+    ) -> Result<NodeNo, PageStop>
+        ensures { Ends (λ n. n) result self.new (create name.now is.now self.old) }
+    {
+        if !is_local_name(name.as_str()) {
+            return Err(PageStop::Refused(Fault::InvalidCharacterError));
+        }
+        let local = lowercased(alloc, name)?;
+        self.create_named(alloc, &local, is)
+    }
+
+    // Creates an element (DOM Standard, section "Interface Element", "create an element").
+    fn create_named(
         &mut self,
         alloc: Global,
         local: &Text,
         is: &Option<Text>,
     ) -> Result<NodeNo, PageStop>
-        ensures { Ends (λ n. n) result self.new (create local.now is.now self.old) }
+        ensures { Ends (λ n. n) result self.new (create_named local.now is.now self.old) }
     {
         match self.page.registry().lookup(local.as_str(), text_in(is)) {
             None => self.create_undefined(alloc, local, is),
@@ -205,6 +242,13 @@ fn first_state(local: &str, is: &Option<Text>) -> CustomState
         return CustomState::Undefined;
     }
     CustomState::Uncustomized
+}
+
+fn lowercased(alloc: Global, name: &Text) -> Result<Text, NoMemory>
+    ensures { IfOk result (λ t. t ≡ str_to_ascii_lowercase name.now) }
+{
+    let lower = name.as_str().to_ascii_lowercase(alloc)?;
+    Text::of(alloc, lower.as_str())
 }
 
 fn text_in(text: &Option<Text>) -> Option<&str>

@@ -1,11 +1,13 @@
 // A class, as the lines of a script made it.
-ghost use Rattle.std.specs.Prelude.{◌≡◌, ◌++◌, ◌∷◌, [], true, IfOk, OnOk};
+ghost use Rattle.std.specs.Prelude.{◌≡◌, ◌++◌, ◌∷◌, [], true, map, IfOk, OnOk};
+ghost use Rattle.rule_lines.specs.Acts.{act_of};
 ghost use Rattle.ce_model.specs.Body.{actions_of};
-ghost use Rattle.ce_model.specs.ClassFacts.{same_call};
 ghost use Rattle.ce_model.specs.Parts.{with_call, with_observed};
 ghost use Rattle.ce_model.specs.State.{new_class};
+ghost use Rattle.page_runner.specs.Bodies.{bodies_of};
 
 use ce_base::{NoMemory, Text, Texts};
+use ce_model::same_call;
 use ce_page::ClassFacts;
 use rule_script::{Action, CallName};
 use std::alloc::Global;
@@ -22,10 +24,11 @@ pub(crate) struct Class {
 
 impl Model for Class {
     ghost use Rattle.ce_model.specs.State.{Class as IsClass};
+    ghost use Rattle.page_runner.specs.Bodies.{bodies_of};
 
     ghost Value = { IsClass };
 
-    ghost view = { λ c. record { name = c.name; facts = c.facts; bodies = c.bodies.items; frozen = c.frozen } };
+    ghost view = { λ c. record { name = c.name; facts = c.facts; bodies = bodies_of c.bodies.items; frozen = c.frozen } };
 }
 
 impl Class {
@@ -76,7 +79,7 @@ impl Class {
         call: CallName,
         action: Action,
     ) -> Result<(), NoMemory>
-        ensures { OnOk result (self.new ≡ record self.old { facts = with_call call self.old.facts; bodies = self.old.bodies ++ (call, action) ∷ [] }) }
+        ensures { OnOk result (self.new ≡ record self.old { facts = with_call call self.old.facts; bodies = self.old.bodies ++ (call, act_of action) ∷ [] }) }
     {
         self.facts.calls.add(alloc, call)?;
         self.bodies.push((call, action))?;
@@ -105,12 +108,12 @@ pub(crate) struct Actions {
 }
 
 impl Model for Actions {
-    ghost use Rattle.std.specs.Prelude.{List};
-    ghost use Rattle.rule_script.specs.declared.line.Action.{Action};
+    ghost use Rattle.std.specs.Prelude.{List, map};
+    ghost use Rattle.rule_lines.specs.Acts.{Act, act_of};
 
-    ghost Value = { List Action };
+    ghost Value = { List Act };
 
-    ghost view = { λ a. a.items.items };
+    ghost view = { λ a. map act_of a.items.items };
 }
 
 impl Actions {
@@ -125,7 +128,7 @@ impl Actions {
 
     /// The actions, borrowed.
     pub(crate) fn as_slice(&self) -> &[Action]
-        ensures { result.now ≡ self.now }
+        ensures { map act_of result.now ≡ self.now }
     {
         self.items.as_slice()
     }
@@ -136,23 +139,15 @@ fn actions_in(
     call: CallName,
     bodies: &[(CallName, Action)],
 ) -> Result<Actions, NoMemory>
-    ensures { IfOk result (λ a. a ≡ actions_of call bodies.now) }
+    ensures { IfOk result (λ a. a ≡ actions_of call (bodies_of bodies.now)) }
 {
     let mut items = Vec::new(alloc);
     for b in bodies {
-        if is_same_call(b.0, call) {
+        if same_call(b.0, call) {
             items.push(b.1.copy(alloc)?)?;
         }
     }
     Ok(Actions { items })
-}
-
-fn is_same_call(a: CallName, b: CallName) -> bool
-    ensures { result ≡ same_call a b }
-{
-    match (a, b) {
-        (CallName::Attribute, CallName::Attribute) => true,
-    }
 }
 
 fn push_all(alloc: Global, texts: &mut Texts, more: &Texts) -> Result<(), NoMemory>

@@ -2,6 +2,7 @@
 ghost use Rattle.std.specs.Prelude.{◌≡◌, ◌≤◌, ◌+◌, ◌<◌, ◌^◌, Ok, IfOk, OnOk, OnErr, IsErrOf};
 ghost use Rattle.ce_base.specs.Faults.{Rose};
 ghost use Rattle.ce_base.specs.Outside.{AppendsPart};
+ghost use Rattle.rule_lines.specs.Acts.{part_of};
 ghost use Rattle.ce_model.specs.Model.{model};
 ghost use Rattle.ce_model.specs.Session.{perform, command, class_part, log_of, reply};
 ghost use Rattle.ce_model.specs.State.{logged};
@@ -27,7 +28,7 @@ impl State {
         line: u64,
         p: ClassPart,
     ) -> Result<(), NoMemory>
-        ensures { OnOk result (Goes tt self.new ≡ class_part line p self.old) }
+        ensures { OnOk result (Goes tt self.new ≡ class_part line (part_of p) self.old) }
     {
         match self.part(alloc, p) {
             Ok(()) => Ok(()),
@@ -106,6 +107,7 @@ impl State {
         }
     }
 
+    // One command. Those that are not built yet do nothing: no line that is read says them.
     fn perform<K: Sink>(
         &mut self,
         alloc: Global,
@@ -122,6 +124,7 @@ impl State {
     {
         match c {
             Cmd::Both(op) => self.operate(alloc, op, trace, sink),
+            _ => Ok(Given::Nothing),
         }
     }
 }

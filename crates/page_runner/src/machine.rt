@@ -2,6 +2,7 @@
 ghost use Rattle.std.specs.Prelude.{◌≡◌, ◌≤◌, [], Err, IfOk, OnErr, IsErrOf};
 ghost use Rattle.ce_base.specs.Faults.{Rose};
 ghost use Rattle.ce_base.specs.Outside.{AppendsPart};
+ghost use Rattle.rule_lines.specs.Acts.{part_of};
 ghost use Rattle.ce_model.specs.Model.{model};
 ghost use Rattle.ce_model.specs.Session.{command, class_part, run_line, start, log_of};
 ghost use Rattle.ce_model.specs.Steps.{Goes};
@@ -53,9 +54,9 @@ impl Machine {
         trace: bool,
         sink: &mut K,
     ) -> Result<Machine, Stop>
-        ensures ran { IfOk result (λ m. Did trace (K.held sink.old) (K.held sink.new) (class_part line p self) (Goes tt m)) }
+        ensures ran { IfOk result (λ m. Did trace (K.held sink.old) (K.held sink.new) (class_part line (part_of p) self) (Goes tt m)) }
         ensures empty { IfOk result (λ m. m.log ≡ []) }
-        ensures part { OnErr result (AppendsPart (K.held sink.old) (K.held sink.new) (text trace (log_of (class_part line p self)))) }
+        ensures part { OnErr result (AppendsPart (K.held sink.old) (K.held sink.new) (text trace (log_of (class_part line (part_of p) self)))) }
         ensures later { K.failed sink.old ≤ K.failed sink.new }
         ensures cause { IsErrOf result Stop.WriteFault → Rose (K.failed sink.old) (K.failed sink.new) }
         ensures home { K.home sink.new ≡ K.home sink.old }

@@ -14,11 +14,14 @@ use rule_script::{CallName, Operand};
 use std::alloc::Global;
 
 impl State {
-    /// The node that an operand names, or a TypeError where its variable is not set.
+    /// The node that an operand names, or a TypeError where its variable is not set. No body has a `this`
+    /// yet, which is a ReferenceError.
     pub(crate) fn node(&self, operand: &Operand) -> Result<NodeNo, Fault>
         ensures { Names result self.now (node operand.now self.now) }
     {
         match operand {
+            Operand::Doc => Ok(NodeNo(1)),
+            Operand::This => Err(Fault::ReferenceError),
             Operand::Variable(v) => match self.variables.get(v.as_str()) {
                 None => Err(Fault::TypeError),
                 Some(n) => Ok(n),

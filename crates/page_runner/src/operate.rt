@@ -1,7 +1,7 @@
 // The operations.
 ghost use Rattle.std.specs.Prelude.{◌≡◌, ◌≤◌, ◌+◌, ◌<◌, ◌^◌, ℕ, IfOk, OnOk, IsErrOf};
 ghost use Rattle.ce_base.specs.Faults.{Rose};
-ghost use Rattle.rule_script.specs.declared.line.Op.TheVariants as ops;
+ghost use Rattle.rule_lines.specs.declared.op.Op.TheVariants as ops;
 ghost use Rattle.ce_model.specs.Body.{text_of};
 ghost use Rattle.ce_model.specs.Drain.{open_queue, drain_popped};
 ghost use Rattle.ce_model.specs.Model.{model};
@@ -21,7 +21,8 @@ use std::alloc::Global;
 
 impl State {
     /// Performs an operation: its operands are tested, a queue is pushed, its steps are done, the queue is
-    /// popped and drained; then its variable is set, or its fault is thrown.
+    /// popped and drained; then its variable is set, or its fault is thrown. Those that are not built yet do
+    /// nothing: no line that is read says them.
     pub(crate) fn operate<K: Sink>(
         &mut self,
         alloc: Global,
@@ -49,6 +50,7 @@ impl State {
             Op::Define { name, class, base } => self.operate_define(
                 alloc, &name, &class, &base, trace, sink,
             ),
+            _ => Ok(Given::Nothing),
         }
     }
 
@@ -96,7 +98,7 @@ impl State {
         let n = self.element(node)?;
         let number = self.open_queue(alloc)?;
         let value = text_at_top(alloc, value)?;
-        let outcome = self.set_attribute(alloc, n, name, value);
+        let outcome = self.set_attr(alloc, n, &name, value);
         self.close(alloc, outcome, number, trace, sink)?;
         Ok(Given::Nothing)
     }
@@ -207,8 +209,6 @@ fn text_at_top(alloc: Global, v: &Val) -> Result<Text, NoMemory>
 {
     match v {
         Val::Fixed(t) => t.copy(alloc),
-        Val::First => Text::of(alloc, ""),
-        Val::Second => Text::of(alloc, ""),
-        Val::Third => Text::of(alloc, ""),
+        Val::Count | Val::Kept | Val::First | Val::Second | Val::Third => Text::of(alloc, ""),
     }
 }

@@ -1,5 +1,6 @@
 // The parts of classes.
 ghost use Rattle.std.specs.Prelude.{◌≡◌, ◌<◌, ◌++◌, ◌∷◌, [], length, IfOk};
+ghost use Rattle.rule_lines.specs.Acts.{act_of, part_of};
 ghost use Rattle.ce_model.specs.State.{Class as IsClass};
 ghost use Rattle.ce_model.specs.Parts.{part, add_class, open_class, change_open, with_call, with_observed};
 ghost use Rattle.page_runner.specs.Operands.{Names, Takes};
@@ -12,9 +13,10 @@ use rule_script::{Action, CallName, ClassPart};
 use std::alloc::Global;
 
 impl State {
-    /// Takes a part of a class. It spends no fuel.
+    /// Takes a part of a class. It spends no fuel. Those that are not built yet do nothing: no line that is
+    /// read says them.
     pub(crate) fn part(&mut self, alloc: Global, p: ClassPart) -> Result<(), Refused>
-        ensures { Takes result self.new (part p self.old) }
+        ensures { Takes result self.new (part (part_of p) self.old) }
     {
         match p {
             ClassPart::Class(name) => self.add_class(alloc, name),
@@ -24,6 +26,7 @@ impl State {
                 action,
             } => self.add_action(alloc, &class, call, action),
             ClassPart::Observe { class, names } => self.observe(alloc, &class, &names),
+            _ => Ok(()),
         }
     }
 
@@ -60,7 +63,7 @@ impl State {
         call: CallName,
         action: Action,
     ) -> Result<(), Refused>
-        ensures { Takes result self.new (change_open class.now (λ (k : IsClass). record k { facts = with_call call k.facts; bodies = k.bodies ++ (call, action) ∷ [] }) self.old) }
+        ensures { Takes result self.new (change_open class.now (λ (k : IsClass). record k { facts = with_call call k.facts; bodies = k.bodies ++ (call, act_of action) ∷ [] }) self.old) }
     {
         let k = self.open_class(class.as_str())?;
         let c = &mut self.classes[k.0 as usize];

@@ -8,7 +8,7 @@ ghost use Rattle.ce_model.specs.Text.{bad_word, event_text, fault, is_trace, sho
 use crate::written::Written;
 use ce_base::{Fault, NoMemory, NodeNo, Sink, Stop, Text, write_all};
 use ce_model::Event;
-use rule_script::{Bad, CallName, CallOrUpgrade};
+use rule_script::{Bad, CallOrUpgrade};
 use std::alloc::Global;
 
 #[cfg(test)]
@@ -19,7 +19,8 @@ fn what_word(reaction: CallOrUpgrade) -> &'static str
     ensures { result.now ≡ what reaction }
 {
     match reaction {
-        CallOrUpgrade::Call(CallName::Attribute) => "attribute",
+        CallOrUpgrade::Call(name) => name.word(),
+        CallOrUpgrade::Upgrade => "upgrade",
     }
 }
 
@@ -28,6 +29,13 @@ fn bad_word(bad: Bad) -> &'static str
     ensures { result.now ≡ bad_word bad }
 {
     match bad {
+        Bad::Long => "long",
+        Bad::Utf8 => "utf8",
+        Bad::Quote => "quote",
+        Bad::Escape => "escape",
+        Bad::Word => "word",
+        Bad::Arity => "arity",
+        Bad::Place => "place",
         Bad::Later => "later",
     }
 }

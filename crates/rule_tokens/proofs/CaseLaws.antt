@@ -18,7 +18,7 @@ use Rattle.rule_tokens.specs.Cases.{Says, AllSay, SomeWrong, HasWrongEscape, Tok
 use Rattle.rule_tokens.specs.Cut.{cut, raw}
 use Rattle.rule_tokens.specs.Escapes.{unescape}
 use Rattle.rule_tokens.specs.Gives.{◌>>=◌, with_front, Gives, IfBad}
-use Rattle.rule_tokens.specs.Laws.{IsAnswer, LinesAreAnswered, SaidOnce}
+use Rattle.rule_tokens.specs.Laws.{IsAnswer, LinesAreAnswered, SaidIsRead, SaidOnce}
 use Rattle.rule_tokens.specs.Layout.{LaidOut, IsMisquoted}
 use Rattle.rule_tokens.specs.Signs.{WrongEscape}
 use Rattle.rule_tokens.specs.Tokens.{has_bare_backslash, is_blank, tokens_of, token, token_of, tokens_in, tokens_of_chars, unless_blank}
@@ -204,6 +204,9 @@ reads_once : (limit : ℕ) (bytes : List ℕ) (said : Option (List Token)) (read
 reads_once limit bytes said (Ok other) to reads = ap Ok (same_line (chars bytes) other said reads.says to.says)
 reads_once limit bytes said (Err b) to reads = absurd (none_first (LexicalCase limit bytes) lexical_order b to.faultless reads)
 
+pub said_is_read : SaidIsRead
+said_is_read limit bytes said to = reads_once limit bytes said (tokens_of limit bytes) to (lex_reads limit bytes)
+
 -- so a line says one thing at most
 pub said_once : SaidOnce
 said_once limit bytes x y one two = same_line (chars bytes) x y one.says two.says
@@ -220,4 +223,4 @@ read_to limit bytes (Ok said) gives = let P : Result (Option (List Token)) Bad �
 read_to limit bytes (Err e) gives = tt
 
 pub only_read : (limit : ℕ) (bytes : List ℕ) (r : Result (Option (List Token)) LineRefused) → Gives r (tokens_of limit bytes) → (said : Option (List Token)) → ReadsTo limit bytes said → Gives r (Ok said)
-only_read limit bytes r gives said to = let P : Result (Option (List Token)) Bad → Type 0 = λ x. Gives r x in subst P (reads_once limit bytes said (tokens_of limit bytes) to (lex_reads limit bytes)) gives
+only_read limit bytes r gives said to = let P : Result (Option (List Token)) Bad → Type 0 = λ x. Gives r x in subst P (said_is_read limit bytes said to) gives

@@ -17,3 +17,7 @@ IsAnswer limit bytes (Err b) = RefusedFor limit bytes b
 -- each line is answered so by the function that computes
 abbrev pub LinesAreAnswered : Type 0
 LinesAreAnswered = (limit : ℕ) (bytes : List ℕ) → IsAnswer limit bytes (tokens_of limit bytes)
+
+-- what a line says is what it computes
+abbrev pub SaidIsRead : Type 0
+SaidIsRead = (limit : ℕ) (bytes : List ℕ) (said : Option (List Token)) → ReadsTo limit bytes said → tokens_of limit bytes ≡ Ok said

@@ -1,6 +1,6 @@
 use Rattle.std.proofs.Common.{◌≡◌, ◌≢◌, ◌<◌, ◌≤◌, ◌-◌, ℕ, List, ◌∙◌, ap, inl, inr, length, take, drop, get_or, sym, arith}
 use Rattle.std.proofs.lemmas.Bool.{cases_lt}
-use Rattle.rule_script.specs.Tokens.{longest}
+use Rattle.rule_script.specs.Reading.{longest}
 use Rattle.page_runner.specs.Feed.{given}
 use Rattle.page_runner.proofs.FeedLaws.{split_at_feed, no_feed_between}
 use Rattle.page_runner.proofs.feed.Feed.next_line.Goals as goal

@@ -1,0 +1,5 @@
+pub mod OperandLaws
+pub mod NestingLaws
+pub mod SpellLaws
+pub mod FaultLaws
+pub mod LineLaws

@@ -1,0 +1,54 @@
+-- What is built already. A line that says something else is refused as later.
+use Rattle.std.specs.Prelude.{ℕ, Bool, true, false, List, Option, Some, None}
+use Rattle.std.specs.List.{list_all}
+use Rattle.rule_tokens.specs.declared.callback.CallName.{CallName}
+use Rattle.rule_tokens.specs.declared.callback.CallName.TheVariants as calls
+use Rattle.rule_tokens.specs.declared.operand.Val.{Val}
+use Rattle.rule_tokens.specs.declared.operand.Val.TheVariants as values
+use Rattle.rule_lines.specs.declared.line.Cmd.{Cmd}
+use Rattle.rule_lines.specs.declared.line.Cmd.TheVariants as commands
+use Rattle.rule_lines.specs.declared.op.Op.{Op}
+use Rattle.rule_lines.specs.declared.op.Op.TheVariants as ops
+use Rattle.rule_lines.specs.Acts.{Act, Part, Said, Blank, Command, Declares}
+use Rattle.rule_lines.specs.Acts as acts
+
+-- the texts, and the arguments of a callback
+abbrev pub is_built_value : Val → Bool
+is_built_value (values.Fixed text) = true
+is_built_value values.First = true
+is_built_value values.Second = true
+is_built_value values.Third = true
+is_built_value _ = false
+
+-- `create` without `is`, `setattr`, and `define` without `extends`, at top level
+abbrev pub is_built_op : Op → Bool
+is_built_op (ops.Create var local None document) = true
+is_built_op (ops.SetAttr place name val) = true
+is_built_op (ops.Define name class None) = true
+is_built_op _ = false
+
+abbrev pub is_built_command : Cmd → Bool
+is_built_command (commands.Both op) = is_built_op op
+is_built_command _ = false
+
+-- `log`
+abbrev pub is_built_act : Act → Bool
+is_built_act (acts.Log vals) = list_all is_built_value vals
+is_built_act _ = false
+
+abbrev pub is_built_call : CallName → Bool
+is_built_call calls.Attribute = true
+is_built_call _ = false
+
+-- bodies of the attribute callback, and observed names
+abbrev pub is_built_part : Part → Bool
+is_built_part (acts.Class name) = true
+is_built_part (acts.On class calls.Attribute act) = is_built_act act
+is_built_part (acts.Observe class names) = true
+is_built_part _ = false
+
+-- all of the line is built
+abbrev pub is_built : Said → Bool
+is_built Blank = true
+is_built (Command c) = is_built_command c
+is_built (Declares part) = is_built_part part

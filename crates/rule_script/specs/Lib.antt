@@ -1,0 +1,6 @@
+pub mod Below
+pub mod Built
+pub mod Cases
+pub mod Place
+pub mod Reading
+pub mod Spells

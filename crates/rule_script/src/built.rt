@@ -1,0 +1,72 @@
+// What is built already.
+ghost use Rattle.std.specs.Prelude.{◌≡◌};
+ghost use Rattle.std.specs.List.{list_all};
+ghost use Rattle.rule_lines.specs.Acts.{act_of, line_of, part_of};
+ghost use Rattle.rule_script.specs.Built.{is_built, is_built_act, is_built_call, is_built_command, is_built_op, is_built_part, is_built_value};
+
+use rule_lines::{Action, ClassPart, Cmd, Line, Op};
+use rule_tokens::{CallName, Val};
+
+fn is_built_value(value: &Val) -> bool
+    ensures { result ≡ is_built_value value.now }
+{
+    matches!(value, Val::Fixed(_) | Val::First | Val::Second | Val::Third)
+}
+
+fn are_built_values(values: &[Val]) -> bool
+    ensures { result ≡ list_all is_built_value values.now }
+{
+    values.iter().all(|v| is_built_value(v))
+}
+
+fn is_built_op(op: &Op) -> bool
+    ensures { result ≡ is_built_op op.now }
+{
+    matches!(
+        op,
+        Op::Create { is_value: None, .. } | Op::SetAttr { .. } | Op::Define { base: None, .. }
+    )
+}
+
+fn is_built_command(c: &Cmd) -> bool
+    ensures { result ≡ is_built_command c.now }
+{
+    match c {
+        Cmd::Both(op) => is_built_op(op),
+        _ => false,
+    }
+}
+
+fn is_built_action(action: &Action) -> bool
+    ensures { result ≡ is_built_act (act_of action.now) }
+{
+    match action {
+        Action::Log(vals) => are_built_values(vals.as_slice()),
+        _ => false,
+    }
+}
+
+fn is_built_part(part: &ClassPart) -> bool
+    ensures { result ≡ is_built_part (part_of part.now) }
+{
+    match part {
+        ClassPart::Class(_) | ClassPart::Observe { .. } => true,
+        ClassPart::On {
+            call: CallName::Attribute,
+            action,
+            ..
+        } => is_built_action(action),
+        _ => false,
+    }
+}
+
+/// Whether all of the line is built.
+pub(crate) fn is_built(line: &Line) -> bool
+    ensures { result ≡ is_built (line_of line.now) }
+{
+    match line {
+        Line::Blank => true,
+        Line::Command(c) => is_built_command(c),
+        Line::Part(part) => is_built_part(part),
+    }
+}

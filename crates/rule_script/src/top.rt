@@ -1,0 +1,80 @@
+// Forms at top level.
+ghost use Rattle.std.specs.Prelude.{[]};
+ghost use Rattle.rule_tokens.specs.Gives.{GivesSeen};
+ghost use Rattle.rule_lines.specs.Acts.{line_of};
+ghost use Rattle.rule_script.specs.Place.{placed_within};
+
+use crate::operands::{has_body_operand, is_this};
+use rule_lines::{ClassPart, Cmd, Line};
+use rule_reader::Leaf;
+use rule_tokens::{Bad, LineRefused};
+
+/// What the form says at top level.
+#[tactic(auto, using(crate::proofs::OperandLaws::operand_steps))]
+pub(crate) fn at_top(leaf: Leaf) -> Result<Line, LineRefused>
+    ensures { GivesSeen line_of result (placed_within [] leaf) }
+{
+    match leaf {
+        Leaf::Both(op) => {
+            if has_body_operand(&op) {
+                return Err(LineRefused::Bad(Bad::Place));
+            }
+            Ok(Line::Command(Cmd::Both(op)))
+        }
+        Leaf::Doc { var } => Ok(Line::Command(Cmd::Doc { var })),
+        Leaf::UserEdit { node, value } => {
+            if is_this(&node) {
+                return Err(LineRefused::Bad(Bad::Place));
+            }
+            Ok(Line::Command(Cmd::UserEdit { node, value }))
+        }
+        Leaf::UserCheck { node, on } => {
+            if is_this(&node) {
+                return Err(LineRefused::Bad(Bad::Place));
+            }
+            Ok(Line::Command(Cmd::UserCheck { node, on }))
+        }
+        Leaf::UserChoose { node, on } => {
+            if is_this(&node) {
+                return Err(LineRefused::Bad(Bad::Place));
+            }
+            Ok(Line::Command(Cmd::UserChoose { node, on }))
+        }
+        Leaf::UserReset { form } => {
+            if is_this(&form) {
+                return Err(LineRefused::Bad(Bad::Place));
+            }
+            Ok(Line::Command(Cmd::UserReset { form }))
+        }
+        Leaf::UserRestore { node, value } => {
+            if is_this(&node) {
+                return Err(LineRefused::Bad(Bad::Place));
+            }
+            Ok(Line::Command(Cmd::UserRestore { node, value }))
+        }
+        Leaf::UserAutofill { node, value } => {
+            if is_this(&node) {
+                return Err(LineRefused::Bad(Bad::Place));
+            }
+            Ok(Line::Command(Cmd::UserAutofill { node, value }))
+        }
+        Leaf::UserPress { node } => {
+            if is_this(&node) {
+                return Err(LineRefused::Bad(Bad::Place));
+            }
+            Ok(Line::Command(Cmd::UserPress { node }))
+        }
+        Leaf::Class(name) => Ok(Line::Part(ClassPart::Class(name))),
+        Leaf::Has { class, call } => Ok(Line::Part(ClassPart::Has { class, call })),
+        Leaf::Observe { class, names } => Ok(Line::Part(ClassPart::Observe { class, names })),
+        Leaf::Associate(class) => Ok(Line::Part(ClassPart::Associate(class))),
+        Leaf::DisableShadow(class) => Ok(Line::Part(ClassPart::DisableShadow(class))),
+        Leaf::DisableInternals(class) => Ok(Line::Part(ClassPart::DisableInternals(class))),
+        Leaf::Log(_)
+        | Leaf::Super
+        | Leaf::Return(_)
+        | Leaf::Throw(_)
+        | Leaf::Bump
+        | Leaf::Keep(_) => Err(LineRefused::Bad(Bad::Place)),
+    }
+}
