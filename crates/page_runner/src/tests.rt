@@ -51,14 +51,68 @@ fn pieces_do_not_matter(rt: HostRuntime) -> Result<(), Fail> {
     Ok(())
 }
 
+// A script's lines and their replies.
+const NAMES: &str = "class A
+class B
+observe B k
+on B attribute : log @1
+define xa Q
+define xa A
+define X-a A
+define font-face A
+define x-\u{C9} B
+define x-\u{C9} A
+define x-a B
+create $e 1a
+create $e \"a b\"
+create $e X-\u{C9}
+setattr $e \"\" v
+setattr $e a=b v
+setattr $e K \"a\\u{1b}\\\"\"
+setattr doc k v
+create $f P in doc
+create $g p in $f
+create $g p in $n
+";
+
+const NAMES_TRANSCRIPT: &str = "5: throw TypeError
+6: throw SyntaxError
+7: throw SyntaxError
+8: throw SyntaxError
+9: ok
+10: throw NotSupportedError
+11: throw NotSupportedError
+12: throw InvalidCharacterError
+13: throw InvalidCharacterError
+construct B
+14: #2
+15: throw InvalidCharacterError
+16: throw InvalidCharacterError
+call #2 attribute \"k\" null \"a\\u{1b}\\\"\"
+log \"k\"
+17: ok
+18: throw TypeError
+19: #3
+20: throw TypeError
+21: throw TypeError
+";
+
 #[test]
-fn faults_are_thrown_and_lines_refused(rt: HostRuntime) -> Result<(), Fail> {
+fn names_are_tested_when_they_run(rt: HostRuntime) -> Result<(), Fail> {
+    let (status, text) = ran(rt.alloc(), NAMES.as_bytes(), 4096)?;
+    assert_eq!(rt; status, Status::Done);
+    assert_eq!(rt; text.as_slice(), NAMES_TRANSCRIPT.as_bytes());
+    Ok(())
+}
+
+#[test]
+fn each_fault_of_a_line_is_told(rt: HostRuntime) -> Result<(), Fail> {
     let script =
-        b"class A\nfrob\ndefine x-a B\ndefine x-a A\ndefine x-b A\nsetattr $e k v\ncreate $e \"x-a\"\n".as_slice();
+        b"create $a\nfrob\nsetattr this k v\nlog x\ntext $t \"a\\q\"\ntext $t \"a\"b\ntext $t \"\\u{D800}\"\non A connected : super\ntext $t a b\nt\xff\ntext $t a\n".as_slice();
     let (status, text) = ran(rt.alloc(), script, 4096)?;
     assert_eq!(rt; status, Status::BadLines);
     let wanted =
-        b"2: bad later\n3: throw TypeError\n4: ok\n5: throw NotSupportedError\n6: throw TypeError\n7: bad later\n".as_slice();
+        b"1: bad arity\n2: bad word\n3: bad place\n4: bad place\n5: bad escape\n6: bad quote\n7: bad escape\n8: bad place\n9: bad arity\n10: bad utf8\n11: bad later\n".as_slice();
     assert_eq!(rt; text.as_slice(), wanted);
     Ok(())
 }
@@ -69,7 +123,7 @@ fn odd_lines_are_refused_and_the_next_ones_run(rt: HostRuntime) -> Result<(), Fa
         b"create $a p\r\n\0\n\xff\ncreate $a p\rcreate $b p\n# \xc3\x81 \r\n\n  \ncreate $a p".as_slice();
     let (status, text) = ran(rt.alloc(), script, 3)?;
     assert_eq!(rt; status, Status::BadLines);
-    let wanted = b"1: bad later\n2: bad later\n3: bad later\n4: bad later\n8: #2\n".as_slice();
+    let wanted = b"1: bad word\n2: bad word\n3: bad utf8\n4: bad word\n8: #2\n".as_slice();
     assert_eq!(rt; text.as_slice(), wanted);
     Ok(())
 }
@@ -160,7 +214,7 @@ fn a_long_line_is_refused_and_the_next_one_runs(rt: HostRuntime) -> Result<(), F
         script.extend_from_slice(b"\ncreate $a p\n")?;
         let (status, text) = ran(alloc, &script, 65_536)?;
         assert_eq!(rt; status, Status::BadLines);
-        assert_eq!(rt; text.as_slice(), b"1: bad later\n2: #2\n".as_slice());
+        assert_eq!(rt; text.as_slice(), b"1: bad long\n2: #2\n".as_slice());
     }
     Ok(())
 }
