@@ -1,12 +1,16 @@
 -- How an operation ends where its queue was popped and drained.
-use Rattle.std.proofs.Common.{◌≡◌, ℕ, Bool, List, Option, ap, ◌∙◌, subst}
+use Rattle.std.proofs.Common.{◌≡◌, ℕ, Bool, List, Option, refl, ap, ◌∙◌, subst}
 use Rattle.std.specs.Prelude.{Err}
 use Rattle.ce_base.specs.Outside.{AppendsPart}
 use Rattle.ce_model.specs.declared.event.Given.{Given}
 use Rattle.ce_model.specs.declared.event.Given.TheVariants.{Nothing, Node}
 use Rattle.ce_model.specs.Drain.{open_queue, drain_popped, reacting}
 use Rattle.ce_model.specs.Model.{model}
-use Rattle.ce_model.specs.Perform.{as_nothing, as_variable}
+use Rattle.rule_tokens.specs.declared.operand.Operand.{Operand}
+use Rattle.rule_tokens.specs.declared.operand.Val.{Val}
+use Rattle.rule_lines.specs.declared.op.Op.{Op}
+use Rattle.rule_lines.specs.declared.op.Op.TheVariants as ops
+use Rattle.ce_model.specs.Perform.{as_nothing, as_variable, operate}
 use Rattle.ce_model.specs.Session.{log_of}
 use Rattle.ce_model.specs.State.{State, set_variable}
 use Rattle.ce_model.specs.Steps.{Step, Outcome, Goes, then_do, ◌>>◌, give, finally, finally_in}
@@ -47,3 +51,12 @@ node_stopped h t h0 h1 n q s s0 s1 operands var steps e pushed w =
 pub node_unset : {A : Type 0} (t : Bool) (h0 h1 : Option (List ℕ)) (n : A) (q made : ℕ) (s2 s0 s1 : State) (operands : Outcome State A) (var : List ℕ) (steps : Step State ℕ) → Goes n s0 ≡ operands → Goes q s1 ≡ open_queue s0 → Did t h0 h1 (finally_in (steps s1) (drain_popped model q)) (Goes made s2) → AppendsPart h0 h1 (text t (log_of (then_do operands (λ _. as_variable var (reacting model steps)))))
 node_unset t h0 h1 n q made s2 s0 s1 operands var steps e pushed d =
     subst (λ o. AppendsPart h0 h1 (text t (log_of o))) (node_steps n q s0 s1 operands var steps e pushed) (did_part_none (after_node var) d (framed_after_node var made))
+
+-- an operation that is not built yet gives nothing
+pub not_built : (op : Op) (s : State) → ((var local : List ℕ) (is_value : Option (List ℕ)) (document : Option Operand) → op ≡ ops.Create var local is_value document → ⊥)
+    → ((place : Operand) (name : List ℕ) (val : Val) → op ≡ ops.SetAttr place name val → ⊥) → ((name class : List ℕ) (base : Option (List ℕ)) → op ≡ ops.Define name class base → ⊥)
+    → operate model op s ≡ Goes Nothing s
+not_built (ops.Create var local is_value document) s no_create no_set no_define = absurd (no_create var local is_value document refl)
+not_built (ops.SetAttr place name val) s no_create no_set no_define = absurd (no_set place name val refl)
+not_built (ops.Define name class base) s no_create no_set no_define = absurd (no_define name class base refl)
+not_built _ s no_create no_set no_define = refl

@@ -23,10 +23,14 @@ pub(crate) struct Class {
 }
 
 impl Model for Class {
+    ghost use Rattle.std.specs.Coded.{codes};
+    ghost use Rattle.rule_lines.specs.ActCode.{act_code};
     ghost use Rattle.ce_model.specs.State.{Class as IsClass};
     ghost use Rattle.page_runner.specs.Bodies.{bodies_of};
 
     ghost Value = { IsClass };
+
+    ghost coded = { Prim.hlevel (codes, act_code) };
 
     ghost view = { λ c. record { name = c.name; facts = c.facts; bodies = bodies_of c.bodies.items; frozen = c.frozen } };
 }
@@ -108,10 +112,14 @@ pub(crate) struct Actions {
 }
 
 impl Model for Actions {
+    ghost use Rattle.std.specs.Coded.{codes};
+    ghost use Rattle.rule_lines.specs.ActCode.{act_code};
     ghost use Rattle.std.specs.Prelude.{List, map};
     ghost use Rattle.rule_lines.specs.Acts.{Act, act_of};
 
     ghost Value = { List Act };
+
+    ghost coded = { Prim.hlevel (codes, act_code) };
 
     ghost view = { λ a. map act_of a.items.items };
 }

@@ -27,9 +27,13 @@ pub struct Session {
 }
 
 impl Model for Session {
+    ghost use Rattle.std.specs.Coded.{codes};
+    ghost use Rattle.rule_lines.specs.ActCode.{act_code};
     ghost use Rattle.page_runner.specs.Sitting.{Sitting};
 
     ghost Value = { Sitting };
+
+    ghost coded = { Prim.hlevel (codes, act_code) };
 
     ghost view = { λ s. record { state = s.machine; line = s.line; bad = s.bad; trace = s.trace } };
 }

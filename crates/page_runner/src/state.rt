@@ -25,10 +25,14 @@ pub(crate) struct State {
 }
 
 impl Model for State {
+    ghost use Rattle.std.specs.Coded.{codes};
+    ghost use Rattle.rule_lines.specs.ActCode.{act_code};
     ghost use Rattle.std.specs.Prelude.{◌+◌, ◌<◌, ◌^◌};
     ghost use Rattle.ce_model.specs.State.{State as IsState};
 
     ghost Value = { IsState };
+
+    ghost coded = { Prim.hlevel (codes, act_code) };
 
     ghost view = { λ s. record {
       page = s.page;

@@ -39,6 +39,7 @@ line_found below bytes x e = at (grammar_reading longest bytes) refl e
         by : (b : Bool) → is_built y ≡ b → cond b (Ok y) (Err Later) ≡ Ok x → (y ≡ x) × (is_built y ≡ true)
         by true is read = (cc, is)
         by false is read = absurd cc
+
     at : (r : Result Said Bad) → grammar_reading longest bytes ≡ r → (r >>= or_later) ≡ Ok x → SpellsBuilt longest bytes x
     at (Ok y) is read = let same = same_said y read in subst (SpellsBuilt longest bytes) same.0 (record { spells = found below longest bytes y is; built = same.1 })
     at (Err b) is read = absurd cc

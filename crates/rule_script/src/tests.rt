@@ -38,7 +38,11 @@ fn each_fault_has_its_refusal(rt: HostRuntime) -> Result<(), Fail> {
         ("on A connected : super", Bad::Place),
         ("text $t a b", Bad::Arity),
     ] {
-        assert_eq!(rt; when_built(rt.alloc(), line.as_bytes())?, Some(bad), "at {line}");
+        assert_eq!(rt;
+            when_built(rt.alloc(), line.as_bytes())?,
+            Some(bad),
+            "at {line}"
+        );
     }
     assert_eq!(rt; when_built(rt.alloc(), &[0x74, 0xFF])?, Some(Bad::Utf8));
     Ok(())
@@ -166,7 +170,11 @@ fn forms_stand_where_they_may(rt: HostRuntime) -> Result<(), Fail> {
         "on A connected : on A connected : bump",
         "on A constructor : try on A connected : bump",
     ] {
-        assert_eq!(rt; by_grammar(rt.alloc(), line)?, Some(Bad::Place), "at {line}");
+        assert_eq!(rt;
+            by_grammar(rt.alloc(), line)?,
+            Some(Bad::Place),
+            "at {line}"
+        );
     }
     Ok(())
 }
@@ -366,7 +374,11 @@ fn what_is_not_built_is_refused_last(rt: HostRuntime) -> Result<(), Fail> {
         ("user reset this", Bad::Place),
         ("ask kids $a", Bad::Later),
     ] {
-        assert_eq!(rt; when_built(rt.alloc(), line.as_bytes())?, Some(bad), "at {line}");
+        assert_eq!(rt;
+            when_built(rt.alloc(), line.as_bytes())?,
+            Some(bad),
+            "at {line}"
+        );
     }
     Ok(())
 }

@@ -1,6 +1,6 @@
 use Rattle.std.proofs.Common.{◌≡◌, Some}
 use Rattle.ce_model.specs.Registry.{lookup}
-use Rattle.page_runner.proofs.state.State.create.Goals as goal
+use Rattle.page_runner.proofs.state.State.create_named.Goals as goal
 
 pub returns-in-Some : goal.returns-in-Some
 returns-in-Some c =
