@@ -72,6 +72,13 @@ impl Entries {
         self.items.get(i)
     }
 
+    /// The entries, borrowed.
+    pub fn as_slice(&self) -> &[Entry]
+        ensures { result.now ≡ self.now }
+    {
+        self.items.as_slice()
+    }
+
     /// A second list with the same entries.
     pub fn copy(&self, alloc: Global) -> Result<Entries, NoMemory>
         ensures { IfOk result (λ e. e ≡ self.now) }

@@ -1,9 +1,9 @@
 -- A form has no fault of its words, and no tokens have two of them.
-use Rattle.std.proofs.Common.{◌≡◌, List, [], ◌∷◌, ◌++◌, refl, sym, ap, subst, ◌∙◌, append_assoc, ◌⊎◌, inl, inr}
+use Rattle.std.proofs.Common.{◌≡◌, List, [], ◌∷◌, ◌++◌, refl, sym, ap, subst, ◌∙◌, ◌⊎◌, inl, inr}
 use Rattle.std.proofs.lemmas.List.{append-nil}
 use Rattle.rule_tokens.specs.declared.token.Token.{Token}
-use Rattle.rule_forms.specs.Laws.{OneFault, FaultsAreApart}
-use Rattle.rule_forms.specs.Whole.{IsForm, Begins, WantsOperand, HasWrongWord, LacksOne, HasOneOver, HasWrongNumber}
+use Rattle.rule_forms.specs.Laws.{FaultsAreApart}
+use Rattle.rule_forms.specs.Whole.{IsForm, Begins, WantsOperand, HasWrongWord, HasWrongNumber}
 
 -- ---- fronts of a list of tokens
 

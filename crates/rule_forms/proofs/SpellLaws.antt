@@ -1,13 +1,12 @@
 -- What is read is spelled, and what is spelled is read.
-use Rattle.std.proofs.Common.{◌≡◌, ◌<◌, ℕ, zero, suc, length, arith, Bool, true, false, cond, List, [], ◌∷◌, ◌++◌, Option, Some, None, Ok, Err, refl, sym, ap, subst, ◌∙◌}
-use Rattle.rule_tokens.specs.declared.refused.Bad.TheVariants.{Word as BadWord, Arity}
+use Rattle.std.proofs.Common.{◌≡◌, ◌<◌, ℕ, zero, suc, length, arith, Bool, true, false, cond, List, [], ◌∷◌, Option, Some, None, Ok, Err, refl, ap, subst, ◌∙◌}
+use Rattle.rule_tokens.specs.declared.refused.Bad.TheVariants.{Arity}
 use Rattle.rule_tokens.specs.declared.token.Token.{Token}
 use Rattle.rule_tokens.specs.Gives.{with_front}
 use Rattle.rule_tokens.specs.Operands.{is_word}
 use Rattle.rule_forms.specs.declared.got.Kind.{Kind}
 use Rattle.rule_forms.specs.declared.got.Got.{Got}
 use Rattle.rule_forms.specs.declared.got.Got.TheVariants as gots
-use Rattle.rule_forms.specs.declared.word.Word.{Word}
 use Rattle.rule_forms.specs.Words.{keyword, spelling}
 use Rattle.rule_forms.specs.Grammar.{said_as, Key, Wants, End, One, Pick, Keys, Maybe, Many, Pairs, Inner, Rows, LastRow, Row}
 use Rattle.rule_forms.specs.Read.{Reads, then_got, no_keys, behind_key, read_keys, read_maybe, read_many, read_pairs, read, read_row, read_within, read_tokens}

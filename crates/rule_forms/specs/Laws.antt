@@ -1,7 +1,10 @@
 -- What holds of reading a form.
 use Rattle.std.specs.Prelude.{◌≡◌, ◌↔◌, List, Ok, Err}
+use Rattle.rule_forms.specs.Canon.{canon_tokens}
+use Rattle.rule_forms.specs.Clean.{AreTexts}
 use Rattle.rule_tokens.specs.declared.refused.Bad.TheVariants.{Word, Arity}
 use Rattle.rule_tokens.specs.declared.token.Token.{Token}
+use Rattle.rule_tokens.specs.Spaced.{AreClean, IsLine}
 use Rattle.rule_forms.specs.declared.got.Got.{Got}
 use Rattle.rule_forms.specs.Read.{Reads, read_tokens}
 use Rattle.rule_forms.specs.Spells.{Spelled}
@@ -30,3 +33,11 @@ pub record OneFault (ts : List Token) : Type 0 where
 
 abbrev pub FaultsAreApart : Type 0
 FaultsAreApart = (ts : List Token) → OneFault ts
+
+-- what tokens spell is spelled by its canonical tokens too
+abbrev pub CanonicalIsSpelled : Type 0
+CanonicalIsSpelled = (ts : List Token) (gots : List Got) → Spelled ts gots → Spelled (canon_tokens gots) gots
+
+-- the canonical tokens of what is spelled can be written as a line and read again, where the quoted ones say texts
+abbrev pub CanonicalIsClean : Type 0
+CanonicalIsClean = (ts : List Token) (gots : List Got) → Spelled ts gots → AreTexts (canon_tokens gots) → AreClean (canon_tokens gots) × IsLine (canon_tokens gots)

@@ -1,3 +1,5 @@
+pub mod Canon
+pub mod Clean
 pub mod Grammar
 pub mod Laws
 pub mod Read

@@ -1,6 +1,8 @@
 // What holds of reading a form, as the contract of a function that does nothing.
-ghost use Rattle.rule_forms.specs.Laws.{FaultsAreApart, FormsAreRead, SpelledIsRead};
+ghost use Rattle.rule_forms.specs.Laws.{CanonicalIsClean, CanonicalIsSpelled, FaultsAreApart, FormsAreRead, SpelledIsRead};
 ghost use Rattle.rule_forms.specs.Worked.{ActionRows, CreateRows, OtherRows};
+
+use rule_tokens::flags_are_read;
 
 /// What is read is a form. What is refused has a token that does not have the form that is wanted, or lacks
 /// an operand, or has one over, as the refusal says.
@@ -24,3 +26,17 @@ pub fn what_is_spelled_is_read()
 pub fn faults_are_apart()
     ensures { FaultsAreApart }
 {}
+
+/// What tokens spell is spelled by its canonical tokens too.
+pub fn canonical_tokens_are_spelled()
+    ensures { CanonicalIsSpelled }
+{
+    flags_are_read();
+}
+
+/// The canonical tokens of what is spelled can be written as a line and read again, where the quoted ones say texts.
+pub fn canonical_tokens_are_clean()
+    ensures { CanonicalIsClean }
+{
+    flags_are_read();
+}

@@ -8,7 +8,10 @@ mod word;
 
 pub use got::{Got, Kind};
 pub use keyword::Keyword;
-pub use laws::{faults_are_apart, forms_are_read, what_is_spelled_is_read, worked_forms};
+pub use laws::{
+    canonical_tokens_are_clean, canonical_tokens_are_spelled, faults_are_apart, forms_are_read,
+    what_is_spelled_is_read, worked_forms,
+};
 pub use word::Word;
 
 #[cfg(test)]

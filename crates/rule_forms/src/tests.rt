@@ -17,4 +17,6 @@ fn words_have_their_text(rt: HostRuntime) {
     worked_forms();
     what_is_spelled_is_read();
     faults_are_apart();
+    canonical_tokens_are_spelled();
+    canonical_tokens_are_clean();
 }

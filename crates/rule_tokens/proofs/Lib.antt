@@ -1,6 +1,9 @@
 pub mod CaseLaws
 pub mod CutLaws
 pub mod EscapeLaws
+pub mod FlagsLaws
+pub mod FlagsText
 pub mod Hex
 pub mod QuoteLaws
 pub mod Utf8
+pub mod SpacedLaws

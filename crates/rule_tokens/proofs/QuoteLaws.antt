@@ -22,7 +22,7 @@ use Rattle.rule_tokens.proofs.CutLaws.{cut_laid_out, pieces_more, are_more}
 use Rattle.rule_tokens.proofs.EscapeLaws.{unescape_read}
 
 -- characters with their escapes
-abbrev escapes : List ℕ → List ℕ
+abbrev pub escapes : List ℕ → List ℕ
 escapes [] = []
 escapes (c ∷ cs) = escape c ++ escapes cs
 
@@ -46,7 +46,7 @@ control_small c is = grind (arith, nat_tests)
 digit_plain : (d : ℕ) → d < 16 → ((eqb (digit_char d) 34 ≡ false) × (eqb (digit_char d) 92 ≡ false)) × (is_ascii_control (digit_char d) ≡ false)
 digit_plain d small = grind (arith, nat_tests)
 
-differs : (c d : ℕ) → eqb c d ≡ false → c ≢ d
+pub differs : (c d : ℕ) → eqb c d ≡ false → c ≢ d
 differs c d is same = let clash : true ≡ false = sym (eq-eqb c d same) ∙ is in absurd cc
 
 named_one : (d : ℕ) → d < 16 → named (digit_char d ∷ []) ≡ Some d
@@ -108,12 +108,12 @@ unfolding escape
 all_spelled [] = refl
 all_spelled (c ∷ cs) = ap (λ (l : List ℕ). escape c ++ l) (all_spelled cs) ∙ sym (spelled_by (short_letter c) (is_ascii_control c) c (all_signs cs) refl)
 
-escapes_read : (cs : List ℕ) → IsReadAs (escapes cs) cs
+pub escapes_read : (cs : List ℕ) → IsReadAs (escapes cs) cs
 escapes_read cs = (all_signs cs, (all_spelled cs, all_say cs))
 
 -- ---- as pieces
 
-abbrev ArePiecesOf : List ℕ → Type 0
+abbrev pub ArePiecesOf : List ℕ → Type 0
 ArePiecesOf inside = (ps : List Piece) × ((inside ≡ pieces ps) × ArePieces ps)
 
 pieces_both : (xs ys : List ℕ) → ArePiecesOf xs → ArePiecesOf ys → ArePiecesOf (xs ++ ys)
@@ -138,14 +138,14 @@ pieces_by None true c is control = rw control (pieces_both (92 ∷ 117 ∷ []) (
     (pieces_both (123 ∷ []) (hex c ++ 125 ∷ []) (piece_plain 123 refl refl) (pieces_both (hex c) (125 ∷ []) (pieces_hex (nat_lt c 16) c (control_small c control)) (piece_plain 125 refl refl))))
 pieces_by None false c is control = rw control (piece_plain c (plain_quote c is) (plain_backslash c is))
 
-pieces_all : (cs : List ℕ) → ArePiecesOf (escapes cs)
+pub pieces_all : (cs : List ℕ) → ArePiecesOf (escapes cs)
 unfolding escape
 pieces_all [] = ([], (refl, tt))
 pieces_all (c ∷ cs) = pieces_both (escape c) (escapes cs) (pieces_by (short_letter c) (is_ascii_control c) c refl refl) (pieces_all cs)
 
 -- ---- nothing stray
 
-any_both : (test : ℕ → Bool) (xs ys : List ℕ) → list_any test xs ≡ false → list_any test ys ≡ false → list_any test (xs ++ ys) ≡ false
+pub any_both : (test : ℕ → Bool) (xs ys : List ℕ) → list_any test xs ≡ false → list_any test ys ≡ false → list_any test (xs ++ ys) ≡ false
 any_both test [] ys one two = two
 any_both test (x ∷ xs) ys one two = go (test x) one (λ rest. any_both test xs ys rest two)
   where
@@ -172,7 +172,7 @@ plain_all (c ∷ cs) = any_both is_ascii_control (escape c) (escapes cs) (plain_
 
 -- ---- the line that is the text in quotes
 
-abbrev quoted_line : List ℕ → List ℕ
+abbrev pub quoted_line : List ℕ → List ℕ
 quoted_line cs = 34 ∷ (escapes cs ++ 34 ∷ [])
 
 quoted_laid_out : (cs : List ℕ) → LaidOut (quoted_line cs) (raw true (escapes cs) ∷ [])
@@ -191,7 +191,7 @@ quoted_laid_out cs =
 quoted_token : (cs : List ℕ) → tokens_in (raw true (escapes cs) ∷ []) ≡ Ok (record { quoted = true; text = encode_utf8_all cs } ∷ [])
 quoted_token cs = rw (unescape_read (escapes cs) cs (escapes_read cs)) refl
 
-quoted_plain : (cs : List ℕ) → list_any is_ascii_control (quoted_line cs) ≡ false
+pub quoted_plain : (cs : List ℕ) → list_any is_ascii_control (quoted_line cs) ≡ false
 quoted_plain cs = any_both is_ascii_control (34 ∷ escapes cs) (34 ∷ []) (plain_all cs) refl
 
 quoted_tokens : (cs : List ℕ) → tokens_of_chars (quoted_line cs) ≡ Ok (record { quoted = true; text = encode_utf8_all cs } ∷ [])
@@ -202,7 +202,7 @@ escaped_is : (cs : List ℕ) → escaped cs ≡ encode_utf8_all (escapes cs)
 escaped_is [] = refl
 escaped_is (c ∷ cs) = ap (λ (l : List ℕ). encode_utf8_all (escape c) ++ l) (escaped_is cs) ∙ sym (encodes-append (escape c) (escapes cs))
 
-quotes_are : (text : List ℕ) → in_quotes text ≡ encode_utf8_all (quoted_line (chars text))
+pub quotes_are : (text : List ℕ) → in_quotes text ≡ encode_utf8_all (quoted_line (chars text))
 quotes_are text =
     let quote : 34 < 128 = omega arith in
     rw (encodes-append (escapes (chars text)) (34 ∷ []), encode_ascii 34 quote, escaped_is (chars text)) refl

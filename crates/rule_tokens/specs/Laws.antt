@@ -1,8 +1,12 @@
 -- What holds of what lines say.
-use Rattle.std.specs.Prelude.{◌≡◌, ℕ, List, Option, Result, Ok, Err}
+use Rattle.std.specs.Prelude.{◌≡◌, ◌≢◌, ℕ, Bool, true, false, List, [], length, Option, Some, Result, Ok, Err}
+use Rattle.std.specs.List.{list_all}
 use Rattle.rule_tokens.specs.declared.refused.Bad.{Bad}
 use Rattle.rule_tokens.specs.declared.token.Token.{Token}
 use Rattle.rule_tokens.specs.Cases.{ReadsTo, RefusedFor}
+use Rattle.rule_tokens.specs.Flags.{flags}
+use Rattle.rule_tokens.specs.FlagsText.{flags_text}
+use Rattle.rule_tokens.specs.Spaced.{is_bare_byte}
 use Rattle.rule_tokens.specs.Tokens.{tokens_of}
 
 -- a line says one thing at most
@@ -21,3 +25,19 @@ LinesAreAnswered = (limit : ℕ) (bytes : List ℕ) → IsAnswer limit bytes (to
 -- what a line says is what it computes
 abbrev pub SaidIsRead : Type 0
 SaidIsRead = (limit : ℕ) (bytes : List ℕ) (said : Option (List Token)) → ReadsTo limit bytes said → tokens_of limit bytes ≡ Ok said
+
+-- the bare token that says validity flags
+abbrev pub flags_token : List Bool → Token
+flags_token fs = record { quoted = false; text = flags_text fs }
+
+-- the canonical text of ten flags is read as those flags
+abbrev pub FlagsAreRead : Type 0
+FlagsAreRead = (fs : List Bool) → length fs ≡ 10 → flags (flags_token fs) ≡ Some fs
+
+-- that text can stand in a bare token
+abbrev pub FlagsAreBare : Type 0
+FlagsAreBare = (fs : List Bool) → length fs ≡ 10 → (flags_text fs ≢ []) × (list_all is_bare_byte (flags_text fs) ≡ true)
+
+-- what is read as flags is ten of them
+abbrev pub FlagsAreTen : Type 0
+FlagsAreTen = (t : Token) (fs : List Bool) → flags t ≡ Some fs → length fs ≡ 10

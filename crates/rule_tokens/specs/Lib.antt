@@ -3,10 +3,12 @@ pub mod Cases
 pub mod Cut
 pub mod Escapes
 pub mod Flags
+pub mod FlagsText
 pub mod Gives
 pub mod Laws
 pub mod Layout
 pub mod Operands
 pub mod Quoted
 pub mod Signs
+pub mod Spaced
 pub mod Tokens

@@ -1,5 +1,6 @@
 // What holds of what lines say, as the contract of a function that does nothing.
-ghost use Rattle.rule_tokens.specs.Laws.{LinesAreAnswered, SaidIsRead, SaidOnce};
+ghost use Rattle.rule_tokens.specs.Laws.{FlagsAreBare, FlagsAreRead, FlagsAreTen, LinesAreAnswered, SaidIsRead, SaidOnce};
+ghost use Rattle.rule_tokens.specs.Spaced.{WrittenIsRead};
 
 /// A line says one thing at most.
 pub fn a_line_says_one_thing()
@@ -10,4 +11,17 @@ pub fn a_line_says_one_thing()
 pub fn lines_are_answered()
     ensures answered { LinesAreAnswered }
     ensures read { SaidIsRead }
+{}
+
+/// Tokens that are written as a line, with one space between them, are read again.
+pub fn what_is_written_is_read()
+    ensures { WrittenIsRead }
+{}
+
+/// The canonical text of validity flags is read as those flags, and can stand in a bare token; what is
+/// read as flags is ten of them.
+pub fn flags_are_read()
+    ensures read { FlagsAreRead }
+    ensures bare { FlagsAreBare }
+    ensures ten { FlagsAreTen }
 {}

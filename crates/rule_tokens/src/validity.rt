@@ -1,7 +1,8 @@
 // Validity flags, as a token names them.
-ghost use Rattle.std.specs.Prelude.{◌≡◌, IfOk, map};
+ghost use Rattle.std.specs.Prelude.{◌≡◌, ◌<◌, ◌++◌, ◌||◌, [], IfOk, OnOk, map, slice_index_or, string_bytes};
 ghost use Rattle.std.specs.List.{list_all, slice_split};
 ghost use Rattle.rule_tokens.specs.Flags.{flag_names, flags, is_comma, is_one_of, raised};
+ghost use Rattle.rule_tokens.specs.FlagsText.{flags_text, put_name};
 ghost use Rattle.rule_tokens.specs.Gives.{GivesSeen, or_word};
 
 use crate::{Bad, LineRefused, Token};
@@ -87,4 +88,51 @@ pub fn flags(alloc: Global, t: &Token) -> Result<Flags, LineRefused>
         return Err(LineRefused::Bad(Bad::Word));
     }
     Ok(raised(names.as_slice()))
+}
+
+fn flag_name(i: usize) -> &'static str
+    requires { i < 10 }
+    ensures { result.now ≡ slice_index_or flag_names i [] }
+{
+    match i {
+        0 => "valueMissing",
+        1 => "typeMismatch",
+        2 => "patternMismatch",
+        3 => "tooLong",
+        4 => "tooShort",
+        5 => "rangeUnderflow",
+        6 => "rangeOverflow",
+        7 => "stepMismatch",
+        8 => "badInput",
+        _ => "customError",
+    }
+}
+
+fn push_name(out: &mut String, named: bool, raised: bool, name: &str) -> Result<bool, NoMemory>
+    ensures text { OnOk result (string_bytes out.new ≡ string_bytes out.old ++ put_name named raised name.now) }
+    ensures named { IfOk result (λ r. r ≡ (named || raised)) }
+{
+    if !raised {
+        return Ok(named);
+    }
+    if named {
+        out.push(',')?;
+    }
+    out.push_str(name)?;
+    Ok(true)
+}
+
+/// Puts the canonical text of validity flags at the end: the names of those that are raised, in their
+/// order, with commas between them, or `none`.
+pub fn push_flags(out: &mut String, raised: &Flags) -> Result<(), NoMemory>
+    ensures { OnOk result (string_bytes out.new ≡ string_bytes out.old ++ flags_text raised.now.0) }
+{
+    let mut named = false;
+    for i in 0..10 {
+        named = push_name(out, named, raised.0[i], flag_name(i))?;
+    }
+    if !named {
+        out.push_str("none")?;
+    }
+    Ok(())
 }
