@@ -1,0 +1,3 @@
+pub mod FormLaws
+pub mod LineLaws
+pub mod PieceLaws

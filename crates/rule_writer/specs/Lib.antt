@@ -1,0 +1,3 @@
+pub mod Canon
+pub mod Laws
+pub mod Pieces

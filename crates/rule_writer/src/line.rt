@@ -1,0 +1,192 @@
+// Writes lines.
+ghost use Rattle.std.specs.Prelude.{◌≡◌, ◌++◌, IfOk, OnOk, string_bytes};
+ghost use Rattle.std.specs.Str.{IsUtf8};
+ghost use Rattle.rule_tokens.specs.Spaced.{as_line, spaced};
+ghost use Rattle.rule_lines.specs.Acts.{line_of, part_of};
+ghost use Rattle.rule_forms.specs.Clean.{AreTexts};
+ghost use Rattle.rule_writer.specs.Canon.{command_tokens, part_tokens, said_tokens};
+
+use crate::action::put_action;
+use crate::op::put_op;
+use crate::piece::{Piece, put_all};
+use crate::words::switch;
+use ce_base::{NoMemory, Text};
+use rule_forms::Word;
+use rule_lines::{ClassPart, Cmd, Line};
+use std::alloc::Global;
+
+fn put_command(alloc: Global, out: &mut String, c: &Cmd) -> Result<(), NoMemory>
+    ensures text { OnOk result (string_bytes out.new ≡ string_bytes out.old ++ spaced (command_tokens c.now)) }
+    ensures utf8 { OnOk result (AreTexts (command_tokens c.now)) }
+{
+    match c {
+        Cmd::Both(op) => put_op(alloc, out, op),
+        Cmd::Doc { var } => put_all(alloc, out, &[Piece::Word(Word::Doc), Piece::Variable(var)]),
+        Cmd::UserEdit { node, value } => put_all(
+            alloc,
+            out,
+            &[
+                Piece::Word(Word::User),
+                Piece::Word(Word::Edit),
+                Piece::Node(node),
+                Piece::Chars(value),
+            ],
+        ),
+        Cmd::UserCheck { node, on } => put_all(
+            alloc,
+            out,
+            &[
+                Piece::Word(Word::User),
+                Piece::Word(Word::Check),
+                Piece::Node(node),
+                Piece::Word(switch(*on)),
+            ],
+        ),
+        Cmd::UserChoose { node, on } => put_all(
+            alloc,
+            out,
+            &[
+                Piece::Word(Word::User),
+                Piece::Word(Word::Choose),
+                Piece::Node(node),
+                Piece::Word(switch(*on)),
+            ],
+        ),
+        Cmd::UserReset { form } => put_all(
+            alloc,
+            out,
+            &[
+                Piece::Word(Word::User),
+                Piece::Word(Word::Reset),
+                Piece::Node(form),
+            ],
+        ),
+        Cmd::UserRestore { node, value } => put_all(
+            alloc,
+            out,
+            &[
+                Piece::Word(Word::User),
+                Piece::Word(Word::Restore),
+                Piece::Node(node),
+                Piece::Chars(value),
+            ],
+        ),
+        Cmd::UserAutofill { node, value } => put_all(
+            alloc,
+            out,
+            &[
+                Piece::Word(Word::User),
+                Piece::Word(Word::Autofill),
+                Piece::Node(node),
+                Piece::Chars(value),
+            ],
+        ),
+        Cmd::UserPress { node } => put_all(
+            alloc,
+            out,
+            &[
+                Piece::Word(Word::User),
+                Piece::Word(Word::Press),
+                Piece::Node(node),
+            ],
+        ),
+    }
+}
+
+fn put_part(alloc: Global, out: &mut String, part: &ClassPart) -> Result<(), NoMemory>
+    ensures text { OnOk result (string_bytes out.new ≡ string_bytes out.old ++ spaced (part_tokens (part_of part.now))) }
+    ensures utf8 { OnOk result (AreTexts (part_tokens (part_of part.now))) }
+{
+    match part {
+        ClassPart::Class(name) => put_all(
+            alloc,
+            out,
+            &[Piece::Word(Word::Class), Piece::Class(name)],
+        ),
+        ClassPart::On {
+            class,
+            call,
+            action,
+        } => {
+            put_all(
+                alloc,
+                out,
+                &[
+                    Piece::Word(Word::On),
+                    Piece::Class(class),
+                    Piece::Callback(*call),
+                    Piece::Word(Word::Colon),
+                ],
+            )?;
+            put_action(alloc, out, action)
+        }
+        ClassPart::Has { class, call } => put_all(
+            alloc,
+            out,
+            &[
+                Piece::Word(Word::Has),
+                Piece::Class(class),
+                Piece::Callback(*call),
+            ],
+        ),
+        ClassPart::Observe { class, names } => put_all(
+            alloc,
+            out,
+            &[
+                Piece::Word(Word::Observe),
+                Piece::Class(class),
+                Piece::AllChars(names),
+            ],
+        ),
+        ClassPart::Associate(class) => put_all(
+            alloc,
+            out,
+            &[Piece::Word(Word::Associate), Piece::Class(class)],
+        ),
+        ClassPart::DisableShadow(class) => put_all(
+            alloc,
+            out,
+            &[
+                Piece::Word(Word::Disable),
+                Piece::Class(class),
+                Piece::Word(Word::Shadow),
+            ],
+        ),
+        ClassPart::DisableInternals(class) => put_all(
+            alloc,
+            out,
+            &[
+                Piece::Word(Word::Disable),
+                Piece::Class(class),
+                Piece::Word(Word::Internals),
+            ],
+        ),
+    }
+}
+
+fn put_line(alloc: Global, out: &mut String, line: &Line) -> Result<(), NoMemory>
+    ensures text { OnOk result (string_bytes out.new ≡ string_bytes out.old ++ spaced (said_tokens (line_of line.now))) }
+    ensures utf8 { OnOk result (AreTexts (said_tokens (line_of line.now))) }
+{
+    match line {
+        Line::Blank => Ok(()),
+        Line::Command(c) => put_command(alloc, out, c),
+        Line::Part(part) => put_part(alloc, out, part),
+    }
+}
+
+/// The canonical tokens of a line, with one space between them.
+pub fn as_line(alloc: Global, line: &Line) -> Result<Text, NoMemory>
+    ensures text { IfOk result (λ t. t ≡ as_line (said_tokens (line_of line.now))) }
+    ensures utf8 { IfOk result (λ t. IsUtf8 t) }
+
+    // What its quoted tokens say are texts.
+    ensures texts { OnOk result (AreTexts (said_tokens (line_of line.now))) }
+{
+    let mut out = String::new(alloc);
+    put_line(alloc, &mut out, line)?;
+    match out.as_str().strip_prefix(' ') {
+        None => Text::of(alloc, ""),
+        Some(text) => Text::of(alloc, text),
+    }
+}

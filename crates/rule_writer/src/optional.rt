@@ -1,0 +1,97 @@
+// Writes optional parts.
+ghost use Rattle.std.specs.Prelude.{◌≡◌, ◌++◌, OnOk, string_bytes};
+ghost use Rattle.rule_tokens.specs.Spaced.{spaced};
+ghost use Rattle.rule_forms.specs.Canon.{keyed, tokens_of};
+ghost use Rattle.rule_forms.specs.declared.got.Got.TheVariants as gots;
+ghost use Rattle.rule_reader.specs.Gots.{mark, part};
+ghost use Rattle.rule_forms.specs.Clean.{AreTexts};
+
+use crate::operands::{put_bare, put_node, put_text, put_value};
+use ce_base::{NoMemory, Text};
+use rule_forms::Keyword;
+use rule_tokens::{Operand, Val};
+use std::alloc::Global;
+
+pub(crate) fn put_some_node(out: &mut String, node: &Option<Operand>) -> Result<(), NoMemory>
+    ensures { OnOk result (string_bytes out.new ≡ string_bytes out.old ++ spaced (tokens_of (part gots.Node node.now))) }
+{
+    match node {
+        None => Ok(()),
+        Some(node) => put_node(out, node),
+    }
+}
+
+pub(crate) fn put_some_text(
+    alloc: Global,
+    out: &mut String,
+    text: &Option<Text>,
+) -> Result<(), NoMemory>
+    ensures text { OnOk result (string_bytes out.new ≡ string_bytes out.old ++ spaced (tokens_of (part gots.Chars text.now))) }
+    ensures utf8 { OnOk result (AreTexts (tokens_of (part gots.Chars text.now))) }
+{
+    match text {
+        None => Ok(()),
+        Some(text) => put_text(alloc, out, text.as_str()),
+    }
+}
+
+pub(crate) fn put_mark(out: &mut String, word: Keyword, there: bool) -> Result<(), NoMemory>
+    ensures { OnOk result (string_bytes out.new ≡ string_bytes out.old ++ spaced (keyed word (mark there))) }
+{
+    if there {
+        return put_bare(out, word.text());
+    }
+    Ok(())
+}
+
+pub(crate) fn put_keyed_text(
+    alloc: Global,
+    out: &mut String,
+    word: Keyword,
+    text: &Option<Text>,
+) -> Result<(), NoMemory>
+    ensures text { OnOk result (string_bytes out.new ≡ string_bytes out.old ++ spaced (keyed word (part gots.Chars text.now))) }
+    ensures utf8 { OnOk result (AreTexts (keyed word (part gots.Chars text.now))) }
+{
+    match text {
+        None => Ok(()),
+        Some(text) => {
+            put_bare(out, word.text())?;
+            put_text(alloc, out, text.as_str())
+        }
+    }
+}
+
+pub(crate) fn put_keyed_node(
+    out: &mut String,
+    word: Keyword,
+    node: &Option<Operand>,
+) -> Result<(), NoMemory>
+    ensures { OnOk result (string_bytes out.new ≡ string_bytes out.old ++ spaced (keyed word (part gots.Node node.now))) }
+{
+    match node {
+        None => Ok(()),
+        Some(node) => {
+            put_bare(out, word.text())?;
+            put_node(out, node)
+        }
+    }
+}
+
+pub(crate) fn put_keyed_value(
+    alloc: Global,
+    out: &mut String,
+    word: Keyword,
+    val: &Option<Val>,
+) -> Result<(), NoMemory>
+    ensures text { OnOk result (string_bytes out.new ≡ string_bytes out.old ++ spaced (keyed word (part gots.Value val.now))) }
+    ensures utf8 { OnOk result (AreTexts (keyed word (part gots.Value val.now))) }
+{
+    match val {
+        None => Ok(()),
+        Some(val) => {
+            put_bare(out, word.text())?;
+            put_value(alloc, out, val)
+        }
+    }
+}

@@ -1,0 +1,73 @@
+// The pieces of a canonical line.
+ghost use Rattle.std.specs.Prelude.{◌≡◌, ◌++◌, OnOk, string_bytes};
+ghost use Rattle.rule_tokens.specs.Spaced.{spaced};
+ghost use Rattle.rule_writer.specs.Pieces.{all_pieces, piece_tokens};
+ghost use Rattle.rule_forms.specs.Clean.{AreTexts};
+
+use crate::many::{put_entries, put_texts, put_values};
+use crate::operands::{put_bare, put_flags, put_node, put_text, put_value, put_variable};
+use crate::optional::{
+    put_keyed_node, put_keyed_text, put_keyed_value, put_mark, put_some_node, put_some_text,
+};
+use ce_base::{Entries, Flags, NoMemory, Text, Texts};
+use rule_forms::{Keyword, Word};
+use rule_lines::Vals;
+use rule_tokens::{CallName, Operand, Val};
+use std::alloc::Global;
+
+/// A piece of a line: an operand, an optional part, or operands that repeat.
+#[derive(Drop)]
+pub(crate) enum Piece<'a> {
+    Word(Word),
+    Variable(&'a Text),
+    Node(&'a Operand),
+    Class(&'a Text),
+    Chars(&'a Text),
+    Value(&'a Val),
+    Flags(&'a Flags),
+    Callback(CallName),
+    MaybeNode(&'a Option<Operand>),
+    MaybeChars(&'a Option<Text>),
+    KeyedChars(Keyword, &'a Option<Text>),
+    KeyedNode(Keyword, &'a Option<Operand>),
+    KeyedValue(Keyword, &'a Option<Val>),
+    Marked(Keyword, bool),
+    AllValues(&'a Vals),
+    AllChars(&'a Texts),
+    AllEntries(&'a Entries),
+}
+
+fn put(alloc: Global, out: &mut String, piece: &Piece) -> Result<(), NoMemory>
+    ensures text { OnOk result (string_bytes out.new ≡ string_bytes out.old ++ spaced (piece_tokens piece.now)) }
+    ensures utf8 { OnOk result (AreTexts (piece_tokens piece.now)) }
+{
+    match piece {
+        Piece::Word(word) => put_bare(out, word.text()),
+        Piece::Variable(name) => put_variable(out, name.as_str()),
+        Piece::Node(node) => put_node(out, node),
+        Piece::Class(name) => put_bare(out, name.as_str()),
+        Piece::Chars(text) => put_text(alloc, out, text.as_str()),
+        Piece::Value(val) => put_value(alloc, out, val),
+        Piece::Flags(raised) => put_flags(out, raised),
+        Piece::Callback(call) => put_bare(out, call.word()),
+        Piece::MaybeNode(node) => put_some_node(out, node),
+        Piece::MaybeChars(text) => put_some_text(alloc, out, text),
+        Piece::KeyedChars(word, text) => put_keyed_text(alloc, out, *word, text),
+        Piece::KeyedNode(word, node) => put_keyed_node(out, *word, node),
+        Piece::KeyedValue(word, val) => put_keyed_value(alloc, out, *word, val),
+        Piece::Marked(word, there) => put_mark(out, *word, *there),
+        Piece::AllValues(vals) => put_values(alloc, out, vals.as_slice()),
+        Piece::AllChars(texts) => put_texts(alloc, out, texts.as_slice()),
+        Piece::AllEntries(entries) => put_entries(alloc, out, entries.as_slice()),
+    }
+}
+
+pub(crate) fn put_all(alloc: Global, out: &mut String, pieces: &[Piece]) -> Result<(), NoMemory>
+    ensures text { OnOk result (string_bytes out.new ≡ string_bytes out.old ++ spaced (all_pieces pieces.now)) }
+    ensures utf8 { OnOk result (AreTexts (all_pieces pieces.now)) }
+{
+    for piece in pieces {
+        put(alloc, out, piece)?;
+    }
+    Ok(())
+}
