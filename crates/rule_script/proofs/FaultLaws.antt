@@ -4,25 +4,24 @@ use Rattle.std.specs.Str.{chars}
 use Rattle.rule_tokens.specs.declared.refused.Bad.{Bad}
 use Rattle.rule_tokens.specs.declared.refused.Bad.TheVariants.{Long, Utf8, Quote, Escape, Word, Arity, Place, Later}
 use Rattle.rule_tokens.specs.declared.token.Token.{Token}
-use Rattle.rule_tokens.specs.Cases.{SaysLine, LexicalCase, FirstOf, NoneOf, ReadsTo, RefusedFor as LexicallyRefused}
+use Rattle.rule_tokens.specs.Cases.{SaysLine, FirstOf, NoneOf, ReadsTo, RefusedFor as LexicallyRefused}
 use Rattle.rule_tokens.specs.Gives.{◌>>=◌}
 use Rattle.rule_tokens.specs.Laws.{IsAnswer as LexicalAnswer}
 use Rattle.rule_tokens.specs.Tokens.{tokens_of}
-use Rattle.rule_lines.specs.Acts.{Said, Blank}
-use Rattle.rule_forms.specs.Laws.{IsAnswer, OneFault}
+use Rattle.rule_lines.specs.Acts.{Said}
+use Rattle.rule_forms.specs.Laws.{IsAnswer}
 use Rattle.rule_forms.specs.Read.{Reads, read_tokens}
-use Rattle.rule_forms.specs.Spells.{Spelled}
 use Rattle.rule_forms.specs.Whole.{IsForm, HasWrongWord, HasWrongNumber}
 use Rattle.rule_reader.specs.declared.pieces.Form.{Form}
 use Rattle.rule_reader.specs.Gots.{form_gots}
 use Rattle.rule_reader.specs.Pieces.{form_of}
 use Rattle.rule_script.specs.Built.{is_built}
-use Rattle.rule_script.specs.Cases.{HasTokens, IsMisplaced, WrongWord, WrongArity, WrongPlace, IsLater, Case, grammar_order, order, RefusedFor}
+use Rattle.rule_script.specs.Cases.{HasTokens, IsMisplaced, WrongWord, Case, grammar_order, RefusedFor}
 use Rattle.rule_script.specs.Place.{said_of, is_barred, or_place, placed}
 use Rattle.rule_script.specs.Reading.{said_by, grammar_reading, or_later, reading, longest}
 use Rattle.rule_script.specs.Spells.{SpellsForm, SpellsBy, Spells}
 use Rattle.rule_script.specs.Below.{Below}
-use Rattle.rule_script.proofs.SpellLaws.{placed_ok, form_spelled, spelled_form, found}
+use Rattle.rule_script.proofs.SpellLaws.{form_spelled, spelled_form, found}
 
 abbrev formed : Form → Result Form Bad
 formed f = Ok f

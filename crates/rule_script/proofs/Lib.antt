@@ -3,3 +3,4 @@ pub mod NestingLaws
 pub mod SpellLaws
 pub mod FaultLaws
 pub mod LineLaws
+pub mod WriteLaws

@@ -1,9 +1,8 @@
 -- What stands around an action, one after the other.
-use Rattle.std.proofs.Common.{◌≡◌, List, [], ◌∷◌, Option, Some, None, Result, Ok, Err, refl}
+use Rattle.std.proofs.Common.{◌≡◌, List, [], ◌∷◌, Option, Some, None, refl}
 use Rattle.std.specs.Option.{option_and_then}
-use Rattle.rule_tokens.specs.declared.refused.Bad.{Bad}
 use Rattle.rule_tokens.specs.Gives.{◌>>=◌}
-use Rattle.rule_lines.specs.Acts.{Act, Said}
+use Rattle.rule_lines.specs.Acts.{Act}
 use Rattle.rule_reader.specs.declared.form.Wrap.{Wrap}
 use Rattle.rule_reader.specs.declared.form.Wrap.TheVariants as wraps
 use Rattle.rule_script.specs.Place.{declared, nested, or_place, said_of_body}

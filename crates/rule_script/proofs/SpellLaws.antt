@@ -3,13 +3,11 @@ use Rattle.std.proofs.Common.{◌≡◌, ℕ, Bool, true, false, cond, List, Opt
 use Rattle.rule_tokens.specs.declared.refused.Bad.{Bad}
 use Rattle.rule_tokens.specs.declared.refused.Bad.TheVariants as bad
 use Rattle.rule_tokens.specs.declared.token.Token.{Token}
-use Rattle.rule_tokens.specs.Cases.{ReadsTo}
 use Rattle.rule_tokens.specs.Gives.{◌>>=◌}
 use Rattle.rule_tokens.specs.Laws.{IsAnswer}
 use Rattle.rule_tokens.specs.Tokens.{tokens_of}
 use Rattle.rule_lines.specs.Acts.{Said, Blank}
-use Rattle.rule_forms.specs.declared.got.Got.{Got}
-use Rattle.rule_forms.specs.Read.{Reads, read_tokens}
+use Rattle.rule_forms.specs.Read.{Reads}
 use Rattle.rule_forms.specs.Spells.{Spelled}
 use Rattle.rule_reader.specs.declared.pieces.Form.{Form}
 use Rattle.rule_reader.specs.Gots.{form_gots}

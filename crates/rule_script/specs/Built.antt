@@ -1,5 +1,5 @@
 -- What is built already. A line that says something else is refused as later.
-use Rattle.std.specs.Prelude.{ℕ, Bool, true, false, List, Option, Some, None}
+use Rattle.std.specs.Prelude.{Bool, true, false, None}
 use Rattle.std.specs.List.{list_all}
 use Rattle.rule_tokens.specs.declared.callback.CallName.{CallName}
 use Rattle.rule_tokens.specs.declared.callback.CallName.TheVariants as calls

@@ -1,5 +1,6 @@
 pub mod Below
 pub mod Built
+pub mod Canonical
 pub mod Cases
 pub mod Place
 pub mod Reading

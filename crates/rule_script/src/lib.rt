@@ -1,4 +1,4 @@
-//! The lines of a script: what they say, and reading them.
+//! The lines of a script: what they say, reading them and writing them.
 #![tactic(auto)]
 
 mod body;
@@ -7,10 +7,14 @@ mod operands;
 mod place;
 mod reading;
 mod top;
+mod writing;
 
 pub use reading::read_line;
 pub use rule_lines::{Action, AskWord, ClassPart, Cmd, Line, Op, Vals};
 pub use rule_tokens::{Bad, CallName, CallOrUpgrade, LineRefused, Operand, Val};
+pub use writing::write_line;
 
 #[cfg(test)]
 mod tests;
+#[cfg(test)]
+mod write_tests;

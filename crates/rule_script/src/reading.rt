@@ -19,7 +19,7 @@ use std::alloc::Global;
 const LONGEST: usize = 4096;
 
 // The laws of the crates below hold.
-fn below()
+pub(crate) fn below()
     ensures { Below }
 {
     lines_are_answered();
