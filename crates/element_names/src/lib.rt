@@ -1,5 +1,5 @@
 //! The names of elements and attributes: which texts are local names, attribute names and custom
-//! elements' names.
+//! elements' names, and which local names those of elements with a shadow tree may be.
 #![tactic(auto)]
 
 mod attr_name;
@@ -8,6 +8,7 @@ mod laws;
 mod local_name;
 mod name_char;
 mod reserved;
+mod shadow_host;
 #[cfg(test)]
 mod tests;
 
@@ -15,3 +16,4 @@ pub use attr_name::is_attr_name;
 pub use custom_name::is_custom_name;
 pub use laws::custom_names_are_local_names;
 pub use local_name::is_local_name;
+pub use shadow_host::is_shadow_host;

@@ -158,3 +158,42 @@ fn attr_names(rt: HostRuntime) {
         assert_eq!(rt; is_attr_name(s), want, "at {s:?}");
     }
 }
+
+#[test]
+fn shadow_hosts(rt: HostRuntime) {
+    let table = [
+        ("article", true),
+        ("aside", true),
+        ("blockquote", true),
+        ("body", true),
+        ("div", true),
+        ("footer", true),
+        ("h1", true),
+        ("h2", true),
+        ("h3", true),
+        ("h4", true),
+        ("h5", true),
+        ("h6", true),
+        ("header", true),
+        ("main", true),
+        ("nav", true),
+        ("p", true),
+        ("section", true),
+        ("span", true),
+        ("x-a", true),
+        ("", false),
+        ("h0", false),
+        ("h7", false),
+        ("html", false),
+        ("form", false),
+        ("input", false),
+        ("DIV", false),
+        ("div ", false),
+        ("spans", false),
+        ("font-face", false),
+        ("X-a", false),
+    ];
+    for (s, want) in table {
+        assert_eq!(rt; is_shadow_host(s), want, "at {s:?}");
+    }
+}
