@@ -1,0 +1,10 @@
+pub mod Facts
+pub mod Trees
+pub mod Orders
+pub mod Spots
+pub mod Paths
+pub mod Insertion
+pub mod Ids
+pub mod Nodes
+pub mod TreesCode
+pub mod Worked
