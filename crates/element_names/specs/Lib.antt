@@ -1,4 +1,5 @@
 pub mod Hosts
+pub mod Known
 pub mod Laws
 pub mod Names
 pub mod Reserved

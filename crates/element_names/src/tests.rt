@@ -197,3 +197,23 @@ fn shadow_hosts(rt: HostRuntime) {
         assert_eq!(rt; is_shadow_host(s), want, "at {s:?}");
     }
 }
+
+#[test]
+fn known_elements(rt: HostRuntime) {
+    let table = [
+        ("a", true),
+        ("h1", true),
+        ("h6", true),
+        ("blockquote", true),
+        ("xmp", true),
+        ("", false),
+        ("h7", false),
+        ("A", false),
+        ("blink", false),
+        ("x-a", false),
+        ("slots", false),
+    ];
+    for (s, want) in table {
+        assert_eq!(rt; is_known_html(s), want, "at {s:?}");
+    }
+}

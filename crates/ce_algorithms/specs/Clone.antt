@@ -1,0 +1,54 @@
+-- Cloning (DOM Standard, section "Interface Node", "clone a node").
+use Rattle.std.specs.Prelude.{ℕ, Bool, true, false, ◌||◌, List, [], ◌∷◌, None}
+use Rattle.ce_base.specs.declared.fault.Fault.TheVariants.{NotSupportedError}
+use Rattle.node_trees.specs.Facts.{Facts, is_document, is_element, is_shadow_root}
+use Rattle.node_trees.specs.Trees.{Trees, none, tree, tree_of}
+use Rattle.node_trees.specs.Spots.{kind_at}
+use Rattle.ce_algorithms.specs.Steps.{Step, ◌>>=◌, ◌>>◌, give, done, throw, when, throw_where, for_each}
+use Rattle.ce_algorithms.specs.Page.{Work, spend, read_page}
+use Rattle.ce_algorithms.specs.Making.{make_text}
+use Rattle.ce_algorithms.specs.Attributes.{set_attribute}
+use Rattle.ce_algorithms.specs.CreateLater.{create_later}
+use Rattle.ce_algorithms.specs.Mutation.{insert}
+
+-- one fuel for each attribute
+abbrev pub copy_attribute : ℕ → (List ℕ × List ℕ) → Step Work (Unit {0})
+copy_attribute n a = do
+  spend
+  set_attribute n a.0 a.1
+
+-- what an input or a textarea keeps of its control state. There are no controls yet
+abbrev pub copy_control : ℕ → ℕ → Step Work (Unit {0})
+copy_control from to = done
+
+-- "clone a single node": an element is created in its document, not synchronously, with its attributes; a text is made
+abbrev pub copy_node : ℕ → Facts → Bool → Step Work ℕ
+copy_node from x true = do
+  n ← create_later x.local x.is_value x.document
+  for_each x.attributes (copy_attribute n)
+  copy_control from n
+  give n
+copy_node from x false = make_text x.chars x.document
+
+-- copies of these trees put at the end of a parent, each before what is below it. Shadow trees are not copied
+abbrev pub copy_below : ℕ → Trees → Step Work (Unit {0})
+copy_below parent none = done
+copy_below parent (tree m x shadow children rest) = do
+  n ← copy_node m x (is_element x.kind)
+  insert parent n None
+  copy_below n children
+  copy_below parent rest
+
+abbrev pub copy_tree : Bool → Trees → Step Work ℕ
+copy_tree deep none = throw NotSupportedError
+copy_tree deep (tree m x shadow children rest) = do
+  n ← copy_node m x (is_element x.kind)
+  when deep (copy_below n children)
+  give n
+
+-- a document or a shadow root is not cloned
+abbrev pub clone : Bool → ℕ → Step Work ℕ
+clone deep node = do
+  throw_where (λ (w : Work). is_document (kind_at w.page.forest node) || is_shadow_root (kind_at w.page.forest node)) NotSupportedError
+  source ← read_page (λ p. tree_of node p.forest)
+  copy_tree deep source

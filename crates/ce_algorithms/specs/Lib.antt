@@ -1,0 +1,11 @@
+pub mod Steps
+pub mod Page
+pub mod Making
+pub mod Enqueue
+pub mod FormChanges
+pub mod Mutation
+pub mod Attributes
+pub mod Define
+pub mod CreateLater
+pub mod Clone
+pub mod Construction

@@ -1,0 +1,105 @@
+-- The page: what the primitives read and change.
+use Rattle.std.specs.Prelude.{ℕ, zero, suc, ◌-◌, ◌==◌, Bool, false, true, List, [], ◌∷◌, ◌++◌, Option, Some, None, slice_get, slice_set}
+use Rattle.std.specs.Option.{option_and_then}
+use Rattle.ce_base.specs.declared.custom_state.CustomState.{CustomState}
+use Rattle.ce_base.specs.declared.custom_state.CustomState.TheVariants.{Uncustomized, Custom}
+use Rattle.node_trees.specs.declared.kind.NodeKind.TheVariants.{Document}
+use Rattle.node_trees.specs.Facts.{Facts, blank}
+use Rattle.node_trees.specs.Trees.{Trees, single}
+use Rattle.node_trees.specs.Spots.{facts_at, document_at}
+use Rattle.reaction_queue.specs.Queues.{Queues, no_queues, waiting_at}
+use Rattle.ce_registry.specs.declared.definition.Definition.{Definition}
+use Rattle.ce_algorithms.specs.declared.note.Note.{Note}
+use Rattle.ce_algorithms.specs.Steps.{Step, Goes, Spent}
+
+-- what a node is as a custom element (DOM Standard, section "Interface Element"); a definition is named by its number
+pub record Element : Type 0 where
+  pub state : CustomState
+  pub definition : Option ℕ
+
+pub record Page : Type 0 where
+  pub forest : Trees  -- all nodes; node 1 is the page's document
+  pub elements : List Element  -- a row for each node, that of node 1 first; of a node that is no element it stays blank
+  pub definitions : List Definition  -- the custom element registry, in the order of defining
+  pub stacks : List (List (Option ℕ))  -- the construction stack of each definition, the last entry first; None is the already constructed marker
+  pub queues : Queues
+  pub upgrades : Bool  -- whether elements that are there already are upgraded
+  pub notes : List Note  -- the enqueues that were made and not told yet, the oldest first
+
+-- a page, and the fuel that is left
+pub record Work : Type 0 where
+  pub page : Page
+  pub fuel : ℕ
+
+-- one fuel, or the end of the session
+abbrev pub spend_from : ℕ → Step Work (Unit {0})
+spend_from zero w = Spent w
+spend_from (suc n) w = Goes tt (record w { fuel = n })
+
+abbrev pub spend : Step Work (Unit {0})
+spend w = spend_from w.fuel w
+
+abbrev pub read_page : {A : Type 0} → (Page → A) → Step Work A
+read_page f w = Goes (f w.page) w
+
+abbrev pub change_page : (Page → Page) → Step Work (Unit {0})
+change_page f w = Goes tt (record w { page = f w.page })
+
+abbrev pub with_forest : (Trees → Trees) → Page → Page
+with_forest f p = record p { forest = f p.forest }
+
+abbrev pub with_queues : (Queues → Queues) → Page → Page
+with_queues f p = record p { queues = f p.queues }
+
+-- a node that is no custom element
+abbrev pub uncustomized : Element
+uncustomized = record { state = Uncustomized; definition = None }
+
+-- a page with its document alone
+abbrev pub blank_page : Bool → Page
+blank_page upgrades = record {
+  forest = single 1 (blank Document 1);
+  elements = uncustomized ∷ [];
+  definitions = [];
+  stacks = [];
+  queues = no_queues;
+  upgrades = upgrades;
+  notes = [];
+}
+
+-- reads of one element
+
+abbrev pub or_uncustomized : Option Element → Element
+or_uncustomized None = uncustomized
+or_uncustomized (Some e) = e
+
+abbrev pub element_of : Page → ℕ → Element
+element_of p n = or_uncustomized (slice_get p.elements (n - 1))
+
+-- the custom element state
+abbrev pub state_of : Page → ℕ → CustomState
+state_of p n = (element_of p n).state
+
+-- the custom element definition
+abbrev pub definition_of : Page → ℕ → Option Definition
+definition_of p n = option_and_then (slice_get p.definitions) (element_of p n).definition
+
+abbrev pub is_custom_state : CustomState → Bool
+is_custom_state Custom = true
+is_custom_state state = false
+
+-- the element is custom: its state is "custom" (DOM Standard, section "Interface Element")
+abbrev pub is_custom : Page → ℕ → Bool
+is_custom p n = is_custom_state (state_of p n)
+
+-- changes of one element
+
+abbrev pub with_element : ℕ → Element → Page → Page
+with_element n e p = record p { elements = slice_set p.elements (n - 1) e }
+
+abbrev pub with_state : ℕ → CustomState → Page → Page
+with_state n state p = with_element n (record (element_of p n) { state = state }) p
+
+-- the definition set or cleared: this tells nobody
+abbrev pub with_definition : ℕ → Option ℕ → Page → Page
+with_definition n d p = with_element n (record (element_of p n) { definition = d }) p
