@@ -1,6 +1,6 @@
 // The reaction queues, the stack of element queues, and the backup element queue.
-ghost use Rattle.std.specs.Prelude.{◌≡◌, ◌+◌, ◌<◌, ◌^◌, ◌++◌, ◌∷◌, [], length, not, MatchOption, IfOk, IfSome, IfNone, OnOk};
-ghost use Rattle.reaction_queue.specs.Queues.{no_queues, begun, ended, current, current_elements, waiting_at, with_waiting, counted, with_reaction, appended, enqueued};
+ghost use Rattle.std.specs.Prelude.{◌≡◌, ◌+◌, ◌<◌, ◌^◌, ◌∷◌, [], length, not, MatchOption, IfOk, OnOk};
+ghost use Rattle.reaction_queue.specs.Queues.{no_queues, begun, ended, current, current_elements, waiting_at, with_waiting, counted, appended, enqueued};
 ghost use Rattle.reaction_queue.specs.ElementQueues.{is_empty};
 ghost use Rattle.reaction_queue.specs.Changes.{SameNumbers, DropsFirst};
 
@@ -79,10 +79,10 @@ impl Queues {
         self.stack.pop()
     }
 
-    /// Enqueues a reaction ("enqueue an element on the appropriate element queue", and what comes before
-    /// it): it gets the next number and comes last in the node's reaction queue, and the node comes last
-    /// in the current element queue, or in the backup element queue where the stack is empty. Gives the
-    /// reaction's number and that of the element queue.
+    /// Enqueues a reaction (HTML Standard, section "Custom element reactions", "enqueue an element on the
+    /// appropriate element queue"): it gets the next number and comes last in the node's reaction queue,
+    /// and the node comes last in the current element queue, or in the backup element queue where the
+    /// stack is empty. Gives the reaction's number and that of the element queue.
     pub fn enqueue(
         &mut self,
         alloc: Global,

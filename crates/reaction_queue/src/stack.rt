@@ -1,5 +1,5 @@
 // The stack of element queues.
-ghost use Rattle.std.specs.Prelude.{◌≡◌, ◌<◌, ◌++◌, ◌∷◌, [], length, not, MatchBool, IfOk, OnOk};
+ghost use Rattle.std.specs.Prelude.{◌≡◌, ◌<◌, ◌++◌, ◌∷◌, [], length, MatchBool, IfOk, OnOk};
 ghost use Rattle.reaction_queue.specs.Queues.{elements_of, number_of, others_of};
 ghost use Rattle.reaction_queue.specs.ElementQueues.{with_element};
 
