@@ -1,0 +1,20 @@
+-- The rows of new nodes.
+use Rattle.std.proofs.Common.{◌≡◌, ℕ, ◌+◌, ◌-◌, ◌<◌, List, [], ◌∷◌, ◌++◌, Option, Some, None, refl, ap, sym, ◌∙◌, arith, length, true}
+use Rattle.node_trees.specs.declared.kind.NodeKind.TheVariants.{Document}
+use Rattle.node_trees.specs.Facts.{Facts, blank}
+use Rattle.node_trees.specs.Trees.{none, single}
+use Rattle.node_trees.specs.Spots.{Spot, spot_of}
+use Rattle.node_arena.specs.Rows.{IsForest}
+use Rattle.node_arena.specs.Nodes.{facts_of, row, rows, IsLoose}
+use Rattle.node_arena.specs.declared.node.Node.{Node}
+use Rattle.node_arena.proofs.TidyLemmas.{tidy_single}
+
+pub row_loose : (node : Node) (x : Facts) → facts_of node ≡ x → IsLoose node → row node ≡ spot_of x None None none none
+row_loose node x facts is = rw (is.parent, is.host, is.shadow, is.children, facts) refl
+
+pub makes_rows : (row0 : Spot) (x : Facts) → row0 ≡ spot_of x None None none none → x ≡ blank Document 1 → IsForest (row0 ∷ []) (single 1 (blank Document 1))
+makes_rows row0 x e f = record { stands = (omega arith, ap Some (e ∙ ap (λ v. spot_of v None None none none) f), tt, tt, tt); tidy = tidy_single (blank Document 1) refl; counted = refl }
+
+-- a document alone
+pub makes : (nodes new : List Node) (node : Node) → nodes ≡ [] → facts_of node ≡ blank Document 1 → IsLoose node → new ≡ nodes ++ node ∷ [] → IsForest (rows new) (single 1 (blank Document 1))
+makes nodes new node empty facts loose e = rw (e, empty) (makes_rows (row node) (facts_of node) (row_loose node (facts_of node) refl loose) facts)

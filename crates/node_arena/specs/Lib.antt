@@ -1,0 +1,4 @@
+pub mod Rows
+pub mod OneForest
+pub mod Nodes
+pub mod Walks

@@ -1,0 +1,13 @@
+//! The tree of a page: nodes in an arena, named by their numbers. A contract sees nested lists, the forest
+//! of all nodes that were made, and each call does to it what the definitions of node_trees say (DOM
+//! Standard, sections "Trees", "Node tree", "Shadow tree").
+#![tactic(auto)]
+
+mod attributes;
+mod making;
+mod node;
+mod reading;
+mod tree;
+
+pub use node_trees::NodeKind;
+pub use tree::Tree;
