@@ -6,3 +6,7 @@ pub mod OrderLemmas
 pub mod KindLemmas
 pub mod TidyLemmas
 pub mod MakeLemmas
+pub mod StandsLemmas
+pub mod GetLemmas
+pub mod MayLemmas
+pub mod ForestLemmas
