@@ -10,3 +10,8 @@ pub mod StandsLemmas
 pub mod GetLemmas
 pub mod MayLemmas
 pub mod ForestLemmas
+pub mod NumberLemmas
+pub mod ReadLemmas
+pub mod UpLemmas
+pub mod WalkLemmas
+pub mod LinkLemmas

@@ -2,3 +2,4 @@ pub mod Rows
 pub mod OneForest
 pub mod Nodes
 pub mod Walks
+pub mod Attributes

@@ -3,10 +3,16 @@
 //! Standard, sections "Trees", "Node tree", "Shadow tree").
 #![tactic(auto)]
 
+mod above;
 mod attributes;
+mod attributing;
+mod children;
+mod insertion;
 mod making;
 mod node;
+mod orders;
 mod reading;
+mod removal;
 mod tree;
 
 pub use node_trees::NodeKind;
