@@ -15,3 +15,5 @@ pub mod ReadLemmas
 pub mod UpLemmas
 pub mod WalkLemmas
 pub mod LinkLemmas
+pub mod AttributeLemmas
+pub mod CallLemmas

@@ -88,3 +88,19 @@ changed nodes n i change u d e at is facts =
           rw (sym e) (slice_get-set_same (rows nodes) i (row u) lt) ∙ ap Some (is ∙ ap (λ x. record (row (get_or nodes i d)) { facts = x }) facts ∙ ap (λ (w : Spot). record w { facts = change w.facts }) (sym same));
       others = λ m lo ne. slice_get-set_other (rows nodes) i (m - 1) (row u) (λ h. ne (omega (arith, e, h, lo, at.0)));
     })
+
+-- a write of one node's attributes
+module _ (nodes : List Node) (n i : ℕ) (u d : Node) (is : row u ≡ record (row (get_or nodes i d)) { facts = record (facts_of (get_or nodes i d)) { attributes = u.attributes } }) where
+  pub attributes_changed : (g : List (List ℕ × List ℕ) → List (List ℕ × List ℕ)) → i ≡ n - 1 → (0 < n) × (n ≤ length nodes) → u.attributes ≡ g (get_or nodes i d).attributes
+      → Changed (rows nodes) (rows (set nodes i u)) n (λ x. record x { attributes = g x.attributes })
+  attributes_changed g e at new =
+      let facts : facts_of u ≡ record (facts_of (get_or nodes i d)) { attributes = g (get_or nodes i d).attributes } =
+      ap (λ (v : Spot). v.facts) is ∙ ap (λ v. record (facts_of (get_or nodes i d)) { attributes = v }) new in
+      changed nodes n i (λ x. record x { attributes = g x.attributes }) u d e at (is ∙ ap (λ v. record (row (get_or nodes i d)) { facts = v }) (sym (ap (λ (v : Spot). v.facts) is))) facts
+
+  pub attributes_same : i < length nodes → u.attributes ≡ (get_or nodes i d).attributes → rows (set nodes i u) ≡ rows nodes
+  attributes_same lt old = map-set_same row nodes i u d (is ∙ ap (λ v. record (row (get_or nodes i d)) { facts = record (facts_of (get_or nodes i d)) { attributes = v } }) old)
+
+-- the facts that a row has
+pub facts_read : (nodes : List Node) (n i : ℕ) (d : Node) (it : Spot) → i ≡ n - 1 → (0 < n) × (n ≤ length nodes) → row_at (rows nodes) n ≡ Some it → facts_of (get_or nodes i d) ≡ it.facts
+facts_read nodes n i d it e at here = sym (ap (λ (v : Spot). v.facts) (read_at nodes i n d it e (omega (arith, at.0, at.1)) here))

@@ -173,3 +173,7 @@ seen_is rows a f is = IsForest-unique rows a.0 f a.1 is
 pub seen_fact : (rows : List Spot) (a : Forest rows) (f : Trees) → seen rows a ≡ f → IsForest rows f
 unfolding seen
 seen_fact rows a f is = subst (IsForest rows) is a.1
+
+pub seen_size : (rows : List Spot) (a : Forest rows) → size (seen rows a) ≡ length rows
+unfolding seen
+seen_size rows a = a.1.counted

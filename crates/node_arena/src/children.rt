@@ -1,5 +1,5 @@
 // The children of a node, as their numbers in order.
-ghost use Rattle.std.specs.Prelude.{◌≡◌, ◌≤◌, ◌<◌, ◌-◌, length, OnOk, OnErr};
+ghost use Rattle.std.specs.Prelude.{◌≡◌, ◌≤◌, ◌<◌, ◌-◌, length, slice_get, OnOk, OnErr};
 ghost use Rattle.node_trees.specs.Spots.{after};
 ghost use Rattle.node_arena.specs.Rows.{first_place, insert_number, remove_number};
 
@@ -53,13 +53,20 @@ pub(crate) fn drop_child(children: &mut Vec<NodeNo>, child: NodeNo)
     }
 }
 
+/// The child at a place.
+fn child_at(children: &[NodeNo], i: usize) -> Option<NodeNo>
+    ensures { result ≡ slice_get children.now i }
+{
+    children.get(i).copied()
+}
+
 /// The child behind another.
 pub(crate) fn next_of(children: &[NodeNo], child: NodeNo) -> Option<NodeNo>
     ensures { result ≡ after child children.now }
 {
     let at = place_of(children, child);
     if at < children.len() {
-        return children.get(at + 1).copied();
+        return child_at(children, at + 1);
     }
     None
 }

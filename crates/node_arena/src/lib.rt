@@ -5,7 +5,7 @@
 
 mod above;
 mod attributes;
-mod attributing;
+mod facts;
 mod children;
 mod insertion;
 mod making;

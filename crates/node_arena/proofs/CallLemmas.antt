@@ -1,0 +1,81 @@
+-- What the calls of the tree owe, from what they require.
+use Rattle.std.proofs.Common.{◌≡◌, ◌≢◌, ℕ, ◌+◌, List, [], ◌∷◌, ◌++◌, Option, Some, None, Result, Ok, Err, Bool, true, false, cond, refl, ap, sym, ◌∙◌, arith, length, take, drop, OnOk, OnErr}
+use Rattle.std.proofs.lemmas.Grind.{common_steps}
+use Rattle.std.proofs.lemmas.List.{length-map, map-append}
+use Rattle.ce_base.specs.declared.memory.NoMemory.{NoMemory}
+use Rattle.node_trees.specs.Facts.{Facts}
+use Rattle.node_trees.specs.Trees.{Trees, graft, cut, with_node, with_facts}
+use Rattle.node_trees.specs.Spots.{Spot, spot, parent_at, facts_at, or_no_spot}
+use Rattle.node_trees.specs.Insertion.{may_insert}
+use Rattle.node_trees.specs.Nodes.{AtTop, fits, size, IsNode}
+use Rattle.node_arena.specs.Rows.{row_at, IsForest, Grafted, Severed, Changed}
+use Rattle.node_arena.specs.Nodes.{rows, row, facts_of, IsLoose}
+use Rattle.node_arena.specs.OneForest.{Forest}
+use Rattle.node_arena.specs.declared.node.Node.{Node}
+use Rattle.node_arena.proofs.MakeLemmas.{row_loose}
+use Rattle.node_arena.proofs.MayLemmas.{insert_apart, the_spot, parent_of, under_parent}
+use Rattle.node_arena.proofs.StandsLemmas.{Standing}
+use Rattle.node_arena.proofs.ForestLemmas.{graft_forest, cut_forest, change_forest, push_forest, stands_at}
+
+-- a vector whose slice was written
+pub written : {X : Type 0} (old now new : List X) (n : ℕ) → now ≡ old → n ≡ length old → length new ≡ length now → take n (new ++ drop (length new) old) ≡ new
+written old now new n e a b = let c : length new ≡ length old = rw e at b in grind (arith, common_steps, a, c)
+
+-- a written slice has a row for each node
+pub size_written : (old now new after : List Node) (f : Trees) → IsForest (rows old) f → now ≡ old → after ≡ new → length new ≡ length now → length (rows after) ≡ size f
+size_written old now new after f a same back kept =
+    omega (arith, a.counted, length-map old row, length-map after row, kept, ap (length {A = Node}) same, ap (length {A = Node}) back)
+
+pub apart_of : (rs : List Spot) (f : Trees) (p n : ℕ) (b : Option ℕ) → IsForest rs f → IsNode f p → IsNode f n → may_insert f p n b ≡ None → p ≢ n
+apart_of rs f p n b a ip at is = insert_apart f p n b a.tidy ip at is
+
+-- what `insert` leaves
+module _ (old now new after : List Node) (f : Trees) (p n : ℕ) (b : Option ℕ) (a : IsForest (rows old) f) (ip : IsNode f p) (at : IsNode f n) (may : may_insert f p n b ≡ None) (free : parent_at f n ≡ None)
+    (same : now ≡ old) (back : after ≡ new) where
+  pub inserted : Grafted (rows now) (rows new) p n b → IsForest (rows after) (graft f p n b)
+  inserted g = rw back (graft_forest (rows old) (rows new) f p n b a ip at may free (rw same at g))
+
+  pub not_inserted : rows new ≡ rows now → IsForest (rows after) f
+  not_inserted e = rw (back, e, same) a
+
+  pub inserted_or_not : (r : Result (Unit {0}) NoMemory) → OnOk r (Grafted (rows now) (rows new) p n b) → OnErr r (rows new ≡ rows now) → Forest (rows after)
+  inserted_or_not (Ok u) ok err = (_, inserted ok)
+  inserted_or_not (Err e) ok err = (f, not_inserted err)
+
+-- the parent of a child
+pub parent_is : (rs : List Spot) (f : Trees) (p n : ℕ) → IsForest rs f → IsNode f n → Some p ≡ parent_at f n → IsNode f p × p ≢ n
+parent_is rs f p n a at is =
+    let it = the_spot f n a.tidy at in
+    let up = under_parent f p n it.0 a.tidy at it.1 (sym (parent_of f n it.0 it.1) ∙ sym is) in
+    (up.parent, up.differs)
+
+-- what `remove` leaves
+pub removed : (old now new after : List Node) (f : Trees) (p n : ℕ) → IsForest (rows old) f → IsNode f n → Some p ≡ parent_at f n → now ≡ old → after ≡ new → Severed (rows now) (rows new) p n → IsForest (rows after) (cut f n)
+removed old now new after f p n a at parent same back g = rw back (cut_forest (rows old) (rows new) f p n a at (sym parent) (rw same at g))
+
+-- what a change of facts leaves
+module _ (old now new after : List Node) (f : Trees) (n : ℕ) (change : Facts → Facts) (a : IsForest (rows old) f) (at : IsNode f n) (kind : (x : Facts) → (change x).kind ≡ x.kind) (same : now ≡ old) (back : after ≡ new) where
+  pub altered : Changed (rows now) (rows new) n change → IsForest (rows after) (with_facts n change f)
+  altered g = rw back (change_forest (rows old) (rows new) f n change a at kind (rw same at g))
+
+  pub unaltered : rows new ≡ rows now → IsForest (rows after) f
+  unaltered e = rw (back, e, same) a
+
+  pub altered_or_not : {T : Type 0} (r : Result T NoMemory) → OnOk r (Changed (rows now) (rows new) n change) → OnErr r (rows new ≡ rows now) → Forest (rows after)
+  altered_or_not (Ok u) ok err = (_, altered ok)
+  altered_or_not (Err e) ok err = (f, unaltered err)
+
+-- the row of a node, and its facts
+pub own_row : (old now : List Node) (f : Trees) (n : ℕ) → IsForest (rows old) f → IsNode f n → now ≡ old → (it : Spot) × (row_at (rows now) n ≡ Some it) × (facts_at f n ≡ it.facts)
+own_row old now f n a at same =
+    let st = stands_at (rows old) f n a at in
+    (_, rw same st.row, ap (λ v. (or_no_spot v).facts) st.it.seen)
+
+-- a new node at the end
+module _ (nodes new : List Node) (f : Trees) (node : Node) (a : IsForest (rows nodes) f) (loose : IsLoose node) (kind : fits AtTop node.kind ≡ true) where
+  pub pushed : new ≡ nodes ++ node ∷ [] → IsForest (rows new) (with_node (size f + 1) (facts_of node) f)
+  pushed e = rw (e, map-append row nodes (node ∷ []), row_loose node (facts_of node) refl loose) (push_forest (rows nodes) f (facts_of node) a kind)
+
+  pub pushed_or_not : (b : Bool) → new ≡ cond b (nodes ++ node ∷ []) nodes → Forest (rows new)
+  pushed_or_not true e = (_, pushed e)
+  pushed_or_not false e = (f, rw e a)
