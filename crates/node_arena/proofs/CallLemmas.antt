@@ -3,19 +3,20 @@ use Rattle.std.proofs.Common.{◌≡◌, ◌≢◌, ℕ, ◌+◌, List, [], ◌�
 use Rattle.std.proofs.lemmas.Grind.{common_steps}
 use Rattle.std.proofs.lemmas.List.{length-map, map-append}
 use Rattle.ce_base.specs.declared.memory.NoMemory.{NoMemory}
-use Rattle.node_trees.specs.Facts.{Facts}
-use Rattle.node_trees.specs.Trees.{Trees, graft, cut, with_node, with_facts}
-use Rattle.node_trees.specs.Spots.{Spot, spot, parent_at, facts_at, or_no_spot}
+use Rattle.node_trees.specs.declared.kind.NodeKind.TheVariants.{Element}
+use Rattle.node_trees.specs.Facts.{Facts, is_element}
+use Rattle.node_trees.specs.Trees.{Trees, graft, cut, single, with_node, with_shadow, with_facts}
+use Rattle.node_trees.specs.Spots.{Spot, spot_of, spot, parent_at, facts_at, kind_at, shadow_at, first_of, or_no_spot}
 use Rattle.node_trees.specs.Insertion.{may_insert}
-use Rattle.node_trees.specs.Nodes.{AtTop, fits, size, IsNode}
-use Rattle.node_arena.specs.Rows.{row_at, IsForest, Grafted, Severed, Changed}
+use Rattle.node_trees.specs.Nodes.{AtTop, InShadow, fits, size, IsNode}
+use Rattle.node_arena.specs.Rows.{row_at, IsForest, Grafted, Severed, Attached, Changed}
 use Rattle.node_arena.specs.Nodes.{rows, row, facts_of, IsLoose}
 use Rattle.node_arena.specs.OneForest.{Forest}
 use Rattle.node_arena.specs.declared.node.Node.{Node}
 use Rattle.node_arena.proofs.MakeLemmas.{row_loose}
 use Rattle.node_arena.proofs.MayLemmas.{insert_apart, the_spot, parent_of, under_parent}
 use Rattle.node_arena.proofs.StandsLemmas.{Standing}
-use Rattle.node_arena.proofs.ForestLemmas.{graft_forest, cut_forest, change_forest, push_forest, stands_at}
+use Rattle.node_arena.proofs.ForestLemmas.{graft_forest, cut_forest, change_forest, push_forest, attach_forest, stands_at}
 
 -- a vector whose slice was written
 pub written : {X : Type 0} (old now new : List X) (n : ℕ) → now ≡ old → n ≡ length old → length new ≡ length now → take n (new ++ drop (length new) old) ≡ new
@@ -69,7 +70,7 @@ module _ (old now new after : List Node) (f : Trees) (n : ℕ) (change : Facts �
 pub own_row : (old now : List Node) (f : Trees) (n : ℕ) → IsForest (rows old) f → IsNode f n → now ≡ old → (it : Spot) × (row_at (rows now) n ≡ Some it) × (facts_at f n ≡ it.facts)
 own_row old now f n a at same =
     let st = stands_at (rows old) f n a at in
-    (_, rw same st.row, ap (λ v. (or_no_spot v).facts) st.it.seen)
+    (spot_of st.it.facts st.it.parent st.it.host st.it.shadow st.it.children, rw same st.row, ap (λ v. (or_no_spot v).facts) st.it.seen)
 
 -- a new node at the end
 module _ (nodes new : List Node) (f : Trees) (node : Node) (a : IsForest (rows nodes) f) (loose : IsLoose node) (kind : fits AtTop node.kind ≡ true) where
@@ -79,3 +80,25 @@ module _ (nodes new : List Node) (f : Trees) (node : Node) (a : IsForest (rows n
   pub pushed_or_not : (b : Bool) → new ≡ cond b (nodes ++ node ∷ []) nodes → Forest (rows new)
   pushed_or_not true e = (_, pushed e)
   pushed_or_not false e = (f, rw e a)
+
+-- a shadow root at a host
+
+no_first : (ns : List ℕ) → first_of ns ≡ None → ns ≡ []
+no_first [] e = refl
+no_first (n ∷ ns) e = cc
+
+module _ (old new : List Node) (f : Trees) (h : ℕ) (x : Facts) (a : IsForest (rows old) f) (at : IsNode f h) (element : kind_at f h ≡ Element) (bare : shadow_at f h ≡ None) (fit : fits InShadow x.kind ≡ true) where
+  pub attached_forest : Attached (rows old) (rows new) h (length old + 1) x → IsForest (rows new) (with_shadow h (single (size f + 1) x) f)
+  attached_forest w =
+      let it = the_spot f h a.tidy at in
+      let kind : is_element it.0.facts.kind ≡ true = ap (λ v. is_element (or_no_spot v).facts.kind) (sym it.1) ∙ ap is_element element in
+      let empty : it.0.shadow ≡ [] = no_first it.0.shadow (ap (λ v. first_of (or_no_spot v).shadow) (sym it.1) ∙ bare) in
+      let count : length old + 1 ≡ size f + 1 = omega (arith, a.counted, length-map old row) in
+      attach_forest (rows old) (rows new) f h x it.0 a at it.1 kind empty fit (rw count at w)
+
+  pub attached_or_not : (r : Result ℕ NoMemory) → OnOk r (Attached (rows old) (rows new) h (length old + 1) x) → OnErr r (new ≡ old) → Forest (rows new)
+  attached_or_not (Ok n) ok err = (_, attached_forest ok)
+  attached_or_not (Err e) ok err = (f, rw err a)
+
+pub counts : (nodes : List Node) (f : Trees) → IsForest (rows nodes) f → length nodes ≡ size f
+counts nodes f a = omega (arith, a.counted, length-map nodes row)

@@ -1,16 +1,17 @@
 -- Writes into the nodes of the arena, as writes into rows.
-use Rattle.std.proofs.Common.{◌≡◌, ◌≢◌, ℕ, ◌+◌, ◌-◌, ◌<◌, ◌≤◌, List, Option, Some, None, ap, sym, ◌∙◌, arith, length, slice_get, get_or, get_or-set_other}
+use Rattle.std.proofs.Common.{◌≡◌, ◌≢◌, ℕ, ◌+◌, ◌-◌, ◌<◌, ◌≤◌, List, [], ◌∷◌, ◌++◌, Option, Some, None, refl, ap, sym, ◌∙◌, arith, length, length-append, slice_get, get_or, get_or-set_other}
 use Rattle.std.proofs.Math.ListN.{set, length-set}
-use Rattle.std.proofs.lemmas.List.{map-set, length-map}
+use Rattle.std.proofs.lemmas.List.{map-set, map-append, length-map}
 use Rattle.std.proofs.Math.Seq.{map-set_same}
 use Rattle.std.proofs.lemmas.Option.{slice_get-get_or, slice_get-map}
 use Rattle.std.specs.Option.{option_map}
 use Rattle.node_trees.specs.Facts.{Facts}
-use Rattle.node_trees.specs.Spots.{Spot}
-use Rattle.node_arena.specs.Rows.{row_at, insert_number, remove_number, Grafted, Severed, Changed}
-use Rattle.node_arena.specs.Nodes.{rows, row, facts_of}
+use Rattle.node_trees.specs.Trees.{none}
+use Rattle.node_trees.specs.Spots.{Spot, spot_of}
+use Rattle.node_arena.specs.Rows.{row_at, insert_number, remove_number, Grafted, Severed, Attached, Changed}
+use Rattle.node_arena.specs.Nodes.{rows, row, facts_of, IsRootOf}
 use Rattle.node_arena.specs.declared.node.Node.{Node}
-use Rattle.node_arena.proofs.GetLemmas.{slice_get-set_same, slice_get-set_other}
+use Rattle.node_arena.proofs.GetLemmas.{slice_get-set_same, slice_get-set_other, slice_get-append_front, slice_get-append_end, slice_get-append_other}
 
 -- rows of which that of p, and then that of n, is replaced
 twice : (rs : List Spot) (p n i j : ℕ) (u v : Spot) → i ≡ p - 1 → j ≡ n - 1 → 0 < p → p ≤ length rs → 0 < n → n ≤ length rs → p ≢ n
@@ -104,3 +105,24 @@ module _ (nodes : List Node) (n i : ℕ) (u d : Node) (is : row u ≡ record (ro
 -- the facts that a row has
 pub facts_read : (nodes : List Node) (n i : ℕ) (d : Node) (it : Spot) → i ≡ n - 1 → (0 < n) × (n ≤ length nodes) → row_at (rows nodes) n ≡ Some it → facts_of (get_or nodes i d) ≡ it.facts
 facts_read nodes n i d it e at here = sym (ap (λ (v : Spot). v.facts) (read_at nodes i n d it e (omega (arith, at.0, at.1)) here))
+
+-- the writes of `attach`
+pub attached : (nodes pushed : List Node) (h i number : ℕ) (root u d : Node) → pushed ≡ nodes ++ root ∷ [] → i ≡ h - 1 → (0 < h) × (h ≤ length nodes) → IsRootOf h root → number ≡ length nodes + 1
+    → d ≡ get_or pushed i d → row u ≡ record (row d) { shadow = number ∷ [] } → Attached (rows nodes) (rows (set pushed i u)) h (length nodes + 1) (facts_of root)
+attached nodes pushed h i number root u d grown e at is last there is_u =
+    let long = length-map nodes row in
+    let all : rows pushed ≡ rows nodes ++ row root ∷ [] = rw grown (map-append row nodes (root ∷ [])) in
+    let map_is : rows (set pushed i u) ≡ set (rows nodes ++ row root ∷ []) i (row u) = map-set row pushed i u ∙ ap (λ rs. set rs i (row u)) all in
+    let longer : length (rows nodes ++ row root ∷ []) ≡ length nodes + 1 = omega (arith, long, length-append (rows nodes) (row root ∷ [])) in
+    let root_row : row root ≡ spot_of (facts_of root) None (Some h) none none = rw (is.parent, is.host_is, is.shadow, is.children) refl in
+    rw map_is (record {
+      length_is = omega (arith, length-set (rows nodes ++ row root ∷ []) i (row u), longer, long);
+      made = slice_get-set_other (rows nodes ++ row root ∷ []) i (length nodes + 1 - 1) (row u) (λ j. omega (arith, j, e, at.0, at.1))
+          ∙ slice_get-append_end (rows nodes) (row root) (length nodes + 1 - 1) (omega (arith, long)) ∙ ap Some root_row;
+      there = λ r here.
+          let front : slice_get (rows pushed) i ≡ slice_get (rows nodes) i = rw all (slice_get-append_front (rows nodes) (row root ∷ []) i (omega (arith, long, e, at.0, at.1))) in
+          let wide : length pushed ≡ length nodes + 1 = rw grown (length-append nodes (root ∷ [])) in
+          let same : r ≡ row d = read_at pushed i h d r e (omega (arith, wide, e, at.0, at.1)) (rw (sym e) (front ∙ rw e here)) ∙ ap row (sym there) in
+          rw (sym e) (slice_get-set_same (rows nodes ++ row root ∷ []) i (row u) (omega (arith, longer, e, at.0, at.1))) ∙ ap Some (is_u ∙ ap (λ v. record (row d) { shadow = v ∷ [] }) last ∙ ap (λ (w : Spot). record w { shadow = (length nodes + 1) ∷ [] }) (sym same));
+      others = λ m lo ne_n ne_h. slice_get-set_other (rows nodes ++ row root ∷ []) i (m - 1) (row u) (λ j. ne_h (omega (arith, j, e, lo, at.0))) ∙ slice_get-append_other (rows nodes) (row root) (m - 1) (λ j. ne_n (omega (arith, j, long, lo)));
+    })

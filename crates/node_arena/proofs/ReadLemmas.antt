@@ -4,7 +4,7 @@ use Rattle.std.proofs.lemmas.Option.{slice_get_read, slice_get-map}
 use Rattle.std.specs.Option.{option_map}
 use Rattle.std.proofs.lemmas.List.{length-map}
 use Rattle.node_trees.specs.Trees.{Trees, tree_of}
-use Rattle.node_trees.specs.Spots.{Spot, spot}
+use Rattle.node_trees.specs.Spots.{Spot, spot, children_at, or_no_spot}
 use Rattle.node_trees.specs.Orders.{order}
 use Rattle.node_trees.specs.Nodes.{IsNode, IsNodeOrNone, IsTidy}
 use Rattle.node_arena.specs.Rows.{row_at, IsForest}
@@ -68,3 +68,6 @@ read nodes f n i node a at e is =
       parent = near.0;
       host = near.1;
     }
+
+pub children_of : (f : Trees) (n : ℕ) (it : Spot) → spot f n ≡ Some it → children_at f n ≡ it.children
+children_of f n it is = ap (λ v. (or_no_spot v).children) is

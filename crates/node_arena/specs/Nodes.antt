@@ -24,3 +24,10 @@ pub record IsLoose (node : Node) : Type 0 where
   pub host : node.host ≡ None
   pub shadow : node.shadow ≡ None
   pub children : node.children.items ≡ []
+
+-- a shadow root with its host, and without other links
+pub record IsRootOf (host : ℕ) (node : Node) : Type 0 where
+  pub parent : node.parent ≡ None
+  pub host_is : node.host ≡ Some host
+  pub shadow : node.shadow ≡ None
+  pub children : node.children.items ≡ []

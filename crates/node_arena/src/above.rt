@@ -1,7 +1,7 @@
 // What is above a node.
 ghost use Rattle.std.specs.Prelude.{◌≡◌};
 ghost use Rattle.node_trees.specs.Paths.{path, is_among, root_at, connected};
-ghost use Rattle.node_trees.specs.Nodes.{IsNode};
+ghost use Rattle.node_trees.specs.Nodes.{IsNode, IsTidy};
 ghost use Rattle.node_arena.specs.Walks.{IsUp};
 
 use crate::Tree;
@@ -12,7 +12,8 @@ impl Tree {
     /// The parent, or the host of a shadow root.
     fn above(&self, n: NodeNo) -> Option<NodeNo>
         requires { IsNode self.now n }
-        ensures { IsUp self.now n result }
+        ensures up { IsUp self.now n result }
+        ensures tidy { IsTidy self.now }
     {
         let node = self.node(n);
         match node.parent {

@@ -41,6 +41,7 @@ impl Tree {
         ensures links { AreNodes self.now ((row result.now).shadow ++ (row result.now).children) }
         ensures parent { IsNodeOrNone self.now (row result.now).parent }
         ensures host { IsNodeOrNone self.now (row result.now).host }
+        ensures tidy { IsTidy self.now }
     {
         &self.nodes[index_of(n)]
     }

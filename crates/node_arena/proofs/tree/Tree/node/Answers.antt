@@ -23,3 +23,6 @@ returns-clause-parent c = (read _ _ _ c.index_of.result c.index.result.now (seen
 
 pub returns-clause-host : goal.returns-clause-host
 returns-clause-host c = (read _ _ _ c.index_of.result c.index.result.now (seen_fact _ _ _ c.self.view_is) c.requires c.index_of.ensures c.index.ensures).host
+
+pub returns-clause-tidy : goal.returns-clause-tidy
+returns-clause-tidy c = (seen_fact _ _ _ c.self.view_is).tidy
