@@ -5,8 +5,8 @@
 
 mod above;
 mod attributes;
-mod facts;
 mod children;
+mod facts;
 mod insertion;
 mod making;
 mod node;
