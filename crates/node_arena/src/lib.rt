@@ -3,10 +3,11 @@
 //! Standard, sections "Trees", "Node tree", "Shadow tree").
 #![tactic(auto)]
 
-mod above;
+mod ancestors;
 mod attributes;
 mod children;
 mod facts;
+mod ids;
 mod insertion;
 mod making;
 mod node;
