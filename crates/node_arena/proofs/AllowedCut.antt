@@ -58,11 +58,11 @@ may_insert-cut-itself f p n tidy node_p node may =
     let up : parent_at f n ≡ Some p = number-is (parent_at f n) p (is_sibling f p n (Some n) may) in
     let next : next_sibling_at f n ≡ after n (children_at f p) = ap (next_among f n) up in
     may_insert-cut-before f p n (Some n) tidy node may (next_sibling_at f n) (there (next_sibling_at f n) (sym next))
-    where
-      there : (a : Option ℕ) → after n (children_at f p) ≡ a → is_child_or_none (cut f n) p a ≡ true
-      there None e = refl
-      there (Some d) e =
-          let up = child-parent f p tidy node_p d (after-among n d (children_at f p) e) in
-          let other = after-other n d (children_at f p) (children_at-apart f p tidy node_p) e in
-          let same = parent_at-cut f n tidy node d other ∙ up in
-          ap (λ v. is_number v p) same ∙ number-same p
+  where
+    there : (a : Option ℕ) → after n (children_at f p) ≡ a → is_child_or_none (cut f n) p a ≡ true
+    there None e = refl
+    there (Some d) e =
+        let up = child-parent f p tidy node_p d (after-among n d (children_at f p) e) in
+        let other = after-other n d (children_at f p) (children_at-apart f p tidy node_p) e in
+        let same = parent_at-cut f n tidy node d other ∙ up in
+        ap (λ v. is_number v p) same ∙ number-same p

@@ -45,5 +45,12 @@ module _ (n : ℕ) (c : Facts → Facts) where
   pub spot-with-here : (p h : Option ℕ) (f : Trees) → spot_in p h n (with_facts n c f) ≡ changed c (spot_in p h n f)
   spot-with-here p h none = refl
   spot-with-here p h (tree m x s k r) =
-      grind (arith, nat_tests, spot-with-here None (Some m) s, spot-with-here (Some m) None k, spot-with-here p h r,
-      changed-or c (spot_in None (Some m) n s) (or_spot (spot_in (Some m) None n k) (spot_in p h n r)), changed-or c (spot_in (Some m) None n k) (spot_in p h n r))
+      grind (
+        arith,
+        nat_tests,
+        spot-with-here None (Some m) s,
+        spot-with-here (Some m) None k,
+        spot-with-here p h r,
+        changed-or c (spot_in None (Some m) n s) (or_spot (spot_in (Some m) None n k) (spot_in p h n r)),
+        changed-or c (spot_in (Some m) None n k) (spot_in p h n r),
+      )

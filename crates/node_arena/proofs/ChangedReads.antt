@@ -19,7 +19,7 @@ module _ (n : ℕ) (c : Facts → Facts) (f : Trees) where
   pub read-with : (A : Type 0) (g : Spot → A) → ((s : Spot) → g (record s { facts = c s.facts }) ≡ g s) → (i : ℕ) → g (spot_at (with_facts n c f) i) ≡ g (spot_at f i)
   read-with A g keeps i = elim (cases_eq i n) [
     | inl e ↦ subst (λ v. g (spot_at (with_facts n c f) v) ≡ g (spot_at f v)) (sym e)
-    (ap (λ o. g (or_no_spot o)) (spot-with-here n c None None f) ∙ changed-keeps A g c keeps (spot f n))
+        (ap (λ o. g (or_no_spot o)) (spot-with-here n c None None f) ∙ changed-keeps A g c keeps (spot f n))
     | inr ne ↦ ap (λ o. g (or_no_spot o)) (spot-with-other n c None None i f ne)
   ]
 

@@ -97,7 +97,7 @@ module _ (f : Trees) (n : ℕ) (tidy : IsTidy f) (node : IsNode f n) where
   pub facts_at-cut : (i : ℕ) → facts_at (cut f n) i ≡ facts_at f i
   facts_at-cut i = elim (cases_eq i n) [
     | inl e ↦ subst (λ v. facts_at (cut f n) v ≡ facts_at f v) (sym e)
-    (ap (λ o. (or_no_spot o).facts) (spot-cut-here f n tidy node) ∙ top-read Facts (λ s. s.facts) (λ s p h. refl) (spot f n))
+        (ap (λ o. (or_no_spot o).facts) (spot-cut-here f n tidy node) ∙ top-read Facts (λ s. s.facts) (λ s p h. refl) (spot f n))
     | inr ne ↦ read-other Facts (λ s. s.facts) (λ s ns ms. refl) i ne
   ]
 
@@ -119,6 +119,6 @@ module _ (f : Trees) (n : ℕ) (tidy : IsTidy f) (node : IsNode f n) where
   pub children_at-cut-inside : (i : ℕ) → 0 < times i (tree_of n f) → children_at (cut f n) i ≡ children_at f i
   children_at-cut-inside i low = elim (cases_eq i n) [
     | inl e ↦ subst (λ v. children_at (cut f n) v ≡ children_at f v) (sym e)
-    (ap (λ o. (or_no_spot o).children) (spot-cut-here f n tidy node) ∙ top-read (List ℕ) (λ s. s.children) (λ s p h. refl) (spot f n))
+        (ap (λ o. (or_no_spot o).children) (spot-cut-here f n tidy node) ∙ top-read (List ℕ) (λ s. s.children) (λ s p h. refl) (spot f n))
     | inr ne ↦ ap (λ o. (or_no_spot o).children) (spot-cut-below f n tidy node i ne low)
   ]

@@ -24,8 +24,13 @@ or_spot-none (Some a) = refl
 pub spot-join : (p h : Option ℕ) (i : ℕ) (f g : Trees) → spot_in p h i (join f g) ≡ or_spot (spot_in p h i f) (spot_in p h i g)
 spot-join p h i none g = refl
 spot-join p h i (tree m x s k r) g =
-    grind (arith, nat_tests, spot-join p h i r g, or_spot-assoc (spot_in None (Some m) i s) (or_spot (spot_in (Some m) None i k) (spot_in p h i r)) (spot_in p h i g),
-    or_spot-assoc (spot_in (Some m) None i k) (spot_in p h i r) (spot_in p h i g))
+    grind (
+      arith,
+      nat_tests,
+      spot-join p h i r g,
+      or_spot-assoc (spot_in None (Some m) i s) (or_spot (spot_in (Some m) None i k) (spot_in p h i r)) (spot_in p h i g),
+      or_spot-assoc (spot_in (Some m) None i k) (spot_in p h i r) (spot_in p h i g),
+    )
 
 pub path-join-left : (i : ℕ) (f g : Trees) → times i g ≡ 0 → path i (join f g) ≡ path i f
 path-join-left i none g z = path-absent i g z
@@ -40,8 +45,16 @@ path-join-right i (tree m x s k r) g z =
 pub spot-place-in : (p h : Option ℕ) (i n : ℕ) (t g : Trees) → times i g ≡ 0 → spot_in p h i (place n t g) ≡ spot_in p h i t
 spot-place-in p h i n t none z = refl
 spot-place-in p h i n t (tree m x s k r) z =
-    grind (arith, nat_tests, spot-join p h i t (tree m x s k r), or_spot-none (spot_in p h i t), spot-place-in p h i n t r (omega arith),
-    spot-absent None (Some m) i s (omega arith), spot-absent (Some m) None i k (omega arith), spot-absent p h i (tree m x s k r) z)
+    grind (
+      arith,
+      nat_tests,
+      spot-join p h i t (tree m x s k r),
+      or_spot-none (spot_in p h i t),
+      spot-place-in p h i n t r (omega arith),
+      spot-absent None (Some m) i s (omega arith),
+      spot-absent (Some m) None i k (omega arith),
+      spot-absent p h i (tree m x s k r) z,
+    )
 
 pub spot-place-out : (p h : Option ℕ) (i n : ℕ) (t g : Trees) → times i t ≡ 0 → spot_in p h i (place n t g) ≡ spot_in p h i g
 spot-place-out p h i n t none z = spot-absent p h i t z
@@ -51,8 +64,15 @@ spot-place-out p h i n t (tree m x s k r) z =
 pub path-place-in : (i n : ℕ) (t g : Trees) → times i g ≡ 0 → path i (place n t g) ≡ path i t
 path-place-in i n t none z = refl
 path-place-in i n t (tree m x s k r) z =
-    grind (arith, nat_tests, path-join-left i t (tree m x s k r) z, path-place-in i n t r (omega arith),
-    path-absent i s (omega arith), path-absent i k (omega arith), path-absent i (tree m x s k r) z)
+    grind (
+      arith,
+      nat_tests,
+      path-join-left i t (tree m x s k r) z,
+      path-place-in i n t r (omega arith),
+      path-absent i s (omega arith),
+      path-absent i k (omega arith),
+      path-absent i (tree m x s k r) z,
+    )
 
 pub path-place-out : (i n : ℕ) (t g : Trees) → times i t ≡ 0 → path i (place n t g) ≡ path i g
 path-place-out i n t none z = path-absent i t z
@@ -65,7 +85,6 @@ pub without-absent : (n : ℕ) (f : Trees) → times n f ≡ 0 → without n f �
 without-absent n none z = refl
 without-absent n (tree m x s k r) z =
     grind (arith, nat_tests, without-absent n s (omega arith), without-absent n k (omega arith), without-absent n r (omega arith))
-
 
 lacking-or : (n : ℕ) (a b : Option Spot) → spot_lacking n (or_spot a b) ≡ or_spot (spot_lacking n a) (spot_lacking n b)
 lacking-or n None b = refl
@@ -94,8 +113,17 @@ spot-without p h i n (tree m x s k r) apart z =
           let on_s = spot-without None (Some m) i n s (apart-shadow m x s k r apart) (omega arith) in
           let on_k = spot-without (Some m) None i n k (apart-children m x s k r apart) (omega arith) in
           let on_r = spot-without p h i n r (apart-rest m x s k r apart) (omega arith) in
-          grind (arith, nat_tests, on_s, on_k, on_r, roots-without n s, roots-without n k,
-          lacking-or n (spot_in None (Some m) i s) (or_spot (spot_in (Some m) None i k) (spot_in p h i r)), lacking-or n (spot_in (Some m) None i k) (spot_in p h i r))
+          grind (
+            arith,
+            nat_tests,
+            on_s,
+            on_k,
+            on_r,
+            roots-without n s,
+            roots-without n k,
+            lacking-or n (spot_in None (Some m) i s) (or_spot (spot_in (Some m) None i k) (spot_in p h i r)),
+            lacking-or n (spot_in (Some m) None i k) (spot_in p h i r),
+          )
     ]
 
 -- and keeps its path

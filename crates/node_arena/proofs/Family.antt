@@ -25,7 +25,10 @@ module _ (p h : Option ℕ) (c m : ℕ) (x : Facts) (s k r : Trees) (parent host
       let low = u.inside in
       let one = apart c in
       record {
-        row = u.row; inside = omega (arith, low); parent_is = u.parent_is; host_is = u.host_is;
+        row = u.row;
+        inside = omega (arith, low);
+        parent_is = u.parent_is;
+        host_is = u.host_is;
         spot_is = spot-shadow p h c m x s k r (grind (arith, nat_tests)) (grind (arith, nat_tests)) (grind (arith, nat_tests)) ∙ u.spot_is;
       }
 
@@ -34,7 +37,10 @@ module _ (p h : Option ℕ) (c m : ℕ) (x : Facts) (s k r : Trees) (parent host
       let low = u.inside in
       let one = apart c in
       record {
-        row = u.row; inside = omega (arith, low); parent_is = u.parent_is; host_is = u.host_is;
+        row = u.row;
+        inside = omega (arith, low);
+        parent_is = u.parent_is;
+        host_is = u.host_is;
         spot_is = spot-children p h c m x s k r (grind (arith, nat_tests)) (grind (arith, nat_tests)) (grind (arith, nat_tests)) ∙ u.spot_is;
       }
 
@@ -43,7 +49,10 @@ module _ (p h : Option ℕ) (c m : ℕ) (x : Facts) (s k r : Trees) (parent host
       let low = u.inside in
       let one = apart c in
       record {
-        row = u.row; inside = omega (arith, low); parent_is = u.parent_is; host_is = u.host_is;
+        row = u.row;
+        inside = omega (arith, low);
+        parent_is = u.parent_is;
+        host_is = u.host_is;
         spot_is = spot-rest p h c m x s k r (grind (arith, nat_tests)) (grind (arith, nat_tests)) (grind (arith, nat_tests)) ∙ u.spot_is;
       }
 
@@ -71,11 +80,11 @@ child-stands p h q c (tree m x s k r) up apart pos is among = elim (stands_where
       subst (λ v. StandsUnder p h c (tree m x s k r) (Some v) None) e
       (under_children p h c m x s k r (Some m) None apart (root-stands (Some m) None c k (apart-children m x s k r apart) (rw children at among)))
   | in_shadow ne a b z ↦ under_shadow p h c m x s k r (Some q) None apart
-  (child-stands None (Some m) q c s up (apart-shadow m x s k r apart) a (sym (spot-shadow p h q m x s k r ne b z) ∙ is) among)
+      (child-stands None (Some m) q c s up (apart-shadow m x s k r apart) a (sym (spot-shadow p h q m x s k r ne b z) ∙ is) among)
   | in_children ne a b z ↦ under_children p h c m x s k r (Some q) None apart
-  (child-stands (Some m) None q c k up (apart-children m x s k r apart) b (sym (spot-children p h q m x s k r ne a z) ∙ is) among)
+      (child-stands (Some m) None q c k up (apart-children m x s k r apart) b (sym (spot-children p h q m x s k r ne a z) ∙ is) among)
   | in_rest ne a b z ↦ under_rest p h c m x s k r (Some q) None apart
-  (child-stands p h q c r up (apart-rest m x s k r apart) z (sym (spot-rest p h q m x s k r ne a b) ∙ is) among)
+      (child-stands p h q c r up (apart-rest m x s k r apart) z (sym (spot-rest p h q m x s k r ne a b) ∙ is) among)
 ]
 
 pub count-roots : (n : ℕ) (f : Trees) → count n (roots f) ≤ times n f

@@ -29,52 +29,68 @@ found p h n (tree m x s k r) apart pos =
       | here e _ _ _ ↦
           let is = tree_of-here n m x s k r e in
           record {
-            facts = x; parent = p; host = h; shadow = s; children = k;
+            facts = x;
+            parent = p;
+            host = h;
+            shadow = s;
+            children = k;
             tree_is = is ∙ ap (λ v. tree v x s k none) e;
             spot_is = spot-here p h n m x s k r e;
             inside = λ i low.
-              let one_i = apart i in
-              let low : 0 < times i (tree m x s k none) = rw is at low in
-              rw is (grind (arith, nat_tests, spot-absent p h i r (omega arith)));
+                let one_i = apart i in
+                let low : 0 < times i (tree m x s k none) = rw is at low in
+                rw is (grind (arith, nat_tests, spot-absent p h i r (omega arith)));
           }
       | in_shadow ne a b c ↦
           let is = tree_of-shadow n m x s k r ne b c in
           let it = found None (Some m) n s (apart-shadow m x s k r apart) a in
           record {
-            facts = it.facts; parent = it.parent; host = it.host; shadow = it.shadow; children = it.children;
+            facts = it.facts;
+            parent = it.parent;
+            host = it.host;
+            shadow = it.shadow;
+            children = it.children;
             tree_is = is ∙ it.tree_is;
             spot_is = spot-shadow p h n m x s k r ne b c ∙ it.spot_is;
             inside = λ i low.
-              let one_i = apart i in
-              let low : 0 < times i (tree_of n s) = rw is at low in
-              let less_i = less i s (omega arith) in
-              rw is (spot-shadow p h i m x s k r (grind (arith, nat_tests)) (grind (arith, nat_tests)) (grind (arith, nat_tests)) ∙ it.inside i low);
+                let one_i = apart i in
+                let low : 0 < times i (tree_of n s) = rw is at low in
+                let less_i = less i s (omega arith) in
+                rw is (spot-shadow p h i m x s k r (grind (arith, nat_tests)) (grind (arith, nat_tests)) (grind (arith, nat_tests)) ∙ it.inside i low);
           }
       | in_children ne a b c ↦
           let is = tree_of-children n m x s k r ne a c in
           let it = found (Some m) None n k (apart-children m x s k r apart) b in
           record {
-            facts = it.facts; parent = it.parent; host = it.host; shadow = it.shadow; children = it.children;
+            facts = it.facts;
+            parent = it.parent;
+            host = it.host;
+            shadow = it.shadow;
+            children = it.children;
             tree_is = is ∙ it.tree_is;
             spot_is = spot-children p h n m x s k r ne a c ∙ it.spot_is;
             inside = λ i low.
-              let one_i = apart i in
-              let low : 0 < times i (tree_of n k) = rw is at low in
-              let less_i = less i k (omega arith) in
-              rw is (spot-children p h i m x s k r (grind (arith, nat_tests)) (grind (arith, nat_tests)) (grind (arith, nat_tests)) ∙ it.inside i low);
+                let one_i = apart i in
+                let low : 0 < times i (tree_of n k) = rw is at low in
+                let less_i = less i k (omega arith) in
+                rw is (spot-children p h i m x s k r (grind (arith, nat_tests)) (grind (arith, nat_tests)) (grind (arith, nat_tests)) ∙ it.inside i low);
           }
       | in_rest ne a b c ↦
           let is = tree_of-rest n m x s k r ne a b in
           let it = found p h n r (apart-rest m x s k r apart) c in
           record {
-            facts = it.facts; parent = it.parent; host = it.host; shadow = it.shadow; children = it.children;
+            facts = it.facts;
+            parent = it.parent;
+            host = it.host;
+            shadow = it.shadow;
+            children = it.children;
             tree_is = is ∙ it.tree_is;
             spot_is = spot-rest p h n m x s k r ne a b ∙ it.spot_is;
             inside = λ i low.
-              let one_i = apart i in
-              let low : 0 < times i (tree_of n r) = rw is at low in
-              let less_i = less i r (omega arith) in
-              rw is (spot-rest p h i m x s k r (grind (arith, nat_tests)) (grind (arith, nat_tests)) (grind (arith, nat_tests)) ∙ it.inside i low);
+                let one_i = apart i in
+                let low : 0 < times i (tree_of n r) = rw is at low in
+                let less_i = less i r (omega arith) in
+                rw is (spot-rest p h i m x s k r (grind (arith, nat_tests)) (grind (arith, nat_tests)) (grind (arith, nat_tests)) ∙ it.inside i low);
           }
     ]
 

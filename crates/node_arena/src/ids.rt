@@ -37,10 +37,11 @@ impl Tree {
         ensures has { result ≡ has_id id.now (facts_at self.now n) }
         ensures tidy { IsTidy self.now }
     {
-        if id.is_empty() || self.kind(n) != NodeKind::Element {
+        let node = self.node(n);
+        if id.is_empty() || node.kind != NodeKind::Element {
             return false;
         }
-        match self.attr(n, "id") {
+        match node.attributes.get("id") {
             Some(value) => value == id,
             None => false,
         }

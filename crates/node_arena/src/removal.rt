@@ -1,7 +1,8 @@
 // Removal.
-ghost use Rattle.std.specs.Prelude.{◌≡◌, ◌≢◌, ◌<◌, ◌≤◌, length, IsSome};
+ghost use Rattle.std.specs.Prelude.{◌≡◌, ◌≢◌, ◌<◌, ◌≤◌, ℕ, Option, Some, None, length, IsSome};
 ghost use Rattle.node_trees.specs.Trees.{cut};
-ghost use Rattle.node_trees.specs.Spots.{parent_at};
+ghost use Rattle.node_trees.specs.Spots.{next_sibling_at, parent_at};
+ghost use Rattle.node_trees.specs.Insertion.{may_insert};
 ghost use Rattle.node_trees.specs.Nodes.{size, IsNode};
 ghost use Rattle.node_arena.specs.Nodes.{rows};
 ghost use Rattle.node_arena.specs.Rows.{Severed};
@@ -32,6 +33,11 @@ impl Tree {
         requires placed { IsSome (parent_at self.old node) }
         ensures cut { self.new ≡ cut self.old node }
         ensures size { size self.new ≡ size self.old }
+
+        // An insertion of this node that was allowed is still allowed; where it was to go before itself, its next
+        // sibling takes its place.
+        ensures may { (p : ℕ) (b : Option ℕ) → may_insert self.old p node b ≡ None → b ≢ Some node → may_insert self.new p node b ≡ None }
+        ensures may_in_place { (p : ℕ) → IsNode self.old p → may_insert self.old p node (Some node) ≡ None → may_insert self.new p node (next_sibling_at self.old node) ≡ None }
     {
         if let Some(parent) = self.parent(node) {
             unlink(&mut self.nodes, parent, node);

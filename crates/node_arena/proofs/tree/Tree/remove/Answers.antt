@@ -2,6 +2,7 @@ use Rattle.std.proofs.Common.{◌∙◌, arith}
 use Rattle.node_arena.specs.OneForest.{seen_fact, seen_is, seen_size}
 use Rattle.node_arena.proofs.CallLemmas.{size_written, written, removed, parent_is}
 use Rattle.node_arena.proofs.ReadLemmas.{in_range}
+use Rattle.node_arena.proofs.AllowedCut.{may_insert-cut, may_insert-cut-itself}
 use Rattle.node_arena.proofs.tree.Tree.remove.Goals as goal
 
 pub unlink-requires-clause-parent : goal.unlink-requires-clause-parent
@@ -35,3 +36,9 @@ returns-in-Some-clause-cut c =
 pub returns-in-Some-clause-size : goal.returns-in-Some-clause-size
 returns-in-Some-clause-size c =
     seen_size _ _ ∙ size_written _ _ _ _ _ (seen_fact _ _ _ c.self.view_is) c.deref_mut.ensures.value (written _ _ _ _ c.deref_mut.ensures.value c.self.inside.nodes.ok.0 c.unlink.auto.nodes) c.unlink.auto.nodes
+
+pub returns-in-Some-clause-may : goal.returns-in-Some-clause-may
+returns-in-Some-clause-may c = λ p b may ne. rw (returns-in-Some-clause-cut c) (may_insert-cut c.args.self.now p c.args.node b (seen_fact _ _ _ c.self.view_is).tidy c.requires.node may ne)
+
+pub returns-in-Some-clause-may_in_place : goal.returns-in-Some-clause-may_in_place
+returns-in-Some-clause-may_in_place c = λ p at may. rw (returns-in-Some-clause-cut c) (may_insert-cut-itself c.args.self.now p c.args.node (seen_fact _ _ _ c.self.view_is).tidy at c.requires.node may)
