@@ -1,12 +1,12 @@
 -- What is above a node of a forest.
-use Rattle.std.proofs.Common.{◌≡◌, ◌≢◌, ℕ, ◌+◌, ◌<◌, ◌≤◌, ◌⊎◌, List, [], ◌∷◌, ◌++◌, Option, Some, None, refl, ap, sym, ◌∙◌, subst, arith, inl, inr, length, length-append}
+use Rattle.std.proofs.Common.{◌≡◌, ℕ, ◌<◌, [], ◌∷◌, ◌++◌, Some, None, ap, subst, arith, inl, inr, length, length-append}
 use Rattle.node_trees.specs.Trees.{Trees, tree_of}
 use Rattle.node_trees.specs.Nodes.{times, IsNode, IsTidy}
 use Rattle.node_trees.specs.Paths.{path}
 use Rattle.node_trees.specs.Spots.{Spot, spot, parent_at, host_at}
-use Rattle.node_arena.proofs.Sums.{IsApart, tidy-apart}
-use Rattle.node_arena.proofs.Up.{Under, Step, at_root, above, step_up}
-use Rattle.node_arena.proofs.AtNode.{node_stands, parent_at-is, host_at-is, Stands, node_spot}
+use Rattle.node_arena.proofs.Sums.{tidy-apart}
+use Rattle.node_arena.proofs.Up.{Under, at_root, above, step_up}
+use Rattle.node_arena.proofs.AtNode.{node_stands, parent_at-is, host_at-is, node_spot}
 
 -- the node above n: its parent, or its host
 pub record IsAbove (f : Trees) (q n : ℕ) : Type 0 where

@@ -1,16 +1,15 @@
 -- What an allowed insertion is, test by test.
-use Rattle.std.proofs.Common.{◌≡◌, ◌≢◌, ℕ, Bool, true, false, ◌+◌, ◌&&◌, ◌||◌, ◌==◌, if◌then◌else◌, List, [], ◌∷◌, Option, Some, None, refl, ap, sym, ◌∙◌, subst, arith}
+use Rattle.std.proofs.Common.{◌≡◌, ℕ, Bool, true, false, ◌&&◌, ◌||◌, if◌then◌else◌, Option, Some, None, refl, ap, ◌∙◌, arith}
 use Rattle.std.specs.Prelude.{not}
 use Rattle.std.specs.List.{list_any}
-use Rattle.std.proofs.lemmas.Bool.Decides.{nat_tests}
 use Rattle.ce_base.specs.declared.fault.Fault.{Fault}
 use Rattle.ce_base.specs.declared.fault.Fault.TheVariants.{HierarchyRequestError, NotFoundError}
 use Rattle.node_trees.specs.Facts.{Facts, is_document, is_element, is_text, is_shadow_root}
 use Rattle.node_trees.specs.Trees.{Trees, is_number, with_facts, with_document}
 use Rattle.node_trees.specs.Insertion.{may_insert, is_child_or_none, has_element_child}
 use Rattle.node_trees.specs.Paths.{path, is_among}
-use Rattle.node_trees.specs.Spots.{kind_at, parent_at, children_at}
-use Rattle.node_arena.proofs.Lists.{any-same, any-lacking, lacking}
+use Rattle.node_trees.specs.Spots.{kind_at, children_at}
+use Rattle.node_arena.proofs.Lists.{any-same}
 use Rattle.node_arena.proofs.Changed.{path-with}
 use Rattle.node_arena.proofs.ChangedReads.{parent_at-with, children_at-with, kind_at-with}
 

@@ -1,20 +1,20 @@
 -- An allowed insertion stays allowed when the node was taken out first.
-use Rattle.std.proofs.Common.{◌≡◌, ◌≢◌, ℕ, Bool, true, false, ◌+◌, ◌&&◌, ◌||◌, ◌==◌, List, [], ◌∷◌, Option, Some, None, refl, ap, sym, ◌∙◌, subst, arith, inl, inr}
+use Rattle.std.proofs.Common.{◌≡◌, ◌≢◌, ℕ, true, false, Option, Some, None, refl, ap, sym, ◌∙◌, arith, inl, inr}
 use Rattle.std.specs.List.{list_any}
 use Rattle.std.proofs.lemmas.Bool.Decides.{nat_tests}
 use Rattle.std.proofs.lemmas.Bool.{cases_lt}
-use Rattle.node_trees.specs.Facts.{is_document, is_element, is_text, is_shadow_root}
+use Rattle.node_trees.specs.Facts.{is_element}
 use Rattle.node_trees.specs.Trees.{Trees, tree_of, cut, is_number}
 use Rattle.node_trees.specs.Nodes.{times, IsNode, IsTidy}
 use Rattle.node_trees.specs.Insertion.{may_insert, is_child_or_none, has_element_child}
-use Rattle.node_trees.specs.Paths.{path, is_among}
+use Rattle.node_trees.specs.Paths.{is_among}
 use Rattle.node_trees.specs.Spots.{kind_at, parent_at, children_at, next_sibling_at, next_among, after}
 use Rattle.node_arena.proofs.Sums.{tidy-apart}
 use Rattle.node_arena.proofs.AtNode.{node_stands}
 use Rattle.node_arena.proofs.Lists.{lacking, any-same, any-lacking}
 use Rattle.node_arena.proofs.InPath.{path-inside}
 use Rattle.node_arena.proofs.CutReads.{parent_at-cut, kind_at-cut, path-cut-outside, children_at-cut-outside}
-use Rattle.node_arena.proofs.Family.{child-parent, child-node, children_at-apart}
+use Rattle.node_arena.proofs.Family.{child-parent, children_at-apart}
 use Rattle.node_arena.proofs.Onward.{after-among, after-other}
 use Rattle.node_arena.proofs.Allowed.{not_inside, is_sibling, may_insert-still}
 

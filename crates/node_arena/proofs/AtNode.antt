@@ -1,11 +1,10 @@
 -- What is read at a node of a forest.
-use Rattle.std.proofs.Common.{◌≡◌, ◌≢◌, ℕ, ◌+◌, ◌<◌, ◌≤◌, List, [], ◌∷◌, ◌++◌, Option, Some, None, refl, ap, sym, ◌∙◌, arith, inl, inr, length, length-append}
-use Rattle.node_trees.specs.Facts.{Facts}
-use Rattle.node_trees.specs.Trees.{Trees, tree_of}
+use Rattle.std.proofs.Common.{◌≡◌, ℕ, ◌<◌, Some, None, ap, arith}
+use Rattle.node_trees.specs.Trees.{Trees}
 use Rattle.node_trees.specs.Nodes.{times, IsNode, IsTidy}
-use Rattle.node_trees.specs.Spots.{Spot, spot_of, spot_in, spot, spot_at, facts_at, parent_at, host_at, children_at, first_of, first_child_at, next_sibling_at, after, or_no_spot}
-use Rattle.node_arena.proofs.Sums.{IsApart, tidy-apart}
-use Rattle.node_arena.proofs.Inside.{Found, found}
+use Rattle.node_trees.specs.Spots.{Spot, spot_of, spot, spot_at, facts_at, parent_at, host_at, children_at, first_of, first_child_at, next_sibling_at, after, or_no_spot}
+use Rattle.node_arena.proofs.Sums.{tidy-apart}
+use Rattle.node_arena.proofs.Inside.{found}
 
 pub node_stands : (f : Trees) (n : ℕ) → IsTidy f → IsNode f n → 0 < times n f
 node_stands f n tidy node = omega (arith, tidy.once n node)

@@ -13,6 +13,8 @@ use Rattle.node_arena.specs.Rows.{row_at, IsForest, Grafted, Severed, Attached, 
 use Rattle.node_arena.specs.Nodes.{rows, row, facts_of, IsLoose}
 use Rattle.node_arena.specs.OneForest.{Forest}
 use Rattle.node_arena.specs.declared.node.Node.{Node}
+use Rattle.node_arena.proofs.NewReads.{spot-new-here}
+use Rattle.node_arena.proofs.TidyLemmas.{out_of}
 use Rattle.node_arena.proofs.MakeLemmas.{row_loose}
 use Rattle.node_arena.proofs.MayLemmas.{insert_apart, the_spot, parent_of, under_parent}
 use Rattle.node_arena.proofs.StandsLemmas.{Standing}
@@ -102,3 +104,7 @@ module _ (old new : List Node) (f : Trees) (h : ℕ) (x : Facts) (a : IsForest (
 
 pub counts : (nodes : List Node) (f : Trees) → IsForest (rows nodes) f → length nodes ≡ size f
 counts nodes f a = omega (arith, a.counted, length-map nodes row)
+
+-- a new node has no parent
+pub new_free : (rs : List Spot) (f : Trees) (x : Facts) → IsForest rs f → parent_at (with_node (size f + 1) x f) (size f + 1) ≡ None
+new_free rs f x a = ap (λ v. (or_no_spot v).parent) (spot-new-here (size f + 1) x f (out_of f (size f + 1) a.tidy (omega arith)))

@@ -1,11 +1,11 @@
 -- What is read after one node's facts were changed.
-use Rattle.std.proofs.Common.{◌≡◌, ◌≢◌, ℕ, Bool, true, false, ◌+◌, ◌==◌, if◌then◌else◌, List, Option, Some, None, refl, ap, sym, ◌∙◌, arith}
+use Rattle.std.proofs.Common.{◌≡◌, ◌≢◌, ℕ, ◌==◌, if◌then◌else◌, Option, Some, None, refl, arith}
 use Rattle.std.proofs.lemmas.Bool.Decides.{nat_tests}
 use Rattle.node_trees.specs.Facts.{Facts}
-use Rattle.node_trees.specs.Trees.{Trees, none, tree, roots, with_facts, with_document}
+use Rattle.node_trees.specs.Trees.{Trees, none, tree, roots, with_facts}
 use Rattle.node_trees.specs.Nodes.{weight, times, size}
 use Rattle.node_trees.specs.Paths.{path}
-use Rattle.node_trees.specs.Spots.{Spot, spot_of, spot_in, or_spot, spot, or_no_spot, facts_at, kind_at, parent_at, host_at, children_at}
+use Rattle.node_trees.specs.Spots.{Spot, spot_in, or_spot}
 
 module _ (n : ℕ) (c : Facts → Facts) where
   pub roots-with : (f : Trees) → roots (with_facts n c f) ≡ roots f

@@ -1,13 +1,13 @@
 -- The reads of a forest after one node's facts were changed.
-use Rattle.std.proofs.Common.{◌≡◌, ◌≢◌, ℕ, Bool, true, false, ◌+◌, ◌==◌, List, Option, Some, None, refl, ap, sym, ◌∙◌, subst, arith, inl, inr}
+use Rattle.std.proofs.Common.{◌≡◌, ◌≢◌, ℕ, List, Option, Some, None, refl, ap, sym, ◌∙◌, subst, inl, inr}
 use Rattle.std.proofs.lemmas.Bool.{cases_eq}
-use Rattle.node_trees.specs.Facts.{Facts, with_value, without_value, is_document}
+use Rattle.node_trees.specs.Facts.{Facts, with_value, is_document}
 use Rattle.node_trees.specs.declared.kind.NodeKind.{NodeKind}
 use Rattle.node_trees.specs.Trees.{Trees, with_facts, with_document, with_attribute}
 use Rattle.node_trees.specs.Nodes.{IsNode, IsTidy}
-use Rattle.node_trees.specs.Paths.{path, shadow_root_at, connected, or_number}
-use Rattle.node_trees.specs.Spots.{Spot, spot_in, spot, spot_at, or_no_spot, facts_at, kind_at, parent_at, host_at, children_at, document_at, first_of}
-use Rattle.node_arena.proofs.AtNode.{Stands, node_spot}
+use Rattle.node_trees.specs.Paths.{shadow_root_at, connected, or_number}
+use Rattle.node_trees.specs.Spots.{Spot, spot, spot_at, or_no_spot, facts_at, kind_at, parent_at, host_at, children_at, document_at, first_of}
+use Rattle.node_arena.proofs.AtNode.{node_spot}
 use Rattle.node_arena.proofs.Changed.{path-with, changed, spot-with-other, spot-with-here}
 
 changed-keeps : (A : Type 0) (g : Spot → A) (c : Facts → Facts) → ((s : Spot) → g (record s { facts = c s.facts }) ≡ g s) → (o : Option Spot) → g (or_no_spot (changed c o)) ≡ g (or_no_spot o)

@@ -1,5 +1,5 @@
 -- The loop that looks for what follows a node in tree order: from the node up to the root of the walk.
-use Rattle.std.proofs.Common.{◌≡◌, ◌≢◌, ℕ, Bool, true, false, ◌<◌, ◌==◌, Option, Some, None, refl, ap, sym, ◌∙◌, arith, length}
+use Rattle.std.proofs.Common.{◌≡◌, ◌≢◌, ℕ, true, false, ◌<◌, ◌==◌, Option, Some, None, refl, ap, sym, ◌∙◌, arith, length}
 use Rattle.std.specs.Prelude.{is_some, not}
 use Rattle.std.proofs.lemmas.Bool.Decides.{nat_tests}
 use Rattle.node_trees.specs.Trees.{Trees}
@@ -8,7 +8,7 @@ use Rattle.node_trees.specs.Orders.{tree_order_of}
 use Rattle.node_trees.specs.Paths.{path, is_among}
 use Rattle.node_trees.specs.Spots.{parent_at, first_child_at, next_sibling_at, after}
 use Rattle.node_arena.proofs.Next.{or_else}
-use Rattle.node_arena.proofs.Following.{beyond_in, Parented, among-node, after-is, beyond-root, beyond-is, beyond-parent, among-parent, parent-there}
+use Rattle.node_arena.proofs.Following.{beyond_in, among-node, after-is, beyond-root, beyond-is, beyond-parent, among-parent, parent-there}
 use Rattle.node_arena.proofs.Above.{parent-above}
 
 -- What the loop keeps: `at` is in the tree, and what follows n is what is beyond `at`

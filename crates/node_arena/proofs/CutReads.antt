@@ -1,21 +1,17 @@
 -- The reads of a forest after a node was taken out of the children that it stood in.
-use Rattle.std.proofs.Common.{◌≡◌, ◌≢◌, ℕ, Bool, true, false, ◌+◌, ◌<◌, ◌≤◌, ◌⊎◌, ◌==◌, List, [], ◌∷◌, Option, Some, None, refl, ap, sym, ◌∙◌, subst, arith, inl, inr}
+use Rattle.std.proofs.Common.{◌≡◌, ◌≢◌, ℕ, ◌<◌, List, Option, Some, None, refl, ap, sym, ◌∙◌, subst, arith, inl, inr}
 use Rattle.std.proofs.lemmas.Bool.Decides.{nat_tests}
 use Rattle.std.proofs.lemmas.Bool.{cases_lt, cases_eq}
-use Rattle.node_trees.specs.declared.kind.NodeKind.{NodeKind}
 use Rattle.node_trees.specs.Facts.{Facts}
 use Rattle.node_trees.specs.Trees.{Trees, none, tree, tree_of, without, cut}
 use Rattle.node_trees.specs.Nodes.{times, IsNode, IsTidy}
-use Rattle.node_trees.specs.Paths.{path, is_among}
-use Rattle.node_trees.specs.Spots.{Spot, spot_of, spot_in, spot, spot_at, or_no_spot, facts_at, kind_at, document_at, parent_at, host_at, children_at}
-use Rattle.node_arena.proofs.Sums.{IsApart, tidy-apart, times-without}
-use Rattle.node_arena.proofs.Pieces.{tree_of-here}
+use Rattle.node_trees.specs.Paths.{path}
+use Rattle.node_trees.specs.Spots.{Spot, spot_in, spot, spot_at, or_no_spot, facts_at, kind_at, document_at, parent_at, host_at, children_at}
+use Rattle.node_arena.proofs.Sums.{tidy-apart, times-without}
 use Rattle.node_arena.proofs.Inside.{Found, found}
-use Rattle.node_arena.proofs.Lists.{lacking, spot_lacking, lacking-absent}
+use Rattle.node_arena.proofs.Lists.{lacking, spot_lacking}
 use Rattle.node_arena.proofs.CutSpots.{spot-place-in, spot-place-out, path-place-in, path-place-out, spot-without, path-without}
 use Rattle.node_arena.proofs.AtNode.{node_stands}
-use Rattle.node_arena.proofs.Above.{parent-above}
-use Rattle.node_arena.proofs.Family.{child-parent}
 
 -- a spot among the roots of the forest
 abbrev pub spot_at_top : Option Spot → Option Spot

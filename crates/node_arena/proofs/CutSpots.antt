@@ -1,15 +1,15 @@
 -- What stands at a node, and the path to it, after a tree was taken out or put among the roots.
-use Rattle.std.proofs.Common.{◌≡◌, ◌≢◌, ℕ, Bool, true, false, ◌+◌, ◌<◌, ◌≤◌, ◌==◌, if◌then◌else◌, List, [], ◌∷◌, ◌++◌, Option, Some, None, refl, ap, sym, ◌∙◌, subst, arith, inl, inr, append-nil, append_assoc}
+use Rattle.std.proofs.Common.{◌≡◌, ◌≢◌, ℕ, ◌+◌, Option, Some, None, refl, arith, inl, inr}
 use Rattle.std.proofs.lemmas.Bool.Decides.{nat_tests}
 use Rattle.std.proofs.lemmas.Bool.{cases_eq}
 use Rattle.node_trees.specs.Facts.{Facts}
-use Rattle.node_trees.specs.Trees.{Trees, none, tree, roots, join, tree_of, without, place}
+use Rattle.node_trees.specs.Trees.{Trees, none, tree, join, tree_of, without, place}
 use Rattle.node_trees.specs.Nodes.{times}
-use Rattle.node_trees.specs.Paths.{path, under}
-use Rattle.node_trees.specs.Spots.{Spot, spot_of, spot_in, or_spot}
+use Rattle.node_trees.specs.Paths.{path}
+use Rattle.node_trees.specs.Spots.{Spot, spot_in, or_spot}
 use Rattle.node_arena.proofs.Sums.{IsApart, apart-shadow, apart-children, apart-rest, times-join}
 use Rattle.node_arena.proofs.Pieces.{spot-absent, path-absent, tree_of-absent, tree_of-here}
-use Rattle.node_arena.proofs.Lists.{lacking, spot_lacking, roots-without}
+use Rattle.node_arena.proofs.Lists.{spot_lacking, roots-without}
 
 -- ---- trees side by side
 

@@ -1,12 +1,11 @@
 -- Tree order of one node's tree, walked by first child, next sibling and parent: no stack, and the walk stays inside that tree.
-use Rattle.std.proofs.Common.{◌≡◌, ◌≢◌, ℕ, true, ◌+◌, ◌<◌, ◌≤◌, List, [], ◌∷◌, ◌++◌, Option, Some, None, refl, ap, sym, ◌∙◌, subst, arith, inl, inr}
+use Rattle.std.proofs.Common.{◌≡◌, ◌≢◌, ℕ, true, ◌<◌, Option, Some, None, ap, sym, ◌∙◌, subst, arith}
 use Rattle.std.proofs.lemmas.Bool.Decides.{nat_tests}
-use Rattle.node_trees.specs.Facts.{Facts}
-use Rattle.node_trees.specs.Trees.{Trees, none, tree, tree_of}
+use Rattle.node_trees.specs.Trees.{Trees, tree_of}
 use Rattle.node_trees.specs.Nodes.{times, IsNode, IsTidy}
 use Rattle.node_trees.specs.Orders.{tree_order, tree_order_of}
 use Rattle.node_trees.specs.Paths.{is_among}
-use Rattle.node_trees.specs.Spots.{Spot, spot_of, spot_in, spot, parent_at, first_of, first_child_at, next_sibling_at, after}
+use Rattle.node_trees.specs.Spots.{spot_of, spot_in, parent_at, first_child_at, next_sibling_at, after}
 use Rattle.node_arena.proofs.Sums.{IsApart, tidy-apart, times-without}
 use Rattle.node_arena.proofs.Inside.{Found, found, tree_apart}
 use Rattle.node_arena.proofs.Next.{or_else, beyond, order-inside, next_is, Below, climb_tree}

@@ -1,11 +1,11 @@
 -- What is in the tree of a node has that node on its path.
-use Rattle.std.proofs.Common.{◌≡◌, ◌≢◌, ℕ, Bool, true, false, ◌+◌, ◌<◌, ◌≤◌, ◌||◌, ◌==◌, List, [], ◌∷◌, Option, refl, ap, sym, ◌∙◌, arith}
+use Rattle.std.proofs.Common.{◌≡◌, ℕ, true, ◌<◌, arith}
 use Rattle.std.proofs.lemmas.Bool.Decides.{nat_tests}
 use Rattle.node_trees.specs.Facts.{Facts}
 use Rattle.node_trees.specs.Trees.{Trees, none, tree, tree_of}
 use Rattle.node_trees.specs.Nodes.{times}
 use Rattle.node_trees.specs.Paths.{path, is_among}
-use Rattle.node_arena.proofs.Sums.{IsApart, apart-shadow, apart-children, apart-rest, Where, here, in_shadow, in_children, in_rest, stands_where, times-without}
+use Rattle.node_arena.proofs.Sums.{IsApart, apart-shadow, apart-children, apart-rest, here, in_shadow, in_children, in_rest, stands_where, times-without}
 use Rattle.node_arena.proofs.Pieces.{tree_of-here, tree_of-shadow, tree_of-children, tree_of-rest, path-here, path-shadow, path-children, path-rest}
 
 -- what is in a part of a list of trees, for its path there

@@ -1,11 +1,11 @@
 -- The tree of a node, and what stands in it.
-use Rattle.std.proofs.Common.{◌≡◌, ◌≢◌, ℕ, ◌+◌, ◌<◌, ◌≤◌, List, Option, Some, None, refl, ap, sym, ◌∙◌, arith, inl, inr}
+use Rattle.std.proofs.Common.{◌≡◌, ℕ, ◌<◌, ◌≤◌, Option, Some, None, ap, ◌∙◌, arith}
 use Rattle.std.proofs.lemmas.Bool.Decides.{nat_tests}
 use Rattle.node_trees.specs.Facts.{Facts}
-use Rattle.node_trees.specs.Trees.{Trees, none, tree, tree_of, roots}
+use Rattle.node_trees.specs.Trees.{Trees, none, tree, tree_of}
 use Rattle.node_trees.specs.Nodes.{times}
-use Rattle.node_trees.specs.Spots.{Spot, spot_of, spot_in}
-use Rattle.node_arena.proofs.Sums.{IsApart, apart-shadow, apart-children, apart-rest, Where, here, in_shadow, in_children, in_rest, stands_where, times-without}
+use Rattle.node_trees.specs.Spots.{spot_of, spot_in}
+use Rattle.node_arena.proofs.Sums.{IsApart, apart-shadow, apart-children, apart-rest, here, in_shadow, in_children, in_rest, stands_where, times-without}
 use Rattle.node_arena.proofs.Pieces.{spot-absent, spot-here, spot-shadow, spot-children, spot-rest, tree_of-here, tree_of-shadow, tree_of-children, tree_of-rest}
 
 -- the tree of n, with what stands there

@@ -37,3 +37,4 @@ pub mod CutSpots
 pub mod InPath
 pub mod CutReads
 pub mod AllowedCut
+pub mod NewReads

@@ -1,5 +1,5 @@
 -- The node that comes after another in tree order, by first child, next sibling and parent.
-use Rattle.std.proofs.Common.{◌≡◌, ◌≢◌, ℕ, Bool, true, false, ◌+◌, ◌<◌, ◌≤◌, ◌||◌, ◌==◌, if◌then◌else◌, List, [], ◌∷◌, ◌++◌, Option, Some, None, refl, ap, sym, ◌∙◌, arith, inl, inr}
+use Rattle.std.proofs.Common.{◌≡◌, ◌≢◌, ℕ, true, false, ◌<◌, ◌||◌, ◌==◌, if◌then◌else◌, List, [], ◌∷◌, ◌++◌, Option, Some, None, refl, ap, sym, ◌∙◌, arith}
 use Rattle.std.proofs.lemmas.Bool.Decides.{nat_tests}
 use Rattle.node_trees.specs.Facts.{Facts}
 use Rattle.node_trees.specs.Trees.{Trees, none, tree, roots}
@@ -7,7 +7,7 @@ use Rattle.node_trees.specs.Nodes.{times}
 use Rattle.node_trees.specs.Orders.{tree_order}
 use Rattle.node_trees.specs.Paths.{is_among}
 use Rattle.node_trees.specs.Spots.{Spot, spot_of, spot_in, first_of, after}
-use Rattle.node_arena.proofs.Sums.{IsApart, apart-children, apart-rest, Where, here, in_shadow, in_children, in_rest, stands_where}
+use Rattle.node_arena.proofs.Sums.{IsApart, apart-children, apart-rest, here, in_shadow, in_children, in_rest, stands_where}
 use Rattle.node_arena.proofs.Pieces.{spot-here, spot-children, spot-rest}
 
 -- the first of two that is there

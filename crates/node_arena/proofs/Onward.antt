@@ -1,13 +1,13 @@
 -- A search along a list, by what follows each number.
-use Rattle.std.proofs.Common.{◌≡◌, ◌≢◌, ℕ, Bool, true, false, ◌+◌, ◌<◌, ◌≤◌, ◌==◌, if◌then◌else◌, List, [], ◌∷◌, ◌++◌, Option, Some, None, refl, ap, sym, ◌∙◌, arith, inl, inr, length}
+use Rattle.std.proofs.Common.{◌≡◌, ◌≢◌, ℕ, Bool, true, false, ◌+◌, ◌<◌, ◌≤◌, ◌==◌, if◌then◌else◌, List, [], ◌∷◌, ◌++◌, Some, None, ap, arith, inl, inr, length}
 use Rattle.std.specs.List.{find}
 use Rattle.std.proofs.lemmas.Bool.Decides.{nat_tests}
 use Rattle.std.proofs.lemmas.Bool.{cases_eq}
-use Rattle.node_trees.specs.Trees.{Trees, none, tree, tree_of}
+use Rattle.node_trees.specs.Trees.{Trees, none, tree}
 use Rattle.node_trees.specs.Nodes.{times}
 use Rattle.node_trees.specs.Orders.{tree_order}
 use Rattle.node_trees.specs.Paths.{is_among}
-use Rattle.node_trees.specs.Spots.{after, first_of}
+use Rattle.node_trees.specs.Spots.{after}
 use Rattle.node_arena.proofs.Sums.{IsApart}
 
 -- the list from n on

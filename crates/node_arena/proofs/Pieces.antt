@@ -1,5 +1,5 @@
 -- What is read at a number, from the part of a list of trees that it stands in.
-use Rattle.std.proofs.Common.{◌≡◌, ◌≢◌, ℕ, ◌+◌, ◌<◌, ◌≤◌, List, [], ◌∷◌, ◌++◌, Option, Some, None, refl, ap, ◌∙◌, arith, inl, inr, length, length-append, append-nil}
+use Rattle.std.proofs.Common.{◌≡◌, ◌≢◌, ℕ, ◌+◌, ◌<◌, ◌≤◌, List, [], ◌∷◌, ◌++◌, Option, Some, None, refl, ap, arith, inl, inr, length, length-append, append-nil}
 use Rattle.std.proofs.lemmas.Bool.Decides.{nat_tests}
 use Rattle.std.proofs.lemmas.Bool.{cases_lt, cases_eq}
 use Rattle.node_trees.specs.Facts.{Facts}
@@ -7,7 +7,6 @@ use Rattle.node_trees.specs.Trees.{Trees, none, tree, join, tree_of}
 use Rattle.node_trees.specs.Nodes.{times}
 use Rattle.node_trees.specs.Spots.{Spot, spot_of, spot_in, or_spot}
 use Rattle.node_trees.specs.Paths.{path, under}
-use Rattle.node_arena.proofs.Sums.{IsApart, apart-shadow, apart-children, apart-rest, Where, here, in_shadow, in_children, in_rest, stands_where}
 
 -- ---- what stands at a number
 

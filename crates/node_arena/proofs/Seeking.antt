@@ -1,16 +1,16 @@
 -- The loop that looks for an ID along tree order.
-use Rattle.std.proofs.Common.{◌≡◌, ◌≢◌, ℕ, Bool, true, false, ◌<◌, List, Option, Some, None, refl, ap, sym, ◌∙◌, subst, length}
+use Rattle.std.proofs.Common.{◌≡◌, ℕ, true, false, ◌<◌, List, Option, Some, None, ap, sym, ◌∙◌, length}
 use Rattle.std.specs.List.{find}
 use Rattle.std.proofs.lemmas.Bool.Decides.{nat_tests}
 use Rattle.std.proofs.Common.{arith}
 use Rattle.node_trees.specs.Ids.{has_id, first_with_id}
-use Rattle.node_trees.specs.Trees.{Trees, none, tree, tree_of}
+use Rattle.node_trees.specs.Trees.{Trees, tree_of}
 use Rattle.node_trees.specs.Nodes.{IsNode, IsTidy}
-use Rattle.node_trees.specs.Orders.{tree_order, tree_order_of}
+use Rattle.node_trees.specs.Orders.{tree_order_of}
 use Rattle.node_trees.specs.Paths.{is_among}
 use Rattle.node_trees.specs.Spots.{facts_at, after}
 use Rattle.node_arena.proofs.Sums.{tidy-apart}
-use Rattle.node_arena.proofs.Inside.{Found, found, tree_apart}
+use Rattle.node_arena.proofs.Inside.{found, tree_apart}
 use Rattle.node_arena.proofs.AtNode.{node_stands}
 use Rattle.node_arena.proofs.Following.{among-node, among-root}
 use Rattle.node_arena.proofs.Onward.{AreApart, onward, order-apart, after-among, find-here, find-last, find-step, onward-less}

@@ -3,8 +3,8 @@ use Rattle.std.proofs.Common.{◌≡◌, ◌≢◌, ℕ, ◌+◌, ◌<◌, ◌�
 use Rattle.std.proofs.lemmas.Bool.Decides.{nat_tests}
 use Rattle.std.proofs.lemmas.Bool.{cases_lt, cases_eq}
 use Rattle.node_trees.specs.Facts.{Facts}
-use Rattle.node_trees.specs.Trees.{Trees, none, tree, join, tree_of, without, place, before, put, with_shadow, with_facts, single, with_node}
-use Rattle.node_trees.specs.Nodes.{weight, times, size, IsNode, IsTidy}
+use Rattle.node_trees.specs.Trees.{Trees, none, tree, join, tree_of, without, place, before, put, with_shadow}
+use Rattle.node_trees.specs.Nodes.{weight, times, IsTidy}
 
 -- no number stands twice
 abbrev pub IsApart : Trees → Type 0

@@ -91,7 +91,7 @@ module _ (f : Trees) where
       grind (arith, nat_tests, sum, whole, rest)
 
 -- a number that stands nowhere is of no node
-out_of : (f : Trees) (n : ℕ) → IsTidy f → size f < n → times n f ≡ 0
+pub out_of : (f : Trees) (n : ℕ) → IsTidy f → size f < n → times n f ≡ 0
 out_of f n a gt = elim (cases_lt 0 (times n f)) [ inl pos ↦ absurd (omega (arith, (a.only n pos).high)) | inr z ↦ omega arith ]
 
 -- the same numbers, counted again

@@ -102,7 +102,6 @@ impl Tree {
         requires before { IsNodeOrNone self.old before }
         requires may { may_insert self.old parent node before ≡ None }
         requires free { parent_at self.old node ≡ None }
-        requires other { before ≢ Some node }
         ensures ok { OnOk result (self.new ≡ graft self.old parent node before) }
         ensures size { size self.new ≡ size self.old }
         ensures err { OnErr result (self.new ≡ self.old) }

@@ -46,6 +46,7 @@ impl Tree {
         requires kind { fits AtTop node.kind ≡ true }
         ensures number { IfOk result (λ n. n ≡ size self.old + 1) }
         ensures size { OnOk result (size self.new ≡ size self.old + 1) }
+        ensures free { IfOk result (λ n. parent_at self.new n ≡ None) }
         ensures ok { OnOk result (self.new ≡ with_node (size self.old + 1) (facts_of node) self.old) }
         ensures err { OnErr result (self.new ≡ self.old) }
     {
@@ -58,6 +59,7 @@ impl Tree {
     pub fn make_document(&mut self, alloc: Global) -> Result<NodeNo, NoMemory>
         ensures number { IfOk result (λ n. n ≡ size self.old + 1) }
         ensures size { OnOk result (size self.new ≡ size self.old + 1) }
+        ensures free { IfOk result (λ n. parent_at self.new n ≡ None) }
         ensures made { OnOk result (self.new ≡ with_node (size self.old + 1) (blank Document (size self.old + 1)) self.old) }
         ensures err { OnErr result (self.new ≡ self.old) }
     {
@@ -76,6 +78,7 @@ impl Tree {
     ) -> Result<NodeNo, NoMemory>
         ensures number { IfOk result (λ n. n ≡ size self.old + 1) }
         ensures size { OnOk result (size self.new ≡ size self.old + 1) }
+        ensures free { IfOk result (λ n. parent_at self.new n ≡ None) }
         ensures made { OnOk result (self.new ≡ with_node (size self.old + 1) (new_element local is_value document) self.old) }
         ensures err { OnErr result (self.new ≡ self.old) }
     {
@@ -95,6 +98,7 @@ impl Tree {
     ) -> Result<NodeNo, NoMemory>
         ensures number { IfOk result (λ n. n ≡ size self.old + 1) }
         ensures size { OnOk result (size self.new ≡ size self.old + 1) }
+        ensures free { IfOk result (λ n. parent_at self.new n ≡ None) }
         ensures made { OnOk result (self.new ≡ with_node (size self.old + 1) (new_text chars document) self.old) }
         ensures err { OnErr result (self.new ≡ self.old) }
     {

@@ -33,6 +33,7 @@ impl Tree {
         requires placed { IsSome (parent_at self.old node) }
         ensures cut { self.new ≡ cut self.old node }
         ensures size { size self.new ≡ size self.old }
+        ensures free { parent_at self.new node ≡ None }
 
         // An insertion of this node that was allowed is still allowed; where it was to go before itself, its next
         // sibling takes its place.

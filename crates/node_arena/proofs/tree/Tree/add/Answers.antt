@@ -1,9 +1,9 @@
 use Rattle.std.proofs.Common.{◌∙◌, arith}
 use Rattle.std.proofs.lemmas.List.{length-map}
 use Rattle.std.proofs.lemmas.Result.{err_from_is_err_and}
-use Rattle.node_arena.specs.Nodes.{row}
+use Rattle.node_arena.specs.Nodes.{row, facts_of}
 use Rattle.node_arena.specs.OneForest.{seen_fact, seen_is, seen_size}
-use Rattle.node_arena.proofs.CallLemmas.{pushed, pushed_or_not}
+use Rattle.node_arena.proofs.CallLemmas.{pushed, pushed_or_not, new_free}
 use Rattle.node_arena.proofs.tree.Tree.add.Goals as goal
 
 pub invariant_of-self-inside : goal.invariant_of-self-inside
@@ -25,3 +25,8 @@ returns-clause-ok c = seen_is _ _ _ (pushed _ _ _ _ (seen_fact _ _ _ c.self.view
 pub returns-clause-size : goal.returns-clause-size
 returns-clause-size c =
     seen_size _ _ ∙ omega (arith, (seen_fact _ _ _ c.self.view_is).counted, length-map c.self.inside.nodes.items row, length-map c.push.new.self.items row, c.in_ok-push.ensures.len, c.self.inside.nodes.ok.0, c.push.new.self.ok.0)
+
+pub returns-clause-free : goal.returns-clause-free
+returns-clause-free c =
+    let a = seen_fact _ _ _ c.self.view_is in
+    rw (returns-clause-ok c, returns-clause-number c) (new_free _ c.args.self.now (facts_of c.args.node) a)

@@ -2,6 +2,7 @@ use Rattle.std.proofs.Common.{◌∙◌, arith}
 use Rattle.node_arena.specs.OneForest.{seen_fact, seen_is, seen_size}
 use Rattle.node_arena.proofs.CallLemmas.{size_written, written, removed, parent_is}
 use Rattle.node_arena.proofs.ReadLemmas.{in_range}
+use Rattle.node_arena.proofs.CutReads.{parent_at-cut-here}
 use Rattle.node_arena.proofs.AllowedCut.{may_insert-cut, may_insert-cut-itself}
 use Rattle.node_arena.proofs.tree.Tree.remove.Goals as goal
 
@@ -42,3 +43,6 @@ returns-in-Some-clause-may c = λ p b may ne. rw (returns-in-Some-clause-cut c) 
 
 pub returns-in-Some-clause-may_in_place : goal.returns-in-Some-clause-may_in_place
 returns-in-Some-clause-may_in_place c = λ p at may. rw (returns-in-Some-clause-cut c) (may_insert-cut-itself c.args.self.now p c.args.node (seen_fact _ _ _ c.self.view_is).tidy at c.requires.node may)
+
+pub returns-in-Some-clause-free : goal.returns-in-Some-clause-free
+returns-in-Some-clause-free c = rw (returns-in-Some-clause-cut c) (parent_at-cut-here c.args.self.now c.args.node (seen_fact _ _ _ c.self.view_is).tidy c.requires.node)
