@@ -1,33 +1,39 @@
 -- Rows after a call are those of the forest after it.
-use Rattle.std.proofs.Common.{◌≡◌, ◌≢◌, ℕ, ◌+◌, ◌-◌, ◌<◌, ◌≤◌, List, [], ◌∷◌, ◌++◌, Option, Some, None, refl, ap, sym, ◌∙◌, subst, arith, inl, inr, eqb, true, false, length, length-append}
+use Rattle.std.proofs.Common.{◌≡◌, ◌≢◌, ℕ, ◌+◌, ◌-◌, ◌<◌, List, [], ◌∷◌, ◌++◌, Option, Some, None, refl, ap, sym, ◌∙◌, arith, inl, inr, true, false, length-append}
 use Rattle.std.proofs.lemmas.Bool.Decides.{nat_tests}
-use Rattle.std.proofs.lemmas.Bool.{cases_lt, cases_eq}
+use Rattle.std.proofs.lemmas.Bool.{cases_eq}
 use Rattle.std.proofs.lemmas.Option.{slice_get_within}
-use Rattle.node_trees.specs.Facts.{Facts, is_element}
+use Rattle.node_trees.specs.Facts.{Facts, is_element, is_shadow_root}
 use Rattle.node_trees.specs.Trees.{Trees, none, tree, roots, tree_of, without, single, with_node, with_shadow, with_facts, cut, graft}
-use Rattle.node_trees.specs.Spots.{Spot, spot, spot_of, parent_at}
+use Rattle.node_trees.specs.Spots.{Spot, spot, spot_of, parent_at, kind_at}
 use Rattle.node_trees.specs.Insertion.{may_insert}
-use Rattle.node_trees.specs.Nodes.{AtTop, InShadow, fits, times, size, IsNode, IsTidy}
-use Rattle.node_arena.specs.Rows.{row_at, Stands, IsForest, remove_number, Grafted, Severed, Attached, Changed}
-use Rattle.node_arena.proofs.TreesLemmas.{times-without}
-use Rattle.node_arena.proofs.PartLemmas.{times_self}
-use Rattle.node_arena.proofs.TidyLemmas.{tidy_node, tidy_shadow, tidy_facts, tidy_cut, size-with_node, size-with_shadow, size-with_facts, size-cut}
-use Rattle.node_arena.proofs.MayLemmas.{May, may, Goes, goes, parent_outside, Under, under_parent, parent_of}
+use Rattle.node_trees.specs.Nodes.{times, size, IsNode}
+use Rattle.node_arena.specs.Numbers.{remove_number}
+use Rattle.node_arena.specs.Rows.{row_at, Stands, IsForest, Grafted, Severed, Attached, Changed}
+use Rattle.node_arena.proofs.Sums.{tidy-apart, times-without}
+use Rattle.node_arena.proofs.AtNode.{parent_at-is, host_at-is}
+use Rattle.node_arena.proofs.Above.{parent-above, parent-no_host}
+use Rattle.node_arena.proofs.AllowedCut.{parent-outside}
+use Rattle.node_arena.proofs.Changed.{size-with}
+use Rattle.node_arena.proofs.Sizes.{size-with_node, size-with_shadow, size-cut, new-absent}
+use Rattle.node_arena.proofs.Tidy.{tidy-with, tidy-with_node, tidy-with_shadow}
+use Rattle.node_arena.proofs.PlaceFits.{free-host}
+use Rattle.node_arena.proofs.AllowedGraft.{allowed-fits, allowed-size, allowed-tidy, tidy-cut-child}
 use Rattle.node_arena.proofs.StandsLemmas.{Standing, standing, Unlinked, Linked, Stands-without, Stands-put, Stands-frame, Stands-join, Stands-place, Stands-untouched, Stands-with_shadow, Stands-with_facts}
 use Rattle.node_arena.proofs.GetLemmas.{slice_get-append_front, slice_get-append_end}
 
 -- the row of a node is what stands at it
 pub stands_at : (rows : List Spot) (f : Trees) (n : ℕ) → IsForest rows f → IsNode f n → Standing rows n f
-stands_at rows f n a at = standing rows n f a.stands (a.tidy.once n at)
+stands_at rows f n a at = standing rows n f a.stands (tidy-apart f a.tidy) (a.tidy.once n at)
 
 pub row_is : (rows : List Spot) (f : Trees) (n : ℕ) (row : Spot) → IsForest rows f → IsNode f n → row_at rows n ≡ Some row → spot f n ≡ Some row
-row_is rows f n row a at is = let st = stands_at rows f n a at in cc (st.row, st.it.seen, is)
+row_is rows f n row a at is = let st = stands_at rows f n a at in cc (st.row, st.it.spot_is, is)
 
 node_of_row : (rows : List Spot) (f : Trees) (n : ℕ) (row : Spot) → IsForest rows f → 0 < n → row_at rows n ≡ Some row → IsNode f n
 node_of_row rows f n row a lo at = record { low = lo; high = omega (arith, lo, a.counted, slice_get_within rows (n - 1) row at) }
 
 -- a new node at the end
-pub push_forest : (rs : List Spot) (f : Trees) (x : Facts) → IsForest rs f → fits AtTop x.kind ≡ true → IsForest (rs ++ spot_of x None None none none ∷ []) (with_node (size f + 1) x f)
+pub push_forest : (rs : List Spot) (f : Trees) (x : Facts) → IsForest rs f → is_shadow_root x.kind ≡ false → IsForest (rs ++ spot_of x None None none none ∷ []) (with_node (size f + 1) x f)
 push_forest rs f x a fit =
     let row0 = spot_of x None None none none in
     let last : row_at (rs ++ row0 ∷ []) (size f + 1) ≡ Some row0 = slice_get-append_end rs row0 (size f + 1 - 1) (omega (arith, a.counted)) in
@@ -35,29 +41,28 @@ push_forest rs f x a fit =
     let top : Stands (rs ++ row0 ∷ []) None None (single (size f + 1) x) = (omega arith, last, tt, tt, tt) in
     record {
       stands = Stands-join _ None None f (single (size f + 1) x) low top;
-      tidy = tidy_node f x a.tidy fit;
-      counted = omega (arith, size-with_node f (size f + 1) x, a.counted, length-append rs (row0 ∷ []));
+      tidy = tidy-with_node f x a.tidy fit;
+      counted = omega (arith, size-with_node (size f + 1) x f, a.counted, length-append rs (row0 ∷ []));
     }
 
 -- a shadow root
-pub attach_forest : (rows rows' : List Spot) (f : Trees) (h : ℕ) (x : Facts) (it : Spot) → IsForest rows f → IsNode f h → spot f h ≡ Some it → is_element it.facts.kind ≡ true → it.shadow ≡ [] → fits InShadow x.kind ≡ true
+pub attach_forest : (rows rows' : List Spot) (f : Trees) (h : ℕ) (x : Facts) (it : Spot) → IsForest rows f → IsNode f h → spot f h ≡ Some it → is_element (kind_at f h) ≡ true → it.shadow ≡ [] → is_shadow_root x.kind ≡ true
     → Attached rows rows' h (size f + 1) x → IsForest rows' (with_shadow h (single (size f + 1) x) f)
 attach_forest rows rows' f h x it a at is element bare fit w =
     let one = a.tidy.once h at in
     let empty : (row : Spot) → row_at rows h ≡ Some row → row.shadow ≡ [] = λ row here. let same : row ≡ it = cc (row_is rows f h row a at here, is) in cc (same, bare) in
-    let gone : times (size f + 1) f ≡ 0 = elim (cases_lt 0 (times (size f + 1) f)) [ inl pos ↦ absurd (omega (arith, (a.tidy.only (size f + 1) pos).high)) | inr z ↦ omega arith ] in
     record {
-      stands = Stands-with_shadow rows rows' h (size f + 1) x w (omega arith) empty None None f gone (omega (arith, one)) a.stands;
-      tidy = tidy_shadow f h x it a.tidy at is element fit;
-      counted = omega (arith, size-with_shadow f h (size f + 1) x one, a.counted, w.length_is);
+      stands = Stands-with_shadow rows rows' h (size f + 1) x w (omega arith) empty None None f (new-absent f a.tidy) (omega (arith, one)) a.stands;
+      tidy = tidy-with_shadow f h x a.tidy at element fit;
+      counted = omega (arith, size-with_shadow h (size f + 1) x f a.tidy at, a.counted, w.length_is);
     }
 
 -- facts that change
 pub change_forest : (rows rows' : List Spot) (f : Trees) (n : ℕ) (change : Facts → Facts) → IsForest rows f → IsNode f n → ((x : Facts) → (change x).kind ≡ x.kind) → Changed rows rows' n change → IsForest rows' (with_facts n change f)
 change_forest rows rows' f n change a at same w = record {
   stands = Stands-with_facts rows rows' n change w None None f (omega (arith, a.tidy.once n at)) a.stands;
-  tidy = tidy_facts f n change a.tidy same;
-  counted = omega (arith, size-with_facts f n change, a.counted, w.length_is);
+  tidy = tidy-with f n change same a.tidy;
+  counted = omega (arith, size-with n change f, a.counted, w.length_is);
 }
 
 -- children of others
@@ -77,6 +82,9 @@ children_lack rows f n m row a other pos is =
     let same : row ≡ spot_of st.it.facts st.it.parent st.it.host st.it.shadow st.it.children = cc (is, st.row) in
     rw same (not_in_children rows n m st.it.children other st.in_children)
 
+times_self : (n : ℕ) (x : Facts) (s k : Trees) → times n (tree n x s k none) ≡ 1 + (times n s + times n k)
+times_self n x s k = grind (arith, nat_tests)
+
 -- n with its tree, and the others
 record Parted (rows : List Spot) (n : ℕ) (f : Trees) : Type 0 where
   st : Standing rows n f
@@ -93,7 +101,7 @@ parted rows n f a at =
     let st = stands_at rows f n a at in
     let it = st.it in
     let split = times-without n n f (omega (arith, one)) in
-    let here : times n (tree_of n f) ≡ 1 + (times n it.shadow + times n it.children) = ap (times n) it.is ∙ times_self n it.facts it.shadow it.children in
+    let here : times n (tree_of n f) ≡ 1 + (times n it.shadow + times n it.children) = ap (times n) it.tree_is ∙ times_self n it.facts it.shadow it.children in
     record {
       st = st;
       one = one;
@@ -101,7 +109,7 @@ parted rows n f a at =
       shadow_lacks = omega (arith, split, here, one);
       children_lack = omega (arith, split, here, one);
       all = λ i. times-without i n f (omega (arith, one));
-      lacks = λ i out. let whole : times i (tree n it.facts it.shadow it.children none) ≡ 0 = ap (times i) (sym it.is) ∙ out in (omega (arith, whole), omega (arith, whole));
+      lacks = λ i out. let whole : times i (tree n it.facts it.shadow it.children none) ≡ 0 = ap (times i) (sym it.tree_is) ∙ out in (omega (arith, whole), omega (arith, whole));
     }
 
 -- an insertion
@@ -110,26 +118,26 @@ graft_forest rows rows' f p n b a ip at is loose g =
     let parts = parted rows n f a at in
     let it = parts.st.it in
     let it_spot = spot_of it.facts it.parent it.host it.shadow it.children in
-    let no_parent : it.parent ≡ None = sym (parent_of f n it_spot it.seen) ∙ loose in
-    let ok = goes f p n b a.tidy ip at is it_spot it.seen no_parent in
-    let out_p = parent_outside f p n b a.tidy ip at is in
+    let no_parent : it.parent ≡ None = sym (parent_at-is f n it_spot it.spot_is) ∙ loose in
+    let no_host = free-host f n it_spot a.tidy at it.spot_is no_parent (allowed-fits f p n b a.tidy ip at is) in
+    let out_p = parent-outside f p n b a.tidy at is in
     let clear = parts.lacks p out_p in
     let its_row : (row : Spot) → row_at rows n ≡ Some row → row ≡ it_spot = λ row here. cc (here, parts.st.row) in
     let unlinked : Unlinked rows rows n = record {
-      others = λ m row pos ne here. let lack = children_lack rows f n m row a (λ other there same. let e = its_row other there in cc (e, same, no_parent)) pos here in rw lack here;
-      no_host = λ row here. let e = its_row row here in cc (e, ok.host);
+      others = λ m row pos ne here. let lack = children_lack rows f n m row a (λ other there same. let e = its_row other there in cc (e, same)) pos here in rw lack here;
+      no_host = λ row here. let e = its_row row here in cc (e, no_host);
     } in
     let rest : Stands rows None None (without n f) = Stands-without rows rows None None n f unlinked a.stands (omega (arith, parts.one)) in
     let linked : Linked rows rows' p n b = record { there = g.there; others = g.others } in
-    let root : row_at rows' n ≡ Some (spot_of it.facts (Some p) None it.shadow it.children) = rw ok.host at (g.moved _ parts.st.row) in
+    let root : row_at rows' n ≡ Some (spot_of it.facts (Some p) None it.shadow it.children) = rw no_host at (g.moved _ parts.st.row) in
     let under = λ (up h : Option ℕ) (t : Trees) (lacks_n : times n t ≡ 0) (lacks_p : times p t ≡ 0) (st : Stands rows up h t). Stands-untouched rows rows' p n b up h t linked lacks_n lacks_p st in
     let top : Stands rows' (Some p) None (tree n it.facts it.shadow it.children none) =
     (at.low, root, under _ _ _ parts.shadow_lacks clear.0 parts.st.in_shadow, under _ _ _ parts.children_lack clear.1 parts.st.in_children, tt) in
     let one_rest : times p (without n f) ≡ 1 = omega (arith, parts.all p, out_p, a.tidy.once p ip) in
     record {
-      stands = rw it.is (Stands-put rows rows' p n b it.facts it.shadow it.children None None (without n f) linked parts.rest_lacks (omega (arith, one_rest)) top rest);
-      tidy = ok.tidy;
-      counted = omega (arith, ok.sized, a.counted, g.length_is);
+      stands = rw it.tree_is (Stands-put rows rows' p n b it.facts it.shadow it.children None None (without n f) linked parts.rest_lacks (omega (arith, one_rest)) top rest);
+      tidy = allowed-tidy f p n b a.tidy ip at is;
+      counted = omega (arith, allowed-size f p n b a.tidy ip at is, a.counted, g.length_is);
     }
 
 -- a removal
@@ -138,11 +146,12 @@ cut_forest rows rows' f p n a at child g =
     let parts = parted rows n f a at in
     let it = parts.st.it in
     let it_spot = spot_of it.facts it.parent it.host it.shadow it.children in
-    let its_parent : it.parent ≡ Some p = sym (parent_of f n it_spot it.seen) ∙ child in
-    let up = under_parent f p n it_spot a.tidy at it.seen its_parent in
+    let its_parent : it.parent ≡ Some p = sym (parent_at-is f n it_spot it.spot_is) ∙ child in
+    let up = parent-above f n p a.tidy at child in
+    let no_host : it.host ≡ None = sym (host_at-is f n it_spot it.spot_is) ∙ parent-no_host f n a.tidy at p child in
     let clear = parts.lacks p up.outside in
     let its_row : (row : Spot) → row_at rows n ≡ Some row → row ≡ it_spot = λ row here. cc (here, parts.st.row) in
-    let root : row_at rows' n ≡ Some (spot_of it.facts None None it.shadow it.children) = rw up.host at (g.moved _ parts.st.row) in
+    let root : row_at rows' n ≡ Some (spot_of it.facts None None it.shadow it.children) = rw no_host at (g.moved _ parts.st.row) in
     let unlinked : Unlinked rows rows' n = record {
       others = λ m row lo ne is. elim (cases_eq m p) [
         | inl e ↦ rw (sym e) at (g.there row (rw (sym e) is))
@@ -150,7 +159,7 @@ cut_forest rows rows' f p n a at child g =
             let lack = children_lack rows f n m row a (λ other here claim. let e = its_row other here in let twice : Some m ≡ Some p = cc (e, claim, its_parent) in ne_p (cc)) lo is in
             rw lack (g.others m lo ne ne_p ∙ is)
       ];
-      no_host = λ row here. let e = its_row row here in cc (e, up.host);
+      no_host = λ row here. let e = its_row row here in cc (e, no_host);
     } in
     let under = λ (over h : Option ℕ) (t : Trees) (lacks_n : times n t ≡ 0) (lacks_p : times p t ≡ 0) (st : Stands rows over h t).
     Stands-frame rows rows' over h t st (λ i lo pos. g.others i lo (λ j. omega (arith, ap (λ v. times v t) j)) (λ j. omega (arith, ap (λ v. times v t) j))) in
@@ -158,7 +167,7 @@ cut_forest rows rows' f p n a at child g =
     (at.low, root, under _ _ _ parts.shadow_lacks clear.0 parts.st.in_shadow, under _ _ _ parts.children_lack clear.1 parts.st.in_children, tt) in
     let rest : Stands rows' None None (without n f) = Stands-without rows rows' None None n f unlinked a.stands (omega (arith, parts.one)) in
     record {
-      stands = rw it.is (Stands-place rows' n (tree n it.facts it.shadow it.children none) (without n f) top rest);
-      tidy = tidy_cut f n it_spot a.tidy at it.seen p its_parent;
-      counted = omega (arith, size-cut f n parts.one, a.counted, g.length_is);
+      stands = rw it.tree_is (Stands-place rows' n (tree n it.facts it.shadow it.children none) (without n f) top rest);
+      tidy = tidy-cut-child f n p a.tidy at child;
+      counted = omega (arith, size-cut f n a.tidy, a.counted, g.length_is);
     }

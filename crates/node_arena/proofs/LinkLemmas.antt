@@ -8,7 +8,8 @@ use Rattle.std.specs.Option.{option_map}
 use Rattle.node_trees.specs.Facts.{Facts}
 use Rattle.node_trees.specs.Trees.{none}
 use Rattle.node_trees.specs.Spots.{Spot, spot_of}
-use Rattle.node_arena.specs.Rows.{row_at, insert_number, remove_number, Grafted, Severed, Attached, Changed}
+use Rattle.node_arena.specs.Numbers.{insert_number, remove_number}
+use Rattle.node_arena.specs.Rows.{row_at, Grafted, Severed, Attached, Changed}
 use Rattle.node_arena.specs.Nodes.{rows, row, facts_of, IsRootOf}
 use Rattle.node_arena.specs.declared.node.Node.{Node}
 use Rattle.node_arena.proofs.GetLemmas.{slice_get-set_same, slice_get-set_other, slice_get-append_front, slice_get-append_end, slice_get-append_other}

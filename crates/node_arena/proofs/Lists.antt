@@ -1,14 +1,11 @@
 -- A list without one number.
-use Rattle.std.proofs.Common.{◌≡◌, ℕ, Bool, false, ◌==◌, if◌then◌else◌, List, [], ◌∷◌, Option, Some, None, refl, arith}
+use Rattle.std.proofs.Common.{◌≡◌, ℕ, Bool, false, List, [], ◌∷◌, Option, Some, None, refl, arith}
 use Rattle.std.specs.List.{list_any}
 use Rattle.std.proofs.lemmas.Bool.Decides.{nat_tests}
 use Rattle.node_trees.specs.Trees.{Trees, none, tree, roots, without}
 use Rattle.node_trees.specs.Paths.{is_among}
 use Rattle.node_trees.specs.Spots.{Spot}
-
-abbrev pub lacking : ℕ → List ℕ → List ℕ
-lacking n [] = []
-lacking n (m ∷ ms) = if m == n then ms else m ∷ lacking n ms
+pub use Rattle.node_arena.specs.Numbers.{remove_number as lacking}
 
 pub roots-without : (n : ℕ) (f : Trees) → roots (without n f) ≡ lacking n (roots f)
 roots-without n none = refl

@@ -1,16 +1,17 @@
 -- The shadow-including order of a tree, a node at a time.
-use Rattle.std.proofs.Common.{◌≡◌, ℕ, ◌<◌, ◌≤◌, List, [], ◌∷◌, ◌++◌, Option, Some, None, refl, ap, sym, ◌∙◌, subst, arith, inl, inr, append_assoc, append-nil}
+use Rattle.std.proofs.Common.{◌≡◌, ℕ, ◌<◌, List, [], ◌∷◌, ◌++◌, Some, None, refl, ap, sym, ◌∙◌, subst, arith, inl, inr, append_assoc, append-nil}
 use Rattle.std.proofs.lemmas.Bool.Decides.{nat_tests}
 use Rattle.std.proofs.lemmas.Bool.{cases_lt, cases_eq}
 use Rattle.node_trees.specs.Facts.{Facts}
 use Rattle.node_trees.specs.Trees.{Trees, none, tree, roots, tree_of}
-use Rattle.node_trees.specs.Spots.{Spot, spot_of, spot_in, spot}
+use Rattle.node_trees.specs.Spots.{Spot, spot_of, spot}
 use Rattle.node_trees.specs.Orders.{order}
 use Rattle.node_trees.specs.Nodes.{times, IsNode, IsTidy}
 use Rattle.node_arena.specs.Walks.{AreNodes, orders}
-use Rattle.node_arena.proofs.TreesLemmas.{times-without}
-use Rattle.node_arena.proofs.PartLemmas.{tree_of-absent, tree_of-shadow, tree_of-children, tree_of-rest, IsApart, apart_shadow, apart_children, apart_rest}
-use Rattle.node_arena.proofs.SpotLemmas.{Found, found}
+use Rattle.node_arena.proofs.Sums.{IsApart, tidy-apart, apart-shadow, apart-children, apart-rest, times-without}
+use Rattle.node_arena.proofs.Pieces.{tree_of-absent, tree_of-shadow, tree_of-children, tree_of-rest}
+use Rattle.node_arena.proofs.Inside.{Found, found}
+use Rattle.node_arena.proofs.AtNode.{node_stands}
 
 pub orders-append : (f : Trees) (ms ns : List ℕ) → orders f (ms ++ ns) ≡ orders f ms ++ orders f ns
 orders-append f [] ns = refl
@@ -42,7 +43,7 @@ order_part f none apart part = refl
 order_part f (tree m x s k r) apart part =
     let one = apart m in
     let here : tree_of m f ≡ tree m x s k none = part m (grind (arith, nat_tests)) ∙ grind (arith, nat_tests) in
-    let after = order_part f r (apart_rest m x s k r apart) (part_rest f m x s k r apart part) in
+    let after = order_part f r (apart-rest m x s k r apart) (part_rest f m x s k r apart part) in
     let first : order (tree_of m f) ≡ m ∷ (order s ++ (order k ++ [])) = ap order here in
     rw (first, sym after, append-nil (order k)) (ap (λ xs. m ∷ xs) (sym (append_assoc (order s) (order k) (order r))))
 
@@ -58,20 +59,12 @@ part_tree f (tree m x s k r) n apart part =
           let one_i = apart i in
           part i (omega arith) ∙ rw is (grind (arith, nat_tests, tree_of-absent i r))
       | inr ne ↦ elim (cases_lt 0 (times n s)) [
-        | inl a ↦ rw (tree_of-shadow n m x s k r ne (grind (arith, nat_tests)) (grind (arith, nat_tests))) (part_tree f s n (apart_shadow m x s k r apart) (part_shadow f m x s k r apart part))
+        | inl a ↦ rw (tree_of-shadow n m x s k r ne (grind (arith, nat_tests)) (grind (arith, nat_tests))) (part_tree f s n (apart-shadow m x s k r apart) (part_shadow f m x s k r apart part))
         | inr out_s ↦ elim (cases_lt 0 (times n k)) [
-          | inl a ↦ rw (tree_of-children n m x s k r ne (omega arith) (grind (arith, nat_tests))) (part_tree f k n (apart_children m x s k r apart) (part_children f m x s k r apart part))
-          | inr out_k ↦ rw (tree_of-rest n m x s k r ne (omega arith) (omega arith)) (part_tree f r n (apart_rest m x s k r apart) (part_rest f m x s k r apart part))
+          | inl a ↦ rw (tree_of-children n m x s k r ne (omega arith) (grind (arith, nat_tests))) (part_tree f k n (apart-children m x s k r apart) (part_children f m x s k r apart part))
+          | inr out_k ↦ rw (tree_of-rest n m x s k r ne (omega arith) (omega arith)) (part_tree f r n (apart-rest m x s k r apart) (part_rest f m x s k r apart part))
         ]
       ]
-    ]
-
--- no number stands twice in a tidy forest
-pub apart : (f : Trees) → IsTidy f → IsApart f
-apart f a i =
-    elim (cases_lt 0 (times i f)) [
-      | inl pos ↦ let one = a.once i (a.only i pos) in omega arith
-      | inr out ↦ omega arith
     ]
 
 -- where n stands, its tree has its parts apart, and they are parts of the forest
@@ -83,23 +76,23 @@ record Below (f : Trees) (n : ℕ) (it : Found None None n f) : Type 0 where
 below : (f : Trees) (n : ℕ) (it : Found None None n f) → IsApart f → Below f n it
 below f n it apart_f =
     record {
-      whole = λ i. omega (arith, ap (times i) it.is, times-without i n f (apart_f n), apart_f i);
-      part = subst (IsPart f) it.is (part_tree f f n apart_f (λ i pos. refl));
-      inside = λ i pos. omega (arith, pos, ap (times i) it.is, times-without i n f (apart_f n));
+      whole = λ i. omega (arith, ap (times i) it.tree_is, times-without i n f (apart_f n), apart_f i);
+      part = subst (IsPart f) it.tree_is (part_tree f f n apart_f (λ i pos. refl));
+      inside = λ i pos. omega (arith, pos, ap (times i) it.tree_is, times-without i n f (apart_f n));
     }
 
 same_spot : (f : Trees) (n : ℕ) (sp : Spot) (it : Found None None n f) → spot f n ≡ Some sp → sp ≡ spot_of it.facts it.parent it.host it.shadow it.children
-same_spot f n sp it is = cc (is, it.seen)
+same_spot f n sp it is = cc (is, it.spot_is)
 
 -- a node, and then the orders of its shadow tree and its children
 pub order_step : (f : Trees) (n : ℕ) (sp : Spot) → IsTidy f → IsNode f n → spot f n ≡ Some sp → order (tree_of n f) ≡ n ∷ orders f (sp.shadow ++ sp.children)
 order_step f n sp a at is =
-    let it = found None None n f (a.once n at) in
-    let b = below f n it (apart f a) in
-    let in_s = order_part f it.shadow (apart_shadow n it.facts it.shadow it.children none b.whole) (part_shadow f n it.facts it.shadow it.children none b.whole b.part) in
-    let in_k = order_part f it.children (apart_children n it.facts it.shadow it.children none b.whole) (part_children f n it.facts it.shadow it.children none b.whole b.part) in
+    let it = found None None n f (tidy-apart f a) (node_stands f n a at) in
+    let b = below f n it (tidy-apart f a) in
+    let in_s = order_part f it.shadow (apart-shadow n it.facts it.shadow it.children none b.whole) (part_shadow f n it.facts it.shadow it.children none b.whole b.part) in
+    let in_k = order_part f it.children (apart-children n it.facts it.shadow it.children none b.whole) (part_children f n it.facts it.shadow it.children none b.whole b.part) in
     let same = same_spot f n sp it is in
-    rw (same, it.is, orders-append f (roots it.shadow) (roots it.children), sym in_s, sym in_k, append-nil (order it.children)) refl
+    rw (same, it.tree_is, orders-append f (roots it.shadow) (roots it.children), sym in_s, sym in_k, append-nil (order it.children)) refl
 
 pub nodes-append : (f : Trees) (ms ns : List ℕ) → AreNodes f ms → AreNodes f ns → AreNodes f (ms ++ ns)
 nodes-append f [] ns a b = b
@@ -112,7 +105,7 @@ roots_are f (tree m x s k r) a within = (a.only m (within m (grind (arith, nat_t
 -- the shadow root and the children of a node are nodes
 pub links_are : (f : Trees) (n : ℕ) (sp : Spot) → IsTidy f → IsNode f n → spot f n ≡ Some sp → AreNodes f (sp.shadow ++ sp.children)
 links_are f n sp a at is =
-    let it = found None None n f (a.once n at) in
-    let b = below f n it (apart f a) in
+    let it = found None None n f (tidy-apart f a) (node_stands f n a at) in
+    let b = below f n it (tidy-apart f a) in
     let same = same_spot f n sp it is in
     rw same (nodes-append f (roots it.shadow) (roots it.children) (roots_are f it.shadow a (λ i pos. b.inside i (omega arith))) (roots_are f it.children a (λ i pos. b.inside i (omega arith))))

@@ -1,18 +1,18 @@
 -- What a node of the arena says of the forest.
-use Rattle.std.proofs.Common.{◌≡◌, ℕ, ◌-◌, ◌<◌, List, ◌∷◌, ◌++◌, Option, Some, None, refl, ap, sym, ◌∙◌, subst, arith, inl, inr, length, get_or, slice_get}
+use Rattle.std.proofs.Common.{◌≡◌, ℕ, ◌-◌, ◌<◌, List, ◌∷◌, ◌++◌, Some, refl, ap, sym, ◌∙◌, subst, arith, length, get_or, slice_get}
 use Rattle.std.proofs.lemmas.Option.{slice_get_read, slice_get-map}
 use Rattle.std.specs.Option.{option_map}
 use Rattle.std.proofs.lemmas.List.{length-map}
 use Rattle.node_trees.specs.Trees.{Trees, tree_of}
-use Rattle.node_trees.specs.Spots.{Spot, spot, children_at, or_no_spot}
+use Rattle.node_trees.specs.Spots.{Spot, spot}
 use Rattle.node_trees.specs.Orders.{order}
 use Rattle.node_trees.specs.Nodes.{IsNode, IsNodeOrNone, IsTidy}
 use Rattle.node_arena.specs.Rows.{row_at, IsForest}
 use Rattle.node_arena.specs.Nodes.{rows, row}
 use Rattle.node_arena.specs.Walks.{AreNodes, IsUp, orders, above, parent_or}
 use Rattle.node_arena.specs.declared.node.Node.{Node}
-use Rattle.node_arena.proofs.OrderLemmas.{order_step, links_are, apart}
-use Rattle.node_arena.proofs.PathLemmas.{step_up}
+use Rattle.node_arena.proofs.OrderLemmas.{order_step, links_are}
+use Rattle.node_arena.proofs.Above.{nothing, a_parent, a_host, row_above}
 use Rattle.node_arena.proofs.ForestLemmas.{row_is}
 
 row_of_node : (nodes : List Node) (n : ℕ) (node : Node) → slice_get nodes (n - 1) ≡ Some node → row_at (rows nodes) n ≡ Some (row node)
@@ -27,23 +27,20 @@ pub node_at : (nodes : List Node) (n i : ℕ) (node : Node) → i ≡ n - 1 → 
 node_at nodes n i node e lt is = rw (sym e) (slice_get_read nodes (length nodes) i node refl lt is)
 
 -- what is above a node
-pub up_is : (f : Trees) (n : ℕ) (it : Spot) → IsTidy f → IsNode f n → spot f n ≡ Some it → IsUp f n (above it)
-up_is f n it a at is =
-    elim (step_up None None n f it (apart f a) (omega (arith, a.once n at)) is) [
-      | inl top ↦ subst (IsUp f n) (sym (ap (λ v. parent_or v it.host) top.parent_is ∙ top.host_is)) top.path_is
-      | inr up ↦ subst (IsUp f n) (sym up.above_is) (a.only up.q up.inside, up.path_is)
-    ]
+up_is : (f : Trees) (n : ℕ) (it : Spot) → IsTidy f → IsNode f n → spot f n ≡ Some it → IsUp f n (above it)
+up_is f n it a at is = elim (row_above f n it a at is) [
+  | nothing e o path ↦ subst (IsUp f n) (sym (ap (λ v. parent_or v it.host) e ∙ o)) path
+  | a_parent q e o up ↦ subst (IsUp f n) (sym (ap (λ v. parent_or v it.host) e)) (up.is_node, up.path_is)
+  | a_host q e o up ↦ subst (IsUp f n) (sym (ap (λ v. parent_or v it.host) e ∙ o)) (up.is_node, up.path_is)
+]
 
 -- a parent and a host are nodes
-pub around : (f : Trees) (n : ℕ) (it : Spot) → IsTidy f → IsNode f n → spot f n ≡ Some it → IsNodeOrNone f it.parent × IsNodeOrNone f it.host
-around f n it a at is =
-    elim (step_up None None n f it (apart f a) (omega (arith, a.once n at)) is) [
-      | inl top ↦ (subst (IsNodeOrNone f) (sym top.parent_is) tt, subst (IsNodeOrNone f) (sym top.host_is) tt)
-      | inr up ↦ elim up.link [
-        | inl p ↦ (subst (IsNodeOrNone f) (sym p.0) (a.only up.q up.inside), subst (IsNodeOrNone f) (sym p.1) tt)
-        | inr h ↦ (subst (IsNodeOrNone f) (sym h.0) tt, subst (IsNodeOrNone f) (sym h.1) (a.only up.q up.inside))
-      ]
-    ]
+around : (f : Trees) (n : ℕ) (it : Spot) → IsTidy f → IsNode f n → spot f n ≡ Some it → IsNodeOrNone f it.parent × IsNodeOrNone f it.host
+around f n it a at is = elim (row_above f n it a at is) [
+  | nothing e o path ↦ (subst (IsNodeOrNone f) (sym e) tt, subst (IsNodeOrNone f) (sym o) tt)
+  | a_parent q e o up ↦ (subst (IsNodeOrNone f) (sym e) up.is_node, subst (IsNodeOrNone f) (sym o) tt)
+  | a_host q e o up ↦ (subst (IsNodeOrNone f) (sym e) tt, subst (IsNodeOrNone f) (sym o) up.is_node)
+]
 
 -- all of it, for the node that an index gives
 pub record Read (nodes : List Node) (f : Trees) (n : ℕ) (node : Node) : Type 0 where
@@ -68,6 +65,3 @@ read nodes f n i node a at e is =
       parent = near.0;
       host = near.1;
     }
-
-pub children_of : (f : Trees) (n : ℕ) (it : Spot) → spot f n ≡ Some it → children_at f n ≡ it.children
-children_of f n it is = ap (λ v. (or_no_spot v).children) is

@@ -1,15 +1,21 @@
 -- What stands in rows after a change of the rows.
-use Rattle.std.proofs.Common.{◌≡◌, ◌≢◌, ℕ, ◌+◌, ◌-◌, ◌<◌, ◌≤◌, List, [], ◌∷◌, ◌++◌, Option, Some, None, refl, ap, sym, ◌∙◌, subst, arith, inl, inr, cond, eqb, ltb, true, false, length}
+use Rattle.std.proofs.Common.{◌≡◌, ◌≢◌, ℕ, ◌<◌, ◌≤◌, List, [], Option, Some, None, refl, ap, sym, ◌∙◌, subst, arith, inl, inr, cond, ltb, true, false}
 use Rattle.std.proofs.lemmas.Bool.Decides.{nat_tests}
 use Rattle.std.proofs.lemmas.Bool.{cases_lt, cases_eq}
 use Rattle.node_trees.specs.Facts.{Facts}
 use Rattle.node_trees.specs.Trees.{Trees, none, tree, join, roots, tree_of, without, place, before, put, is_number, single, with_shadow, with_facts}
 use Rattle.node_trees.specs.Spots.{Spot, spot_of, spot_in}
 use Rattle.node_trees.specs.Nodes.{times}
-use Rattle.node_arena.specs.Rows.{row_at, Stands, remove_number, insert_number, Attached, Changed}
-use Rattle.node_arena.proofs.TreesLemmas.{without-absent}
-use Rattle.node_arena.proofs.PartLemmas.{roots-join, roots-put, roots-with_shadow, roots-with_facts, tree_of-shadow, tree_of-children, tree_of-rest}
-use Rattle.node_arena.proofs.SpotLemmas.{Found, found, spot-here, spot-shadow, spot-children, spot-rest}
+use Rattle.node_arena.specs.Numbers.{remove_number, insert_number}
+use Rattle.node_arena.specs.Rows.{row_at, Stands, Attached, Changed}
+use Rattle.node_arena.proofs.Sums.{IsApart}
+use Rattle.node_arena.proofs.Pieces.{spot-here, spot-shadow, spot-children, spot-rest, tree_of-shadow, tree_of-children, tree_of-rest}
+use Rattle.node_arena.proofs.Inside.{Found, found}
+use Rattle.node_arena.proofs.Changed.{roots-with}
+use Rattle.node_arena.proofs.CutSpots.{without-absent}
+use Rattle.node_arena.proofs.PutSpots.{roots-before, roots-put}
+use Rattle.node_arena.proofs.Lists.{roots-without}
+use Rattle.node_arena.proofs.ShadowReads.{roots-shadow}
 
 -- rows that agree on the numbers of the trees
 pub Stands-frame : (rows rows' : List Spot) (p h : Option ℕ) (f : Trees) → Stands rows p h f → ((m : ℕ) → 0 < m → 0 < times m f → row_at rows' m ≡ row_at rows m) → Stands rows' p h f
@@ -40,14 +46,14 @@ Stands-tree_of rows p h n (tree m x s k r) it st one is =
             let here : times n s ≡ 1 = grind (arith, nat_tests) in
             let no_k : times n k ≡ 0 = grind (arith, nat_tests) in
             let no_r : times n r ≡ 0 = grind (arith, nat_tests) in
-            rw (tree_of-shadow n m x s k r ne no_k no_r) (Stands-tree_of rows None (Some m) n s it st.2 here (cc (is, spot-shadow p h n m x s k r ne a)))
+            rw (tree_of-shadow n m x s k r ne no_k no_r) (Stands-tree_of rows None (Some m) n s it st.2 here (cc (is, spot-shadow p h n m x s k r ne no_k no_r)))
         | inr out ↦
             let no_s : times n s ≡ 0 = omega arith in
             elim (cases_lt 0 (times n k)) [
               | inl a ↦
                   let here : times n k ≡ 1 = grind (arith, nat_tests) in
                   let no_r : times n r ≡ 0 = grind (arith, nat_tests) in
-                  rw (tree_of-children n m x s k r ne no_s no_r) (Stands-tree_of rows (Some m) None n k it st.3 here (cc (is, spot-children p h n m x s k r ne no_s a)))
+                  rw (tree_of-children n m x s k r ne no_s no_r) (Stands-tree_of rows (Some m) None n k it st.3 here (cc (is, spot-children p h n m x s k r ne no_s no_r)))
               | inr off ↦
                   let no_k : times n k ≡ 0 = omega arith in
                   let here : times n r ≡ 1 = grind (arith, nat_tests) in
@@ -63,17 +69,13 @@ pub record Standing (rows : List Spot) (n : ℕ) (f : Trees) : Type 0 where
   pub in_shadow : Stands rows None (Some n) it.shadow
   pub in_children : Stands rows (Some n) None it.children
 
-pub standing : (rows : List Spot) (n : ℕ) (f : Trees) → Stands rows None None f → times n f ≡ 1 → Standing rows n f
-standing rows n f st one =
-    let it = found None None n f one in
-    let whole : Stands rows it.parent it.host (tree n it.facts it.shadow it.children none) = subst (Stands rows it.parent it.host) it.is (Stands-tree_of rows None None n f (spot_of it.facts it.parent it.host it.shadow it.children) st one it.seen) in
+pub standing : (rows : List Spot) (n : ℕ) (f : Trees) → Stands rows None None f → IsApart f → times n f ≡ 1 → Standing rows n f
+standing rows n f st apart one =
+    let it = found None None n f apart (omega (arith, one)) in
+    let whole : Stands rows it.parent it.host (tree n it.facts it.shadow it.children none) = subst (Stands rows it.parent it.host) it.tree_is (Stands-tree_of rows None None n f (spot_of it.facts it.parent it.host it.shadow it.children) st one it.spot_is) in
     record { it = it; row = whole.1; in_shadow = whole.2; in_children = whole.3 }
 
 -- the children without one
-
-pub roots-without : (n : ℕ) (f : Trees) → roots (without n f) ≡ remove_number n (roots f)
-roots-without n none = refl
-roots-without n (tree m x s k r) = grind (arith, nat_tests, roots-without n r)
 
 -- n is taken from the children of all others, and is no shadow root
 pub record Unlinked (rows rows' : List Spot) (n : ℕ) : Type 0 where
@@ -118,10 +120,6 @@ Stands-place rows n t (tree m x s k r) new st =
     ]
 
 -- the children with one more
-
-pub roots-before : (b : Option ℕ) (n : ℕ) (x : Facts) (s k f : Trees) → roots (before b (tree n x s k none) f) ≡ insert_number b n (roots f)
-roots-before b n x s k none = refl
-roots-before b n x s k (tree m y t l r) = grind (arith, roots-before b n x s k r)
 
 -- n is put among the children of p
 pub record Linked (rows rows' : List Spot) (p n : ℕ) (b : Option ℕ) : Type 0 where
@@ -207,7 +205,7 @@ module _ (rows rows' : List Spot) (h n : ℕ) (y : Facts) (at : Attached rows ro
             let here = at.others m st.0 apart ne in
             subst (Stands rows' p q) (sym is) (
               st.0,
-              rw (roots-with_shadow h (single n y) s, roots-with_shadow h (single n y) k) (here ∙ st.1),
+              rw (roots-shadow h (single n y) s, roots-shadow h (single n y) k) (here ∙ st.1),
               Stands-with_shadow None (Some m) s (omega arith) (omega arith) st.2,
               Stands-with_shadow (Some m) None k (omega arith) (omega arith) st.3,
               Stands-with_shadow p q r (omega arith) (omega arith) st.4,
@@ -237,7 +235,7 @@ module _ (rows rows' : List Spot) (n : ℕ) (change : Facts → Facts) (ch : Cha
             let here = ch.others m st.0 ne in
             subst (Stands rows' p q) (sym is) (
               st.0,
-              rw (roots-with_facts n change s, roots-with_facts n change k) (here ∙ st.1),
+              rw (roots-with n change s, roots-with n change k) (here ∙ st.1),
               Stands-with_facts None (Some m) s (omega arith) st.2,
               Stands-with_facts (Some m) None k (omega arith) st.3,
               Stands-with_facts p q r (omega arith) st.4,

@@ -1,9 +1,10 @@
 -- Nodes that are linked by their numbers, as rows, and the forest that rows stand for.
-use Rattle.std.specs.Prelude.{◌≡◌, ◌≢◌, ℕ, ◌+◌, ◌-◌, ◌<◌, ◌==◌, if◌then◌else◌, List, [], ◌∷◌, length, slice_get, Option, Some, None, ⊤}
+use Rattle.std.specs.Prelude.{◌≡◌, ◌≢◌, ℕ, ◌+◌, ◌-◌, ◌<◌, List, [], ◌∷◌, length, slice_get, Option, Some, None, ⊤}
 use Rattle.node_trees.specs.Facts.{Facts}
-use Rattle.node_trees.specs.Trees.{Trees, none, tree, is_number}
+use Rattle.node_trees.specs.Trees.{Trees, none, tree}
 use Rattle.node_trees.specs.Spots.{Spot, spot_of}
 use Rattle.node_trees.specs.Nodes.{size, IsTidy}
+use Rattle.node_arena.specs.Numbers.{remove_number, insert_number}
 
 -- the row of the node n; the first row is that of node 1
 abbrev pub row_at : List Spot → ℕ → Option Spot
@@ -21,22 +22,6 @@ pub record IsForest (rows : List Spot) (forest : Trees) : Type 0 where
   pub stands : Stands rows None None forest
   pub tidy : IsTidy forest
   pub counted : size forest ≡ length rows
-
--- lists of numbers
-
-abbrev pub remove_number : ℕ → List ℕ → List ℕ
-remove_number n [] = []
-remove_number n (m ∷ ms) = if m == n then ms else m ∷ remove_number n ms
-
--- n put before b, or at the end
-abbrev pub insert_number : Option ℕ → ℕ → List ℕ → List ℕ
-insert_number b n [] = n ∷ []
-insert_number b n (m ∷ ms) = if is_number b m then n ∷ m ∷ ms else m ∷ insert_number b n ms
-
--- where n stands first; the length where it does not
-abbrev pub first_place : ℕ → List ℕ → ℕ
-first_place n [] = 0
-first_place n (m ∷ ms) = if m == n then 0 else first_place n ms + 1
 
 -- what a call writes into the rows
 

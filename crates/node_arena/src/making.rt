@@ -1,10 +1,10 @@
 // New nodes.
-ghost use Rattle.std.specs.Prelude.{◌≡◌, ◌+◌, ◌<◌, ◌≤◌, ◌∷◌, [], None, true, length, IfOk, OnOk, OnErr};
+ghost use Rattle.std.specs.Prelude.{◌≡◌, ◌+◌, ◌<◌, ◌≤◌, ◌∷◌, [], None, false, length, IfOk, OnOk, OnErr};
 ghost use Rattle.node_trees.specs.declared.kind.NodeKind.TheVariants.{Document, Element, ShadowRoot};
-ghost use Rattle.node_trees.specs.Facts.{blank, new_element, new_text};
+ghost use Rattle.node_trees.specs.Facts.{blank, new_element, new_text, is_shadow_root};
 ghost use Rattle.node_trees.specs.Trees.{single, with_node, with_shadow};
 ghost use Rattle.node_trees.specs.Spots.{kind_at, document_at, parent_at, shadow_at};
-ghost use Rattle.node_trees.specs.Nodes.{AtTop, fits, size, IsNode};
+ghost use Rattle.node_trees.specs.Nodes.{size, IsNode};
 ghost use Rattle.node_arena.specs.Nodes.{facts_of, rows, IsLoose, IsRootOf};
 ghost use Rattle.node_arena.specs.Rows.{Attached};
 
@@ -43,7 +43,7 @@ impl Tree {
     /// Puts a node at the end, as a root.
     fn add(&mut self, node: Node) -> Result<NodeNo, NoMemory>
         requires loose { IsLoose node }
-        requires kind { fits AtTop node.kind ≡ true }
+        requires kind { is_shadow_root node.kind ≡ false }
         ensures number { IfOk result (λ n. n ≡ size self.old + 1) }
         ensures size { OnOk result (size self.new ≡ size self.old + 1) }
         ensures free { IfOk result (λ n. parent_at self.new n ≡ None) }

@@ -1,5 +1,5 @@
-use Rattle.std.proofs.Common.{◌≡◌, sym, ◌∙◌, ap, arith, add-one, slice_get}
-use Rattle.node_arena.specs.Rows.{first_place}
+use Rattle.std.proofs.Common.{◌≡◌, sym, ◌∙◌, arith, add-one}
+use Rattle.node_arena.specs.Numbers.{first_place}
 use Rattle.node_arena.proofs.NumberLemmas.{after-first_place, after-absent}
 use Rattle.node_arena.proofs.children.next_of.Goals as goal
 

@@ -1,4 +1,4 @@
-use Rattle.std.proofs.Common.{◌≡◌, sym, ◌∙◌, ap, arith, refl}
+use Rattle.std.proofs.Common.{◌∙◌, ap, refl}
 use Rattle.node_trees.specs.Facts.{without_value, value_in}
 use Rattle.node_arena.proofs.LinkLemmas.{attributes_changed, facts_read}
 use Rattle.node_arena.proofs.facts.remove_attribute.Goals as goal

@@ -1,7 +1,6 @@
-use Rattle.std.proofs.Common.{◌≡◌, sym, ◌∙◌, ap, arith, refl}
-use Rattle.std.proofs.lemmas.Result.{err_from_is_err_and}
+use Rattle.std.proofs.Common.{◌∙◌, ap, refl}
 use Rattle.node_trees.specs.Facts.{with_value, value_in}
-use Rattle.node_arena.proofs.LinkLemmas.{attributes_changed, attributes_same, facts_read}
+use Rattle.node_arena.proofs.LinkLemmas.{attributes_changed, facts_read}
 use Rattle.node_arena.proofs.facts.set_attribute.Goals as goal
 
 pub returns-clause-ok : goal.returns-clause-ok

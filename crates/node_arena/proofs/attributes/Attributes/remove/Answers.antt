@@ -2,7 +2,6 @@ use Rattle.std.proofs.Common.{◌≡◌, sym, ◌∙◌, ap, arith}
 use Rattle.node_arena.specs.Attributes.{name_place}
 use Rattle.node_arena.proofs.AttributeLemmas.{value_there, value_in-absent, without_value-place, without_value-absent}
 use Rattle.node_arena.proofs.attributes.Attributes.remove.Goals as goal
-use Rattle.std.specs.Prelude.{Some}
 
 pub returns-then-at-len-clause-left : goal.returns-then-at-len-clause-left
 returns-then-at-len-clause-left c =
