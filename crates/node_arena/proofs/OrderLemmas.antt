@@ -1,7 +1,6 @@
 -- The shadow-including order of a tree, a node at a time.
-use Rattle.std.proofs.Common.{◌≡◌, ℕ, ◌<◌, List, [], ◌∷◌, ◌++◌, Some, None, refl, ap, sym, ◌∙◌, subst, arith, inl, inr, append_assoc, append-nil}
+use Rattle.std.proofs.Common.{◌≡◌, ℕ, ◌<◌, List, [], ◌∷◌, ◌++◌, Some, None, refl, ap, sym, ◌∙◌, subst, arith, append_assoc, append-nil}
 use Rattle.std.proofs.lemmas.Bool.Decides.{nat_tests}
-use Rattle.std.proofs.lemmas.Bool.{cases_lt, cases_eq}
 use Rattle.node_trees.specs.Facts.{Facts}
 use Rattle.node_trees.specs.Trees.{Trees, none, tree, roots, tree_of}
 use Rattle.node_trees.specs.Spots.{Spot, spot_of, spot}
@@ -9,17 +8,14 @@ use Rattle.node_trees.specs.Orders.{order}
 use Rattle.node_trees.specs.Nodes.{times, IsNode, IsTidy}
 use Rattle.node_arena.specs.Walks.{AreNodes, orders}
 use Rattle.node_arena.proofs.Sums.{IsApart, tidy-apart, apart-shadow, apart-children, apart-rest, times-without}
-use Rattle.node_arena.proofs.Pieces.{tree_of-absent, tree_of-shadow, tree_of-children, tree_of-rest}
+use Rattle.node_arena.proofs.Pieces.{tree_of-shadow, tree_of-children, tree_of-rest}
 use Rattle.node_arena.proofs.Inside.{Found, found}
 use Rattle.node_arena.proofs.AtNode.{node_stands}
+use Rattle.node_arena.proofs.OrderSteps.{IsPart, tree_of-inside}
 
 pub orders-append : (f : Trees) (ms ns : List ℕ) → orders f (ms ++ ns) ≡ orders f ms ++ orders f ns
 orders-append f [] ns = refl
 orders-append f (m ∷ ms) ns = ap (λ xs. order (tree_of m f) ++ xs) (orders-append f ms ns) ∙ sym (append_assoc (order (tree_of m f)) (orders f ms) (orders f ns))
-
--- the trees in g are those of f
-abbrev pub IsPart : Trees → Trees → Type 0
-IsPart f g = (n : ℕ) → 0 < times n g → tree_of n f ≡ tree_of n g
 
 module _ (f : Trees) (m : ℕ) (x : Facts) (s k r : Trees) (apart : IsApart (tree m x s k r)) (part : IsPart f (tree m x s k r)) where
   pub part_shadow : IsPart f s
@@ -47,37 +43,18 @@ order_part f (tree m x s k r) apart part =
     let first : order (tree_of m f) ≡ m ∷ (order s ++ (order k ++ [])) = ap order here in
     rw (first, sym after, append-nil (order k)) (ap (λ xs. m ∷ xs) (sym (append_assoc (order s) (order k) (order r))))
 
-pub part_tree : (f g : Trees) (n : ℕ) → IsApart g → IsPart f g → IsPart f (tree_of n g)
-part_tree f none n apart part = part
-part_tree f (tree m x s k r) n apart part =
-    let one_n = apart n in
-    elim (cases_eq m n) [
-      | inl e ↦
-          let is : tree_of n (tree m x s k r) ≡ tree m x s k none = grind (arith, nat_tests) in
-          λ i pos.
-          let inside : 0 < times i (tree m x s k none) = rw is at pos in
-          let one_i = apart i in
-          part i (omega arith) ∙ rw is (grind (arith, nat_tests, tree_of-absent i r))
-      | inr ne ↦ elim (cases_lt 0 (times n s)) [
-        | inl a ↦ rw (tree_of-shadow n m x s k r ne (grind (arith, nat_tests)) (grind (arith, nat_tests))) (part_tree f s n (apart-shadow m x s k r apart) (part_shadow f m x s k r apart part))
-        | inr out_s ↦ elim (cases_lt 0 (times n k)) [
-          | inl a ↦ rw (tree_of-children n m x s k r ne (omega arith) (grind (arith, nat_tests))) (part_tree f k n (apart-children m x s k r apart) (part_children f m x s k r apart part))
-          | inr out_k ↦ rw (tree_of-rest n m x s k r ne (omega arith) (omega arith)) (part_tree f r n (apart-rest m x s k r apart) (part_rest f m x s k r apart part))
-        ]
-      ]
-    ]
-
 -- where n stands, its tree has its parts apart, and they are parts of the forest
 record Below (f : Trees) (n : ℕ) (it : Found None None n f) : Type 0 where
   whole : IsApart (tree n it.facts it.shadow it.children none)
   part : IsPart f (tree n it.facts it.shadow it.children none)
   inside : (i : ℕ) → 0 < times i (tree n it.facts it.shadow it.children none) → 0 < times i f
 
-below : (f : Trees) (n : ℕ) (it : Found None None n f) → IsApart f → Below f n it
-below f n it apart_f =
+below : (f : Trees) (n : ℕ) (it : Found None None n f) → IsTidy f → IsNode f n → Below f n it
+below f n it tidy at =
+    let apart_f = tidy-apart f tidy in
     record {
       whole = λ i. omega (arith, ap (times i) it.tree_is, times-without i n f (apart_f n), apart_f i);
-      part = subst (IsPart f) it.tree_is (part_tree f f n apart_f (λ i pos. refl));
+      part = subst (IsPart f) it.tree_is (λ i pos. tree_of-inside n i f apart_f (node_stands f n tidy at) pos);
       inside = λ i pos. omega (arith, pos, ap (times i) it.tree_is, times-without i n f (apart_f n));
     }
 
@@ -88,7 +65,7 @@ same_spot f n sp it is = cc (is, it.spot_is)
 pub order_step : (f : Trees) (n : ℕ) (sp : Spot) → IsTidy f → IsNode f n → spot f n ≡ Some sp → order (tree_of n f) ≡ n ∷ orders f (sp.shadow ++ sp.children)
 order_step f n sp a at is =
     let it = found None None n f (tidy-apart f a) (node_stands f n a at) in
-    let b = below f n it (tidy-apart f a) in
+    let b = below f n it a at in
     let in_s = order_part f it.shadow (apart-shadow n it.facts it.shadow it.children none b.whole) (part_shadow f n it.facts it.shadow it.children none b.whole b.part) in
     let in_k = order_part f it.children (apart-children n it.facts it.shadow it.children none b.whole) (part_children f n it.facts it.shadow it.children none b.whole b.part) in
     let same = same_spot f n sp it is in
@@ -106,6 +83,6 @@ roots_are f (tree m x s k r) a within = (a.only m (within m (grind (arith, nat_t
 pub links_are : (f : Trees) (n : ℕ) (sp : Spot) → IsTidy f → IsNode f n → spot f n ≡ Some sp → AreNodes f (sp.shadow ++ sp.children)
 links_are f n sp a at is =
     let it = found None None n f (tidy-apart f a) (node_stands f n a at) in
-    let b = below f n it (tidy-apart f a) in
+    let b = below f n it a at in
     let same = same_spot f n sp it is in
     rw same (nodes-append f (roots it.shadow) (roots it.children) (roots_are f it.shadow a (λ i pos. b.inside i (omega arith))) (roots_are f it.children a (λ i pos. b.inside i (omega arith))))
