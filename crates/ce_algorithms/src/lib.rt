@@ -5,7 +5,9 @@
 #![tactic(auto)]
 
 mod event;
+mod laws;
 mod note;
 
 pub use event::{Answer, Cause, Event, Given};
+pub use laws::{worked_callbacks, worked_first, worked_traces, worked_upgrades};
 pub use note::Note;

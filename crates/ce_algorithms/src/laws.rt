@@ -1,0 +1,43 @@
+// What holds of the definitions: statements, each proved as the contract of a function that does nothing.
+ghost use Rattle.std.specs.Prelude.{◌≡◌, true, false};
+ghost use Rattle.ce_algorithms.specs.Logs as logs;
+ghost use Rattle.ce_algorithms.specs.Script.{is_spent};
+ghost use Rattle.ce_algorithms.specs.Scripts as scripts;
+ghost use Rattle.ce_algorithms.specs.Worked.{seen, traced, worked};
+
+/// The model computes: the first script, with nine units of fuel, which are just enough.
+#[tactic(auto, using(crate::proofs::Rows::first_enough, crate::proofs::Rows::first_logs, crate::proofs::Rows::first_spends))]
+pub fn worked_first()
+    ensures enough { is_spent (worked 9 scripts.first) ≡ false }
+    ensures just_enough { is_spent (worked 8 scripts.first) ≡ true }
+    ensures first { seen scripts.first ≡ logs.first }
+{}
+
+/// The model computes: queues and callbacks.
+#[tactic(auto, using(crate::proofs::Rows::inner_queue_logs, crate::proofs::Rows::reentry_logs, crate::proofs::Rows::try_logs, crate::proofs::Rows::connected_logs, crate::proofs::Rows::adopted_logs, crate::proofs::Rows::tree_logs))]
+pub fn worked_callbacks()
+    ensures inner_queue { seen scripts.inner_queue ≡ logs.inner_queue }
+    ensures reentry { seen scripts.reentry ≡ logs.reentry }
+    ensures faults { seen scripts.try_ ≡ logs.try_ }
+    ensures connected { seen scripts.connected ≡ logs.connected }
+    ensures adopted { seen scripts.adopted ≡ logs.adopted }
+    ensures tree { seen scripts.tree ≡ logs.tree }
+{}
+
+/// The model computes: upgrades, creations and constructors.
+#[tactic(auto, using(crate::proofs::Rows::candidates_logs, crate::proofs::Rows::upgrade_throws_logs, crate::proofs::Rows::create_throws_logs, crate::proofs::Rows::construction_logs, crate::proofs::Rows::constructors_logs, crate::proofs::Rows::extends_logs))]
+pub fn worked_upgrades()
+    ensures candidates { seen scripts.candidates ≡ logs.candidates }
+    ensures upgrade_throws { seen scripts.upgrade_throws ≡ logs.upgrade_throws }
+    ensures create_throws { seen scripts.create_throws ≡ logs.create_throws }
+    ensures construction { seen scripts.construction ≡ logs.construction }
+    ensures constructors { seen scripts.constructors ≡ logs.constructors }
+    ensures extends { seen scripts.extends ≡ logs.extends }
+{}
+
+/// The model computes: upgrades with their trace.
+#[tactic(auto, using(crate::proofs::Rows::traced_logs, crate::proofs::Rows::traced_throws_logs))]
+pub fn worked_traces()
+    ensures done { traced scripts.traced ≡ logs.traced }
+    ensures threw { traced scripts.traced_throws ≡ logs.traced_throws }
+{}
