@@ -22,67 +22,72 @@ unfolding model chars custom_name local_name attr_name
 first_spends = refl
 
 -- a class that logs its attribute's changes, its definition, an element, and a change to an equal value
-pub first_logs : seen scripts.first ≡ logs.first
+pub first_logs : seen 1000 scripts.first ≡ logs.first
 unfolding model chars custom_name local_name attr_name shadow_host known_html digits
 first_logs = refl
 
+-- definitions that are refused
+pub definitions_logs : seen 1000 scripts.definitions ≡ logs.definitions
+unfolding model chars custom_name local_name attr_name shadow_host known_html digits
+definitions_logs = refl
+
 -- elements that are there when they are defined, upgraded in shadow-including tree order
-pub candidates_logs : seen scripts.candidates ≡ logs.candidates
+pub candidates_logs : seen 1000 scripts.candidates ≡ logs.candidates
 unfolding model chars custom_name local_name attr_name shadow_host known_html digits
 candidates_logs = refl
 
 -- a callback's own operation runs all that waits at an element of its queue
-pub inner_queue_logs : seen scripts.inner_queue ≡ logs.inner_queue
+pub inner_queue_logs : seen 1000 scripts.inner_queue ≡ logs.inner_queue
 unfolding model chars custom_name local_name attr_name shadow_host known_html digits
 inner_queue_logs = refl
 
 -- a callback that calls itself, with a counter
-pub reentry_logs : seen scripts.reentry ≡ logs.reentry
+pub reentry_logs : seen 1000 scripts.reentry ≡ logs.reentry
 unfolding model chars custom_name local_name attr_name shadow_host known_html digits
 reentry_logs = refl
 
 -- an upgrade whose constructor throws
-pub upgrade_throws_logs : seen scripts.upgrade_throws ≡ logs.upgrade_throws
+pub upgrade_throws_logs : seen 1000 scripts.upgrade_throws ≡ logs.upgrade_throws
 unfolding model chars custom_name local_name attr_name shadow_host known_html digits
 upgrade_throws_logs = refl
 
 -- a creation whose constructor throws
-pub create_throws_logs : seen scripts.create_throws ≡ logs.create_throws
+pub create_throws_logs : seen 1000 scripts.create_throws ≡ logs.create_throws
 unfolding model chars custom_name local_name attr_name shadow_host known_html digits
 create_throws_logs = refl
 
 -- construction stacks, and constructors that give another node
-pub construction_logs : seen scripts.construction ≡ logs.construction
+pub construction_logs : seen 1000 scripts.construction ≡ logs.construction
 unfolding model chars custom_name local_name attr_name shadow_host known_html digits
 construction_logs = refl
 
 -- adoptions, through a shadow tree too
-pub adopted_logs : seen scripts.adopted ≡ logs.adopted
+pub adopted_logs : seen 1000 scripts.adopted ≡ logs.adopted
 unfolding model chars custom_name local_name attr_name shadow_host known_html digits
 adopted_logs = refl
 
 -- insertions that are refused, and shadow roots
-pub tree_logs : seen scripts.tree ≡ logs.tree
+pub tree_logs : seen 1000 scripts.tree ≡ logs.tree
 unfolding model chars custom_name local_name attr_name shadow_host known_html digits
 tree_logs = refl
 
 -- elements connected and disconnected, through a shadow tree too
-pub connected_logs : seen scripts.connected ≡ logs.connected
+pub connected_logs : seen 1000 scripts.connected ≡ logs.connected
 unfolding model chars custom_name local_name attr_name shadow_host known_html digits
 connected_logs = refl
 
 -- definitions that extend an element, with clones
-pub extends_logs : seen scripts.extends ≡ logs.extends
+pub extends_logs : seen 1000 scripts.extends ≡ logs.extends
 unfolding model chars custom_name local_name attr_name shadow_host known_html digits
 extends_logs = refl
 
 -- constructors with two base calls, and without one
-pub constructors_logs : seen scripts.constructors ≡ logs.constructors
+pub constructors_logs : seen 1000 scripts.constructors ≡ logs.constructors
 unfolding model chars custom_name local_name attr_name shadow_host known_html digits
 constructors_logs = refl
 
 -- faults that a body catches, and the text that it keeps
-pub try_logs : seen scripts.try_ ≡ logs.try_
+pub try_logs : seen 1000 scripts.try_ ≡ logs.try_
 unfolding model chars custom_name local_name attr_name shadow_host known_html digits
 try_logs = refl
 
@@ -90,6 +95,11 @@ try_logs = refl
 pub traced_logs : traced scripts.traced ≡ logs.traced
 unfolding model chars custom_name local_name attr_name shadow_host known_html digits
 traced_logs = refl
+
+-- a callback that calls itself until the fuel is spent
+pub endless_logs : seen 20 scripts.endless ≡ logs.endless
+unfolding model chars custom_name local_name attr_name shadow_host known_html digits
+endless_logs = refl
 
 -- an upgrade that throws, with its trace
 pub traced_throws_logs : traced scripts.traced_throws ≡ logs.traced_throws

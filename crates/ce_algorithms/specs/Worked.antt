@@ -17,6 +17,6 @@ worked fuel script = run_lines model 1 script (start true fuel)
 abbrev pub traced : List (Result Said Bad) → List Event
 traced script = log_of (worked 1000 script)
 
--- the same without the trace
-abbrev pub seen : List (Result Said Bad) → List Event
-seen script = filter (λ e. not (is_trace e)) (traced script)
+-- its log without the trace
+abbrev pub seen : ℕ → List (Result Said Bad) → List Event
+seen fuel script = filter (λ e. not (is_trace e)) (log_of (worked fuel script))

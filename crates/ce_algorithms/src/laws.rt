@@ -10,29 +10,31 @@ ghost use Rattle.ce_algorithms.specs.Worked.{seen, traced, worked};
 pub fn worked_first()
     ensures enough { is_spent (worked 9 scripts.first) ≡ false }
     ensures just_enough { is_spent (worked 8 scripts.first) ≡ true }
-    ensures first { seen scripts.first ≡ logs.first }
+    ensures first { seen 1000 scripts.first ≡ logs.first }
 {}
 
 /// The model computes: queues and callbacks.
-#[tactic(auto, using(crate::proofs::Rows::inner_queue_logs, crate::proofs::Rows::reentry_logs, crate::proofs::Rows::try_logs, crate::proofs::Rows::connected_logs, crate::proofs::Rows::adopted_logs, crate::proofs::Rows::tree_logs))]
+#[tactic(auto, using(crate::proofs::Rows::inner_queue_logs, crate::proofs::Rows::reentry_logs, crate::proofs::Rows::try_logs, crate::proofs::Rows::connected_logs, crate::proofs::Rows::adopted_logs, crate::proofs::Rows::tree_logs, crate::proofs::Rows::endless_logs))]
 pub fn worked_callbacks()
-    ensures inner_queue { seen scripts.inner_queue ≡ logs.inner_queue }
-    ensures reentry { seen scripts.reentry ≡ logs.reentry }
-    ensures faults { seen scripts.try_ ≡ logs.try_ }
-    ensures connected { seen scripts.connected ≡ logs.connected }
-    ensures adopted { seen scripts.adopted ≡ logs.adopted }
-    ensures tree { seen scripts.tree ≡ logs.tree }
+    ensures inner_queue { seen 1000 scripts.inner_queue ≡ logs.inner_queue }
+    ensures reentry { seen 1000 scripts.reentry ≡ logs.reentry }
+    ensures faults { seen 1000 scripts.try_ ≡ logs.try_ }
+    ensures connected { seen 1000 scripts.connected ≡ logs.connected }
+    ensures adopted { seen 1000 scripts.adopted ≡ logs.adopted }
+    ensures tree { seen 1000 scripts.tree ≡ logs.tree }
+    ensures endless { seen 20 scripts.endless ≡ logs.endless }
 {}
 
 /// The model computes: upgrades, creations and constructors.
-#[tactic(auto, using(crate::proofs::Rows::candidates_logs, crate::proofs::Rows::upgrade_throws_logs, crate::proofs::Rows::create_throws_logs, crate::proofs::Rows::construction_logs, crate::proofs::Rows::constructors_logs, crate::proofs::Rows::extends_logs))]
+#[tactic(auto, using(crate::proofs::Rows::candidates_logs, crate::proofs::Rows::upgrade_throws_logs, crate::proofs::Rows::create_throws_logs, crate::proofs::Rows::construction_logs, crate::proofs::Rows::constructors_logs, crate::proofs::Rows::extends_logs, crate::proofs::Rows::definitions_logs))]
 pub fn worked_upgrades()
-    ensures candidates { seen scripts.candidates ≡ logs.candidates }
-    ensures upgrade_throws { seen scripts.upgrade_throws ≡ logs.upgrade_throws }
-    ensures create_throws { seen scripts.create_throws ≡ logs.create_throws }
-    ensures construction { seen scripts.construction ≡ logs.construction }
-    ensures constructors { seen scripts.constructors ≡ logs.constructors }
-    ensures extends { seen scripts.extends ≡ logs.extends }
+    ensures candidates { seen 1000 scripts.candidates ≡ logs.candidates }
+    ensures upgrade_throws { seen 1000 scripts.upgrade_throws ≡ logs.upgrade_throws }
+    ensures create_throws { seen 1000 scripts.create_throws ≡ logs.create_throws }
+    ensures construction { seen 1000 scripts.construction ≡ logs.construction }
+    ensures constructors { seen 1000 scripts.constructors ≡ logs.constructors }
+    ensures extends { seen 1000 scripts.extends ≡ logs.extends }
+    ensures definitions { seen 1000 scripts.definitions ≡ logs.definitions }
 {}
 
 /// The model computes: upgrades with their trace.
