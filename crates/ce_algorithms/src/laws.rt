@@ -1,9 +1,19 @@
 // What holds of the definitions: statements, each proved as the contract of a function that does nothing.
 ghost use Rattle.std.specs.Prelude.{◌≡◌, true, false};
+ghost use Rattle.ce_algorithms.specs.Calls.{Call};
 ghost use Rattle.ce_algorithms.specs.Logs as logs;
+ghost use Rattle.ce_algorithms.specs.Model.{level, model};
 ghost use Rattle.ce_algorithms.specs.Script.{is_spent};
 ghost use Rattle.ce_algorithms.specs.Scripts as scripts;
+ghost use Rattle.ce_algorithms.specs.State.{State};
 ghost use Rattle.ce_algorithms.specs.Worked.{seen, traced, worked};
+
+/// Each algorithm calls the others as they are: the model is the fixed point of its algorithms, however
+/// many levels of them are counted.
+#[tactic(auto, using(crate::proofs::Steady::model_level))]
+pub fn each_calls_the_others()
+    ensures { (call : Call) (s : State) → model call s ≡ level model call s }
+{}
 
 /// The model computes: the first script, with nine units of fuel, which are just enough.
 #[tactic(auto, using(crate::proofs::Rows::first_enough, crate::proofs::Rows::first_logs, crate::proofs::Rows::first_spends))]

@@ -9,5 +9,7 @@ mod laws;
 mod note;
 
 pub use event::{Answer, Cause, Event, Given};
-pub use laws::{worked_callbacks, worked_first, worked_traces, worked_upgrades};
+pub use laws::{
+    each_calls_the_others, worked_callbacks, worked_first, worked_traces, worked_upgrades,
+};
 pub use note::Note;
