@@ -1,18 +1,37 @@
 // What holds of the definitions: statements, each proved as the contract of a function that does nothing.
-ghost use Rattle.std.specs.Prelude.{◌≡◌, true, false};
+ghost use Rattle.std.specs.Prelude.{◌≡◌, ℕ, List, Result, true, false};
+ghost use Rattle.rule_lines.specs.Acts.{Said};
+ghost use Rattle.rule_lines.specs.declared.line.Cmd.{Cmd};
+ghost use Rattle.rule_tokens.specs.declared.refused.Bad.{Bad};
 ghost use Rattle.ce_algorithms.specs.Calls.{Call};
+ghost use Rattle.ce_algorithms.specs.declared.event.Event.{Event};
 ghost use Rattle.ce_algorithms.specs.Logs as logs;
 ghost use Rattle.ce_algorithms.specs.Model.{level, model};
 ghost use Rattle.ce_algorithms.specs.Script.{is_spent};
 ghost use Rattle.ce_algorithms.specs.Scripts as scripts;
+ghost use Rattle.ce_algorithms.specs.Session.{command, run_line};
 ghost use Rattle.ce_algorithms.specs.State.{State};
+ghost use Rattle.ce_algorithms.specs.Steps.{GoesOn};
 ghost use Rattle.ce_algorithms.specs.Worked.{seen, traced, worked};
+ghost use Rattle.ce_algorithms.specs.Written.{behind, behind_in};
 
 /// Each algorithm calls the others as they are: the model is the fixed point of its algorithms, however
 /// many levels of them are counted.
 #[tactic(auto, using(crate::proofs::Steady::model_level))]
 pub fn each_calls_the_others()
     ensures { (call : Call) (s : State) → model call s ≡ level model call s }
+{}
+
+/// What a line does depends on nothing that was logged before it: the log is written, and never read.
+#[tactic(auto, using(crate::proofs::FramedSteps::run_line_behind))]
+pub fn no_step_reads_the_log()
+    ensures { (line : ℕ) (l : Result Said Bad) (events : List Event) (s : State) → run_line model line l (behind events s) ≡ behind_in events (run_line model line l s) }
+{}
+
+/// No command ends in a fault: a fault of its operation is its reply, and a fault of a reaction is reported.
+#[tactic(auto, using(crate::proofs::Calm::command_goes_on))]
+pub fn no_command_throws()
+    ensures { (line : ℕ) (c : Cmd) (s : State) → GoesOn (command model line c s) }
 {}
 
 /// The model computes: the first script, with nine units of fuel, which are just enough.
