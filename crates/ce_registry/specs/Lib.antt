@@ -1,2 +1,3 @@
 pub mod ClassFacts
 pub mod Registry
+pub mod Defines

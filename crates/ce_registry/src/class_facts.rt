@@ -1,8 +1,9 @@
 // What a definition takes over from its class.
-ghost use Rattle.std.specs.Prelude.{◌≡◌, IfOk};
-ghost use Rattle.ce_registry.specs.ClassFacts.{no_facts};
+ghost use Rattle.std.specs.Prelude.{◌≡◌, ◌<◌, IfOk};
+ghost use Rattle.ce_registry.specs.ClassFacts.{has_call, no_facts, place_of, with_call};
 
 use ce_base::{NoMemory, Texts};
+use rule_tokens::CallName;
 use std::alloc::Global;
 
 /// The callbacks that a class has, and whether it has a constructor of its own (HTML Standard, section "Core
@@ -20,6 +21,40 @@ pub struct ClassFacts {
     pub associated: bool,
     pub no_shadow: bool,
     pub no_internals: bool,
+}
+
+impl Calls {
+    /// The class has this callback too.
+    pub fn add(&mut self, call: CallName)
+        ensures { self.new ≡ with_call call self.old }
+    {
+        self.0[place_of(call)] = true;
+    }
+
+    /// Whether the class has this callback.
+    pub fn has(&self, call: CallName) -> bool
+        ensures { result ≡ has_call call self.now }
+    {
+        self.0[place_of(call)]
+    }
+}
+
+// The place of a callback in their order.
+fn place_of(call: CallName) -> usize
+    ensures place { result ≡ place_of call }
+    ensures within { result < 9 }
+{
+    match call {
+        CallName::Constructor => 0,
+        CallName::Connected => 1,
+        CallName::Disconnected => 2,
+        CallName::Adopted => 3,
+        CallName::Attribute => 4,
+        CallName::FormAssociated => 5,
+        CallName::FormDisabled => 6,
+        CallName::FormReset => 7,
+        CallName::FormStateRestore => 8,
+    }
 }
 
 impl ClassFacts {

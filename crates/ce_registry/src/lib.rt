@@ -3,6 +3,10 @@
 
 mod class_facts;
 mod definition;
+mod registry;
+#[cfg(test)]
+mod tests;
 
 pub use class_facts::{Calls, ClassFacts};
 pub use definition::Definition;
+pub use registry::Registry;
