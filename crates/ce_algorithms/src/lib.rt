@@ -4,10 +4,12 @@
 //! the page tells of an enqueue, and what a session writes down.
 #![tactic(auto)]
 
+mod callback;
 mod event;
 mod laws;
 mod note;
 
+pub use callback::same_call;
 pub use event::{Answer, Cause, Event, Given};
 pub use laws::{
     each_calls_the_others, no_command_throws, no_step_reads_the_log, worked_callbacks,
