@@ -1,5 +1,5 @@
 -- No algorithm reads the log, where what it calls again reads none.
-use Rattle.std.proofs.Common.{ℕ, Bool, true, false, List, [], ◌∷◌, Option, Some, None, refl}
+use Rattle.std.proofs.Common.{ℕ, Bool, List, [], ◌∷◌, Option, Some, None, refl}
 use Rattle.ce_base.specs.declared.fault.Fault.{Fault}
 use Rattle.node_trees.specs.declared.kind.NodeKind.{NodeKind}
 use Rattle.node_trees.specs.Facts.{is_document}
@@ -20,10 +20,10 @@ use Rattle.ce_registry.specs.Registry.{is_autonomous}
 use Rattle.ce_algorithms.specs.declared.event.Answer.{Answer}
 use Rattle.ce_algorithms.specs.declared.event.Given.{Given}
 use Rattle.ce_algorithms.specs.declared.event.Given.TheVariants.{Nothing, Node, Answers}
-use Rattle.ce_algorithms.specs.Steps.{Step, ◌>>◌, give, done}
+use Rattle.ce_algorithms.specs.Steps.{Step, give}
 use Rattle.ce_algorithms.specs.Page.{Page, with_queues}
 use Rattle.ce_algorithms.specs.CreateLater.{first_state, make_in_state}
-use Rattle.ce_algorithms.specs.State.{State, Class, spend, class_of}
+use Rattle.ce_algorithms.specs.State.{State, Class, class_of}
 use Rattle.ce_algorithms.specs.Calls.{Call, Operate, DrainRest, DrainBackup, Again}
 use Rattle.ce_algorithms.specs.Operands.{Args, no_args, node, text_of}
 use Rattle.ce_algorithms.specs.Body.{Flow, Next, Ended, told, returned, caught, holds, act, body, actions_of}

@@ -1,5 +1,5 @@
 -- Each algorithm calls the others again only at a lower clock.
-use Rattle.std.proofs.Common.{◌≡◌, ℕ, suc, ◌+◌, ◌<◌, ◌≤◌, Bool, true, false, List, [], ◌∷◌, length, Option, Some, None, refl, ap, ◌∙◌, arith}
+use Rattle.std.proofs.Common.{◌≡◌, ℕ, suc, ◌+◌, ◌<◌, ◌≤◌, Bool, List, [], ◌∷◌, length, Option, Some, None, refl, ap, ◌∙◌, arith}
 use Rattle.ce_base.specs.declared.fault.Fault.{Fault}
 use Rattle.node_trees.specs.declared.kind.NodeKind.{NodeKind}
 use Rattle.node_trees.specs.Facts.{is_document}
@@ -31,7 +31,7 @@ use Rattle.ce_algorithms.specs.Construct.{base_alone, constructor_body, construc
 use Rattle.ce_algorithms.specs.Upgrade.{construct_for, drop_reactions, upgrade_threw, upgrade_now, upgrade}
 use Rattle.ce_algorithms.specs.Drain.{log_call, call_back, run_calls, run_reaction, react, drain, open_queue, pop_queue, drain_popped, reacting, with_backup, drain_backup}
 use Rattle.ce_algorithms.specs.Create.{construct_fit, create_failed, upgrade_failed, create_extended, create_defined, create_found, create}
-use Rattle.ce_algorithms.specs.Perform.{node_of, element, document, document_or_page, class, as_nothing, as_variable, answers, create_named, define, ask, operate}
+use Rattle.ce_algorithms.specs.Perform.{node_of, document_or_page, class, as_nothing, as_variable, answers, create_named, define, ask, operate}
 use Rattle.ce_algorithms.specs.Model.{clock, level}
 use Rattle.ce_algorithms.proofs.PageSteps.{keeps_make_text, keeps_make_in_state, keeps_base_call, keeps_pop_construction, keeps_begin_upgrade, keeps_tell_form, keeps_attach_shadow, keeps_insert, keeps_remove_child, keeps_detach, keeps_set_named, keeps_remove_attribute, keeps_clone, keeps_adopt_node, keeps_define_name, keeps_upgrade_all}
 use Rattle.ce_algorithms.proofs.Low.{Lower, lower, with_waiting_load, light_state, light_definition, light_begun, light_ended, light_dropped}

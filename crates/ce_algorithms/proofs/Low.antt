@@ -4,13 +4,12 @@ use Rattle.std.specs.Prelude.{◌-◌, sum_by}
 use Rattle.std.proofs.lemmas.List.Sums.{sum_by-cons}
 use Rattle.ce_base.specs.declared.custom_state.CustomState.{CustomState}
 use Rattle.reaction_queue.specs.declared.reaction.Reaction.{Reaction}
-use Rattle.reaction_queue.specs.Queues.{Queues, Open, list_at, ahead, with_list, waiting_at, with_waiting, counted, with_reaction, appended_to, appended, enqueued, begun, ended}
-use Rattle.ce_algorithms.specs.Steps.{Step, Outcome}
+use Rattle.reaction_queue.specs.Queues.{Queues, Open, list_at, ahead, with_list, waiting_at, with_waiting, counted, appended_to, enqueued, begun, ended}
+use Rattle.ce_algorithms.specs.Steps.{Step}
 use Rattle.ce_algorithms.specs.Page.{Page, Work, with_queues, with_state, with_definition}
 use Rattle.ce_algorithms.specs.Enqueue.{noted}
-use Rattle.ce_algorithms.specs.Drain.{with_backup}
 use Rattle.ce_algorithms.specs.Model.{waits, load, clock_of}
-use Rattle.ce_algorithms.proofs.PageSteps.{Keeps, Closed, work_in, on}
+use Rattle.ce_algorithms.proofs.PageSteps.{Keeps, Closed, on}
 
 -- what waits
 

@@ -19,7 +19,7 @@ use Rattle.ce_algorithms.specs.Mutation.{removed, remove, adopted, move_to, adop
 use Rattle.ce_algorithms.specs.Attributes.{changed, set_attribute, remove_there, remove_attribute}
 use Rattle.ce_algorithms.specs.Define.{with_defined, upgrade_candidates, define_name}
 use Rattle.ce_algorithms.specs.CreateLater.{make_in_state, make_later, create_later}
-use Rattle.ce_algorithms.specs.Clone.{copy_attribute, copy_control, copy_node, copy_below, copy_tree, clone}
+use Rattle.ce_algorithms.specs.Clone.{copy_attribute, copy_node, copy_below, copy_tree, clone}
 use Rattle.ce_algorithms.specs.Construction.{with_stack, push_construction, pop_construction, make_custom, base_entry, base_call}
 use Rattle.ce_algorithms.specs.Upgrade.{enqueue_attribute, begin_upgrade}
 use Rattle.ce_algorithms.specs.Perform.{attach_shadow, remove_child, detach, set_named, adopt_node, upgrade_one, upgrade_all}

@@ -5,6 +5,8 @@ use Rattle.std.specs.Str.{chars}
 use Rattle.element_names.specs.Hosts.{shadow_host}
 use Rattle.element_names.specs.Known.{known_html}
 use Rattle.element_names.specs.Names.{attr_name, custom_name, local_name}
+use Rattle.ce_algorithms.specs.CornerLogs as corner_logs
+use Rattle.ce_algorithms.specs.Corners as corners
 use Rattle.ce_algorithms.specs.Logs as logs
 use Rattle.ce_algorithms.specs.Model.{model}
 use Rattle.ce_algorithms.specs.Scripts as scripts
@@ -105,3 +107,43 @@ endless_logs = refl
 pub traced_throws_logs : traced scripts.traced_throws ≡ logs.traced_throws
 unfolding model chars custom_name local_name attr_name shadow_host known_html digits
 traced_throws_logs = refl
+
+-- an element that is put before itself
+pub put_back_logs : seen 1000 corners.put_back ≡ corner_logs.put_back
+unfolding model chars custom_name local_name attr_name shadow_host known_html digits
+put_back_logs = refl
+
+-- operands that fail: the first one decides
+pub operands_logs : seen 1000 corners.operands ≡ corner_logs.operands
+unfolding model chars custom_name local_name attr_name shadow_host known_html digits
+operands_logs = refl
+
+-- an element that its own constructor tries to upgrade again
+pub under_construction_logs : seen 1000 corners.under_construction ≡ corner_logs.under_construction
+unfolding model chars custom_name local_name attr_name shadow_host known_html digits
+under_construction_logs = refl
+
+-- a definition that disables shadow
+pub shadow_disabled_logs : seen 1000 corners.shadow_disabled ≡ corner_logs.shadow_disabled
+unfolding model chars custom_name local_name attr_name shadow_host known_html digits
+shadow_disabled_logs = refl
+
+-- a document that is not the page's
+pub inert_logs : seen 1000 corners.inert ≡ corner_logs.inert
+unfolding model chars custom_name local_name attr_name shadow_host known_html digits
+inert_logs = refl
+
+-- a deep clone with a custom element in it
+pub clones_logs : seen 1000 corners.clones ≡ corner_logs.clones
+unfolding model chars custom_name local_name attr_name shadow_host known_html digits
+clones_logs = refl
+
+-- a second base call, whose fault is caught
+pub second_super_logs : seen 1000 corners.second_super ≡ corner_logs.second_super
+unfolding model chars custom_name local_name attr_name shadow_host known_html digits
+second_super_logs = refl
+
+-- arguments and memories, and operands of a wrong kind
+pub arguments_logs : seen 1000 corners.arguments ≡ corner_logs.arguments
+unfolding model chars custom_name local_name attr_name shadow_host known_html digits
+arguments_logs = refl

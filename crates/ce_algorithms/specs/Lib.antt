@@ -28,3 +28,5 @@ pub mod Script
 pub mod Worked
 pub mod Scripts
 pub mod Logs
+pub mod Corners
+pub mod CornerLogs

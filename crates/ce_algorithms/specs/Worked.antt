@@ -1,5 +1,5 @@
 -- How worked scripts are run.
-use Rattle.std.specs.Prelude.{ℕ, Bool, true, not, List, filter, Result}
+use Rattle.std.specs.Prelude.{ℕ, true, not, List, filter, Result}
 use Rattle.rule_lines.specs.Acts.{Said}
 use Rattle.rule_tokens.specs.declared.refused.Bad.{Bad}
 use Rattle.ce_algorithms.specs.declared.event.Event.{Event}

@@ -5,6 +5,8 @@ ghost use Rattle.rule_lines.specs.declared.line.Cmd.{Cmd};
 ghost use Rattle.rule_tokens.specs.declared.refused.Bad.{Bad};
 ghost use Rattle.ce_algorithms.specs.Calls.{Call};
 ghost use Rattle.ce_algorithms.specs.declared.event.Event.{Event};
+ghost use Rattle.ce_algorithms.specs.CornerLogs as corner_logs;
+ghost use Rattle.ce_algorithms.specs.Corners as corners;
 ghost use Rattle.ce_algorithms.specs.Logs as logs;
 ghost use Rattle.ce_algorithms.specs.Model.{level, model};
 ghost use Rattle.ce_algorithms.specs.Script.{is_spent};
@@ -71,4 +73,17 @@ pub fn worked_upgrades()
 pub fn worked_traces()
     ensures done { traced scripts.traced ≡ logs.traced }
     ensures threw { traced scripts.traced_throws ≡ logs.traced_throws }
+{}
+
+/// The model computes: corners of the rules.
+#[tactic(auto, using(crate::proofs::Rows::put_back_logs, crate::proofs::Rows::operands_logs, crate::proofs::Rows::under_construction_logs, crate::proofs::Rows::shadow_disabled_logs, crate::proofs::Rows::inert_logs, crate::proofs::Rows::clones_logs, crate::proofs::Rows::second_super_logs, crate::proofs::Rows::arguments_logs))]
+pub fn worked_corners()
+    ensures put_back { seen 1000 corners.put_back ≡ corner_logs.put_back }
+    ensures operands { seen 1000 corners.operands ≡ corner_logs.operands }
+    ensures under_construction { seen 1000 corners.under_construction ≡ corner_logs.under_construction }
+    ensures shadow_disabled { seen 1000 corners.shadow_disabled ≡ corner_logs.shadow_disabled }
+    ensures inert { seen 1000 corners.inert ≡ corner_logs.inert }
+    ensures clones { seen 1000 corners.clones ≡ corner_logs.clones }
+    ensures second_super { seen 1000 corners.second_super ≡ corner_logs.second_super }
+    ensures arguments { seen 1000 corners.arguments ≡ corner_logs.arguments }
 {}
