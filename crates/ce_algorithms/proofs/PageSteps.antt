@@ -19,7 +19,7 @@ use Rattle.ce_algorithms.specs.Mutation.{removed, remove, adopted, move_to, adop
 use Rattle.ce_algorithms.specs.Attributes.{changed, set_attribute, remove_there, remove_attribute}
 use Rattle.ce_algorithms.specs.Define.{with_defined, upgrade_candidates, define_name}
 use Rattle.ce_algorithms.specs.CreateLater.{make_in_state, make_later, create_later}
-use Rattle.ce_algorithms.specs.Clone.{copy_attribute, copy_node, copy_below, copy_tree, clone}
+use Rattle.ce_algorithms.specs.Clone.{copy_attribute, copy_node, copy_below, clone}
 use Rattle.ce_algorithms.specs.Construction.{with_stack, push_construction, pop_construction, make_custom, base_entry, base_call}
 use Rattle.ce_algorithms.specs.Upgrade.{enqueue_attribute, begin_upgrade}
 use Rattle.ce_algorithms.specs.Perform.{attach_shadow, remove_child, detach, set_named, adopt_node, upgrade_one, upgrade_all}
@@ -290,12 +290,8 @@ module _ (R : Work → Work → Type 0) (c : Closed R) where
   keeps_copy_below parent (tree m x shadow children rest) =
       keeps_bind (keeps_copy_node m x (is_element x.kind)) (λ n. keeps_seq (keeps_insert parent n None) (keeps_seq (keeps_copy_below n children) (keeps_copy_below parent rest)))
 
-  pub keeps_copy_tree : (deep : Bool) (ts : Trees) → Keeps R (copy_tree deep ts)
-  keeps_copy_tree deep none = keeps_throw _
-  keeps_copy_tree deep (tree m x shadow children rest) = search (page_steps, keeps_copy_node, keeps_copy_below) depth 12
-
   pub keeps_clone : (deep : Bool) (n : ℕ) → Keeps R (clone deep n)
-  keeps_clone deep n = search (page_steps, keeps_copy_tree) depth 12
+  keeps_clone deep n = search (page_steps, keeps_copy_node, keeps_copy_below) depth 16
 
   -- construction
 
