@@ -1,2 +1,5 @@
 pub mod Reactions
 pub mod Queues
+pub mod Trimmed
+pub mod ElementQueues
+pub mod Changes

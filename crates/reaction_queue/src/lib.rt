@@ -1,6 +1,14 @@
 //! The reactions of custom elements that wait, and the element queues.
 #![tactic(auto)]
 
+mod element_queue;
+mod queues;
 mod reaction;
+mod stack;
+#[cfg(test)]
+mod tests;
+mod waiting;
 
+pub use element_queue::ElementQueue;
+pub use queues::Queues;
 pub use reaction::{Mode, Reaction};

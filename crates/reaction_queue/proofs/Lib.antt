@@ -1,0 +1,2 @@
+pub mod TrimmedLemmas
+pub mod StackLemmas
