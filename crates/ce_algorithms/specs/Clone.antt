@@ -1,5 +1,5 @@
 -- Cloning (DOM Standard, section "Interface Node", "clone a node").
-use Rattle.std.specs.Prelude.{ℕ, Bool, true, false, ◌||◌, List, [], ◌∷◌, None}
+use Rattle.std.specs.Prelude.{ℕ, Bool, true, false, ◌||◌, List, None}
 use Rattle.ce_base.specs.declared.fault.Fault.TheVariants.{NotSupportedError}
 use Rattle.node_trees.specs.Facts.{Facts, is_document, is_element, is_shadow_root}
 use Rattle.node_trees.specs.Trees.{Trees, none, tree, tree_of}

@@ -5,7 +5,7 @@ use Rattle.ce_base.specs.declared.fault.Fault.TheVariants.{TypeError}
 use Rattle.ce_registry.specs.declared.definition.Definition.{Definition}
 use Rattle.ce_registry.specs.Registry.{by_class, is_autonomous}
 use Rattle.ce_algorithms.specs.Steps.{Step, ◌>>=◌, ◌>>◌, give, throw, find_or}
-use Rattle.ce_algorithms.specs.Page.{Page, Work, read_page, change_page, with_state, with_definition}
+use Rattle.ce_algorithms.specs.Page.{Page, Work, read_page, change_page, definition_at, with_state, with_definition}
 use Rattle.ce_algorithms.specs.Making.{make_element}
 
 abbrev pub or_no_entries : Option (List (Option ℕ)) → List (Option ℕ)
@@ -53,6 +53,6 @@ base_entry d x (Some n ∷ entries) = do
 abbrev pub base_call : ℕ → Step Work ℕ
 base_call class = do
   d ← find_or (λ (w : Work). by_class w.page.definitions class) TypeError
-  x ← find_or (λ (w : Work). slice_get w.page.definitions d) TypeError
+  x ← read_page (λ p. definition_at p d)
   entries ← read_page (λ p. stack_of p d)
   base_entry d x entries

@@ -1,11 +1,11 @@
 -- What a change of the trees changes of form owners and disabled states, and whom it tells (HTML Standard, section "Custom element reactions": formAssociatedCallback, formDisabledCallback).
-use Rattle.std.specs.Prelude.{ℕ, Bool, false, ◌&&◌, ◌==◌, not, List, [], ◌∷◌, filter, Option, Some, None}
+use Rattle.std.specs.Prelude.{ℕ, Bool, true, false, ◌&&◌, ◌==◌, not, List, [], filter, Option, Some, None}
 use Rattle.reaction_queue.specs.declared.reaction.Reaction.TheVariants.{FormAssociated, FormDisabled}
 use Rattle.ce_registry.specs.declared.definition.Definition.{Definition}
 use Rattle.ce_registry.specs.Registry.{is_autonomous}
 use Rattle.node_trees.specs.Paths.{is_among}
-use Rattle.ce_algorithms.specs.Steps.{Step, ◌>>◌, done, where_is, for_each}
-use Rattle.ce_algorithms.specs.Page.{Page, Work, definition_of, is_custom}
+use Rattle.ce_algorithms.specs.Steps.{Step, ◌>>=◌, ◌>>◌, done, where_is, for_each}
+use Rattle.ce_algorithms.specs.Page.{Page, Work, read_page, definition_of, is_custom}
 use Rattle.ce_algorithms.specs.Enqueue.{enqueue_callback}
 
 -- an element's new form owner, and its new disabled state, each where it differs from before
@@ -36,6 +36,29 @@ abbrev pub tell : FormChange → Step Work (Unit {0})
 tell c = do
   tell_owner c.node c.owner
   tell_disabled c.node c.disabled
+
+-- what is known of one element. No form owners are known yet
+
+-- its form owner
+abbrev pub form_owner : Page → ℕ → Option ℕ
+form_owner p n = None
+
+abbrev pub is_disabled : Page → ℕ → Bool
+is_disabled p n = false
+
+abbrev pub tell_first_owner : ℕ → Option ℕ → Step Work (Unit {0})
+tell_first_owner n None = done
+tell_first_owner n (Some form) = enqueue_callback n (FormAssociated (Some form))
+
+abbrev pub tell_first : ℕ → Step Work (Unit {0})
+tell_first n = do
+  owner ← read_page (λ p. form_owner p n)
+  tell_first_owner n owner
+  where_is (λ w. is_disabled w.page n) (enqueue_callback n (FormDisabled true))
+
+-- a form-associated element that is upgraded is told of its form owner, where it has one, and that it is disabled, where it is
+abbrev pub tell_form : ℕ → Step Work (Unit {0})
+tell_form n = where_is (λ w. is_form_associated (definition_of w.page n)) (tell_first n)
 
 -- a custom form-associated element is told of its change
 abbrev pub tell_form_change : FormChange → Step Work (Unit {0})

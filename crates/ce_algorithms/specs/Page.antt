@@ -1,14 +1,14 @@
 -- The page: what the primitives read and change.
-use Rattle.std.specs.Prelude.{ℕ, zero, suc, ◌-◌, ◌==◌, Bool, false, true, List, [], ◌∷◌, ◌++◌, Option, Some, None, slice_get, slice_set}
+use Rattle.std.specs.Prelude.{ℕ, zero, suc, ◌-◌, Bool, false, true, List, [], ◌∷◌, Option, Some, None, slice_get, slice_set}
 use Rattle.std.specs.Option.{option_and_then}
 use Rattle.ce_base.specs.declared.custom_state.CustomState.{CustomState}
 use Rattle.ce_base.specs.declared.custom_state.CustomState.TheVariants.{Uncustomized, Custom}
 use Rattle.node_trees.specs.declared.kind.NodeKind.TheVariants.{Document}
-use Rattle.node_trees.specs.Facts.{Facts, blank}
+use Rattle.node_trees.specs.Facts.{blank}
 use Rattle.node_trees.specs.Trees.{Trees, single}
-use Rattle.node_trees.specs.Spots.{facts_at, document_at}
-use Rattle.reaction_queue.specs.Queues.{Queues, no_queues, waiting_at}
+use Rattle.reaction_queue.specs.Queues.{Queues, no_queues}
 use Rattle.ce_registry.specs.declared.definition.Definition.{Definition}
+use Rattle.ce_registry.specs.ClassFacts.{no_facts}
 use Rattle.ce_algorithms.specs.declared.note.Note.{Note}
 use Rattle.ce_algorithms.specs.Steps.{Step, Goes, Spent}
 
@@ -83,6 +83,18 @@ state_of p n = (element_of p n).state
 -- the custom element definition
 abbrev pub definition_of : Page → ℕ → Option Definition
 definition_of p n = option_and_then (slice_get p.definitions) (element_of p n).definition
+
+-- what stands for a definition that is not there
+abbrev pub no_definition : Definition
+no_definition = record { name = []; local = []; class = 0; facts = no_facts }
+
+abbrev pub or_no_definition : Option Definition → Definition
+or_no_definition None = no_definition
+or_no_definition (Some d) = d
+
+-- the definition with this number
+abbrev pub definition_at : Page → ℕ → Definition
+definition_at p d = or_no_definition (slice_get p.definitions d)
 
 abbrev pub is_custom_state : CustomState → Bool
 is_custom_state Custom = true
