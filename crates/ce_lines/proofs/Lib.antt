@@ -1,0 +1,2 @@
+pub mod QuotedLaws
+pub mod NamesLaws
