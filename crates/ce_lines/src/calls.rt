@@ -1,9 +1,9 @@
 // What bodies do: the lines of callbacks that start, and of what a body wrote, caught or asked.
 ghost use Rattle.std.specs.Prelude.{◌≡◌, ◌++◌, OnOk, codes};
-ghost use Rattle.ce_algorithms.specs.Text.{call, event_text, fault, quoted, text_or_null, truth};
+ghost use Rattle.ce_algorithms.specs.Text.{call, event_text, fault, quoted, text_or_null};
 
 use crate::lists::put_spaced;
-use crate::words::mode_word;
+use crate::words::{mode_word, truth_word};
 use crate::written::Written;
 use ce_algorithms::Event;
 use ce_base::{Fault, NoMemory, NodeNo, Text, Texts};
@@ -92,16 +92,6 @@ pub(crate) fn put_form_associated(
     out.put_node_or_null(form)
 }
 
-fn put_truth(out: &mut Written, holds: bool) -> Result<(), NoMemory>
-    ensures { OnOk result (out.new ≡ out.old ++ truth holds) }
-{
-    if holds {
-        out.put("true")
-    } else {
-        out.put("false")
-    }
-}
-
 pub(crate) fn put_form_disabled(
     out: &mut Written,
     n: NodeNo,
@@ -110,7 +100,7 @@ pub(crate) fn put_form_disabled(
     ensures { OnOk result (out.new ≡ out.old ++ event_text (Event.FormDisabled n disabled)) }
 {
     put_call(out, n, "formDisabled ")?;
-    put_truth(out, disabled)
+    out.put(truth_word(disabled))
 }
 
 pub(crate) fn put_form_state_restore(

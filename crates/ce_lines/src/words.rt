@@ -1,7 +1,7 @@
 // The words of a line.
 ghost use Rattle.std.specs.Prelude.{◌≡◌, ◌<◌, [], slice_index_or};
 ghost use Rattle.rule_tokens.specs.Flags.{flag_names};
-ghost use Rattle.ce_algorithms.specs.Text.{bad_word, custom_state, mode, what, yes_or_no};
+ghost use Rattle.ce_algorithms.specs.Text.{bad_word, custom_state, mode, truth, what, yes_or_no};
 
 use ce_base::CustomState;
 use reaction_queue::Mode;
@@ -31,6 +31,13 @@ pub(crate) fn bad_word(bad: Bad) -> &'static str
         Bad::Place => "place",
         Bad::Later => "later",
     }
+}
+
+/// The word for whether an element is disabled.
+pub(crate) fn truth_word(disabled: bool) -> &'static str
+    ensures { result.now ≡ truth disabled }
+{
+    if disabled { "true" } else { "false" }
 }
 
 /// The word for the answer yes or no.
