@@ -1,2 +1,1 @@
-pub mod QuotedLaws
 pub mod NamesLaws

@@ -1,6 +1,7 @@
 // What bodies do: the lines of callbacks that start, and of what a body wrote, caught or asked.
 ghost use Rattle.std.specs.Prelude.{◌≡◌, ◌++◌, OnOk, codes};
-ghost use Rattle.ce_algorithms.specs.Text.{call, event_text, fault, quoted, text_or_null};
+ghost use Rattle.rule_tokens.specs.Quoted.{in_quotes};
+ghost use Rattle.ce_algorithms.specs.Text.{call, event_text, fault, text_or_null};
 
 use crate::lists::put_spaced;
 use crate::words::{mode_word, truth_word};
@@ -60,7 +61,7 @@ fn put_attribute_name(
     n: NodeNo,
     name: &Text,
 ) -> Result<(), NoMemory>
-    ensures { OnOk result (out.new ≡ out.old ++ call n (codes "attribute " ++ quoted name.now ++ codes " ")) }
+    ensures { OnOk result (out.new ≡ out.old ++ call n (codes "attribute " ++ in_quotes name.now ++ codes " ")) }
 {
     put_call(out, n, "attribute ")?;
     out.put_quoted(alloc, name.as_str())?;

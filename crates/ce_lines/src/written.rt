@@ -1,7 +1,8 @@
 // A line that is being written: its bytes so far.
 ghost use Rattle.std.specs.Prelude.{◌≡◌, ◌++◌, [], IfOk, OnOk};
 ghost use Rattle.std.specs.Fmt.{decimal};
-ghost use Rattle.ce_algorithms.specs.Text.{node, node_or_null, quoted, text_or_null};
+ghost use Rattle.rule_tokens.specs.Quoted.{in_quotes};
+ghost use Rattle.ce_algorithms.specs.Text.{node, node_or_null, text_or_null};
 
 use ce_base::{NoMemory, NodeNo, Text};
 use rule_tokens::push_quoted;
@@ -76,7 +77,7 @@ impl Written {
 
     /// Puts a text in quotes behind, with escapes for what would end it or the line, or would not be seen.
     pub(crate) fn put_quoted(&mut self, alloc: Global, text: &str) -> Result<(), NoMemory>
-        ensures { OnOk result (self.new ≡ self.old ++ quoted text.now) }
+        ensures { OnOk result (self.new ≡ self.old ++ in_quotes text.now) }
     {
         push_quoted(alloc, &mut self.text, text)?;
         Ok(())
