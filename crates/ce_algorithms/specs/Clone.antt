@@ -3,8 +3,8 @@ use Rattle.std.specs.Prelude.{ℕ, Bool, true, false, ◌||◌, List, None}
 use Rattle.ce_base.specs.declared.fault.Fault.TheVariants.{NotSupportedError}
 use Rattle.node_trees.specs.Facts.{Facts, is_document, is_element, is_shadow_root}
 use Rattle.node_trees.specs.Trees.{Trees, none, tree, tree_of}
-use Rattle.node_trees.specs.Spots.{kind_at}
-use Rattle.ce_algorithms.specs.Steps.{Step, ◌>>=◌, ◌>>◌, give, done, throw, when, throw_where, for_each}
+use Rattle.node_trees.specs.Spots.{facts_at, kind_at}
+use Rattle.ce_algorithms.specs.Steps.{Step, ◌>>=◌, ◌>>◌, give, done, when, throw_where, for_each}
 use Rattle.ce_algorithms.specs.Page.{Work, spend, read_page}
 use Rattle.ce_algorithms.specs.Making.{make_text}
 use Rattle.ce_algorithms.specs.Attributes.{set_attribute}
@@ -39,16 +39,17 @@ copy_below parent (tree m x shadow children rest) = do
   copy_below n children
   copy_below parent rest
 
-abbrev pub copy_tree : Bool → Trees → Step Work ℕ
-copy_tree deep none = throw NotSupportedError
-copy_tree deep (tree m x shadow children rest) = do
-  n ← copy_node m x (is_element x.kind)
-  when deep (copy_below n children)
-  give n
+-- the trees of the root's children
+abbrev pub below : Trees → Trees
+below none = none
+below (tree m x shadow children rest) = children
 
 -- a document or a shadow root is not cloned
 abbrev pub clone : Bool → ℕ → Step Work ℕ
 clone deep node = do
   throw_where (λ (w : Work). is_document (kind_at w.page.forest node) || is_shadow_root (kind_at w.page.forest node)) NotSupportedError
-  source ← read_page (λ p. tree_of node p.forest)
-  copy_tree deep source
+  x ← read_page (λ p. facts_at p.forest node)
+  children ← read_page (λ p. below (tree_of node p.forest))
+  n ← copy_node node x (is_element x.kind)
+  when deep (copy_below n children)
+  give n

@@ -1,4 +1,4 @@
--- Constructing a class (Web IDL, section "Callback interfaces and functions", "construct"; HTML Standard, section "Elements in the DOM", "HTML element constructors").
+-- Constructing a class (Web IDL, section "Invoking callback functions", "construct"; HTML Standard, section "Elements in the DOM", "HTML element constructors").
 use Rattle.std.specs.Prelude.{ℕ, if◌then◌else◌, Option, Some, None}
 use Rattle.ce_base.specs.declared.fault.Fault.TheVariants.{ReferenceError}
 use Rattle.rule_tokens.specs.declared.callback.CallName.TheVariants.{Constructor}

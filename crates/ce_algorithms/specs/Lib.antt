@@ -25,3 +25,8 @@ pub mod Session
 pub mod Lines
 pub mod Written
 pub mod Script
+pub mod Worked
+pub mod Scripts
+pub mod Logs
+pub mod Corners
+pub mod CornerLogs

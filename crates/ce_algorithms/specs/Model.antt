@@ -1,6 +1,7 @@
 -- The model: the algorithms, each calling the others again only where the clock has fallen.
 use Rattle.std.specs.Prelude.{ℕ, zero, suc, ◌+◌, ◌*◌, List, length, sum_by}
 use Rattle.reaction_queue.specs.declared.reaction.Reaction.{Reaction}
+use Rattle.reaction_queue.specs.Queues.{Queues}
 use Rattle.ce_algorithms.specs.declared.event.Given.TheVariants.{Nothing}
 use Rattle.ce_algorithms.specs.Steps.{Spent, ◌>>◌, give}
 use Rattle.ce_algorithms.specs.Page.{Work}
@@ -17,9 +18,13 @@ level again DrainBackup = drain_backup again >> give Nothing
 abbrev pub waits : List (ℕ × Reaction) → ℕ
 waits reactions = length reactions
 
--- three for each unit of fuel, one for each waiting reaction, one for each element in the backup element queue
+-- each waiting reaction, and each element in the backup element queue
+abbrev pub load : Queues → ℕ
+load q = sum_by waits q.waiting + length q.backup
+
+-- three for each unit of fuel, and what waits
 abbrev pub clock_of : Work → ℕ
-clock_of w = 3 * w.fuel + sum_by waits w.page.queues.waiting + length w.page.queues.backup
+clock_of w = 3 * w.fuel + load w.page.queues
 
 abbrev pub clock : State → ℕ
 clock s = clock_of (work_of s)

@@ -107,7 +107,7 @@ remove_child parent n = do
   throw_where (λ (w : Work). not (is_number (parent_at w.page.forest n) parent)) NotFoundError
   remove n
 
--- (DOM Standard, section "Interface ChildNode", `remove`)
+-- (DOM Standard, section "Mixin ChildNode", `remove`)
 abbrev pub detach : ℕ → Step Work (Unit {0})
 detach n = where_is (λ w. is_some (parent_at w.page.forest n)) (remove n)
 

@@ -1,0 +1,245 @@
+-- No algorithm reads the log, where what it calls again reads none.
+use Rattle.std.proofs.Common.{ℕ, Bool, List, [], ◌∷◌, Option, Some, None, refl}
+use Rattle.ce_base.specs.declared.fault.Fault.{Fault}
+use Rattle.node_trees.specs.declared.kind.NodeKind.{NodeKind}
+use Rattle.node_trees.specs.Facts.{is_document}
+use Rattle.rule_tokens.specs.declared.callback.CallName.TheVariants.{Constructor}
+use Rattle.rule_tokens.specs.declared.operand.Operand.{Operand}
+use Rattle.rule_tokens.specs.declared.operand.Operand.TheVariants.{Doc, This, Variable}
+use Rattle.rule_lines.specs.Acts.{Act, Both, Log, Super, Return, Throw, Bump, Keep, Try, If}
+use Rattle.rule_lines.specs.declared.ask_word.AskWord.{AskWord}
+use Rattle.rule_lines.specs.declared.ask_word.AskWord.TheVariants.{Attr, Parent, Kids, State as StateWord}
+use Rattle.rule_lines.specs.declared.op.Op.{Op}
+use Rattle.rule_lines.specs.declared.op.Op.TheVariants.{Create, New, MakeText, Shadow, Append, Before, Remove, Detach, SetAttr, DelAttr, Clone, Adopt, Define, Upgrade, Ask, Let}
+use Rattle.reaction_queue.specs.declared.reaction.Reaction.{Reaction}
+use Rattle.reaction_queue.specs.declared.reaction.Reaction.TheVariants.{Upgrade as UpgradeReaction, Connected, Disconnected, Adopted, Attribute, FormAssociated, FormDisabled, FormReset, FormStateRestore}
+use Rattle.reaction_queue.specs.Queues.{waiting_at, with_waiting}
+use Rattle.ce_registry.specs.ClassFacts.{has_call}
+use Rattle.ce_registry.specs.declared.definition.Definition.{Definition}
+use Rattle.ce_registry.specs.Registry.{is_autonomous}
+use Rattle.ce_algorithms.specs.declared.event.Answer.{Answer}
+use Rattle.ce_algorithms.specs.declared.event.Given.{Given}
+use Rattle.ce_algorithms.specs.declared.event.Given.TheVariants.{Nothing, Node, Answers}
+use Rattle.ce_algorithms.specs.Steps.{Step, give}
+use Rattle.ce_algorithms.specs.Page.{Page, with_queues}
+use Rattle.ce_algorithms.specs.CreateLater.{first_state, make_in_state}
+use Rattle.ce_algorithms.specs.State.{State, Class, class_of}
+use Rattle.ce_algorithms.specs.Calls.{Call, Operate, DrainRest, DrainBackup, Again}
+use Rattle.ce_algorithms.specs.Operands.{Args, no_args, node, text_of}
+use Rattle.ce_algorithms.specs.Body.{Flow, Next, Ended, told, returned, caught, holds, act, body, actions_of}
+use Rattle.ce_algorithms.specs.Construct.{base_alone, constructor_body, construct}
+use Rattle.ce_algorithms.specs.Upgrade.{construct_for, drop_reactions, upgrade_threw, upgrade_now, upgrade}
+use Rattle.ce_algorithms.specs.Drain.{log_call, call_back, run_calls, run_reaction, react, drain, open_queue, pop_queue, drain_popped, reacting, with_backup, drain_backup}
+use Rattle.ce_algorithms.specs.Create.{construct_fit, create_failed, upgrade_failed, create_extended, create_defined, create_found, create}
+use Rattle.ce_algorithms.specs.Perform.{node_of, document_or_page, class, as_nothing, as_variable, answers, create_named, define, ask, operate}
+use Rattle.ce_algorithms.specs.Model.{level}
+use Rattle.ce_algorithms.proofs.Framed.{Framed, framed_steps, framed_bind, framed_seq, framed_give, framed_done, framed_read, framed_read_page, framed_change_page, framed_log, framed_found, framed_on_page, framed_spend, framed_set_variable, framed_list, framed_if, framed_catch, framed_finally}
+
+-- what calls nothing again
+
+pub framed_node : (this : Option ℕ) (o : Operand) → Framed (node this o)
+framed_node this Doc = framed_give 1
+framed_node this This = framed_found this _
+framed_node this (Variable v) = search (framed_steps) depth 12
+
+pub framed_told : (given : Given) → Framed (told given)
+framed_told Nothing = framed_done
+framed_told (Node n) = framed_done
+framed_told (Answers a) = framed_log _
+
+pub framed_returned : (this : Option ℕ) (o : Option Operand) → Framed (returned this o)
+framed_returned this None = framed_give _
+framed_returned this (Some o) = search (framed_steps, framed_node) depth 12
+
+pub framed_caught : (this : Option ℕ) (x : Fault) → Framed (caught this x)
+framed_caught this x = search (framed_steps) depth 12
+
+pub framed_base_alone : (k : ℕ) → Framed (base_alone k)
+framed_base_alone k = search (framed_steps) depth 12
+
+pub framed_drop_reactions : (n : ℕ) → Framed (drop_reactions n)
+framed_drop_reactions n = search (framed_steps) depth 12
+
+pub framed_upgrade_threw : (n : ℕ) (x : Fault) → Framed (upgrade_threw n x)
+framed_upgrade_threw n x = search (framed_steps, framed_drop_reactions) depth 12
+
+pub framed_log_call : (n : ℕ) (r : Reaction) → Framed (log_call n r)
+framed_log_call n (UpgradeReaction d) = framed_done
+framed_log_call n Connected = framed_log _
+framed_log_call n Disconnected = framed_log _
+framed_log_call n (Adopted old new) = framed_log _
+framed_log_call n (Attribute name old new) = framed_log _
+framed_log_call n (FormAssociated form) = framed_log _
+framed_log_call n (FormDisabled disabled) = framed_log _
+framed_log_call n FormReset = framed_log _
+framed_log_call n (FormStateRestore state why) = framed_log _
+
+-- a queue is pushed
+pub framed_open_queue : Framed open_queue
+framed_open_queue = search (framed_steps) depth 12
+
+-- a queue is popped
+pub framed_pop_queue : Framed pop_queue
+framed_pop_queue = search (framed_steps) depth 12
+
+pub framed_create_failed : (local : List ℕ) (d : ℕ) (x : Fault) → Framed (create_failed local d x)
+framed_create_failed local d x = search (framed_steps) depth 12
+
+pub framed_upgrade_failed : (n : ℕ) (x : Fault) → Framed (upgrade_failed n x)
+framed_upgrade_failed n x = search (framed_steps) depth 12
+
+-- the node of an operand, where its kind fits
+pub framed_node_of : (fits : NodeKind → Bool) (this : Option ℕ) (o : Operand) → Framed (node_of fits this o)
+framed_node_of fits this o = search (framed_steps, framed_node) depth 12
+
+-- the document of an operand, or the page
+pub framed_document_or_page : (this : Option ℕ) (o : Option Operand) → Framed (document_or_page this o)
+framed_document_or_page this None = framed_give 1
+framed_document_or_page this (Some o) = framed_node_of is_document this o
+
+-- the class with a name
+pub framed_class : (name : List ℕ) → Framed (class name)
+framed_class name = search (framed_steps) depth 12
+
+-- an operation that gives nothing
+pub framed_as_nothing : {f : Step State (Unit {0})} → Framed f → Framed (as_nothing f)
+framed_as_nothing h = framed_seq h (framed_give Nothing)
+
+-- an operation that gives a node
+pub framed_as_variable : {f : Step State ℕ} (v : List ℕ) → Framed f → Framed (as_variable v f)
+framed_as_variable v h = framed_bind h (λ n. framed_seq (framed_set_variable v n) (framed_give (Node n)))
+
+-- what is read off the page as an answer
+pub framed_answers : (of : Page → Answer) → Framed (answers of)
+framed_answers of = framed_read _ (λ events s. refl)
+
+-- a definition
+pub framed_define : (name : List ℕ) (k : ℕ) (base : Option (List ℕ)) → Framed (define name k base)
+framed_define name k base = search (framed_steps) depth 12
+
+-- a question
+pub framed_ask : (w : AskWord) (this : Option ℕ) (o : Operand) (name : Option (List ℕ)) → Framed (ask w this o name)
+framed_ask Attr this o name = search (framed_steps, framed_node_of, framed_answers) depth 12
+framed_ask Parent this o name = search (framed_steps, framed_node, framed_answers) depth 12
+framed_ask Kids this o name = search (framed_steps, framed_node, framed_answers) depth 12
+framed_ask StateWord this o name = search (framed_steps, framed_node_of, framed_answers) depth 12
+framed_ask _ this o name = framed_give Nothing
+
+module _ (again : Again) (below : (call : Call) → Framed (again call)) where
+  -- bodies
+
+  pub act_framed : (k : ℕ) (args : Args) (this : Option ℕ) (a : Act) → Framed (act again k args this a)
+  act_framed k args this (Both op) = search (framed_steps, below, framed_told) depth 12
+  act_framed k args this (Log vals) = search (framed_steps) depth 12
+  act_framed k args this Super = search (framed_steps) depth 12
+  act_framed k args this (Return o) = framed_returned this o
+  act_framed k args this (Throw val) = search (framed_steps) depth 12
+  act_framed k args this Bump = search (framed_steps) depth 12
+  act_framed k args this (Keep val) = search (framed_steps) depth 12
+  act_framed k args this (Try a) = framed_catch (framed_seq framed_spend (act_framed k args this a)) (framed_caught this)
+  act_framed k args this (If equal left right a) =
+      framed_bind (framed_read (λ s. class_of s k) (λ events s. refl)) (λ c. framed_if (holds equal (text_of c args left) (text_of c args right)) (framed_seq framed_spend (act_framed k args this a)) (framed_give (Next this)))
+
+  pub body_framed : (k : ℕ) (args : Args) (this : Option ℕ) (actions : List Act) → Framed (body again k args this actions)
+  body_framed k args this [] = framed_give this
+  body_framed k args this (a ∷ rest) = framed_seq framed_spend (framed_bind (act_framed k args this a) (go (λ t. body_framed k args t rest)))
+    where
+      go : ((t : Option ℕ) → Framed (body again k args t rest)) → (flow : Flow) → Framed (elim flow as (λ _. Step State (Option ℕ)) [ Next t ↦ body again k args t rest | Ended r ↦ give r ])
+      go h (Next t) = h t
+      go h (Ended r) = framed_give r
+
+  -- construction and upgrade
+
+  pub constructor_body_framed : (k : ℕ) (c : Class) → Framed (constructor_body again k c)
+  constructor_body_framed k c = framed_if (has_call Constructor c.facts.calls) (body_framed k no_args None (actions_of Constructor c.bodies)) (framed_base_alone k)
+
+  pub construct_framed : (k : ℕ) → Framed (construct again k)
+  construct_framed k = search (framed_steps, constructor_body_framed) depth 12
+
+  pub construct_for_framed : (n d : ℕ) → Framed (construct_for again n d)
+  construct_for_framed n d = search (framed_steps, construct_framed) depth 14
+
+  pub upgrade_now_framed : (n d : ℕ) → Framed (upgrade_now again n d)
+  upgrade_now_framed n d = search (framed_steps, construct_for_framed, framed_upgrade_threw) depth 16
+
+  pub upgrade_framed : (n d : ℕ) → Framed (upgrade again n d)
+  upgrade_framed n d = search (framed_steps, upgrade_now_framed) depth 12
+
+  -- reactions
+
+  pub call_back_framed : (n k : ℕ) (r : Reaction) → Framed (call_back again n k r)
+  call_back_framed n k r = search (framed_steps, framed_log_call, body_framed) depth 14
+
+  pub run_calls_framed : (n : ℕ) (d : Option Definition) (r : Reaction) → Framed (run_calls again n d r)
+  run_calls_framed n None r = framed_done
+  run_calls_framed n (Some d) r = search (framed_steps, call_back_framed) depth 12
+
+  pub run_reaction_framed : (n : ℕ) (r : Reaction) → Framed (run_reaction again n r)
+  run_reaction_framed n (UpgradeReaction d) = upgrade_framed n d
+  run_reaction_framed n r = search (framed_steps, run_calls_framed) depth 12
+
+  pub react_framed : (n : ℕ) (w : ℕ × Reaction) → Framed (react again n w)
+  react_framed n w = search (framed_steps, run_reaction_framed) depth 12
+
+  -- draining
+
+  pub drain_framed : (ns : List ℕ) → Framed (drain again ns)
+  drain_framed [] = framed_done
+  drain_framed (n ∷ ns) = framed_bind (framed_read_page (λ p. waiting_at p.queues n)) (λ waiting. framed_list waiting _ _ (drain_framed ns) (λ w ws. framed_seq (framed_change_page (with_queues (with_waiting n ws))) (framed_seq (react_framed n w) (framed_seq (below (DrainRest (n ∷ ns))) framed_done))))
+
+  pub drain_popped_framed : (number : ℕ) → Framed (drain_popped again number)
+  drain_popped_framed number = search (framed_steps, framed_pop_queue, drain_framed) depth 12
+
+  pub reacting_framed : {A : Type 0} {steps : Step State A} → Framed steps → Framed (reacting again steps)
+  reacting_framed h = framed_bind framed_open_queue (λ number. framed_finally h (drain_popped_framed number))
+
+  pub drain_backup_framed : Framed (drain_backup again)
+  drain_backup_framed = framed_bind (framed_read_page (λ p. p.queues.backup)) (λ elements. framed_list elements _ _ framed_done (λ n ns. framed_seq (framed_change_page (with_queues (with_backup ns))) (framed_seq (drain_framed (n ∷ [])) (framed_seq (below DrainBackup) framed_done))))
+
+  -- creation
+
+  pub construct_fit_framed : (local : List ℕ) (d k : ℕ) → Framed (construct_fit again local d k)
+  construct_fit_framed local d k = search (framed_steps, construct_framed) depth 14
+
+  pub create_extended_framed : (local : List ℕ) (is : Option (List ℕ)) (d x : ℕ) → Framed (create_extended again local is d x)
+  create_extended_framed local is d x = search (framed_steps, upgrade_framed, framed_upgrade_failed) depth 14
+
+  pub create_defined_framed : (local : List ℕ) (is : Option (List ℕ)) (d n : ℕ) (x : Definition) → Framed (create_defined again local is d n x)
+  create_defined_framed local is d n x = framed_if (is_autonomous x) (framed_catch (construct_fit_framed local d x.class) (framed_create_failed local d)) (create_extended_framed local is d n)
+
+  pub create_found_framed : (local : List ℕ) (is : Option (List ℕ)) (d : ℕ) (o : Option ℕ) → Framed (create_found again local is d o)
+  create_found_framed local is d None = framed_on_page (make_in_state local is d (first_state local is))
+  create_found_framed local is d (Some x) = search (framed_steps, create_defined_framed) depth 12
+
+  pub create_framed : (local : List ℕ) (is : Option (List ℕ)) (d : ℕ) → Framed (create again local is d)
+  create_framed local is d = search (framed_steps, create_found_framed) depth 12
+
+  pub create_named_framed : (name : List ℕ) (is : Option (List ℕ)) (d : ℕ) → Framed (create_named again name is d)
+  create_named_framed name is d = search (framed_steps, create_framed) depth 12
+
+  -- operations
+
+  pub operate_framed : (this : Option ℕ) (op : Op) → Framed (operate again this op)
+  operate_framed this (Create var name is within) = search (framed_steps, framed_document_or_page, framed_as_variable, reacting_framed, create_named_framed) depth 14
+  operate_framed this (New var name) = search (framed_steps, framed_class, framed_as_variable, construct_framed) depth 14
+  operate_framed this (MakeText var chars within) = search (framed_steps, framed_document_or_page, framed_as_variable) depth 14
+  operate_framed this (Shadow var host) = search (framed_steps, framed_node_of, framed_as_variable) depth 14
+  operate_framed this (Append parent child) = search (framed_steps, framed_node, framed_as_nothing, reacting_framed) depth 14
+  operate_framed this (Before parent child before) = search (framed_steps, framed_node, framed_as_nothing, reacting_framed) depth 14
+  operate_framed this (Remove parent child) = search (framed_steps, framed_node, framed_as_nothing, reacting_framed) depth 14
+  operate_framed this (Detach child) = search (framed_steps, framed_node_of, framed_as_nothing, reacting_framed) depth 14
+  operate_framed this (SetAttr operand name value) = search (framed_steps, framed_node_of, framed_as_nothing, reacting_framed) depth 14
+  operate_framed this (DelAttr operand name) = search (framed_steps, framed_node_of, framed_as_nothing, reacting_framed) depth 14
+  operate_framed this (Clone var operand deep) = search (framed_steps, framed_node, framed_as_variable, reacting_framed) depth 14
+  operate_framed this (Adopt within operand) = search (framed_steps, framed_node_of, framed_node, framed_as_nothing, reacting_framed) depth 14
+  operate_framed this (Define name class_name base) = search (framed_steps, framed_class, framed_as_nothing, reacting_framed, framed_define) depth 14
+  operate_framed this (Upgrade operand) = search (framed_steps, framed_node, framed_as_nothing, reacting_framed) depth 14
+  operate_framed this (Ask word operand name) = framed_ask word this operand name
+  operate_framed this (Let var operand) = search (framed_steps, framed_node) depth 14
+  operate_framed this _ = framed_give Nothing
+
+  -- a level
+  pub level_framed : (call : Call) → Framed (level again call)
+  level_framed (Operate this op) = operate_framed this op
+  level_framed (DrainRest ns) = framed_seq (drain_framed ns) (framed_give Nothing)
+  level_framed DrainBackup = framed_seq drain_backup_framed (framed_give Nothing)

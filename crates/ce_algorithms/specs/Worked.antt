@@ -1,0 +1,22 @@
+-- How worked scripts are run.
+use Rattle.std.specs.Prelude.{ℕ, true, not, List, filter, Result}
+use Rattle.rule_lines.specs.Acts.{Said}
+use Rattle.rule_tokens.specs.declared.refused.Bad.{Bad}
+use Rattle.ce_algorithms.specs.declared.event.Event.{Event}
+use Rattle.ce_algorithms.specs.Steps.{Outcome}
+use Rattle.ce_algorithms.specs.State.{State}
+use Rattle.ce_algorithms.specs.Model.{model}
+use Rattle.ce_algorithms.specs.Session.{run_lines, start, log_of}
+use Rattle.ce_algorithms.specs.Text.{is_trace}
+
+-- the session of a script on a page where elements are upgraded, with so much fuel
+abbrev pub worked : ℕ → List (Result Said Bad) → Outcome State (Unit {0})
+worked fuel script = run_lines model 1 script (start true fuel)
+
+-- its log, with ample fuel
+abbrev pub traced : List (Result Said Bad) → List Event
+traced script = log_of (worked 1000 script)
+
+-- its log without the trace
+abbrev pub seen : ℕ → List (Result Said Bad) → List Event
+seen fuel script = filter (λ e. not (is_trace e)) (log_of (worked fuel script))

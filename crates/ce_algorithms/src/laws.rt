@@ -1,0 +1,89 @@
+// What holds of the definitions: statements, each proved as the contract of a function that does nothing.
+ghost use Rattle.std.specs.Prelude.{◌≡◌, ℕ, List, Result, true, false};
+ghost use Rattle.rule_lines.specs.Acts.{Said};
+ghost use Rattle.rule_lines.specs.declared.line.Cmd.{Cmd};
+ghost use Rattle.rule_tokens.specs.declared.refused.Bad.{Bad};
+ghost use Rattle.ce_algorithms.specs.Calls.{Call};
+ghost use Rattle.ce_algorithms.specs.declared.event.Event.{Event};
+ghost use Rattle.ce_algorithms.specs.CornerLogs as corner_logs;
+ghost use Rattle.ce_algorithms.specs.Corners as corners;
+ghost use Rattle.ce_algorithms.specs.Logs as logs;
+ghost use Rattle.ce_algorithms.specs.Model.{level, model};
+ghost use Rattle.ce_algorithms.specs.Script.{is_spent};
+ghost use Rattle.ce_algorithms.specs.Scripts as scripts;
+ghost use Rattle.ce_algorithms.specs.Session.{command, run_line};
+ghost use Rattle.ce_algorithms.specs.State.{State};
+ghost use Rattle.ce_algorithms.specs.Steps.{GoesOn};
+ghost use Rattle.ce_algorithms.specs.Worked.{seen, traced, worked};
+ghost use Rattle.ce_algorithms.specs.Written.{behind, behind_in};
+
+/// Each algorithm calls the others as they are: the model is the fixed point of its algorithms, however
+/// many levels of them are counted.
+#[tactic(auto, using(crate::proofs::Steady::model_level))]
+pub fn each_calls_the_others()
+    ensures { (call : Call) (s : State) → model call s ≡ level model call s }
+{}
+
+/// What a line does depends on nothing that was logged before it: the log is written, and never read.
+#[tactic(auto, using(crate::proofs::FramedSteps::run_line_behind))]
+pub fn no_step_reads_the_log()
+    ensures { (line : ℕ) (l : Result Said Bad) (events : List Event) (s : State) → run_line model line l (behind events s) ≡ behind_in events (run_line model line l s) }
+{}
+
+/// No command ends in a fault: a fault of its operation is its reply, and a fault of a reaction is reported.
+#[tactic(auto, using(crate::proofs::Calm::command_goes_on))]
+pub fn no_command_throws()
+    ensures { (line : ℕ) (c : Cmd) (s : State) → GoesOn (command model line c s) }
+{}
+
+/// The model computes: the first script, with nine units of fuel, which are just enough.
+#[tactic(auto, using(crate::proofs::Rows::first_enough, crate::proofs::Rows::first_logs, crate::proofs::Rows::first_spends))]
+pub fn worked_first()
+    ensures enough { is_spent (worked 9 scripts.first) ≡ false }
+    ensures just_enough { is_spent (worked 8 scripts.first) ≡ true }
+    ensures first { seen 1000 scripts.first ≡ logs.first }
+{}
+
+/// The model computes: queues and callbacks.
+#[tactic(auto, using(crate::proofs::Rows::inner_queue_logs, crate::proofs::Rows::reentry_logs, crate::proofs::Rows::try_logs, crate::proofs::Rows::connected_logs, crate::proofs::Rows::adopted_logs, crate::proofs::Rows::tree_logs, crate::proofs::Rows::endless_logs))]
+pub fn worked_callbacks()
+    ensures inner_queue { seen 1000 scripts.inner_queue ≡ logs.inner_queue }
+    ensures reentry { seen 1000 scripts.reentry ≡ logs.reentry }
+    ensures faults { seen 1000 scripts.try_ ≡ logs.try_ }
+    ensures connected { seen 1000 scripts.connected ≡ logs.connected }
+    ensures adopted { seen 1000 scripts.adopted ≡ logs.adopted }
+    ensures tree { seen 1000 scripts.tree ≡ logs.tree }
+    ensures endless { seen 20 scripts.endless ≡ logs.endless }
+{}
+
+/// The model computes: upgrades, creations and constructors.
+#[tactic(auto, using(crate::proofs::Rows::candidates_logs, crate::proofs::Rows::upgrade_throws_logs, crate::proofs::Rows::create_throws_logs, crate::proofs::Rows::construction_logs, crate::proofs::Rows::constructors_logs, crate::proofs::Rows::extends_logs, crate::proofs::Rows::definitions_logs))]
+pub fn worked_upgrades()
+    ensures candidates { seen 1000 scripts.candidates ≡ logs.candidates }
+    ensures upgrade_throws { seen 1000 scripts.upgrade_throws ≡ logs.upgrade_throws }
+    ensures create_throws { seen 1000 scripts.create_throws ≡ logs.create_throws }
+    ensures construction { seen 1000 scripts.construction ≡ logs.construction }
+    ensures constructors { seen 1000 scripts.constructors ≡ logs.constructors }
+    ensures extends { seen 1000 scripts.extends ≡ logs.extends }
+    ensures definitions { seen 1000 scripts.definitions ≡ logs.definitions }
+{}
+
+/// The model computes: upgrades with their trace.
+#[tactic(auto, using(crate::proofs::Rows::traced_logs, crate::proofs::Rows::traced_throws_logs))]
+pub fn worked_traces()
+    ensures done { traced scripts.traced ≡ logs.traced }
+    ensures threw { traced scripts.traced_throws ≡ logs.traced_throws }
+{}
+
+/// The model computes: corners of the rules.
+#[tactic(auto, using(crate::proofs::Rows::put_back_logs, crate::proofs::Rows::operands_logs, crate::proofs::Rows::under_construction_logs, crate::proofs::Rows::shadow_disabled_logs, crate::proofs::Rows::inert_logs, crate::proofs::Rows::clones_logs, crate::proofs::Rows::second_super_logs, crate::proofs::Rows::arguments_logs))]
+pub fn worked_corners()
+    ensures put_back { seen 1000 corners.put_back ≡ corner_logs.put_back }
+    ensures operands { seen 1000 corners.operands ≡ corner_logs.operands }
+    ensures under_construction { seen 1000 corners.under_construction ≡ corner_logs.under_construction }
+    ensures shadow_disabled { seen 1000 corners.shadow_disabled ≡ corner_logs.shadow_disabled }
+    ensures inert { seen 1000 corners.inert ≡ corner_logs.inert }
+    ensures clones { seen 1000 corners.clones ≡ corner_logs.clones }
+    ensures second_super { seen 1000 corners.second_super ≡ corner_logs.second_super }
+    ensures arguments { seen 1000 corners.arguments ≡ corner_logs.arguments }
+{}
