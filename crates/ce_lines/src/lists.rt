@@ -38,13 +38,9 @@ fn put_node_at(out: &mut Written, nodes: &Nodes, i: usize) -> Result<(), NoMemor
     requires { i < length nodes.now }
     ensures { OnOk result (out.new ≡ out.old ++ codes " " ++ node (slice_index nodes.now i)) }
 {
-    match nodes.get(i) {
-        None => Ok(()),
-        Some(n) => {
-            out.put(" ")?;
-            out.put_node(n)
-        }
-    }
+    let n = nodes.get(i).unwrap();
+    out.put(" ")?;
+    out.put_node(n)
 }
 
 /// Puts a space and then the node behind, for each from this place on.
