@@ -3,7 +3,7 @@ ghost use Rattle.std.specs.Prelude.{◌≡◌, ◌<◌, ◌≤◌, ℕ, Option, 
 ghost use Rattle.node_trees.specs.declared.kind.NodeKind.TheVariants.{Element};
 ghost use Rattle.node_trees.specs.Facts.{value_in, with_value, without_value};
 ghost use Rattle.node_trees.specs.Trees.{with_attribute, without_attribute, with_document};
-ghost use Rattle.node_trees.specs.Spots.{Spot, facts_at, kind_at, attribute_at};
+ghost use Rattle.node_trees.specs.Spots.{parent_at, Spot, facts_at, kind_at, attribute_at};
 ghost use Rattle.node_trees.specs.Nodes.{size, IsNode};
 ghost use Rattle.node_trees.specs.Insertion.{may_insert};
 ghost use Rattle.node_arena.specs.Nodes.{rows, row};
@@ -111,6 +111,7 @@ impl Tree {
         requires { IsNode self.old node }
         ensures document { self.new ≡ with_document node document self.old }
         ensures size { size self.new ≡ size self.old }
+        ensures parents { (n : ℕ) → parent_at self.new n ≡ parent_at self.old n }
         ensures may { (p n : ℕ) (b : Option ℕ) → may_insert self.new p n b ≡ may_insert self.old p n b }
     {
         move_to(&mut self.nodes, node, document);

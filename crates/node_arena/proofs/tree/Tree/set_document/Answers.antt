@@ -3,6 +3,7 @@ use Rattle.node_arena.specs.OneForest.{seen_fact, seen_is, seen_size}
 use Rattle.node_arena.proofs.CallLemmas.{size_written, written, altered}
 use Rattle.node_arena.proofs.ReadLemmas.{in_range}
 use Rattle.node_arena.proofs.Allowed.{may_insert-with_document}
+use Rattle.node_arena.proofs.ChangedReads.{parent_at-with}
 use Rattle.node_arena.proofs.tree.Tree.set_document.Goals as goal
 
 pub move_to-requires : goal.move_to-requires
@@ -28,3 +29,7 @@ returns-clause-size c =
 
 pub returns-clause-may : goal.returns-clause-may
 returns-clause-may c = λ p n b. rw (returns-clause-document c) (may_insert-with_document c.args.node c.args.document c.args.self.now p n b)
+
+pub returns-clause-parents : goal.returns-clause-parents
+returns-clause-parents c = λ n.
+    rw (returns-clause-document c) (parent_at-with c.args.node (λ x. record x { document = c.args.document }) c.args.self.now n)
