@@ -1,16 +1,15 @@
 -- Rows stand for one forest at most.
-use Rattle.std.specs.Prelude.{◌≡◌, ℕ, ◌+◌, ◌-◌, ◌<◌, ◌≤◌, ◌==◌, if◌then◌else◌, List, length, Option, Some, None, refl}
+use Rattle.std.specs.Prelude.{◌≡◌, ℕ, ◌+◌, ◌-◌, ◌<◌, ◌≤◌, ◌==◌, if◌then◌else◌, List, Option, Some, None, refl}
 use Rattle.std.specs.Coded.{Coded, Coded-set, code_by, coded×, coded_ℕ, coded_list, coded_option, ×_prop, Unit-prop, le_prop}
 use Rattle.std.proofs.Common.{arith, ap, sym, subst, inl, inr}
 use Rattle.std.proofs.lemmas.Bool.{cases_lt, cases_eq}
 use Rattle.std.proofs.lemmas.Bool.Decides.{nat_tests}
 use Rattle.std.proofs.lemmas.Option.{slice_get_within}
-use mathlib.Core.HLevel.{Σ_prop_path}
 use Rattle.node_trees.specs.Facts.{Facts}
 use Rattle.node_trees.specs.Trees.{Trees, none, tree, roots}
 use Rattle.node_trees.specs.Spots.{Spot, spot_of}
 use Rattle.node_trees.specs.TreesCode.{facts_code}
-use Rattle.node_trees.specs.Nodes.{Rises, times, size, IsNode, IsTidy}
+use Rattle.node_trees.specs.Nodes.{Rises, times, IsNode, IsTidy}
 use Rattle.node_arena.specs.Rows.{Stands, IsForest, row_at}
 
 -- each of these facts has one proof at most
@@ -45,7 +44,7 @@ IsTidy-prop f =
     let c = IsNode-prop f in
     hlevel (a, b, c, le_prop)
 
-IsForest-prop : (rows : List Spot) (f : Trees) → IsProp (IsForest rows f)
+pub IsForest-prop : (rows : List Spot) (f : Trees) → IsProp (IsForest rows f)
 IsForest-prop rows f =
     let a = Stands-prop rows None None f in
     let b = IsTidy-prop f in
@@ -154,26 +153,3 @@ IsForest-unique rows f g a b =
         | inr away ↦ omega arith
       ]
     ]))
-
--- the forest of rows, with the fact that it is theirs
-abbrev pub Forest : List Spot → Type 0
-Forest rows = (forest : Trees) × IsForest rows forest
-
-pub Forest-prop : (rows : List Spot) → IsProp (Forest rows)
-Forest-prop rows a b = Σ_prop_path (IsForest-prop rows) (IsForest-unique rows a.0 b.0 a.1 b.1)
-
--- the forest as which rows are seen
-unfoldable pub seen : (rows : List Spot) → Forest rows → Trees
-seen rows a = a.0
-
-pub seen_is : (rows : List Spot) (a : Forest rows) (f : Trees) → IsForest rows f → seen rows a ≡ f
-unfolding seen
-seen_is rows a f is = IsForest-unique rows a.0 f a.1 is
-
-pub seen_fact : (rows : List Spot) (a : Forest rows) (f : Trees) → seen rows a ≡ f → IsForest rows f
-unfolding seen
-seen_fact rows a f is = subst (IsForest rows) is a.1
-
-pub seen_size : (rows : List Spot) (a : Forest rows) → size (seen rows a) ≡ length rows
-unfolding seen
-seen_size rows a = a.1.counted

@@ -1,5 +1,6 @@
 // The tree.
-ghost use Rattle.node_arena.specs.OneForest.{Forest, Forest-prop};
+ghost use Rattle.node_arena.specs.Seen.{Forest};
+ghost use Rattle.node_arena.specs.Seen.{Forest-prop};
 ghost use Rattle.node_arena.specs.Nodes.{rows};
 
 use crate::node::Node;
@@ -21,7 +22,7 @@ impl Model for Tree {
 
     ghost coded = { trees_code };
 
-    ghost use Rattle.node_arena.specs.OneForest.{seen};
+    ghost use Rattle.node_arena.specs.Seen.{seen};
     ghost use Rattle.node_arena.specs.Nodes.{rows};
 
     ghost view = { λ t. seen (rows t.nodes.items) t.forest };

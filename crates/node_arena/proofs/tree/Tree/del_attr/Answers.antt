@@ -1,6 +1,6 @@
 use Rattle.std.proofs.Common.{◌∙◌, arith, refl, ap, sym}
 use Rattle.node_trees.specs.Facts.{value_in}
-use Rattle.node_arena.specs.OneForest.{seen_fact, seen_is, seen_size}
+use Rattle.node_arena.specs.Seen.{seen_fact, seen_is, seen_size}
 use Rattle.node_arena.proofs.CallLemmas.{size_written, written, altered, own_row}
 use Rattle.node_arena.proofs.ReadLemmas.{in_range}
 use Rattle.node_arena.proofs.tree.Tree.del_attr.Goals as goal

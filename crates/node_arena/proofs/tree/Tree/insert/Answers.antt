@@ -1,6 +1,6 @@
 use Rattle.std.proofs.Common.{◌∙◌, arith}
 use Rattle.std.proofs.lemmas.Result.{on_ok_weaker, on_err_weaker}
-use Rattle.node_arena.specs.OneForest.{seen_fact, seen_is, seen_size}
+use Rattle.node_arena.specs.Seen.{seen_fact, seen_is, seen_size}
 use Rattle.node_arena.proofs.CallLemmas.{size_written, written, inserted, not_inserted, inserted_or_not, apart_of}
 use Rattle.node_arena.proofs.ReadLemmas.{in_range}
 use Rattle.node_arena.proofs.tree.Tree.insert.Goals as goal

@@ -1,4 +1,4 @@
-use Rattle.node_arena.specs.OneForest.{seen_is}
+use Rattle.node_arena.specs.Seen.{seen_is}
 use Rattle.node_arena.proofs.MakeLemmas.{makes}
 use Rattle.node_arena.proofs.tree.Tree.make.Goals as goal
 

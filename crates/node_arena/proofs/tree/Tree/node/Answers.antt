@@ -1,5 +1,5 @@
 use Rattle.std.proofs.Common.{arith}
-use Rattle.node_arena.specs.OneForest.{seen_fact}
+use Rattle.node_arena.specs.Seen.{seen_fact}
 use Rattle.node_arena.proofs.ReadLemmas.{in_range, read}
 use Rattle.node_arena.proofs.tree.Tree.node.Goals as goal
 

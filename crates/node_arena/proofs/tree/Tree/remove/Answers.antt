@@ -1,5 +1,5 @@
 use Rattle.std.proofs.Common.{◌∙◌, arith}
-use Rattle.node_arena.specs.OneForest.{seen_fact, seen_is, seen_size}
+use Rattle.node_arena.specs.Seen.{seen_fact, seen_is, seen_size}
 use Rattle.node_arena.proofs.CallLemmas.{size_written, written, removed, parent_is}
 use Rattle.node_arena.proofs.ReadLemmas.{in_range}
 use Rattle.node_arena.proofs.CutReads.{parent_at-cut-here}
