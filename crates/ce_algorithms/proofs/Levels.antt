@@ -33,7 +33,7 @@ use Rattle.ce_algorithms.specs.Drain.{log_call, call_back, run_calls, run_reacti
 use Rattle.ce_algorithms.specs.Create.{construct_fit, create_failed, upgrade_failed, create_extended, create_defined, create_found, create}
 use Rattle.ce_algorithms.specs.Perform.{node_of, document_or_page, class, as_nothing, as_variable, answers, create_named, define, ask, operate}
 use Rattle.ce_algorithms.specs.Model.{clock, level}
-use Rattle.ce_algorithms.proofs.PageSteps.{keeps_make_text, keeps_make_in_state, keeps_base_call, keeps_pop_construction, keeps_begin_upgrade, keeps_tell_form, keeps_attach_shadow, keeps_insert, keeps_remove_child, keeps_detach, keeps_set_named, keeps_remove_attribute, keeps_clone, keeps_adopt_node, keeps_define_name, keeps_upgrade_all}
+use Rattle.ce_algorithms.proofs.PageSteps.{keeps_make_text, keeps_make_in_state, keeps_base_call, keeps_pop_construction, keeps_begin_upgrade, keeps_tell_form, keeps_attach_shadow, keeps_pre_insert, keeps_remove_child, keeps_detach, keeps_set_named, keeps_remove_attribute, keeps_clone, keeps_adopt_node, keeps_define_name, keeps_upgrade_all}
 use Rattle.ce_algorithms.proofs.Low.{Lower, lower, with_waiting_load, light_state, light_definition, light_begun, light_ended, light_dropped}
 use Rattle.ce_algorithms.proofs.Tied.{Tied, Tame, tame_le, tied_steps, tied_bind, tied_seq, tied_down, tied_give, tied_done, tied_read, tied_log, tied_set_variable, tied_found, tied_page, tied_spend, tied_if, tied_catch, tied_finally}
 
@@ -240,8 +240,8 @@ module _ (b : ℕ) (f g : Again) (below : (call : Call) → Tied b (f call) (g c
   operate_tied this (New var name) = search (tied_steps, tied_class, tied_as_variable, construct_tied) depth 14
   operate_tied this (MakeText var chars within) = search (tied_steps, tied_document_or_page, tied_as_variable, keeps_make_text Lower lower) depth 14
   operate_tied this (Shadow var host) = search (tied_steps, tied_node_of, tied_as_variable, keeps_attach_shadow Lower lower) depth 14
-  operate_tied this (Append parent child) = search (tied_steps, tied_node, tied_as_nothing, reacting_tied, keeps_insert Lower lower) depth 14
-  operate_tied this (Before parent child before) = search (tied_steps, tied_node, tied_as_nothing, reacting_tied, keeps_insert Lower lower) depth 14
+  operate_tied this (Append parent child) = search (tied_steps, tied_node, tied_as_nothing, reacting_tied, keeps_pre_insert Lower lower) depth 14
+  operate_tied this (Before parent child before) = search (tied_steps, tied_node, tied_as_nothing, reacting_tied, keeps_pre_insert Lower lower) depth 14
   operate_tied this (Remove parent child) = search (tied_steps, tied_node, tied_as_nothing, reacting_tied, keeps_remove_child Lower lower) depth 14
   operate_tied this (Detach child) = search (tied_steps, tied_node_of, tied_as_nothing, reacting_tied, keeps_detach Lower lower) depth 14
   operate_tied this (SetAttr operand name value) = search (tied_steps, tied_node_of, tied_as_nothing, reacting_tied, keeps_set_named Lower lower) depth 14

@@ -15,7 +15,7 @@ use Rattle.ce_algorithms.specs.Page.{Page, Work, Element, spend, spend_from, rea
 use Rattle.ce_algorithms.specs.Making.{with_new, make_node, make_element, make_text, make_document, make_shadow_root}
 use Rattle.ce_algorithms.specs.Enqueue.{noted, enqueue, enqueue_callback, enqueue_upgrade, look_up_and_enqueue, try_upgrade}
 use Rattle.ce_algorithms.specs.FormChanges.{FormChange, tell_owner, tell_disabled, tell, tell_form_change, tell_at_turn, tell_others, tell_first_owner, tell_first, tell_form}
-use Rattle.ce_algorithms.specs.Mutation.{removed, remove, adopted, move_to, adopt, connected_now, inserted, put_in, insert}
+use Rattle.ce_algorithms.specs.Mutation.{removed, remove, adopted, move_to, adopt, connected_now, inserted, put_in, insert, pre_insert}
 use Rattle.ce_algorithms.specs.Attributes.{changed, set_attribute, remove_there, remove_attribute}
 use Rattle.ce_algorithms.specs.Define.{with_defined, upgrade_candidates, define_name}
 use Rattle.ce_algorithms.specs.CreateLater.{make_in_state, make_later, create_later}
@@ -226,6 +226,9 @@ module _ (R : Work → Work → Type 0) (c : Closed R) where
   pub keeps_insert : (parent n : ℕ) (b : Option ℕ) → Keeps R (insert parent n b)
   keeps_insert parent n b = search (page_steps, keeps_adopt, keeps_put_in) depth 14
 
+  pub keeps_pre_insert : (parent n : ℕ) (b : Option ℕ) → Keeps R (pre_insert parent n b)
+  keeps_pre_insert parent n b = search (page_steps, keeps_insert) depth 14
+
   -- attributes
 
   pub keeps_changed : (old : Page) (n : ℕ) (name : List ℕ) (before after : Option (List ℕ)) → Keeps R (changed old n name before after)
@@ -288,7 +291,7 @@ module _ (R : Work → Work → Type 0) (c : Closed R) where
   pub keeps_copy_below : (parent : ℕ) (ts : Trees) → Keeps R (copy_below parent ts)
   keeps_copy_below parent none = keeps_done
   keeps_copy_below parent (tree m x shadow children rest) =
-      keeps_bind (keeps_copy_node m x (is_element x.kind)) (λ n. keeps_seq (keeps_insert parent n None) (keeps_seq (keeps_copy_below n children) (keeps_copy_below parent rest)))
+      keeps_bind (keeps_copy_node m x (is_element x.kind)) (λ n. keeps_seq (keeps_pre_insert parent n None) (keeps_seq (keeps_copy_below n children) (keeps_copy_below parent rest)))
 
   pub keeps_clone : (deep : Bool) (n : ℕ) → Keeps R (clone deep n)
   keeps_clone deep n = search (page_steps, keeps_copy_node, keeps_copy_below) depth 16

@@ -9,7 +9,7 @@ use Rattle.ce_algorithms.specs.Page.{Work, spend, read_page}
 use Rattle.ce_algorithms.specs.Making.{make_text}
 use Rattle.ce_algorithms.specs.Attributes.{set_attribute}
 use Rattle.ce_algorithms.specs.CreateLater.{create_later}
-use Rattle.ce_algorithms.specs.Mutation.{insert}
+use Rattle.ce_algorithms.specs.Mutation.{pre_insert}
 
 -- one fuel for each attribute
 abbrev pub copy_attribute : ℕ → (List ℕ × List ℕ) → Step Work (Unit {0})
@@ -35,7 +35,7 @@ abbrev pub copy_below : ℕ → Trees → Step Work (Unit {0})
 copy_below parent none = done
 copy_below parent (tree m x shadow children rest) = do
   n ← copy_node m x (is_element x.kind)
-  insert parent n None
+  pre_insert parent n None
   copy_below n children
   copy_below parent rest
 

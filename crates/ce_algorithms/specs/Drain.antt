@@ -45,7 +45,7 @@ call_back again n class r = do
   body again class (args_of r) (Some n) (actions_for (what_of r) k.bodies)
   done
 
--- the callbacks that a reaction runs: none or one
+-- the callbacks that a reaction runs, as a list: a reaction may come to run several. None where the definition lacks it: such a reaction is not enqueued
 abbrev pub calls_of : Definition → Reaction → List Reaction
 calls_of d r = if has_what (what_of r) d then r ∷ [] else []
 
@@ -144,7 +144,7 @@ abbrev pub is_empty : List ℕ → Bool
 is_empty [] = true
 is_empty (n ∷ ns) = false
 
--- after each command: the backup element queue is drained, where it is not empty
+-- after each command of the top level, before its reply: the backup element queue is drained, where it is not empty
 abbrev pub checkpoint : Again → Step State (Unit {0})
 checkpoint again = do
   empty ← read_page (λ p. is_empty p.queues.backup)

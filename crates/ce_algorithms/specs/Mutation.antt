@@ -1,4 +1,4 @@
--- Removal, adoption and insertion (DOM Standard, section "Mutation algorithms"), with the callbacks that they enqueue.
+-- Removal, adoption and insertion (DOM Standard, sections "Mutation algorithms" and "Interface Document"), with the callbacks that they enqueue.
 use Rattle.std.specs.Prelude.{ℕ, Bool, true, false, not, ◌&&◌, ◌==◌, if◌then◌else◌, List, Option, Some, None, is_some}
 use Rattle.reaction_queue.specs.declared.reaction.Reaction.TheVariants.{Connected, Disconnected, Adopted}
 use Rattle.node_trees.specs.Facts.{is_element}
@@ -37,7 +37,7 @@ remove node = do
   for_each walk (removed changes (is_connected_parent old (parent_at old.forest node)))
   tell_others changes walk
 
--- "adopt"
+-- "adopt" (section "Interface Document")
 
 abbrev pub adopted : ℕ → ℕ → ℕ → Step Work (Unit {0})
 adopted old document n = where_is (λ w. is_custom w.page n) (enqueue_callback n (Adopted old document))
@@ -81,15 +81,20 @@ put_in parent node before = do
   for_each walk (inserted changes)
   tell_others changes walk
 
--- the child to insert before: where it is the node itself, its next sibling
+-- the reference child: the child to insert before, or where that is the node itself, its next sibling
 abbrev pub reference_child : ℕ → Option ℕ → Page → Option ℕ
 reference_child node before p = if is_number before node then next_sibling_at p.forest node else before
 
--- validity is ensured; the node is adopted into the parent's document, and put in
+-- "insert": the node is adopted into the parent's document, and put in
 abbrev pub insert : ℕ → ℕ → Option ℕ → Step Work (Unit {0})
-insert parent node before = do
-  refuse (λ w. may_insert w.page.forest parent node before)
-  child ← read_page (reference_child node before)
+insert parent node child = do
   document ← read_page (λ p. document_at p.forest parent)
   adopt document node
   put_in parent node child
+
+-- "pre-insert": validity is ensured, and the node is inserted before the reference child
+abbrev pub pre_insert : ℕ → ℕ → Option ℕ → Step Work (Unit {0})
+pre_insert parent node before = do
+  refuse (λ w. may_insert w.page.forest parent node before)
+  child ← read_page (reference_child node before)
+  insert parent node child

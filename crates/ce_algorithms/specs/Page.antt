@@ -23,7 +23,7 @@ pub record Page : Type 0 where
   pub definitions : List Definition  -- the custom element registry, in the order of defining
   pub stacks : List (List (Option ℕ))  -- the construction stack of each definition, the last entry first; None is the already constructed marker
   pub queues : Queues
-  pub upgrades : Bool  -- whether elements that are there already are upgraded
+  pub upgrades : Bool  -- whether a definition, an insertion and a call of `upgrade` upgrade elements that are there already
   pub notes : List Note  -- the enqueues that were made and not told yet, the oldest first
 
 -- a page, and the fuel that is left

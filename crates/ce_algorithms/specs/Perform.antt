@@ -24,7 +24,7 @@ use Rattle.ce_algorithms.specs.Page.{Page, Work, state_of, definition_at}
 use Rattle.ce_algorithms.specs.Page as page
 use Rattle.ce_algorithms.specs.Making.{make_text, make_shadow_root}
 use Rattle.ce_algorithms.specs.Enqueue.{lookup_for, try_upgrade}
-use Rattle.ce_algorithms.specs.Mutation.{insert, remove, adopt}
+use Rattle.ce_algorithms.specs.Mutation.{pre_insert, remove, adopt}
 use Rattle.ce_algorithms.specs.Attributes.{set_attribute, remove_attribute}
 use Rattle.ce_algorithms.specs.Define.{define_name}
 use Rattle.ce_algorithms.specs.Clone.{clone}
@@ -183,12 +183,12 @@ operate again this (Shadow var host) = do
 operate again this (Append parent child) = do
   p ← node this parent
   n ← node this child
-  as_nothing (reacting again (on_page (insert p n None)))
+  as_nothing (reacting again (on_page (pre_insert p n None)))
 operate again this (Before parent child before) = do
   p ← node this parent
   n ← node this child
   b ← node this before
-  as_nothing (reacting again (on_page (insert p n (Some b))))
+  as_nothing (reacting again (on_page (pre_insert p n (Some b))))
 operate again this (Remove parent child) = do
   p ← node this parent
   n ← node this child

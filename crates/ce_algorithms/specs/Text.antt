@@ -1,6 +1,6 @@
 -- The text of a log: the transcript.
-use Rattle.std.specs.Prelude.{ℕ, ◌==◌, nat_lt, Bool, true, false, ◌||◌, if◌then◌else◌, codes, List, [], ◌∷◌, ◌++◌, Option, Some, None}
-use Rattle.std.specs.Fmt.{decimal, digits}
+use Rattle.std.specs.Prelude.{ℕ, Bool, true, false, if◌then◌else◌, codes, List, [], ◌∷◌, ◌++◌, Option, Some, None}
+use Rattle.std.specs.Fmt.{decimal}
 use Rattle.ce_base.specs.declared.custom_state.CustomState.{CustomState}
 use Rattle.ce_base.specs.declared.custom_state.CustomState.TheVariants.{Undefined, Failed, Uncustomized, Precustomized, Custom}
 use Rattle.ce_base.specs.declared.fault.Fault.{Fault}
@@ -8,6 +8,7 @@ use Rattle.ce_base.specs.declared.fault.Fault.TheVariants.{TypeError, ReferenceE
 use Rattle.rule_tokens.specs.Callbacks.{call_word}
 use Rattle.rule_tokens.specs.Flags.{flag_names}
 use Rattle.rule_tokens.specs.FlagsText.{raised_names}
+use Rattle.rule_tokens.specs.Quoted.{in_quotes}
 use Rattle.rule_tokens.specs.declared.callback.CallOrUpgrade.{CallOrUpgrade}
 use Rattle.rule_tokens.specs.declared.callback.CallOrUpgrade.TheVariants.{Call, Upgrade}
 use Rattle.rule_tokens.specs.declared.refused.Bad.{Bad}
@@ -21,27 +22,9 @@ use Rattle.ce_algorithms.specs.declared.event.Cause.TheVariants.{Disconnected as
 use Rattle.ce_algorithms.specs.declared.event.Event.{Event}
 use Rattle.ce_algorithms.specs.declared.event.Event.TheVariants.{Construct, Connected, Disconnected, Adopted, Attribute, FormAssociated, FormDisabled, FormReset, FormStateRestore, Logged, Caught, Reported, Asked, SubmitGet, SubmitPost, SubmitBlocked, Fine, Gave, Answered, Ignored, Threw, WasBad, FuelLine, QueueOpened, Enqueued, DrainBegun, Started, Finished, Dropped, QueueClosed, UpgradeBegun, UpgradeDone, UpgradeThrew}
 
--- a byte of a quoted text: what would end the text or the line, or would not be seen, is escaped
-abbrev pub escape : ℕ → List ℕ
-escape b =
-    if b == 34 then codes "\\\""
-    else if b == 92 then codes "\\\\"
-    else if b == 10 then codes "\\n"
-    else if b == 13 then codes "\\r"
-    else if b == 9 then codes "\\t"
-    else if nat_lt b 32 || (b == 127) then codes "\\u{" ++ digits 16 false b ++ codes "}"
-    else b ∷ []
-
-abbrev pub escaped : List ℕ → List ℕ
-escaped [] = []
-escaped (b ∷ bytes) = escape b ++ escaped bytes
-
-abbrev pub quoted : List ℕ → List ℕ
-quoted text = codes "\"" ++ escaped text ++ codes "\""
-
 abbrev pub text_or_null : Option (List ℕ) → List ℕ
 text_or_null None = codes "null"
-text_or_null (Some text) = quoted text
+text_or_null (Some text) = in_quotes text
 
 abbrev pub node : ℕ → List ℕ
 node n = codes "#" ++ decimal n
@@ -54,7 +37,7 @@ node_or_null (Some n) = node n
 
 abbrev pub spaced : List (List ℕ) → List ℕ
 spaced [] = []
-spaced (text ∷ texts) = codes " " ++ quoted text ++ spaced texts
+spaced (text ∷ texts) = codes " " ++ in_quotes text ++ spaced texts
 
 abbrev pub spaced_nodes : List ℕ → List ℕ
 spaced_nodes [] = []
@@ -68,7 +51,7 @@ spaced_names (name ∷ names) = codes " " ++ name ++ spaced_names names
 
 abbrev pub texts_or_empty : List (List ℕ) → List ℕ
 texts_or_empty [] = codes "empty"
-texts_or_empty (text ∷ texts) = quoted text ++ spaced texts
+texts_or_empty (text ∷ texts) = in_quotes text ++ spaced texts
 
 abbrev pub nodes_or_empty : List ℕ → List ℕ
 nodes_or_empty [] = codes "empty"
@@ -88,7 +71,7 @@ fault NotSupportedError = codes "NotSupportedError"
 fault HierarchyRequestError = codes "HierarchyRequestError"
 fault NotFoundError = codes "NotFoundError"
 fault InvalidCharacterError = codes "InvalidCharacterError"
-fault (UserThrow text) = codes "user " ++ quoted text
+fault (UserThrow text) = codes "user " ++ in_quotes text
 
 abbrev pub what : CallOrUpgrade → List ℕ
 what (Call name) = call_word name
@@ -134,7 +117,7 @@ cause Boundary = codes "boundary"
 
 abbrev pub answer : Answer → List ℕ
 answer Null = codes "null"
-answer (One text) = quoted text
+answer (One text) = in_quotes text
 answer Many = codes "list"
 answer (NodeAnswer n) = node n
 answer (Nodes ns) = nodes_or_empty ns
@@ -161,17 +144,17 @@ event_text (Construct class) = codes "construct " ++ class
 event_text (Connected n) = call n (codes "connected")
 event_text (Disconnected n) = call n (codes "disconnected")
 event_text (Adopted n old new) = call n (codes "adopted " ++ node old ++ codes " " ++ node new)
-event_text (Attribute n name old new) = call n (codes "attribute " ++ quoted name ++ codes " " ++ text_or_null old ++ codes " " ++ text_or_null new)
+event_text (Attribute n name old new) = call n (codes "attribute " ++ in_quotes name ++ codes " " ++ text_or_null old ++ codes " " ++ text_or_null new)
 event_text (FormAssociated n form) = call n (codes "formAssociated " ++ node_or_null form)
 event_text (FormDisabled n disabled) = call n (codes "formDisabled " ++ truth disabled)
 event_text (FormReset n) = call n (codes "formReset")
-event_text (FormStateRestore n text why) = call n (codes "formStateRestore " ++ quoted text ++ codes " " ++ mode why)
+event_text (FormStateRestore n text why) = call n (codes "formStateRestore " ++ in_quotes text ++ codes " " ++ mode why)
 event_text (Logged texts) = codes "log" ++ spaced texts
 event_text (Caught f) = codes "caught " ++ fault f
 event_text (Reported f) = codes "report " ++ fault f
 event_text (Asked a) = codes "ask " ++ answer a
-event_text (SubmitGet n url) = submit n (codes "get " ++ quoted url)
-event_text (SubmitPost n url media body) = submit n (codes "post " ++ quoted url ++ codes " " ++ quoted media ++ codes " " ++ quoted body)
+event_text (SubmitGet n url) = submit n (codes "get " ++ in_quotes url)
+event_text (SubmitPost n url media body) = submit n (codes "post " ++ in_quotes url ++ codes " " ++ in_quotes media ++ codes " " ++ in_quotes body)
 event_text (SubmitBlocked n why) = submit n (codes "blocked " ++ cause why)
 event_text (Fine line) = reply line (codes "ok")
 event_text (Gave line n) = reply line (node n)

@@ -132,6 +132,13 @@ impl Registry {
         &self.definitions[d.0 as usize]
     }
 
+    /// The definition with a number. None exactly where the registry did not give this number.
+    pub fn at(&self, d: DefNo) -> Option<&Definition>
+        ensures { option_copied result ≡ slice_get self.now d }
+    {
+        self.definitions.get(d.0 as usize)
+    }
+
     /// Looks up a definition for the page's document: the one whose name and local name both are `local`,
     /// else the one whose name is the `is` value and whose local name is `local`. For another document there
     /// is none (HTML Standard, section "Core concepts", "look up a custom element definition"). None exactly

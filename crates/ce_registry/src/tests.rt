@@ -90,6 +90,8 @@ fn definitions_are_found_by_name_and_class(rt: HostRuntime) -> Result<(), Fail> 
     assert_eq!(rt; registry.by_class(ClassNo(7)), Some(DefNo(1)));
     assert_eq!(rt; registry.by_class(ClassNo(6)), None);
     assert_eq!(rt; registry.definition(DefNo(1)).local.as_str(), "p");
+    assert_eq!(rt; registry.at(DefNo(1)).map(|d| d.local.as_str()), Some("p"));
+    assert_eq!(rt; registry.at(DefNo(2)).is_none(), true);
     Ok(())
 }
 

@@ -1,6 +1,6 @@
 // The reaction queues, the stack of element queues, and the backup element queue.
-ghost use Rattle.std.specs.Prelude.{◌≡◌, ◌+◌, ◌<◌, ◌^◌, ◌∷◌, [], length, not, MatchOption, IfOk, OnOk};
-ghost use Rattle.reaction_queue.specs.Queues.{no_queues, begun, ended, current, current_elements, waiting_at, with_waiting, counted, appended, enqueued};
+ghost use Rattle.std.specs.Prelude.{◌≡◌, ◌+◌, ◌<◌, ◌^◌, ◌++◌, ◌∷◌, [], length, not, MatchOption, IfOk, IfSome, IfNone, OnOk, OnErr};
+ghost use Rattle.reaction_queue.specs.Queues.{no_queues, begun, ended, current, current_elements, waiting_at, with_waiting, counted, with_reaction, appended, enqueued};
 ghost use Rattle.reaction_queue.specs.ElementQueues.{is_empty};
 ghost use Rattle.reaction_queue.specs.Changes.{SameNumbers, DropsFirst};
 
@@ -57,6 +57,7 @@ impl Queues {
         requires { self.old.pushed + 1 < 2 ^ 64 }
         ensures number { IfOk result (λ q. q ≡ self.old.pushed + 1) }
         ensures queues { OnOk result (self.new ≡ begun self.old) }
+        ensures waiting { self.new.waiting ≡ self.old.waiting }
         ensures reactions { self.new.reactions ≡ self.old.reactions }
         ensures pushed { self.new.pushed ≡ self.old.pushed + 1 }
         ensures depth { OnOk result (length self.new.stack ≡ length self.old.stack + 1) }
@@ -79,10 +80,10 @@ impl Queues {
         self.stack.pop()
     }
 
-    /// Enqueues a reaction (HTML Standard, section "Custom element reactions", "enqueue an element on the
-    /// appropriate element queue"): it gets the next number and comes last in the node's reaction queue,
-    /// and the node comes last in the current element queue, or in the backup element queue where the
-    /// stack is empty. Gives the reaction's number and that of the element queue.
+    /// Enqueues a reaction ("enqueue an element on the appropriate element queue", and what comes before
+    /// it): it gets the next number and comes last in the node's reaction queue, and the node comes last
+    /// in the current element queue, or in the backup element queue where the stack is empty. Gives the
+    /// reaction's number and that of the element queue.
     pub fn enqueue(
         &mut self,
         alloc: Global,
@@ -93,13 +94,14 @@ impl Queues {
         ensures number { IfOk result (λ got. got.0 ≡ self.old.reactions + 1) }
         ensures queue { IfOk result (λ got. got.1 ≡ current self.old) }
         ensures queues { OnOk result (self.new ≡ enqueued node r self.old) }
+        ensures err { OnErr result (self.new.waiting ≡ self.old.waiting) }
         ensures reactions { self.new.reactions ≡ self.old.reactions + 1 }
         ensures pushed { self.new.pushed ≡ self.old.pushed }
         ensures depth { length self.new.stack ≡ length self.old.stack }
     {
         let number = self.count();
-        self.waiting.append(alloc, node, number, r)?;
         let queue = self.append(node)?;
+        self.waiting.append(alloc, node, number, r)?;
         Ok((number, queue))
     }
 
@@ -118,6 +120,7 @@ impl Queues {
     fn append(&mut self, node: NodeNo) -> Result<QueueNo, NoMemory>
         ensures number { IfOk result (λ q. q ≡ current self.old) }
         ensures queues { OnOk result (self.new ≡ appended node self.old) }
+        ensures waiting { self.new.waiting ≡ self.old.waiting }
         ensures numbers { SameNumbers self.old self.new }
     {
         if self.stack.is_empty() {

@@ -1,5 +1,5 @@
 // The reaction queues of all nodes.
-ghost use Rattle.std.specs.Prelude.{◌≡◌, ◌-◌, ◌<◌, ◌++◌, ◌∷◌, [], vec_len, MatchOption, OnOk};
+ghost use Rattle.std.specs.Prelude.{◌≡◌, ◌-◌, ◌<◌, ◌++◌, ◌∷◌, [], length, vec_len, MatchOption, OnOk, OnErr};
 ghost use Rattle.reaction_queue.specs.Queues.{list_at, with_list};
 ghost use Rattle.reaction_queue.specs.Trimmed.{trimmed};
 
@@ -36,7 +36,8 @@ impl ReactionQueue {
 
     /// Appends a reaction.
     fn append(&mut self, number: ReactionNo, r: Reaction) -> Result<(), NoMemory>
-        ensures { OnOk result (self.new ≡ self.old ++ (number, r) ∷ []) }
+        ensures ok { OnOk result (self.new ≡ self.old ++ (number, r) ∷ []) }
+        ensures err { OnErr result (self.new ≡ self.old) }
     {
         self.reactions.push_back((number, r))?;
         Ok(())
@@ -84,7 +85,8 @@ impl Waiting {
         number: ReactionNo,
         r: Reaction,
     ) -> Result<(), NoMemory>
-        ensures { OnOk result (self.new ≡ with_list (node - 1) (list_at (node - 1) self.old ++ (number, r) ∷ []) self.old) }
+        ensures ok { OnOk result (self.new ≡ with_list (node - 1) (list_at (node - 1) self.old ++ (number, r) ∷ []) self.old) }
+        ensures err { OnErr result (self.new ≡ self.old) }
     {
         let i = place_of(node);
         grow(alloc, &mut self.queues, i)?;
@@ -117,7 +119,7 @@ fn place_of(node: NodeNo) -> usize
 // Adds empty queues until there is one in the place.
 fn grow(alloc: Global, queues: &mut Vec<ReactionQueue>, place: usize) -> Result<(), NoMemory>
     ensures within { OnOk result (place < vec_len queues.new) }
-    ensures waiting { OnOk result (trimmed queues.new.items ≡ trimmed queues.old.items) }
+    ensures waiting { trimmed queues.new.items ≡ trimmed queues.old.items }
 {
     while queues.len() <= place {
         queues.push(ReactionQueue::make(alloc))?;

@@ -1,0 +1,20 @@
+//! Events as the lines of a transcript.
+//!
+//! What the line of an event is, is defined beside the type, in `ce_algorithms`.
+#![tactic(auto)]
+
+mod answers;
+mod calls;
+mod event_line;
+mod lists;
+mod out;
+mod replies;
+mod submissions;
+#[cfg(test)]
+mod tests;
+mod trace;
+mod words;
+mod written;
+
+pub use event_line::write_event;
+pub use out::write_out;

@@ -1,0 +1,61 @@
+// The lines of a trace.
+ghost use Rattle.std.specs.Prelude.{◌≡◌, ◌++◌, OnOk};
+ghost use Rattle.std.specs.Fmt.{decimal};
+ghost use Rattle.ce_algorithms.specs.Text.{event_text, is_trace, node};
+
+use crate::words::what_word;
+use crate::written::Written;
+use ce_algorithms::Event;
+use ce_base::{NoMemory, NodeNo, QueueNo, ReactionNo};
+use rule_tokens::CallOrUpgrade;
+
+/// Puts a word and a number behind.
+pub(crate) fn put_step(out: &mut Written, word: &str, number: u64) -> Result<(), NoMemory>
+    ensures { OnOk result (out.new ≡ out.old ++ word.now ++ decimal number) }
+{
+    out.put(word)?;
+    out.put_number(number)
+}
+
+/// Puts a word and a node behind.
+pub(crate) fn put_at(out: &mut Written, word: &str, n: NodeNo) -> Result<(), NoMemory>
+    ensures { OnOk result (out.new ≡ out.old ++ word.now ++ node n) }
+{
+    out.put(word)?;
+    out.put_node(n)
+}
+
+pub(crate) fn put_enqueued(
+    out: &mut Written,
+    r: ReactionNo,
+    n: NodeNo,
+    reaction: CallOrUpgrade,
+    q: QueueNo,
+) -> Result<(), NoMemory>
+    ensures { OnOk result (out.new ≡ out.old ++ event_text (Event.Enqueued r n reaction q)) }
+{
+    put_step(out, "~ enq ", r.0)?;
+    put_at(out, " ", n)?;
+    out.put(" ")?;
+    out.put(what_word(reaction))?;
+    put_step(out, " ", q.0)
+}
+
+/// Whether only a trace shows the event.
+pub(crate) fn is_trace(e: &Event) -> bool
+    ensures { result ≡ is_trace e.now }
+{
+    match e {
+        Event::QueueOpened(_)
+        | Event::Enqueued(_, _, _, _)
+        | Event::DrainBegun(_)
+        | Event::Started(_)
+        | Event::Finished(_)
+        | Event::Dropped(_)
+        | Event::QueueClosed(_)
+        | Event::UpgradeBegun(_)
+        | Event::UpgradeDone(_)
+        | Event::UpgradeThrew(_) => true,
+        _ => false,
+    }
+}

@@ -1,0 +1,90 @@
+// The words of a line.
+ghost use Rattle.std.specs.Prelude.{◌≡◌, ◌<◌, [], slice_index_or};
+ghost use Rattle.rule_tokens.specs.Flags.{flag_names};
+ghost use Rattle.ce_algorithms.specs.Text.{bad_word, custom_state, mode, truth, what, yes_or_no};
+
+use ce_base::CustomState;
+use reaction_queue::Mode;
+use rule_tokens::{Bad, CallOrUpgrade};
+
+/// The word for what a reaction is for.
+pub(crate) fn what_word(reaction: CallOrUpgrade) -> &'static str
+    ensures { result.now ≡ what reaction }
+{
+    match reaction {
+        CallOrUpgrade::Call(name) => name.word(),
+        CallOrUpgrade::Upgrade => "upgrade",
+    }
+}
+
+/// The word for what is wrong with a line.
+pub(crate) fn bad_word(bad: Bad) -> &'static str
+    ensures { result.now ≡ bad_word bad }
+{
+    match bad {
+        Bad::Long => "long",
+        Bad::Utf8 => "utf8",
+        Bad::Quote => "quote",
+        Bad::Escape => "escape",
+        Bad::Word => "word",
+        Bad::Arity => "arity",
+        Bad::Place => "place",
+        Bad::Later => "later",
+    }
+}
+
+/// The word for whether an element is disabled.
+pub(crate) fn truth_word(disabled: bool) -> &'static str
+    ensures { result.now ≡ truth disabled }
+{
+    if disabled { "true" } else { "false" }
+}
+
+/// The word for the answer yes or no.
+pub(crate) fn yes_or_no(yes: bool) -> &'static str
+    ensures { result.now ≡ yes_or_no yes }
+{
+    if yes { "yes" } else { "no" }
+}
+
+/// The word for why a state comes back.
+pub(crate) fn mode_word(why: Mode) -> &'static str
+    ensures { result.now ≡ mode why }
+{
+    match why {
+        Mode::Restore => "restore",
+        Mode::Autocomplete => "autocomplete",
+    }
+}
+
+/// The word for a custom element state.
+pub(crate) fn state_word(state: CustomState) -> &'static str
+    ensures { result.now ≡ custom_state state }
+{
+    match state {
+        CustomState::Undefined => "undefined",
+        CustomState::Failed => "failed",
+        CustomState::Uncustomized => "uncustomized",
+        CustomState::Precustomized => "precustomized",
+        CustomState::Custom => "custom",
+    }
+}
+
+/// The name of the validity flag at a place, from 0.
+pub(crate) fn flag_name(i: usize) -> &'static str
+    requires { i < 10 }
+    ensures { result.now ≡ slice_index_or flag_names i [] }
+{
+    match i {
+        0 => "valueMissing",
+        1 => "typeMismatch",
+        2 => "patternMismatch",
+        3 => "tooLong",
+        4 => "tooShort",
+        5 => "rangeUnderflow",
+        6 => "rangeOverflow",
+        7 => "stepMismatch",
+        8 => "badInput",
+        _ => "customError",
+    }
+}

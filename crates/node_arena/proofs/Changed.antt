@@ -1,0 +1,56 @@
+-- What is read after one node's facts were changed.
+use Rattle.std.proofs.Common.{◌≡◌, ◌≢◌, ℕ, ◌==◌, if◌then◌else◌, Option, Some, None, refl, arith}
+use Rattle.std.proofs.lemmas.Bool.Decides.{nat_tests}
+use Rattle.node_trees.specs.Facts.{Facts}
+use Rattle.node_trees.specs.Trees.{Trees, none, tree, roots, with_facts}
+use Rattle.node_trees.specs.Nodes.{weight, times, size}
+use Rattle.node_trees.specs.Paths.{path}
+use Rattle.node_trees.specs.Spots.{Spot, spot_in, or_spot}
+
+module _ (n : ℕ) (c : Facts → Facts) where
+  pub roots-with : (f : Trees) → roots (with_facts n c f) ≡ roots f
+  roots-with none = refl
+  roots-with (tree m x s k r) = grind (arith, nat_tests, roots-with r)
+
+  pub path-with : (i : ℕ) (f : Trees) → path i (with_facts n c f) ≡ path i f
+  path-with i none = refl
+  path-with i (tree m x s k r) = grind (arith, nat_tests, path-with i s, path-with i k, path-with i r)
+
+  -- a sum that takes no heed of the change
+  pub weight-with : (w : ℕ → Facts → ℕ) → ((x : Facts) → w n (c x) ≡ w n x) → (f : Trees) → weight w (with_facts n c f) ≡ weight w f
+  weight-with w same none = refl
+  weight-with w same (tree m x s k r) = let e = same x in grind (arith, nat_tests, e, weight-with w same s, weight-with w same k, weight-with w same r)
+
+  pub size-with : (f : Trees) → size (with_facts n c f) ≡ size f
+  size-with = weight-with (λ m x. 1) (λ x. refl)
+
+  pub times-with : (i : ℕ) (f : Trees) → times i (with_facts n c f) ≡ times i f
+  times-with i = weight-with (λ m x. if m == i then 1 else 0) (λ x. refl)
+
+-- a spot with other facts
+abbrev pub changed : (Facts → Facts) → Option Spot → Option Spot
+changed c None = None
+changed c (Some s) = Some (record s { facts = c s.facts })
+
+changed-or : (c : Facts → Facts) (a b : Option Spot) → changed c (or_spot a b) ≡ or_spot (changed c a) (changed c b)
+changed-or c None b = refl
+changed-or c (Some a) b = refl
+
+module _ (n : ℕ) (c : Facts → Facts) where
+  pub spot-with-other : (p h : Option ℕ) (i : ℕ) (f : Trees) → i ≢ n → spot_in p h i (with_facts n c f) ≡ spot_in p h i f
+  spot-with-other p h i none ne = refl
+  spot-with-other p h i (tree m x s k r) ne =
+      grind (arith, nat_tests, roots-with n c s, roots-with n c k, spot-with-other None (Some m) i s ne, spot-with-other (Some m) None i k ne, spot-with-other p h i r ne)
+
+  pub spot-with-here : (p h : Option ℕ) (f : Trees) → spot_in p h n (with_facts n c f) ≡ changed c (spot_in p h n f)
+  spot-with-here p h none = refl
+  spot-with-here p h (tree m x s k r) =
+      grind (
+        arith,
+        nat_tests,
+        spot-with-here None (Some m) s,
+        spot-with-here (Some m) None k,
+        spot-with-here p h r,
+        changed-or c (spot_in None (Some m) n s) (or_spot (spot_in (Some m) None n k) (spot_in p h n r)),
+        changed-or c (spot_in (Some m) None n k) (spot_in p h n r),
+      )

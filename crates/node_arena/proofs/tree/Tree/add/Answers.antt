@@ -1,0 +1,32 @@
+use Rattle.std.proofs.Common.{◌∙◌, arith}
+use Rattle.std.proofs.lemmas.List.{length-map}
+use Rattle.std.proofs.lemmas.Result.{err_from_is_err_and}
+use Rattle.node_arena.specs.Nodes.{row, facts_of}
+use Rattle.node_arena.specs.OneForest.{seen_fact, seen_is, seen_size}
+use Rattle.node_arena.proofs.CallLemmas.{pushed, pushed_or_not, new_free}
+use Rattle.node_arena.proofs.tree.Tree.add.Goals as goal
+
+pub invariant_of-self-inside : goal.invariant_of-self-inside
+invariant_of-self-inside c = (pushed_or_not _ _ _ _ (seen_fact _ _ _ c.self.view_is) c.requires.loose c.requires.kind _ c.push.ensures.items, tt)
+
+pub returns-in_err-push-clause-err : goal.returns-in_err-push-clause-err
+returns-in_err-push-clause-err c =
+    let p = err_from_is_err_and c.from_residual.result c.from_residual.ensures.1 in
+    rw p.1 (seen_is _ _ _ (rw c.in_err-push.ensures.items (seen_fact _ _ _ c.self.view_is)))
+
+pub returns-clause-number : goal.returns-clause-number
+returns-clause-number c =
+    let old = (seen_fact _ _ _ c.self.view_is).counted in
+    omega (arith, c.len.ensures, c.in_ok-push.ensures.len, old, length-map c.self.inside.nodes.items row, c.self.inside.nodes.ok.0)
+
+pub returns-clause-ok : goal.returns-clause-ok
+returns-clause-ok c = seen_is _ _ _ (pushed _ _ _ _ (seen_fact _ _ _ c.self.view_is) c.requires.loose c.requires.kind c.in_ok-push.ensures.items)
+
+pub returns-clause-size : goal.returns-clause-size
+returns-clause-size c =
+    seen_size _ _ ∙ omega (arith, (seen_fact _ _ _ c.self.view_is).counted, length-map c.self.inside.nodes.items row, length-map c.push.new.self.items row, c.in_ok-push.ensures.len, c.self.inside.nodes.ok.0, c.push.new.self.ok.0)
+
+pub returns-clause-free : goal.returns-clause-free
+returns-clause-free c =
+    let a = seen_fact _ _ _ c.self.view_is in
+    rw (returns-clause-ok c, returns-clause-number c) (new_free _ c.args.self.now (facts_of c.args.node) a)

@@ -1,0 +1,34 @@
+use Rattle.std.proofs.Common.{◌∙◌, arith, refl, ap, sym}
+use Rattle.node_trees.specs.Facts.{value_in}
+use Rattle.node_arena.specs.OneForest.{seen_fact, seen_is, seen_size}
+use Rattle.node_arena.proofs.CallLemmas.{size_written, written, altered, own_row}
+use Rattle.node_arena.proofs.ReadLemmas.{in_range}
+use Rattle.node_arena.proofs.tree.Tree.del_attr.Goals as goal
+
+pub remove_attribute-requires : goal.remove_attribute-requires
+remove_attribute-requires c =
+    (c.requires.node.low, omega (arith, in_range _ _ _ (seen_fact _ _ _ c.self.view_is) c.requires.node, c.deref_mut.ensures.len, c.self.inside.nodes.ok.0, c.requires.node.low))
+
+pub invariant_of-self-inside : goal.invariant_of-self-inside
+invariant_of-self-inside c = (
+  (
+    _,
+    altered _ _ _ _ _ _ _ (seen_fact _ _ _ c.self.view_is) c.requires.node (λ x. refl) c.deref_mut.ensures.value
+        (written _ _ _ _ c.deref_mut.ensures.value c.self.inside.nodes.ok.0 c.remove_attribute.auto.nodes) c.remove_attribute.ensures.left,
+  ),
+  tt,
+)
+
+pub returns-clause-left : goal.returns-clause-left
+returns-clause-left c =
+    seen_is _ _ _ (altered _ _ _ _ _ _ _ (seen_fact _ _ _ c.self.view_is) c.requires.node (λ x. refl) c.deref_mut.ensures.value
+    (written _ _ _ _ c.deref_mut.ensures.value c.self.inside.nodes.ok.0 c.remove_attribute.auto.nodes) c.remove_attribute.ensures.left)
+
+pub returns-clause-was : goal.returns-clause-was
+returns-clause-was c =
+    let it = own_row _ _ _ _ (seen_fact _ _ _ c.self.view_is) c.requires.node c.deref_mut.ensures.value in
+    c.remove_attribute.ensures.was it.0 it.1 ∙ ap (λ v. value_in v.attributes c.args.name.now) (sym it.2)
+
+pub returns-clause-size : goal.returns-clause-size
+returns-clause-size c =
+    seen_size _ _ ∙ size_written _ _ _ _ _ (seen_fact _ _ _ c.self.view_is) c.deref_mut.ensures.value (written _ _ _ _ c.deref_mut.ensures.value c.self.inside.nodes.ok.0 c.remove_attribute.auto.nodes) c.remove_attribute.auto.nodes

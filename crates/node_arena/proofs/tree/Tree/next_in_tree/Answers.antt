@@ -1,0 +1,36 @@
+use Rattle.std.proofs.Common.{sym, ◌∙◌}
+use Rattle.node_arena.proofs.Climbing.{climb-child, climb-start, climb-node, climb-end, climb-sibling, climb-on, climb-less, climb-parent, test-apart, test-same}
+use Rattle.node_arena.proofs.Following.{among-node}
+use Rattle.node_arena.proofs.tree.Tree.next_in_tree.Goals as goal
+
+pub first_child-child-requires : goal.first_child-child-requires
+first_child-child-requires c = among-node _ _ c.requires.tidy c.requires.root _ c.requires.inside
+
+pub returns-then-is_some : goal.returns-then-is_some
+returns-then-is_some c = climb-child _ _ _ c.requires.tidy c.requires.root _ c.requires.inside c.first_child-child.ensures.child (sym c.is_some.ensures ∙ c.if-is_some.true)
+
+pub loop-root-init : goal.loop-root-init
+loop-root-init c = climb-start _ _ _ c.requires.tidy c.requires.root _ c.requires.inside c.first_child-child.ensures.child (sym c.is_some.ensures ∙ c.if-is_some.false)
+
+pub next_sibling-next-requires : goal.next_sibling-next-requires
+next_sibling-next-requires c = climb-node _ _ _ c.requires.tidy c.requires.root _ c.loop-root.invariant
+
+pub returns-then-is_some-2 : goal.returns-then-is_some-2
+returns-then-is_some-2 c =
+    climb-sibling _ _ _ c.requires.tidy c.requires.root _ c.loop-root.invariant (test-apart _ _ (sym c.ne.ensures ∙ c.loop-root-test.true)) _ c.next_sibling-next.ensures.sibling (sym c.is_some-in-loop-root.ensures ∙ c.if-is_some-2.true)
+
+pub parent-requires : goal.parent-requires
+parent-requires c = climb-node _ _ _ c.requires.tidy c.requires.root _ c.loop-root.invariant
+
+pub loop-root-smaller : goal.loop-root-smaller
+loop-root-smaller c = climb-less _ _ _ c.requires.tidy c.requires.root _ c.loop-root.invariant (test-apart _ _ (sym c.ne.ensures ∙ c.loop-root-test.true)) _ c.in-Some.ensures.parent
+
+pub loop-root-preserved : goal.loop-root-preserved
+loop-root-preserved c =
+    climb-on _ _ _ c.requires.tidy c.requires.root _ c.loop-root.invariant (test-apart _ _ (sym c.ne.ensures ∙ c.loop-root-test.true)) _ _ c.next_sibling-next.ensures.sibling (sym c.is_some-in-loop-root.ensures ∙ c.if-is_some-2.false) c.in-Some.ensures.parent
+
+pub returns-in-None : goal.returns-in-None
+returns-in-None c = absurd (climb-parent _ _ _ c.requires.tidy c.requires.root _ c.loop-root.invariant (test-apart _ _ (sym c.ne.ensures ∙ c.loop-root-test.true)) c.in-None.ensures.parent)
+
+pub returns : goal.returns
+returns c = climb-end _ _ _ c.requires.tidy c.requires.root _ c.loop-root.invariant (test-same _ _ (sym c.ne.ensures ∙ c.loop-root-test.false))

@@ -1,0 +1,40 @@
+use Rattle.std.proofs.Common.{◌≡◌, ◌∙◌, arith, refl, ap, sym}
+use Rattle.std.proofs.lemmas.Result.{on_ok_weaker, on_err_weaker, IfOk-weaker}
+use Rattle.node_trees.specs.Facts.{value_in}
+use Rattle.node_trees.specs.Spots.{attribute_at}
+use Rattle.node_arena.specs.OneForest.{seen_fact, seen_is, seen_size}
+use Rattle.node_arena.proofs.CallLemmas.{size_written, written, altered, unaltered, altered_or_not, own_row}
+use Rattle.node_arena.proofs.ReadLemmas.{in_range}
+use Rattle.node_arena.proofs.tree.Tree.set_attr.Goals as goal
+
+pub set_attribute-requires : goal.set_attribute-requires
+set_attribute-requires c =
+    (c.requires.node.low, omega (arith, in_range _ _ _ (seen_fact _ _ _ c.self.view_is) c.requires.node, c.deref_mut.ensures.len, c.self.inside.nodes.ok.0, c.requires.node.low))
+
+pub invariant_of-self-inside : goal.invariant_of-self-inside
+invariant_of-self-inside c = (
+  altered_or_not _ _ _ _ _ _ _ (seen_fact _ _ _ c.self.view_is) c.requires.node (λ x. refl) c.deref_mut.ensures.value
+      (written _ _ _ _ c.deref_mut.ensures.value c.self.inside.nodes.ok.0 c.set_attribute.auto.nodes) _ c.set_attribute.ensures.ok c.set_attribute.ensures.err,
+  tt,
+)
+
+pub returns-clause-set : goal.returns-clause-set
+returns-clause-set c =
+    on_ok_weaker c.set_attribute.result (λ g. seen_is _ _ _
+    (altered _ _ _ _ _ _ _ (seen_fact _ _ _ c.self.view_is) c.requires.node (λ x. refl) c.deref_mut.ensures.value
+    (written _ _ _ _ c.deref_mut.ensures.value c.self.inside.nodes.ok.0 c.set_attribute.auto.nodes) g)) c.set_attribute.ensures.ok
+
+pub returns-clause-was : goal.returns-clause-was
+returns-clause-was c =
+    let it = own_row _ _ _ _ (seen_fact _ _ _ c.self.view_is) c.requires.node c.deref_mut.ensures.value in
+    IfOk-weaker c.set_attribute.result (λ old. old ≡ value_in it.0.facts.attributes c.args.name) (λ old. old ≡ attribute_at c.args.self.now c.args.node c.args.name) (λ old e. e ∙ ap (λ v. value_in v.attributes c.args.name) (sym it.2)) (c.set_attribute.ensures.was it.0 it.1)
+
+pub returns-clause-err : goal.returns-clause-err
+returns-clause-err c =
+    on_err_weaker c.set_attribute.result (λ g. seen_is _ _ _
+    (unaltered _ _ _ _ _ _ (λ x. x) (seen_fact _ _ _ c.self.view_is) c.requires.node (λ x. refl) c.deref_mut.ensures.value
+    (written _ _ _ _ c.deref_mut.ensures.value c.self.inside.nodes.ok.0 c.set_attribute.auto.nodes) g)) c.set_attribute.ensures.err
+
+pub returns-clause-size : goal.returns-clause-size
+returns-clause-size c =
+    seen_size _ _ ∙ size_written _ _ _ _ _ (seen_fact _ _ _ c.self.view_is) c.deref_mut.ensures.value (written _ _ _ _ c.deref_mut.ensures.value c.self.inside.nodes.ok.0 c.set_attribute.auto.nodes) c.set_attribute.auto.nodes

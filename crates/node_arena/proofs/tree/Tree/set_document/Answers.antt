@@ -1,0 +1,35 @@
+use Rattle.std.proofs.Common.{◌∙◌, arith, refl}
+use Rattle.node_arena.specs.OneForest.{seen_fact, seen_is, seen_size}
+use Rattle.node_arena.proofs.CallLemmas.{size_written, written, altered}
+use Rattle.node_arena.proofs.ReadLemmas.{in_range}
+use Rattle.node_arena.proofs.Allowed.{may_insert-with_document}
+use Rattle.node_arena.proofs.ChangedReads.{parent_at-with}
+use Rattle.node_arena.proofs.tree.Tree.set_document.Goals as goal
+
+pub move_to-requires : goal.move_to-requires
+move_to-requires c = (c.requires.low, omega (arith, in_range _ _ _ (seen_fact _ _ _ c.self.view_is) c.requires, c.deref_mut.ensures.len, c.self.inside.nodes.ok.0, c.requires.low))
+
+pub invariant_of-self-inside : goal.invariant_of-self-inside
+invariant_of-self-inside c = (
+  (
+    _,
+    altered _ _ _ _ _ _ _ (seen_fact _ _ _ c.self.view_is) c.requires (λ x. refl) c.deref_mut.ensures.value (written _ _ _ _ c.deref_mut.ensures.value c.self.inside.nodes.ok.0 c.move_to.auto.nodes) c.move_to.ensures,
+  ),
+  tt,
+)
+
+pub returns-clause-document : goal.returns-clause-document
+returns-clause-document c =
+    seen_is _ _ _ (altered _ _ _ _ _ _ _ (seen_fact _ _ _ c.self.view_is) c.requires (λ x. refl) c.deref_mut.ensures.value
+    (written _ _ _ _ c.deref_mut.ensures.value c.self.inside.nodes.ok.0 c.move_to.auto.nodes) c.move_to.ensures)
+
+pub returns-clause-size : goal.returns-clause-size
+returns-clause-size c =
+    seen_size _ _ ∙ size_written _ _ _ _ _ (seen_fact _ _ _ c.self.view_is) c.deref_mut.ensures.value (written _ _ _ _ c.deref_mut.ensures.value c.self.inside.nodes.ok.0 c.move_to.auto.nodes) c.move_to.auto.nodes
+
+pub returns-clause-may : goal.returns-clause-may
+returns-clause-may c = λ p n b. rw (returns-clause-document c) (may_insert-with_document c.args.node c.args.document c.args.self.now p n b)
+
+pub returns-clause-parents : goal.returns-clause-parents
+returns-clause-parents c = λ n.
+    rw (returns-clause-document c) (parent_at-with c.args.node (λ x. record x { document = c.args.document }) c.args.self.now n)

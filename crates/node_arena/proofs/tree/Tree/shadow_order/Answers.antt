@@ -1,0 +1,15 @@
+use Rattle.node_arena.proofs.WalkLemmas.{walk_on, walk_less, walk_nodes, walk_out, all_nodes}
+use Rattle.node_arena.proofs.tree.Tree.shadow_order.Goals as goal
+
+pub loop-m-smaller : goal.loop-m-smaller
+loop-m-smaller c = walk_less _ c.in-Some.m _ _ _ c.push_links.new.stack.items c.in-Some.ensures.items c.in_ok-push_links.ensures c.node-node.ensures.walk
+
+pub loop-m-preserved : goal.loop-m-preserved
+loop-m-preserved c = record {
+  so_far = walk_on _ c.in-Some.m _ _ _ c.push_links.new.stack.items c.in-Some.ensures.items c.in_ok-push_links.ensures _ _ _ c.node-node.ensures.walk c.in_ok-push-2.ensures c.loop-m.invariant.so_far;
+  left = walk_nodes _ c.in-Some.m _ _ _ c.push_links.new.stack.items c.in-Some.ensures.items c.in_ok-push_links.ensures c.loop-m.invariant.left c.node-node.ensures.links;
+  out = walk_out _ c.in-Some.m _ _ _ c.push_links.new.stack.items c.in-Some.ensures.items c.in_ok-push_links.ensures _ _ c.loop-m.invariant.left c.in_ok-push-2.ensures c.loop-m.invariant.out;
+}
+
+pub returns-clause-nodes : goal.returns-clause-nodes
+returns-clause-nodes c = all_nodes _ _ c.loop-m.invariant.out

@@ -1,0 +1,16 @@
+use Rattle.std.proofs.Common.{◌≡◌, ◌++◌, length}
+use Rattle.std.specs.Prelude.{reverse}
+use Rattle.node_trees.specs.Trees.{tree_of}
+use Rattle.node_trees.specs.Orders.{order}
+use Rattle.node_arena.specs.Walks.{AreNodes, orders}
+use Rattle.node_arena.proofs.tree.Tree.shadow_order.Given as goal
+
+abbrev pub invariant-loop-m : goal.invariant-loop-m
+invariant-loop-m l = record {
+  so_far : l.out ++ orders l.self (reverse l.todo.items) ≡ order (tree_of l.fn.n l.self);
+  left : AreNodes l.self (reverse l.todo.items);
+  out : AreNodes l.self l.out;
+}
+
+abbrev pub decreases-loop-m : goal.decreases-loop-m
+decreases-loop-m l = length (orders l.self (reverse l.todo.items))

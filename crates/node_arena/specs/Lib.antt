@@ -1,0 +1,6 @@
+pub mod Numbers
+pub mod Rows
+pub mod OneForest
+pub mod Nodes
+pub mod Walks
+pub mod Attributes

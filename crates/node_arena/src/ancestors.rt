@@ -1,0 +1,70 @@
+// What is above a node.
+ghost use Rattle.std.specs.Prelude.{◌≡◌};
+ghost use Rattle.node_trees.specs.Paths.{path, is_among, root_at, connected};
+ghost use Rattle.node_trees.specs.Nodes.{IsNode, IsTidy};
+ghost use Rattle.node_arena.specs.Walks.{IsUp};
+
+use crate::Tree;
+use ce_base::NodeNo;
+use node_trees::NodeKind;
+
+impl Tree {
+    /// The parent, or the host of a shadow root.
+    fn above(&self, n: NodeNo) -> Option<NodeNo>
+        requires { IsNode self.now n }
+        ensures up { IsUp self.now n result }
+        ensures tidy { IsTidy self.now }
+    {
+        let node = self.node(n);
+        match node.parent {
+            Some(parent) => Some(parent),
+            None => node.host,
+        }
+    }
+
+    /// Whether `node` is `from`, or an ancestor of it, where a host is an ancestor of what its shadow tree
+    /// has (DOM Standard, section "Interface DocumentFragment", "host-including inclusive ancestor").
+    pub(crate) fn is_inside(&self, node: NodeNo, from: NodeNo) -> bool
+        requires { IsNode self.now from }
+        ensures { result ≡ is_among node (path from self.now) }
+    {
+        let mut at = from;
+        loop {
+            let above = self.above(at);
+            if at == node {
+                return true;
+            }
+            match above {
+                None => return false,
+                Some(next) => at = next,
+            }
+        }
+    }
+
+    /// The root of the node's own tree (DOM Standard, section "Trees", "root"). In a shadow tree it is the
+    /// shadow root.
+    pub fn root(&self, n: NodeNo) -> NodeNo
+        requires { IsNode self.now n }
+        ensures root { result ≡ root_at self.now n }
+        ensures node { IsNode self.now result }
+    {
+        let mut at = n;
+        while let Some(parent) = self.node(at).parent {
+            at = parent;
+        }
+        at
+    }
+
+    /// Whether the node is connected: whether its shadow-including root is a document (DOM Standard, section
+    /// "Interface Node", "connected").
+    pub fn is_connected(&self, n: NodeNo) -> bool
+        requires { IsNode self.now n }
+        ensures { result ≡ connected self.now n }
+    {
+        let mut at = n;
+        while let Some(next) = self.above(at) {
+            at = next;
+        }
+        self.kind(at) == NodeKind::Document
+    }
+}

@@ -1,0 +1,119 @@
+// Changes of one node's facts.
+ghost use Rattle.std.specs.Prelude.{◌≡◌, ◌<◌, ◌≤◌, ℕ, Option, Some, length, IfOk, OnOk, OnErr, option_copied, slice_get};
+ghost use Rattle.node_trees.specs.declared.kind.NodeKind.TheVariants.{Element};
+ghost use Rattle.node_trees.specs.Facts.{value_in, with_value, without_value};
+ghost use Rattle.node_trees.specs.Trees.{with_attribute, without_attribute, with_document};
+ghost use Rattle.node_trees.specs.Spots.{parent_at, Spot, facts_at, kind_at, attribute_at};
+ghost use Rattle.node_trees.specs.Nodes.{size, IsNode};
+ghost use Rattle.node_trees.specs.Insertion.{may_insert};
+ghost use Rattle.node_arena.specs.Nodes.{rows, row};
+ghost use Rattle.node_arena.specs.Rows.{row_at, Changed};
+
+use crate::Tree;
+use crate::children::index_of;
+use crate::node::Node;
+use ce_base::{NoMemory, NodeNo, Text};
+use std::alloc::Global;
+
+fn set_attribute(
+    nodes: &mut [Node],
+    node: NodeNo,
+    name: Text,
+    value: Text,
+) -> Result<Option<Text>, NoMemory>
+    requires { (0 < node) × (node ≤ length nodes.old) }
+    ensures ok { OnOk result (Changed (rows nodes.old) (rows nodes.new) node (λ x. record x { attributes = with_value name value x.attributes })) }
+    ensures was { (it : Spot) → row_at (rows nodes.old) node ≡ Some it → IfOk result (λ old. old ≡ value_in it.facts.attributes name) }
+    ensures err { OnErr result (rows nodes.new ≡ rows nodes.old) }
+{
+    let at = index_of(node);
+    let old = nodes[at].attributes.set(name, value)?;
+    Ok(old)
+}
+
+fn remove_attribute(nodes: &mut [Node], node: NodeNo, name: &str) -> Option<Text>
+    requires { (0 < node) × (node ≤ length nodes.old) }
+    ensures left { Changed (rows nodes.old) (rows nodes.new) node (λ x. record x { attributes = without_value name.now x.attributes }) }
+    ensures was { (it : Spot) → row_at (rows nodes.old) node ≡ Some it → result ≡ value_in it.facts.attributes name.now }
+{
+    let at = index_of(node);
+    nodes[at].attributes.remove(name)
+}
+
+fn move_to(nodes: &mut [Node], node: NodeNo, document: NodeNo)
+    requires { (0 < node) × (node ≤ length nodes.old) }
+    ensures { Changed (rows nodes.old) (rows nodes.new) node (λ x. record x { document = document }) }
+{
+    let at = index_of(node);
+    nodes[at].document = document;
+}
+
+impl Tree {
+    /// The value of an attribute (DOM Standard, section "Interface Element", "get an attribute by name").
+    /// None exactly where there is none of that name.
+    pub fn attr(&self, n: NodeNo, name: &str) -> Option<&str>
+        requires { IsNode self.now n }
+        ensures { option_copied result ≡ attribute_at self.now n name.now }
+    {
+        self.node(n).attributes.get(name)
+    }
+
+    /// How many attributes a node has: an element's, for another node none.
+    pub fn attr_count(&self, n: NodeNo) -> usize
+        requires { IsNode self.now n }
+        ensures { result ≡ length (facts_at self.now n).attributes }
+    {
+        self.node(n).attributes.len()
+    }
+
+    /// The name and the value of the attribute at a place, from 0, in the order of first setting.
+    pub fn attr_at(&self, n: NodeNo, i: usize) -> (&str, &str)
+        requires node { IsNode self.now n }
+        requires place { i < length (facts_at self.now n).attributes }
+        ensures { slice_get (facts_at self.now n).attributes i ≡ Some (result.0.now, result.1.now) }
+    {
+        self.node(n).attributes.at(i)
+    }
+
+    /// Sets an attribute of an element and answers its old value (DOM Standard, section "Interface
+    /// Element", "set an attribute value"). One that is there keeps its place, another comes last.
+    pub fn set_attr(
+        &mut self,
+        _alloc: Global,
+        node: NodeNo,
+        name: Text,
+        value: Text,
+    ) -> Result<Option<Text>, NoMemory>
+        requires node { IsNode self.old node }
+        requires element { kind_at self.old node ≡ Element }
+        ensures set { OnOk result (self.new ≡ with_attribute node name value self.old) }
+        ensures was { IfOk result (λ old. old ≡ attribute_at self.old node name) }
+        ensures size { size self.new ≡ size self.old }
+        ensures err { OnErr result (self.new ≡ self.old) }
+    {
+        set_attribute(&mut self.nodes, node, name, value)
+    }
+
+    /// Takes an attribute of an element away and answers its value (DOM Standard, section "Interface
+    /// Element", "remove an attribute by name"). None exactly where it was not there.
+    pub fn del_attr(&mut self, node: NodeNo, name: &str) -> Option<Text>
+        requires node { IsNode self.old node }
+        requires element { kind_at self.old node ≡ Element }
+        ensures left { self.new ≡ without_attribute node name.now self.old }
+        ensures was { result ≡ attribute_at self.old node name.now }
+        ensures size { size self.new ≡ size self.old }
+    {
+        remove_attribute(&mut self.nodes, node, name)
+    }
+
+    /// Sets the node document of this node alone (DOM Standard, section "Interface Node", "node document").
+    pub fn set_document(&mut self, node: NodeNo, document: NodeNo)
+        requires { IsNode self.old node }
+        ensures document { self.new ≡ with_document node document self.old }
+        ensures size { size self.new ≡ size self.old }
+        ensures parents { (n : ℕ) → parent_at self.new n ≡ parent_at self.old n }
+        ensures may { (p n : ℕ) (b : Option ℕ) → may_insert self.new p n b ≡ may_insert self.old p n b }
+    {
+        move_to(&mut self.nodes, node, document);
+    }
+}

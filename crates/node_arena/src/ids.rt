@@ -1,0 +1,75 @@
+// Elements by their ids.
+ghost use Rattle.std.specs.Prelude.{◌≡◌, true};
+ghost use Rattle.node_trees.specs.Spots.{after, facts_at};
+ghost use Rattle.node_trees.specs.Orders.{tree_order_of};
+ghost use Rattle.node_trees.specs.Paths.{is_among};
+ghost use Rattle.node_trees.specs.Ids.{first_with_id, has_id};
+ghost use Rattle.node_trees.specs.Nodes.{IsNode, IsNodeOrNone, IsTidy};
+
+use crate::Tree;
+use ce_base::NodeNo;
+use node_trees::NodeKind;
+
+impl Tree {
+    /// Of the node and what is below it in its own tree, the first element in tree order whose ID this is
+    /// (DOM Standard, section "Interface NonElementParentNode", `getElementById`). An empty text is no ID.
+    /// None exactly where there is none.
+    pub fn first_with_id(&self, root: NodeNo, id: &str) -> Option<NodeNo>
+        requires { IsNode self.now root }
+        ensures found { result ≡ first_with_id self.now root id.now }
+        ensures node { IsNodeOrNone self.now result }
+    {
+        let mut at = root;
+        loop {
+            if self.has_id(at, id) {
+                return Some(at);
+            }
+            match self.next_in_tree(at, root) {
+                Some(next) => at = next,
+                None => return None,
+            }
+        }
+    }
+
+    /// Whether the node is an element whose ID this is.
+    fn has_id(&self, n: NodeNo, id: &str) -> bool
+        requires { IsNode self.now n }
+        ensures has { result ≡ has_id id.now (facts_at self.now n) }
+        ensures tidy { IsTidy self.now }
+    {
+        let node = self.node(n);
+        if id.is_empty() || node.kind != NodeKind::Element {
+            return false;
+        }
+        match node.attributes.get("id") {
+            Some(value) => value == id,
+            None => false,
+        }
+    }
+
+    /// What follows a node in the tree order of `root`: its first child, or else the next sibling of the
+    /// nearest of it and what is above it that has one, below `root`.
+    fn next_in_tree(&self, at: NodeNo, root: NodeNo) -> Option<NodeNo>
+        requires tidy { IsTidy self.now }
+        requires root { IsNode self.now root }
+        requires inside { is_among at (tree_order_of self.now root) ≡ true }
+        ensures { result ≡ after at (tree_order_of self.now root) }
+    {
+        let child = self.first_child(at);
+        if child.is_some() {
+            return child;
+        }
+        let mut up = at;
+        while up != root {
+            let next = self.next_sibling(up);
+            if next.is_some() {
+                return next;
+            }
+            match self.parent(up) {
+                Some(parent) => up = parent,
+                None => return None,
+            }
+        }
+        None
+    }
+}

@@ -1,0 +1,22 @@
+//! The tree of a page: nodes in an arena, named by their numbers. A contract sees nested lists, the forest
+//! of all nodes that were made, and each call does to it what the definitions of node_trees say (DOM
+//! Standard, sections "Trees", "Node tree", "Shadow tree").
+#![tactic(auto)]
+
+mod ancestors;
+mod attributes;
+mod children;
+mod facts;
+mod ids;
+mod insertion;
+mod making;
+mod node;
+mod orders;
+mod reading;
+mod removal;
+#[cfg(test)]
+mod tests;
+mod tree;
+
+pub use node_trees::NodeKind;
+pub use tree::Tree;

@@ -1,0 +1,125 @@
+// New nodes.
+ghost use Rattle.std.specs.Prelude.{◌≡◌, ◌+◌, ◌<◌, ◌≤◌, ◌∷◌, [], None, false, length, IfOk, OnOk, OnErr};
+ghost use Rattle.node_trees.specs.declared.kind.NodeKind.TheVariants.{Document, Element, ShadowRoot};
+ghost use Rattle.node_trees.specs.Facts.{blank, new_element, new_text, is_shadow_root};
+ghost use Rattle.node_trees.specs.Trees.{single, with_node, with_shadow};
+ghost use Rattle.node_trees.specs.Spots.{kind_at, document_at, parent_at, shadow_at};
+ghost use Rattle.node_trees.specs.Nodes.{size, IsNode};
+ghost use Rattle.node_arena.specs.Nodes.{facts_of, rows, IsLoose, IsRootOf};
+ghost use Rattle.node_arena.specs.Rows.{Attached};
+
+use crate::Tree;
+use crate::children::index_of;
+use crate::node::Node;
+use ce_base::{NoMemory, NodeNo, Text};
+use node_trees::NodeKind;
+use std::alloc::Global;
+
+/// Puts a shadow root at the end and links it to its host.
+fn attach(nodes: &mut Vec<Node>, host: NodeNo, root: Node) -> Result<NodeNo, NoMemory>
+    requires host { (0 < host) × (host ≤ length nodes.old.items) }
+    requires root { IsRootOf host root }
+    ensures number { IfOk result (λ n. n ≡ length nodes.old.items + 1) }
+    ensures ok { OnOk result (Attached (rows nodes.old.items) (rows nodes.new.items) host (length nodes.old.items + 1) (facts_of root)) }
+    ensures err { OnErr result (nodes.new.items ≡ nodes.old.items) }
+{
+    nodes.push(root)?;
+    let number = NodeNo(nodes.len() as u64);
+    let at = index_of(host);
+    nodes[at].shadow = Some(number);
+    Ok(number)
+}
+
+impl Tree {
+    /// A tree with a document alone, which is node 1.
+    pub fn make(alloc: Global) -> Result<Tree, NoMemory>
+        ensures { IfOk result (λ t. t ≡ single 1 (blank Document 1)) }
+    {
+        let mut nodes = Vec::new(alloc);
+        nodes.push(Node::blank(alloc, NodeKind::Document, NodeNo(1)))?;
+        Ok(Tree { nodes })
+    }
+
+    /// Puts a node at the end, as a root.
+    fn add(&mut self, node: Node) -> Result<NodeNo, NoMemory>
+        requires loose { IsLoose node }
+        requires kind { is_shadow_root node.kind ≡ false }
+        ensures number { IfOk result (λ n. n ≡ size self.old + 1) }
+        ensures size { OnOk result (size self.new ≡ size self.old + 1) }
+        ensures free { IfOk result (λ n. parent_at self.new n ≡ None) }
+        ensures ok { OnOk result (self.new ≡ with_node (size self.old + 1) (facts_of node) self.old) }
+        ensures err { OnErr result (self.new ≡ self.old) }
+    {
+        self.nodes.push(node)?;
+        Ok(NodeNo(self.nodes.len() as u64))
+    }
+
+    /// Makes a document (DOM Standard, section "Interface Document"). Its number is the next one, and it is
+    /// its own node document.
+    pub fn make_document(&mut self, alloc: Global) -> Result<NodeNo, NoMemory>
+        ensures number { IfOk result (λ n. n ≡ size self.old + 1) }
+        ensures size { OnOk result (size self.new ≡ size self.old + 1) }
+        ensures free { IfOk result (λ n. parent_at self.new n ≡ None) }
+        ensures made { OnOk result (self.new ≡ with_node (size self.old + 1) (blank Document (size self.old + 1)) self.old) }
+        ensures err { OnErr result (self.new ≡ self.old) }
+    {
+        let number = NodeNo(self.nodes.len() as u64 + 1);
+        self.add(Node::blank(alloc, NodeKind::Document, number))
+    }
+
+    /// Makes an element (DOM Standard, section "Interface Element", "create an element internal"). Its
+    /// number is the next one, and it stands nowhere yet.
+    pub fn make_element(
+        &mut self,
+        alloc: Global,
+        local: Text,
+        is_value: Option<Text>,
+        document: NodeNo,
+    ) -> Result<NodeNo, NoMemory>
+        ensures number { IfOk result (λ n. n ≡ size self.old + 1) }
+        ensures size { OnOk result (size self.new ≡ size self.old + 1) }
+        ensures free { IfOk result (λ n. parent_at self.new n ≡ None) }
+        ensures made { OnOk result (self.new ≡ with_node (size self.old + 1) (new_element local is_value document) self.old) }
+        ensures err { OnErr result (self.new ≡ self.old) }
+    {
+        let mut node = Node::blank(alloc, NodeKind::Element, document);
+        node.local = Some(local);
+        node.is_value = is_value;
+        self.add(node)
+    }
+
+    /// Makes a text node (DOM Standard, section "Interface Text"). Its number is the next one, and it stands
+    /// nowhere yet.
+    pub fn make_text(
+        &mut self,
+        alloc: Global,
+        chars: Text,
+        document: NodeNo,
+    ) -> Result<NodeNo, NoMemory>
+        ensures number { IfOk result (λ n. n ≡ size self.old + 1) }
+        ensures size { OnOk result (size self.new ≡ size self.old + 1) }
+        ensures free { IfOk result (λ n. parent_at self.new n ≡ None) }
+        ensures made { OnOk result (self.new ≡ with_node (size self.old + 1) (new_text chars document) self.old) }
+        ensures err { OnErr result (self.new ≡ self.old) }
+    {
+        let mut node = Node::blank(alloc, NodeKind::TextNode, document);
+        node.chars = Some(chars);
+        self.add(node)
+    }
+
+    /// Makes a shadow root at an element that has none (DOM Standard, section "Interface Element", "attach a
+    /// shadow root"). Its number is the next one, and its node document is the host's.
+    pub fn attach_root(&mut self, alloc: Global, host: NodeNo) -> Result<NodeNo, NoMemory>
+        requires node { IsNode self.old host }
+        requires element { kind_at self.old host ≡ Element }
+        requires bare { shadow_at self.old host ≡ None }
+        ensures number { IfOk result (λ n. n ≡ size self.old + 1) }
+        ensures size { OnOk result (size self.new ≡ size self.old + 1) }
+        ensures made { OnOk result (self.new ≡ with_shadow host (single (size self.old + 1) (blank ShadowRoot (document_at self.old host))) self.old) }
+        ensures err { OnErr result (self.new ≡ self.old) }
+    {
+        let mut root = Node::blank(alloc, NodeKind::ShadowRoot, self.document(host));
+        root.host = Some(host);
+        attach(&mut self.nodes, host, root)
+    }
+}

@@ -1,0 +1,53 @@
+// The shadow-including order.
+ghost use Rattle.std.specs.Prelude.{◌≡◌, ◌++◌, reverse, OnOk, IfOk, All};
+ghost use Rattle.node_trees.specs.Orders.{order_of};
+ghost use Rattle.node_trees.specs.Nodes.{IsNode};
+ghost use Rattle.node_arena.specs.Nodes.{row};
+
+use crate::Tree;
+use crate::node::Node;
+use ce_base::{NoMemory, NodeNo, Nodes};
+use std::alloc::Global;
+
+/// Puts numbers on a stack, the first on top.
+fn push_reversed(stack: &mut Vec<NodeNo>, numbers: &[NodeNo]) -> Result<(), NoMemory>
+    ensures { OnOk result (reverse stack.new.items ≡ numbers.now ++ reverse stack.old.items) }
+{
+    let mut left = numbers.len();
+    while left > 0 {
+        left -= 1;
+        stack.push(numbers[left])?;
+    }
+    Ok(())
+}
+
+/// Puts a node's shadow root and children on a stack, the shadow root on top.
+fn push_links(stack: &mut Vec<NodeNo>, node: &Node) -> Result<(), NoMemory>
+    ensures { OnOk result (reverse stack.new.items ≡ ((row node.now).shadow ++ (row node.now).children) ++ reverse stack.old.items) }
+{
+    push_reversed(stack, &node.children)?;
+    if let Some(root) = node.shadow {
+        stack.push(root)?;
+    }
+    Ok(())
+}
+
+impl Tree {
+    /// The node and all below it in shadow-including tree order (DOM Standard, section "Shadow tree",
+    /// "shadow-including tree order"): a node, then its shadow tree, then its children, each in this order.
+    pub fn shadow_order(&self, alloc: Global, n: NodeNo) -> Result<Nodes, NoMemory>
+        requires { IsNode self.now n }
+        ensures order { IfOk result (λ ns. ns ≡ order_of self.now n) }
+        ensures nodes { IfOk result (All (IsNode self.now)) }
+    {
+        let mut out = Nodes::make(alloc);
+        let mut todo = Vec::new(alloc);
+        todo.push(n)?;
+        while let Some(m) = todo.pop() {
+            out.push(alloc, m)?;
+            let node = self.node(m);
+            push_links(&mut todo, node)?;
+        }
+        Ok(out)
+    }
+}
