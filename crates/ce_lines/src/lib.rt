@@ -16,5 +16,6 @@ mod trace;
 mod words;
 mod written;
 
+pub use ce_algorithms::{Answer, Cause, Event};
 pub use event_line::write_event;
 pub use out::write_out;

@@ -1,6 +1,5 @@
 // Lines of events, as a transcript has them, and events written to a sink.
-use crate::{write_event, write_out};
-use ce_algorithms::{Answer, Cause, Event};
+use crate::{Answer, Cause, Event, write_event, write_out};
 use ce_base::{
     CustomState, Fault, Flags, MemSink, NodeNo, Nodes, QueueNo, ReactionNo, Sink, Stop, SureSink,
     Text, Texts,
