@@ -1,7 +1,7 @@
 // What is known of a node, and who stands next to it.
-ghost use Rattle.std.specs.Prelude.{◌≡◌, ◌<◌, ◌∷◌, ◌++◌, [], Some, IfSome, length, option_copied, slice_get};
+ghost use Rattle.std.specs.Prelude.{◌≡◌, ◌<◌, ◌∷◌, ◌++◌, [], Some, IfOk, IfSome, length, option_copied, slice_get};
 ghost use Rattle.node_trees.specs.Trees.{tree_of};
-ghost use Rattle.node_trees.specs.Spots.{spot, facts_at, kind_at, attribute_at, document_at, parent_at, host_at, shadow_at, first_child_at, next_sibling_at};
+ghost use Rattle.node_trees.specs.Spots.{spot, facts_at, kind_at, attribute_at, document_at, parent_at, host_at, shadow_at, children_at, first_child_at, next_sibling_at};
 ghost use Rattle.node_trees.specs.Orders.{order};
 ghost use Rattle.node_trees.specs.Nodes.{size, IsNode, IsNodeOrNone, IsTidy};
 ghost use Rattle.node_arena.specs.Nodes.{row, text_in};
@@ -10,8 +10,9 @@ ghost use Rattle.node_arena.specs.Walks.{above, orders, AreNodes, IsUp};
 use crate::Tree;
 use crate::children::{index_of, next_of};
 use crate::node::Node;
-use ce_base::{NodeNo, Text};
+use ce_base::{NoMemory, NodeNo, Nodes, Text};
 use node_trees::NodeKind;
+use std::alloc::Global;
 
 /// A text, or the empty one.
 fn text_of(part: &Option<Text>) -> &str
@@ -21,6 +22,17 @@ fn text_of(part: &Option<Text>) -> &str
         Some(text) => text.as_str(),
         None => "",
     }
+}
+
+/// A list of the nodes of a slice.
+fn listed(alloc: Global, nodes: &[NodeNo]) -> Result<Nodes, NoMemory>
+    ensures { IfOk result (λ ns. ns ≡ nodes.now) }
+{
+    let mut list = Nodes::make(alloc);
+    for n in nodes {
+        list.push(alloc, *n)?;
+    }
+    Ok(list)
 }
 
 impl Tree {
@@ -119,6 +131,14 @@ impl Tree {
         ensures node { IsNodeOrNone self.now result }
     {
         self.node(n).shadow
+    }
+
+    /// The children, in order (DOM Standard, section "Trees", "child").
+    pub fn children(&self, alloc: Global, n: NodeNo) -> Result<Nodes, NoMemory>
+        requires { IsNode self.now n }
+        ensures { IfOk result (λ ns. ns ≡ children_at self.now n) }
+    {
+        listed(alloc, &self.node(n).children)
     }
 
     /// The first child (DOM Standard, section "Trees", "first child"). None exactly where there are no

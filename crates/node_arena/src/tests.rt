@@ -1,7 +1,7 @@
 ghost use Rattle.node_trees.specs.Nodes.{IsNode};
 
 use crate::*;
-use ce_base::{Fault, NodeNo, Text};
+use ce_base::{Fault, NodeNo, Nodes, Text};
 use std::alloc::Global;
 use std::fmt::Write;
 use std::process::Abort;
@@ -103,14 +103,23 @@ fn put(
     Ok("moved")
 }
 
-// The shadow-including order of a node, as text.
-fn order(rt: &impl Abort, alloc: Global, tree: &Tree, n: u64) -> Result<String, Fail> {
-    let nodes = tree.shadow_order(alloc, at(rt, tree, n))?;
+// Nodes as text.
+fn listed(alloc: Global, nodes: &Nodes) -> Result<String, Fail> {
     let mut out = String::new(alloc);
     for i in 0..nodes.len() {
         write!(out, " {}", number(nodes.get(i)))?;
     }
     Ok(out)
+}
+
+// The shadow-including order of a node, as text.
+fn order(rt: &impl Abort, alloc: Global, tree: &Tree, n: u64) -> Result<String, Fail> {
+    listed(alloc, &tree.shadow_order(alloc, at(rt, tree, n))?)
+}
+
+// The children of a node, as text.
+fn children(rt: &impl Abort, alloc: Global, tree: &Tree, n: u64) -> Result<String, Fail> {
+    listed(alloc, &tree.children(alloc, at(rt, tree, n))?)
 }
 
 // The numbers of the root, the parent, the first child and the next sibling, and whether the node is
@@ -264,6 +273,9 @@ fn a_shadow_tree_comes_before_the_children(rt: HostRuntime) -> Result<(), Fail> 
     assert_eq!(rt; shadow(&rt, alloc, &mut tree, 8)?, 10);
     for (parent, node) in [(1, 2), (2, 3), (3, 7), (5, 8), (5, 9), (10, 4)] {
         assert_eq!(rt; put(&rt, alloc, &mut tree, parent, node, 0)?, "new");
+    }
+    for (n, below) in [(1, " 2"), (3, " 7"), (5, " 8 9"), (8, ""), (10, " 4")] {
+        assert_eq!(rt; children(&rt, alloc, &tree, n)?.as_str(), below);
     }
     for (n, below, reads) in [
         (1, " 1 2 3 5 8 10 4 9 7", (1, 0, 2, 0, true)),
