@@ -1,3 +1,3 @@
-pub mod ElementLemmas
-pub mod QueueLemmas
-pub mod AttributeLemmas
+pub mod CallbackLemmas
+pub mod DefineLemmas
+pub mod LooseLemmas

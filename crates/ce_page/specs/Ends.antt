@@ -1,7 +1,7 @@
--- How a call of the page says the end of a step of the model.
+-- How a call of the page says the end of a step of the definitions.
 use Rattle.std.specs.Prelude.{◌≡◌, ℕ, Result, Ok, Err, ⊤}
-use Rattle.ce_model.specs.Steps.{Outcome, Goes, Throws, Spent}
-use Rattle.ce_model.specs.Page.{Page, Work}
+use Rattle.ce_algorithms.specs.Steps.{Outcome, Goes, Throws, Spent}
+use Rattle.ce_algorithms.specs.Page.{Page, Work}
 use Rattle.ce_page.specs.declared.stop.PageStop.{PageStop}
 use Rattle.ce_page.specs.declared.stop.PageStop.TheVariants.{Refused, FuelSpent, NoMemory}
 
@@ -22,6 +22,13 @@ Keeps (Ok a) old new = ⊤
 Keeps (Err (Refused f)) old new = new ≡ old
 Keeps (Err FuelSpent) old new = ⊤
 Keeps (Err NoMemory) old new = ⊤
+
+-- the call did not refuse
+abbrev pub NeverRefuses : {A : Type 0} → Result A PageStop → Type 0
+NeverRefuses (Ok a) = ⊤
+NeverRefuses (Err (Refused f)) = ⊥
+NeverRefuses (Err FuelSpent) = ⊤
+NeverRefuses (Err NoMemory) = ⊤
 
 -- a page with the fuel that is left
 abbrev pub work : Page → ℕ → Work

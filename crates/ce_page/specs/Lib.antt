@@ -1,3 +1,5 @@
 pub mod Ends
-pub mod Elements
+pub mod Callbacks
+pub mod Parts
 pub mod Numbers
+pub mod Loose

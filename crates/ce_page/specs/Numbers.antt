@@ -1,14 +1,25 @@
--- The numbers that a page gives out: each of them has spent fuel, so they fit their type.
-use Rattle.std.specs.Prelude.{ℕ, ◌≡◌, ◌≤◌, ◌+◌}
-use Rattle.ce_model.specs.Page.{Page}
+-- What a call leaves as it was, in numbers. A reaction gets its number where fuel was spent for it, so the numbers fit their type.
+use Rattle.std.specs.Prelude.{ℕ, ◌≡◌, ◌≤◌, ◌+◌, length}
+use Rattle.node_trees.specs.Nodes.{size}
+use Rattle.ce_algorithms.specs.Page.{Page}
 
--- no number was given
+-- no number was given to a reaction or a queue, no queue was pushed or popped, and the nodes that there were are there
 pub record SameNumbers (old new : Page) : Type 0 where
-  pub reactions : new.reactions ≡ old.reactions
-  pub queues : new.queues ≡ old.queues
+  pub reactions : new.queues.reactions ≡ old.queues.reactions
+  pub pushed : new.queues.pushed ≡ old.queues.pushed
+  pub depth : length new.queues.stack ≡ length old.queues.stack
+  pub nodes : size old.forest ≤ size new.forest
 
--- each reaction that got a number has spent fuel, and no queue got one
+-- each reaction that got a number has spent fuel; no queue was pushed or popped; the nodes are those that there were
 pub record StaysWithin (old new : Page) (before now : ℕ) : Type 0 where
-  pub reactions : new.reactions + now ≤ old.reactions + before
+  pub reactions : new.queues.reactions + now ≤ old.queues.reactions + before
   pub fuel : now ≤ before
-  pub queues : new.queues ≡ old.queues
+  pub pushed : new.queues.pushed ≡ old.queues.pushed
+  pub depth : length new.queues.stack ≡ length old.queues.stack
+  pub nodes : size new.forest ≡ size old.forest
+
+-- nothing but the queues and the notes has changed
+pub record OnlyEnqueues (old new : Page) : Type 0 where
+  pub forest : new.forest ≡ old.forest
+  pub elements : new.elements ≡ old.elements
+  pub definitions : new.definitions ≡ old.definitions

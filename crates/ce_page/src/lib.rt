@@ -1,17 +1,25 @@
-//! The page: its elements, its definitions, its reactions, and the primitives that change them.
+//! The page: its trees, its definitions, its reactions, and the primitives that change them.
 #![tactic(auto)]
 
+mod adoption;
+mod attributes;
+mod define;
 mod element;
+mod enqueue;
+mod insertion;
+mod making;
 mod page;
-mod primitives;
-mod queue;
-mod registry;
+mod reads;
+mod removal;
 mod stop;
 #[cfg(test)]
 mod tests;
+mod waiting;
+mod walk;
 
-pub use ce_model::{Calls, ClassFacts, Definition, Note, Reaction};
+pub use ce_algorithms::Note;
+pub use ce_registry::{Calls, ClassFacts, Definition, Registry};
+pub use node_arena::{NodeKind, Tree};
 pub use page::Page;
-pub use queue::ElementQueue;
-pub use registry::Registry;
+pub use reaction_queue::{ElementQueue, Mode, Reaction};
 pub use stop::PageStop;

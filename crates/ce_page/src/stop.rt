@@ -1,5 +1,5 @@
 // Why a call of the page stops.
-use ce_base::{Fault, NoMemory};
+use ce_base::{Fault, NoMemory, Refused};
 use std::alloc::{AllocError, AllocFailed};
 
 /// Why a call of the page stopped.
@@ -55,5 +55,19 @@ impl<T: Drop> From<AllocFailed<T>> for PageStop {
 
     fn from(_: AllocFailed<T>) -> Self {
         PageStop::NoMemory
+    }
+}
+
+impl From<Refused> for PageStop {
+    ghost use Rattle.std.specs.Prelude.{◌≡◌};
+    ghost use Rattle.ce_page.specs.Parts.{stop_of};
+
+    ghost from_gives = { λ refused stop. stop ≡ stop_of refused };
+
+    fn from(refused: Refused) -> Self {
+        match refused {
+            Refused::Fault(fault) => PageStop::Refused(fault),
+            Refused::NoMemory => PageStop::NoMemory,
+        }
     }
 }

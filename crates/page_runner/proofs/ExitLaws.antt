@@ -7,18 +7,19 @@ use Rattle.ce_base.specs.Faults.{Rose}
 use Rattle.ce_base.specs.Outside.{AppendsPart, IsPrefix}
 use Rattle.ce_base.specs.declared.stop.Stop.{Stop}
 use Rattle.ce_base.specs.declared.stop.Stop.TheVariants.{NoMemory as StopMemory, WriteFault as StopWrite}
-use Rattle.ce_model.specs.declared.event.Event.{Event}
-use Rattle.ce_model.specs.Lines.{whole_lines, last_line}
-use Rattle.ce_model.specs.Script.{is_spent}
-use Rattle.ce_model.specs.State.{State}
-use Rattle.ce_model.specs.Steps.{Outcome, Goes, Throws, Spent}
-use Rattle.ce_model.specs.Text.{text}
-use Rattle.ce_model.specs.Written.{behind_in}
+use Rattle.ce_algorithms.specs.declared.event.Event.{Event}
+use Rattle.ce_algorithms.specs.Lines.{whole_lines, last_line}
+use Rattle.ce_algorithms.specs.Script.{is_spent}
+use Rattle.ce_algorithms.specs.State.{State}
+use Rattle.ce_algorithms.specs.Steps.{Outcome, Goes, Throws, Spent}
+use Rattle.ce_algorithms.specs.Text.{text}
+use Rattle.ce_algorithms.specs.Written.{behind_in}
+use Rattle.ce_machine.specs.Ended.{outcome_of}
+use Rattle.ce_machine.specs.declared.end.End.{End}
+use Rattle.ce_machine.specs.declared.end.End.TheVariants.{Replied, FuelSpent}
 use Rattle.page_runner.specs.Ran.{Answered, answers, fresh}
-use Rattle.page_runner.specs.Sitting.{Sitting, outcome_of}
+use Rattle.page_runner.specs.Sitting.{Sitting}
 use Rattle.page_runner.specs.Table.{limit, piece, counted, spends_all, Row, TakesOnlyNeeded, RunMeets, status_at, status_of_stop}
-use Rattle.page_runner.specs.declared.end.End.{End}
-use Rattle.page_runner.specs.declared.end.End.TheVariants.{Replied, FuelSpent}
 use Rattle.page_runner.specs.declared.status.Status.{Status}
 use Rattle.page_runner.specs.declared.status.Status.TheVariants.{Done, BadLines, Usage, Fuel, ReadFault, NoMemory, TooLong}
 use Rattle.page_runner.specs.declared.words.Settings.{Settings}

@@ -3,8 +3,8 @@ use Rattle.std.proofs.Common.{◌≡◌, ◌<◌, ◌≤◌, ◌+◌, ℕ, List,
 use Rattle.std.proofs.lemmas.Bool.{cases_lt}
 use Rattle.std.proofs.lemmas.Bool.Decides.{nat_tests}
 use Rattle.std.proofs.lemmas.List.{take_all, length-take}
-use Rattle.rule_script.specs.Reading.{longest, reading}
 use Rattle.rule_tokens.specs.declared.refused.Bad.TheVariants.{Long}
+use Rattle.rule_script.specs.Reading.{longest, reading}
 use Rattle.page_runner.specs.Feed.{given, GivesLine}
 
 -- a line within the limit is given whole

@@ -1,10 +1,3 @@
-pub mod HaltLaws
-pub mod FlushLaws
-pub mod BodyLaws
-pub mod DrainLaws
-pub mod OperateLaws
-pub mod CommandLaws
-pub mod MachineLaws
 pub mod LineLaws
 pub mod FeedLaws
 pub mod GivenLaws

@@ -3,7 +3,7 @@ use Rattle.std.proofs.Common.{◌≡◌, ◌≢◌, ◌<◌, ℕ, true, false, �
 use Rattle.std.specs.List.{AllByRecursion}
 use Rattle.std.proofs.lemmas.Grind.{common_steps}
 use Rattle.std.proofs.lemmas.List.Elements.{recursion_from_All}
-use Rattle.ce_model.specs.Lines.{whole_from, part_from, whole_lines, last_part, last_line, lines_of}
+use Rattle.ce_algorithms.specs.Lines.{whole_from, part_from, whole_lines, last_part, last_line, lines_of}
 
 -- no line feed is among the bytes
 abbrev NoFeed : List ℕ → Type 0

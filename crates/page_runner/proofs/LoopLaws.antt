@@ -4,22 +4,23 @@ use Rattle.std.proofs.KnownBytes.{Appends-nil}
 use Rattle.std.specs.declared.option.Option.{Option}
 use Rattle.ce_base.specs.Outside.{AppendsPart}
 use Rattle.rule_script.specs.Reading.{longest, reading}
-use Rattle.ce_model.specs.Lines.{whole_lines, last_part}
-use Rattle.ce_model.specs.Model.{model}
-use Rattle.ce_model.specs.Script.{is_bad, readings, run_from}
-use Rattle.ce_model.specs.Session.{run_line, log_of}
-use Rattle.ce_model.specs.Text.{text}
-use Rattle.ce_model.specs.Written.{Did}
+use Rattle.ce_algorithms.specs.Lines.{whole_lines, last_part}
+use Rattle.ce_algorithms.specs.Model.{model}
+use Rattle.ce_algorithms.specs.Session.{run_line, log_of}
+use Rattle.ce_algorithms.specs.Text.{text}
+use Rattle.ce_algorithms.specs.Written.{Did}
+use Rattle.ce_machine.specs.Ended.{outcome_of}
+use Rattle.ce_machine.specs.declared.end.End.{End}
+use Rattle.ce_machine.specs.declared.end.End.TheVariants.{Replied, FuelSpent}
+use Rattle.page_runner.specs.Script.{is_bad, readings, run_from}
 use Rattle.page_runner.specs.Feed.{GivesLine}
 use Rattle.page_runner.specs.Ran.{Answered, Drained, answers}
-use Rattle.page_runner.specs.Sitting.{Sitting, outcome_of}
-use Rattle.page_runner.specs.declared.end.End.{End}
-use Rattle.page_runner.specs.declared.end.End.TheVariants.{Replied, FuelSpent}
+use Rattle.page_runner.specs.Sitting.{Sitting}
 use Rattle.page_runner.proofs.GivenLaws.{reading_line}
 use Rattle.page_runner.proofs.LineLaws.{whole_lines-line, last_part-line, whole_lines-no_feed, last_part-no_feed}
 use Rattle.page_runner.proofs.SittingLaws.{ran_line, answers_same, answered_same, answered_nothing, answered_more, answered_spent, answered_part}
-use Rattle.ce_model.proofs.FramedSteps.{framed_run_lines}
-use Rattle.ce_model.proofs.Writing.{part_then}
+use Rattle.ce_algorithms.proofs.FramedSteps.{framed_run_lines}
+use Rattle.ce_algorithms.proofs.Writing.{part_then}
 
 pub answered_line : (s t : Sitting) (end : End) (line : List ℕ) (held held' : Option (List ℕ))
     → Did s.trace held held' (run_line model (s.line + 1) (reading line) s.state) (outcome_of end t.state)

@@ -8,12 +8,12 @@ use Rattle.std.proofs.Math.Seq.{take-append-add}
 use Rattle.std.specs.Io.KnownBytes.{Consumes}
 use Rattle.std.specs.declared.option.Option.{Option}
 use Rattle.ce_base.specs.Outside.{AppendsPart}
-use Rattle.ce_model.specs.Lines.{whole_lines, last_line, lines_of}
+use Rattle.ce_algorithms.specs.Lines.{whole_lines, last_line, lines_of}
+use Rattle.ce_machine.specs.declared.end.End.{End}
+use Rattle.ce_machine.specs.declared.end.End.TheVariants.{Replied}
 use Rattle.page_runner.specs.Ran.{Answered, Drained, answers, fresh}
 use Rattle.page_runner.specs.Sitting.{Sitting}
 use Rattle.page_runner.specs.Table.{limit, counted}
-use Rattle.page_runner.specs.declared.end.End.{End}
-use Rattle.page_runner.specs.declared.end.End.TheVariants.{Replied}
 use Rattle.page_runner.specs.declared.words.Settings.{Settings}
 use Rattle.page_runner.proofs.LineLaws.{whole_lines-piece, last_part-piece}
 use Rattle.page_runner.proofs.SittingLaws.{answered_nothing, answered_more, answered_part}

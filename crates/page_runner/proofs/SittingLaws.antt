@@ -9,20 +9,21 @@ use Rattle.std.specs.List.{list_any}
 use Rattle.std.specs.declared.option.Option.{Option}
 use Rattle.ce_base.specs.Outside.{AppendsPart, IsPrefix}
 use Rattle.rule_script.specs.Reading.{reading}
-use Rattle.ce_model.specs.declared.event.Event.{Event}
-use Rattle.ce_model.specs.Model.{model}
-use Rattle.ce_model.specs.Script.{run_from, readings, has_bad, is_bad}
-use Rattle.ce_model.specs.Session.{run_line, run_lines, log_of}
-use Rattle.ce_model.specs.State.{State}
-use Rattle.ce_model.specs.Steps.{Goes, Throws, Spent, then_do}
-use Rattle.ce_model.specs.Text.{text}
-use Rattle.ce_model.specs.Written.{behind, behind_in}
+use Rattle.ce_algorithms.specs.declared.event.Event.{Event}
+use Rattle.ce_algorithms.specs.Model.{model}
+use Rattle.ce_algorithms.specs.Session.{run_line, run_lines, log_of}
+use Rattle.ce_algorithms.specs.State.{State}
+use Rattle.ce_algorithms.specs.Steps.{Goes, Throws, Spent, then_do}
+use Rattle.ce_algorithms.specs.Text.{text}
+use Rattle.ce_algorithms.specs.Written.{behind, behind_in}
+use Rattle.ce_machine.specs.Ended.{outcome_of}
+use Rattle.ce_machine.specs.declared.end.End.{End}
+use Rattle.ce_machine.specs.declared.end.End.TheVariants.{Replied, FuelSpent}
+use Rattle.page_runner.specs.Script.{run_from, readings, has_bad, is_bad}
 use Rattle.page_runner.specs.Ran.{Ran, Answered, answers}
-use Rattle.page_runner.specs.Sitting.{Sitting, outcome_of}
-use Rattle.page_runner.specs.declared.end.End.{End}
-use Rattle.page_runner.specs.declared.end.End.TheVariants.{Replied, FuelSpent}
-use Rattle.ce_model.proofs.FramedSteps.{framed_run_lines}
-use Rattle.ce_model.proofs.Growth.{behind_in-append, log_of-behind, text-append}
+use Rattle.page_runner.specs.Sitting.{Sitting}
+use Rattle.ce_algorithms.proofs.FramedSteps.{framed_run_lines}
+use Rattle.ce_algorithms.proofs.Growth.{behind_in-append, log_of-behind, text-append}
 
 -- ---- the model's run over lines
 

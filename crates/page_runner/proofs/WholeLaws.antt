@@ -3,12 +3,13 @@ use Rattle.std.proofs.Common.{◌≡◌, ◌≤◌, inl, inr, cond, ℕ, Bool, t
 use Rattle.std.specs.Io.KnownBytes.{Appends, Consumes, IsAtEnd}
 use Rattle.std.specs.declared.option.Option.{Option}
 use Rattle.ce_base.specs.Faults.{Rose}
-use Rattle.ce_model.specs.Lines.{lines_of}
-use Rattle.ce_model.specs.Script.{session, is_spent, has_bad}
-use Rattle.ce_model.specs.Session.{start, log_of}
-use Rattle.ce_model.specs.State.{State}
-use Rattle.ce_model.specs.Steps.{Step, Outcome, Goes, Throws, Spent, then_do}
-use Rattle.ce_model.specs.Text.{text}
+use Rattle.ce_algorithms.specs.Lines.{lines_of}
+use Rattle.ce_algorithms.specs.Script.{is_spent}
+use Rattle.ce_algorithms.specs.Session.{start, log_of}
+use Rattle.ce_algorithms.specs.State.{State}
+use Rattle.ce_algorithms.specs.Steps.{Step, Outcome, Goes, Throws, Spent, then_do}
+use Rattle.ce_algorithms.specs.Text.{text}
+use Rattle.page_runner.specs.Script.{has_bad, session, upgrades}
 use Rattle.page_runner.specs.Table.{limit, counted, lines_that_count, spends_all, transcript, Call, ReadsAll, WritesAll, Row, IsAsSaid, RunMeets, RunsWhole, script_status}
 use Rattle.page_runner.specs.declared.status.Status.{Status}
 use Rattle.page_runner.specs.declared.status.Status.TheVariants.{Done, BadLines, Usage, Fuel, ReadFault, WriteFault, NoMemory, TooLong}
@@ -26,7 +27,7 @@ then_spent (Throws f s) next h = cc
 then_spent (Spent s) next h = refl
 
 session-spent : (set : Settings) (xs ys : List (List ℕ)) → spends_all set xs ≡ true → session set.fuel (xs ++ ys) ≡ session set.fuel xs
-session-spent set xs ys h = run_from-append 1 xs ys (start set.fuel) ∙ then_spent (session set.fuel xs) _ h
+session-spent set xs ys h = run_from-append 1 xs ys (start upgrades set.fuel) ∙ then_spent (session set.fuel xs) _ h
 
 -- the bytes that were taken are a front of the script
 front_taken : (script : List ℕ) (left : Option (List ℕ)) (taken : List ℕ) → Consumes (Some script) left taken → (rest : List ℕ) × (script ≡ taken ++ rest)

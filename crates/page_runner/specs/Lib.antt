@@ -1,10 +1,6 @@
+pub mod Script
 pub mod Sitting
-pub mod Halts
-pub mod HaltsOf
-pub mod Steps
-pub mod Operands
 pub mod Ran
-pub mod Bodies
 pub mod Feed
 pub mod Words
 pub mod Table

@@ -2,20 +2,21 @@
 use Rattle.std.specs.Prelude.{◌≡◌, ◌≢◌, ℕ, ◌+◌, false, ◌||◌, List, [], length, All}
 use Rattle.std.specs.Io.KnownBytes.{Appends}
 use Rattle.std.specs.declared.option.Option.{Option}
-use Rattle.ce_model.specs.declared.event.Event.{Event}
-use Rattle.ce_model.specs.Lines.{last_part}
-use Rattle.ce_model.specs.Script.{run_from, has_bad}
-use Rattle.ce_model.specs.Session.{start, log_of}
-use Rattle.ce_model.specs.Text.{text}
-use Rattle.ce_model.specs.Written.{behind_in}
-use Rattle.page_runner.specs.declared.end.End.{End}
-use Rattle.page_runner.specs.declared.end.End.TheVariants.{Replied}
+use Rattle.ce_algorithms.specs.declared.event.Event.{Event}
+use Rattle.ce_algorithms.specs.Lines.{last_part}
+use Rattle.ce_algorithms.specs.Session.{start, log_of}
+use Rattle.ce_algorithms.specs.Text.{text}
+use Rattle.ce_algorithms.specs.Written.{behind_in}
+use Rattle.ce_machine.specs.declared.end.End.{End}
+use Rattle.ce_machine.specs.declared.end.End.TheVariants.{Replied}
+use Rattle.ce_machine.specs.Ended.{outcome_of}
+use Rattle.page_runner.specs.Script.{has_bad, run_from, upgrades}
 use Rattle.page_runner.specs.declared.words.Settings.{Settings}
-use Rattle.page_runner.specs.Sitting.{Sitting, outcome_of}
+use Rattle.page_runner.specs.Sitting.{Sitting}
 
 -- a session before its first line
 abbrev pub fresh : Settings → Sitting
-fresh set = record { state = start set.fuel; line = 0; bad = false; trace = set.trace }
+fresh set = record { state = start upgrades set.fuel; line = 0; bad = false; trace = set.trace }
 
 -- the lines were run from one sitting to another, with these events
 pub record Ran (from : Sitting) (lines : List (List ℕ)) (end : End) (to : Sitting) (events : List Event) : Type 0 where

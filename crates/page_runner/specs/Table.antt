@@ -8,12 +8,13 @@ use Rattle.ce_base.specs.declared.stop.Stop.{Stop}
 use Rattle.ce_base.specs.declared.stop.Stop.TheVariants.{NoMemory as StopMemory, WriteFault as StopWrite}
 use Rattle.ce_base.specs.declared.outside.Got.{Got}
 use Rattle.ce_base.specs.declared.outside.Got.TheVariants.{Bytes, End as GotEnd, Failed}
-use Rattle.ce_model.specs.Lines.{whole_lines, lines_of}
-use Rattle.ce_model.specs.Script.{session, has_bad, is_spent}
-use Rattle.ce_model.specs.Session.{log_of}
-use Rattle.ce_model.specs.Text.{text}
-use Rattle.page_runner.specs.declared.end.End.{End}
-use Rattle.page_runner.specs.declared.end.End.TheVariants.{Replied, FuelSpent}
+use Rattle.ce_algorithms.specs.Lines.{whole_lines, lines_of}
+use Rattle.ce_algorithms.specs.Script.{is_spent}
+use Rattle.ce_algorithms.specs.Session.{log_of}
+use Rattle.ce_algorithms.specs.Text.{text}
+use Rattle.ce_machine.specs.declared.end.End.{End}
+use Rattle.ce_machine.specs.declared.end.End.TheVariants.{Replied, FuelSpent}
+use Rattle.page_runner.specs.Script.{session, has_bad}
 use Rattle.page_runner.specs.declared.status.Status.{Status}
 use Rattle.page_runner.specs.declared.status.Status.TheVariants.{Done, BadLines, Usage, Fuel, ReadFault, WriteFault, NoMemory, TooLong}
 use Rattle.page_runner.specs.declared.words.Settings.{Settings}

@@ -2,12 +2,13 @@
 ghost use Rattle.std.specs.Prelude.{◌≡◌, ◌≢◌, ◌≤◌, ◌<◌, ◌+◌, ◌^◌, ◌++◌, ◌∷◌, [], length, IfOk, OnErr, IsErrOf, All};
 ghost use Rattle.ce_base.specs.Faults.{Rose};
 ghost use Rattle.ce_base.specs.Outside.{AppendsPart};
-ghost use Rattle.ce_model.specs.Lines.{whole_lines, last_line};
+ghost use Rattle.ce_algorithms.specs.Lines.{whole_lines, last_line};
 ghost use Rattle.page_runner.specs.Ran.{Answered, Drained, answers};
 
 use crate::lines::run_lines;
-use crate::{End, Feed, Session};
+use crate::{Feed, Session};
 use ce_base::{Gathering, Pending, Sink, Stop};
+use ce_machine::End;
 use std::alloc::Global;
 
 // Feeds a piece, runs the lines that are whole then, and writes all answers.

@@ -1,7 +1,7 @@
 // Bytes that come in pieces, given back line by line.
 ghost use Rattle.std.specs.Prelude.{◌≡◌, ◌≢◌, ◌≤◌, ◌<◌, ◌++◌, [], ℕ, drop, length, slice_index, vec_len, IfOk, OnOk, IfSome, IfNone, All};
-ghost use Rattle.ce_model.specs.Lines.{last_part};
 ghost use Rattle.rule_script.specs.Reading.{longest};
+ghost use Rattle.ce_algorithms.specs.Lines.{last_part};
 ghost use Rattle.page_runner.specs.Feed.{GivesLine, given};
 
 use ce_base::{Bytes, NoMemory};

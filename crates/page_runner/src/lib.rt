@@ -3,30 +3,13 @@
 
 mod answers;
 mod ask;
-mod body;
-mod calls;
-mod class;
-mod command;
-mod drain;
-mod end;
 mod feed;
-mod flush;
-mod halt;
 mod lines;
-mod machine;
-mod operands;
-mod operate;
-mod parts;
 mod session;
-mod state;
 mod status;
 mod top;
-mod transcript;
-mod variables;
 mod words;
-mod written;
 
-pub use end::End;
 pub use feed::Feed;
 pub use session::Session;
 pub use status::Status;

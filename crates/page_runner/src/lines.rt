@@ -2,11 +2,12 @@
 ghost use Rattle.std.specs.Prelude.{◌≡◌, ◌≤◌, ◌<◌, ◌+◌, ◌^◌, [], length, IfOk, OnErr, IsErrOf};
 ghost use Rattle.ce_base.specs.Faults.{Rose};
 ghost use Rattle.ce_base.specs.Outside.{AppendsPart};
-ghost use Rattle.ce_model.specs.Lines.{whole_lines};
+ghost use Rattle.ce_algorithms.specs.Lines.{whole_lines};
 ghost use Rattle.page_runner.specs.Ran.{Answered, Drained, answers};
 
-use crate::{End, Feed, Session};
+use crate::{Feed, Session};
 use ce_base::{Sink, Stop};
+use ce_machine::End;
 use std::alloc::Global;
 
 // Runs the whole lines of the feed, until none is left or the fuel is spent.
@@ -27,7 +28,7 @@ pub(crate) fn run_lines<K: Sink>(
     ensures home { K.home sink.new ≡ K.home sink.old }
     ensures below { K.below sink.old ≤ K.below sink.new }
 {
-    while let Some(line) = feed.next_line(alloc)? {
+    'lines: while let Some(line) = feed.next_line(alloc)? {
         let (next, end) = session.line(alloc, line.as_slice(), sink)?;
         session = next;
         if let End::FuelSpent = end {

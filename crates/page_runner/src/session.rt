@@ -3,16 +3,15 @@ ghost use Rattle.std.specs.Prelude.{◌≡◌, ◌+◌, ◌<◌, ◌≤◌, ◌^
 ghost use Rattle.ce_base.specs.Faults.{Rose};
 ghost use Rattle.ce_base.specs.Outside.{AppendsPart};
 ghost use Rattle.rule_script.specs.Reading.{reading};
-ghost use Rattle.ce_model.specs.Model.{model};
-ghost use Rattle.ce_model.specs.Script.{is_bad};
-ghost use Rattle.ce_model.specs.Session.{run_line, start, log_of};
-ghost use Rattle.ce_model.specs.Text.{text};
-ghost use Rattle.ce_model.specs.Written.{Did};
-ghost use Rattle.page_runner.specs.Sitting.{outcome_of};
+ghost use Rattle.ce_algorithms.specs.Model.{model};
+ghost use Rattle.ce_algorithms.specs.Session.{run_line, start, log_of};
+ghost use Rattle.ce_algorithms.specs.Text.{text};
+ghost use Rattle.ce_algorithms.specs.Written.{Did};
+ghost use Rattle.ce_machine.specs.Ended.{outcome_of};
+ghost use Rattle.page_runner.specs.Script.{is_bad, upgrades};
 
-use crate::End;
-use crate::machine::Machine;
 use ce_base::{NoMemory, Sink, Stop};
+use ce_machine::{End, Machine};
 use rule_script::{Line, LineRefused, read_line};
 use std::alloc::Global;
 use std::marker::Model;
@@ -28,12 +27,13 @@ pub struct Session {
 
 impl Model for Session {
     ghost use Rattle.std.specs.Coded.{codes};
+    ghost use Rattle.node_trees.specs.TreesCode.{trees_code};
     ghost use Rattle.rule_lines.specs.ActCode.{act_code};
     ghost use Rattle.page_runner.specs.Sitting.{Sitting};
 
     ghost Value = { Sitting };
 
-    ghost coded = { Prim.hlevel (codes, act_code) };
+    ghost coded = { Prim.hlevel (codes, act_code, trees_code) };
 
     ghost view = { λ s. record { state = s.machine; line = s.line; bad = s.bad; trace = s.trace } };
 }
@@ -41,7 +41,7 @@ impl Model for Session {
 impl Session {
     /// A session before its first line.
     pub fn make(alloc: Global, fuel: u32, trace: bool) -> Result<Session, NoMemory>
-        ensures { IfOk result (λ s. s ≡ record { state = start fuel; line = 0; bad = false; trace = trace }) }
+        ensures { IfOk result (λ s. s ≡ record { state = start upgrades fuel; line = 0; bad = false; trace = trace }) }
     {
         Ok(Session {
             machine: Machine::make(alloc, fuel)?,

@@ -2,8 +2,9 @@
 ghost use Rattle.std.specs.Prelude.{◌≡◌};
 ghost use Rattle.page_runner.specs.Table.{number_of, status_of, status_at};
 
-use crate::{End, Session};
+use crate::Session;
 use ce_base::Stop;
+use ce_machine::End;
 
 /// How a run ended.
 #[derive(Clone, Copy, Debug, PartialEq, Eq)]

@@ -1,5 +1,8 @@
+mod scripts;
+
 use super::*;
 use ce_base::{MemSink, MemSource, Source, SureSink, SureSource};
+use scripts::*;
 use std::alloc::Global;
 use std::test::Fail;
 
@@ -27,12 +30,6 @@ fn ran_failing(
     Ok((status, sink.bytes().to_vec(alloc)?))
 }
 
-const FIRST: &str =
-    "class A\nobserve A k\non A attribute : log @1 @2 @3\ndefine x-a A\ncreate $e x-a\nsetattr $e k 1\nsetattr $e k 1\n";
-
-const FIRST_TRANSCRIPT: &str =
-    "4: ok\nconstruct A\n5: #2\ncall #2 attribute \"k\" null \"1\"\nlog \"k\" \"\" \"1\"\n6: ok\ncall #2 attribute \"k\" \"1\" \"1\"\nlog \"k\" \"1\" \"1\"\n7: ok\n";
-
 #[test]
 fn an_empty_script_writes_nothing(rt: HostRuntime) -> Result<(), Fail> {
     let (status, text) = ran(rt.alloc(), b"", 16)?;
@@ -42,78 +39,68 @@ fn an_empty_script_writes_nothing(rt: HostRuntime) -> Result<(), Fail> {
 }
 
 #[test]
-fn pieces_do_not_matter(rt: HostRuntime) -> Result<(), Fail> {
-    for cut in [1, 2, 16, 4096, 100_000] {
-        let (status, text) = ran(rt.alloc(), FIRST.as_bytes(), cut)?;
-        assert_eq!(rt; status, Status::Done);
-        assert_eq!(rt; text.as_slice(), FIRST_TRANSCRIPT.as_bytes());
+fn a_script_has_its_transcript_in_any_pieces(rt: HostRuntime) -> Result<(), Fail> {
+    for (name, script, transcript) in [
+        ("first", FIRST, FIRST_TRANSCRIPT),
+        ("names", NAMES, NAMES_TRANSCRIPT),
+        ("connected", CONNECTED, CONNECTED_TRANSCRIPT),
+        ("tree", TREE, TREE_TRANSCRIPT),
+        ("nodes", NODES, NODES_TRANSCRIPT),
+        ("attributes", ATTRIBUTES, ATTRIBUTES_TRANSCRIPT),
+        ("order", ORDER, ORDER_TRANSCRIPT),
+        ("inert", INERT, INERT_TRANSCRIPT),
+        ("before", BEFORE, BEFORE_TRANSCRIPT),
+    ] {
+        for cut in [1, 2, 16, 4096] {
+            let (status, text) = ran(rt.alloc(), script.as_bytes(), cut)?;
+            assert_eq!(rt; status, Status::Done, "{name} in pieces of {cut}");
+            assert_eq!(rt;
+                text.as_slice(),
+                transcript.as_bytes(),
+                "{name} in pieces of {cut}"
+            );
+        }
     }
     Ok(())
 }
 
-// A script's lines and their replies.
-const NAMES: &str = "class A
-class B
-observe B k
-on B attribute : log @1
-define xa Q
-define xa A
-define X-a A
-define font-face A
-define x-\u{C9} B
-define x-\u{C9} A
-define x-a B
-create $e 1a
-create $e \"a b\"
-create $e X-\u{C9}
-setattr $e \"\" v
-setattr $e a=b v
-setattr $e K \"a\\u{1b}\\\"\"
-setattr doc k v
-create $f P in doc
-create $g p in $f
-create $g p in $n
-";
-
-const NAMES_TRANSCRIPT: &str = "5: throw TypeError
-6: throw SyntaxError
-7: throw SyntaxError
-8: throw SyntaxError
-9: ok
-10: throw NotSupportedError
-11: throw NotSupportedError
-12: throw InvalidCharacterError
-13: throw InvalidCharacterError
-construct B
-14: #2
-15: throw InvalidCharacterError
-16: throw InvalidCharacterError
-call #2 attribute \"k\" null \"a\\u{1b}\\\"\"
-log \"k\"
-17: ok
-18: throw TypeError
-19: #3
-20: throw TypeError
-21: throw TypeError
-";
-
-#[test]
-fn names_are_tested_when_they_run(rt: HostRuntime) -> Result<(), Fail> {
-    let (status, text) = ran(rt.alloc(), NAMES.as_bytes(), 4096)?;
-    assert_eq!(rt; status, Status::Done);
-    assert_eq!(rt; text.as_slice(), NAMES_TRANSCRIPT.as_bytes());
-    Ok(())
-}
+// Lines, each with the word that it is refused with.
+const REFUSED: [(&[u8], &str); 22] = [
+    (b"create $a", "arity"),
+    (b"frob", "word"),
+    (b"setattr this k v", "place"),
+    (b"log x", "place"),
+    (b"text $t \"a\\q\"", "escape"),
+    (b"text $t \"a\"b", "quote"),
+    (b"text $t \"\\u{D800}\"", "escape"),
+    (b"on A connected : super", "place"),
+    (b"text $t a b", "arity"),
+    (b"t\xff", "utf8"),
+    (b"move doc doc", "word"),
+    (b"has A connectedMove", "word"),
+    (b"query doc \"*\"", "word"),
+    (b"on A connected : append this", "arity"),
+    (b"clone $a doc", "later"),
+    (b"create $a p is x-p", "later"),
+    (b"define x-p A extends p", "later"),
+    (b"ask state doc", "later"),
+    (b"has A adopted", "later"),
+    (b"on A connected : log @count", "later"),
+    (b"on A connected : append $a $b", "later"),
+    (b"text $t \"ab", "quote"),
+];
 
 #[test]
 fn each_fault_of_a_line_is_told(rt: HostRuntime) -> Result<(), Fail> {
-    let script =
-        b"create $a\nfrob\nsetattr this k v\nlog x\ntext $t \"a\\q\"\ntext $t \"a\"b\ntext $t \"\\u{D800}\"\non A connected : super\ntext $t a b\nt\xff\ntext $t a\n".as_slice();
-    let (status, text) = ran(rt.alloc(), script, 4096)?;
-    assert_eq!(rt; status, Status::BadLines);
-    let wanted =
-        b"1: bad arity\n2: bad word\n3: bad place\n4: bad place\n5: bad escape\n6: bad quote\n7: bad escape\n8: bad place\n9: bad arity\n10: bad utf8\n11: bad later\n".as_slice();
-    assert_eq!(rt; text.as_slice(), wanted);
+    let alloc = rt.alloc();
+    for (line, word) in REFUSED {
+        let mut script = line.to_vec(alloc)?;
+        script.extend_from_slice(b"\ncreate $a p")?;
+        let (status, text) = ran(alloc, &script, 4096)?;
+        assert_eq!(rt; status, Status::BadLines, "{word}");
+        let wanted = format!(in alloc; "1: bad {word}\n2: #2\n")?;
+        assert_eq!(rt; text.as_slice(), wanted.as_bytes());
+    }
     Ok(())
 }
 
@@ -161,6 +148,9 @@ fn failing_devices_end_the_run(rt: HostRuntime) -> Result<(), Fail> {
     let (status, text) = ran_failing(alloc, FIRST.as_bytes(), 4096, 0, 1)?;
     assert_eq!(rt; status, Status::WriteFault);
     assert!(rt; text.is_empty());
+    let (status, text) = ran_failing(alloc, FIRST.as_bytes(), 4096, 2, 0)?;
+    assert_eq!(rt; status, Status::ReadFault);
+    assert_eq!(rt; text.as_slice(), FIRST_TRANSCRIPT.as_bytes());
     Ok(())
 }
 
@@ -176,21 +166,35 @@ fn repeated(alloc: Global, first: &str, line: &str, times: usize) -> Result<Vec<
 #[test]
 fn the_fuel_ends_a_session(rt: HostRuntime) -> Result<(), Fail> {
     let alloc = rt.alloc();
-    let (status, text) = ran(alloc, &repeated(alloc, "", "create $a p\n", 10_001)?, 4096)?;
-    assert_eq!(rt; status, Status::Fuel);
-    assert!(rt; text.as_slice().ends_with(b"10000: #10001\nfuel\n"));
-    let first = "class A\nobserve A k\non A attribute : log @3\ndefine x-a A\ncreate $e x-a\n";
-    let (status, text) = ran(
-        alloc,
-        &repeated(alloc, first, "setattr $e k v\n", 7_000)?,
-        4096,
-    )?;
-    assert_eq!(rt; status, Status::Fuel);
-    assert!(rt;
-        text.as_slice().ends_with(
-            b"log \"v\"\n6670: ok\ncall #2 attribute \"k\" \"v\" \"v\"\nfuel\n"
-        )
-    );
+    for (first, line, times, last) in [
+        // where a command begins
+        ("", "create $a p\n", 10_001, "10000: #10001\nfuel\n"),
+        // in a body
+        (
+            "class A\nobserve A k\non A attribute : log @3\ndefine x-a A\ncreate $e x-a\n",
+            "setattr $e k v\n",
+            7_000,
+            "log \"v\"\n6670: ok\ncall #2 attribute \"k\" \"v\" \"v\"\nfuel\n",
+        ),
+        // where a node is to be made
+        (
+            "let $a doc\n",
+            "create $a p\n",
+            10_001,
+            "10000: #10000\nfuel\n",
+        ),
+        // where a reaction is to be enqueued
+        (
+            "class A\nhas A connected\ndefine x-a A\ncreate $h html\nappend doc $h\nlet $z doc\n",
+            "create $e x-a\nappend $h $e\n",
+            5_000,
+            "call #5000 connected\n10002: ok\nconstruct A\n10003: #5001\nfuel\n",
+        ),
+    ] {
+        let (status, text) = ran(alloc, &repeated(alloc, first, line, times)?, 4096)?;
+        assert_eq!(rt; status, Status::Fuel, "{last}");
+        assert!(rt; text.as_slice().ends_with(last.as_bytes()), "{last}");
+    }
     Ok(())
 }
 
@@ -209,12 +213,17 @@ fn a_script_has_a_greatest_length(rt: HostRuntime) -> Result<(), Fail> {
 #[test]
 fn a_long_line_is_refused_and_the_next_one_runs(rt: HostRuntime) -> Result<(), Fail> {
     let alloc = rt.alloc();
-    for length in [65_536, 100_000] {
+    for (length, status, wanted) in [
+        (4096, Status::Done, "2: #2\n"),
+        (4097, Status::BadLines, "1: bad long\n2: #2\n"),
+        (65_536, Status::BadLines, "1: bad long\n2: #2\n"),
+        (100_000, Status::BadLines, "1: bad long\n2: #2\n"),
+    ] {
         let mut script = repeated(alloc, "", "#", length)?;
         script.extend_from_slice(b"\ncreate $a p\n")?;
-        let (status, text) = ran(alloc, &script, 65_536)?;
-        assert_eq!(rt; status, Status::BadLines);
-        assert_eq!(rt; text.as_slice(), b"1: bad long\n2: #2\n".as_slice());
+        let (is, text) = ran(alloc, &script, 65_536)?;
+        assert_eq!(rt; is, status);
+        assert_eq!(rt; text.as_slice(), wanted.as_bytes());
     }
     Ok(())
 }

@@ -6,8 +6,9 @@ ghost use Rattle.page_runner.specs.Words.{meaning};
 
 use crate::answers::{finish, take_piece};
 use crate::ask::ask;
-use crate::{End, Feed, Meaning, Session, Settings, Status};
+use crate::{Feed, Meaning, Session, Settings, Status};
 use ce_base::{Got, NoMemory, Sink, Source, Stop};
+use ce_machine::End;
 use std::alloc::Global;
 
 // How many bytes are asked for at a time.

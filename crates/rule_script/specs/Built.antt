@@ -1,5 +1,5 @@
 -- What is built already. A line that says something else is refused as later.
-use Rattle.std.specs.Prelude.{Bool, true, false, None}
+use Rattle.std.specs.Prelude.{Bool, true, false, ◌&&◌, None}
 use Rattle.std.specs.List.{list_all}
 use Rattle.rule_tokens.specs.declared.callback.CallName.{CallName}
 use Rattle.rule_tokens.specs.declared.callback.CallName.TheVariants as calls
@@ -7,6 +7,8 @@ use Rattle.rule_tokens.specs.declared.operand.Val.{Val}
 use Rattle.rule_tokens.specs.declared.operand.Val.TheVariants as values
 use Rattle.rule_lines.specs.declared.line.Cmd.{Cmd}
 use Rattle.rule_lines.specs.declared.line.Cmd.TheVariants as commands
+use Rattle.rule_lines.specs.declared.ask_word.AskWord.{AskWord}
+use Rattle.rule_lines.specs.declared.ask_word.AskWord.TheVariants as words
 use Rattle.rule_lines.specs.declared.op.Op.{Op}
 use Rattle.rule_lines.specs.declared.op.Op.TheVariants as ops
 use Rattle.rule_lines.specs.Acts.{Act, Part, Said, Blank, Command, Declares}
@@ -20,15 +22,32 @@ is_built_value values.Second = true
 is_built_value values.Third = true
 is_built_value _ = false
 
--- `create` without `is`, `setattr`, and `define` without `extends`, at top level
+-- the attributes, the parent and the children of a node can be asked
+abbrev pub is_built_word : AskWord → Bool
+is_built_word words.Attr = true
+is_built_word words.Parent = true
+is_built_word words.Kids = true
+is_built_word _ = false
+
+-- making nodes, inserting and removing them, attributes, definitions without `extends`, variables, questions
 abbrev pub is_built_op : Op → Bool
 is_built_op (ops.Create var local None document) = true
+is_built_op (ops.MakeText var chars document) = true
+is_built_op (ops.Shadow var host) = true
+is_built_op (ops.Append parent place) = true
+is_built_op (ops.Before parent place child) = true
+is_built_op (ops.Remove parent place) = true
+is_built_op (ops.Detach place) = true
 is_built_op (ops.SetAttr place name val) = true
+is_built_op (ops.DelAttr place name) = true
 is_built_op (ops.Define name class None) = true
+is_built_op (ops.Ask word place name) = is_built_word word
+is_built_op (ops.Let var place) = true
 is_built_op _ = false
 
 abbrev pub is_built_command : Cmd → Bool
 is_built_command (commands.Both op) = is_built_op op
+is_built_command (commands.Doc var) = true
 is_built_command _ = false
 
 -- `log`
@@ -37,13 +56,16 @@ is_built_act (acts.Log vals) = list_all is_built_value vals
 is_built_act _ = false
 
 abbrev pub is_built_call : CallName → Bool
+is_built_call calls.Connected = true
+is_built_call calls.Disconnected = true
 is_built_call calls.Attribute = true
 is_built_call _ = false
 
--- bodies of the attribute callback, and observed names
+-- these callbacks and their bodies, and observed names
 abbrev pub is_built_part : Part → Bool
 is_built_part (acts.Class name) = true
-is_built_part (acts.On class calls.Attribute act) = is_built_act act
+is_built_part (acts.On class call act) = is_built_call call && is_built_act act
+is_built_part (acts.Has class call) = is_built_call call
 is_built_part (acts.Observe class names) = true
 is_built_part _ = false
 

@@ -2,9 +2,9 @@
 ghost use Rattle.std.specs.Prelude.{◌≡◌};
 ghost use Rattle.std.specs.List.{list_all};
 ghost use Rattle.rule_lines.specs.Acts.{act_of, line_of, part_of};
-ghost use Rattle.rule_script.specs.Built.{is_built, is_built_act, is_built_call, is_built_command, is_built_op, is_built_part, is_built_value};
+ghost use Rattle.rule_script.specs.Built.{is_built, is_built_act, is_built_call, is_built_command, is_built_op, is_built_part, is_built_value, is_built_word};
 
-use rule_lines::{Action, ClassPart, Cmd, Line, Op};
+use rule_lines::{Action, AskWord, ClassPart, Cmd, Line, Op};
 use rule_tokens::{CallName, Val};
 
 fn is_built_value(value: &Val) -> bool
@@ -22,9 +22,29 @@ fn are_built_values(values: &[Val]) -> bool
 fn is_built_op(op: &Op) -> bool
     ensures { result ≡ is_built_op op.now }
 {
+    match op {
+        Op::Create { is_value: None, .. } | Op::MakeText { .. } => true,
+        Op::Shadow { .. } | Op::Append { .. } | Op::Before { .. } => true,
+        Op::Remove { .. } | Op::Detach { .. } => true,
+        Op::SetAttr { .. } | Op::DelAttr { .. } => true,
+        Op::Define { base: None, .. } | Op::Let { .. } => true,
+        Op::Ask { word, .. } => is_built_word(*word),
+        _ => false,
+    }
+}
+
+fn is_built_word(word: AskWord) -> bool
+    ensures { result ≡ is_built_word word }
+{
+    matches!(word, AskWord::Attr | AskWord::Parent | AskWord::Kids)
+}
+
+fn is_built_call(call: CallName) -> bool
+    ensures { result ≡ is_built_call call }
+{
     matches!(
-        op,
-        Op::Create { is_value: None, .. } | Op::SetAttr { .. } | Op::Define { base: None, .. }
+        call,
+        CallName::Connected | CallName::Disconnected | CallName::Attribute
     )
 }
 
@@ -33,6 +53,7 @@ fn is_built_command(c: &Cmd) -> bool
 {
     match c {
         Cmd::Both(op) => is_built_op(op),
+        Cmd::Doc { .. } => true,
         _ => false,
     }
 }
@@ -51,11 +72,8 @@ fn is_built_part(part: &ClassPart) -> bool
 {
     match part {
         ClassPart::Class(_) | ClassPart::Observe { .. } => true,
-        ClassPart::On {
-            call: CallName::Attribute,
-            action,
-            ..
-        } => is_built_action(action),
+        ClassPart::On { call, action, .. } => is_built_call(*call) && is_built_action(action),
+        ClassPart::Has { call, .. } => is_built_call(*call),
         _ => false,
     }
 }

@@ -1,7 +1,7 @@
 use Rattle.std.proofs.Common.{◌≡◌, [], ◌∷◌, ◌∙◌, rules}
 use Rattle.std.specs.Prelude.{IfOk, OnErr}
 use Rattle.ce_base.specs.Outside.{AppendsPart}
-use Rattle.ce_model.specs.Lines.{last_line}
+use Rattle.ce_algorithms.specs.Lines.{last_line}
 use Rattle.page_runner.specs.Ran.{Answered, answers}
 use Rattle.page_runner.proofs.LineLaws.{last_line-none, last_line-some}
 use Rattle.page_runner.proofs.SittingLaws.{answered_nothing}

@@ -1,6 +1,6 @@
 use Rattle.std.proofs.Common.{ap, length, length-append, arith}
 use Rattle.std.proofs.lemmas.Result.{IfOk-weaker, err_from_is_err_and}
-use Rattle.ce_model.proofs.Writing.{part_none}
+use Rattle.ce_algorithms.proofs.Writing.{part_none}
 use Rattle.page_runner.proofs.answers.take_piece.Goals as goal
 
 pub returns-in_err-piece-clause-part : goal.returns-in_err-piece-clause-part

@@ -1,5 +1,5 @@
 use Rattle.std.proofs.Common.{◌+◌, ◌-◌, sym, ap, ◌∙◌, drop, take, arith}
-use Rattle.ce_model.specs.Lines.{last_part}
+use Rattle.ce_algorithms.specs.Lines.{last_part}
 use Rattle.page_runner.proofs.FeedLaws.{split_at_feed, no_feed_between, no_feed_behind}
 use Rattle.page_runner.proofs.LineLaws.{last_part-line, last_part-no_feed}
 use Rattle.page_runner.proofs.feed.last_start.Goals as goal

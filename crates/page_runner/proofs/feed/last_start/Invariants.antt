@@ -1,5 +1,5 @@
 use Rattle.std.proofs.Common.{◌≡◌, ◌≤◌, ◌-◌, length, drop}
-use Rattle.ce_model.specs.Lines.{last_part}
+use Rattle.ce_algorithms.specs.Lines.{last_part}
 use Rattle.page_runner.proofs.feed.last_start.Given as goal
 
 abbrev pub invariant-loop-end : goal.invariant-loop-end

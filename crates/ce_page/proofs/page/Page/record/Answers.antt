@@ -1,6 +1,10 @@
-use Rattle.ce_page.proofs.QueueLemmas.{current_appended_to}
+use Rattle.ce_page.proofs.CallbackLemmas.{enqueued_keeps}
 use Rattle.ce_page.proofs.page.Page.record.Goals as goal
 
-pub returns-clause-page : goal.returns-clause-page
-returns-clause-page c =
-    rw (c.in_ok-note.ensures.page, c.in_ok-queue.ensures.page, c.in_ok-queue.ensures.number, c.in_ok-wait.ensures.page, c.count-number.ensures.number, c.count-number.ensures.page, c.call.ensures, current_appended_to c.args.self.now.open_queues c.args.n)
+pub invariant_of-self-in_err-push_back : goal.invariant_of-self-in_err-push_back
+invariant_of-self-in_err-push_back c =
+    rw c.in_ok-number.ensures.queues (enqueued_keeps c.args.n c.args.r c.self.inside.queues c.requires.callback c.self.invariant)
+
+pub invariant_of-self-2 : goal.invariant_of-self-2
+invariant_of-self-2 c =
+    rw c.in_ok-number.ensures.queues (enqueued_keeps c.args.n c.args.r c.self.inside.queues c.requires.callback c.self.invariant)

@@ -1,0 +1,5 @@
+pub mod Halts
+pub mod Bodies
+pub mod Operands
+pub mod Variables
+pub mod Steps

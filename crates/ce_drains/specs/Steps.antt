@@ -1,0 +1,62 @@
+-- Steps of the session's state that the definitions do not name.
+use Rattle.std.specs.Prelude.{◌≡◌, ◌≤◌, ◌<◌, ◌+◌, ◌^◌, ℕ, Bool, true, false, if◌then◌else◌, List, [], ◌∷◌, Option, None, Some, Result, Ok, Err, length, slice_set}
+use Rattle.node_trees.specs.Nodes.{size}
+use Rattle.reaction_queue.specs.declared.reaction.Reaction.{Reaction}
+use Rattle.reaction_queue.specs.Reactions.{what_of}
+use Rattle.reaction_queue.specs.Queues.{waiting_at, with_waiting}
+use Rattle.ce_registry.specs.declared.definition.Definition.{Definition}
+use Rattle.ce_algorithms.specs.declared.event.Event.TheVariants.{FuelLine}
+use Rattle.ce_algorithms.specs.Drain.{with_backup}
+use Rattle.ce_algorithms.specs.Enqueue.{has_what}
+use Rattle.ce_algorithms.specs.Page.{Page, with_queues}
+use Rattle.ce_algorithms.specs.State.{State, with_work, work_of, logged, class_of}
+use Rattle.ce_page.specs.declared.stop.PageStop.{PageStop}
+use Rattle.ce_page.specs.declared.stop.PageStop.TheVariants.{Refused, FuelSpent, NoMemory}
+use Rattle.ce_drains.specs.Variables.{highest}
+
+-- the fuel bounds the numbers that are still given; there is a document; each variable holds the number of a node
+abbrev pub AreBounded : Page → ℕ → List (List ℕ × ℕ) → Type 0
+AreBounded p fuel variables = (p.queues.reactions + fuel < 2 ^ 64) × (p.queues.pushed + fuel < 2 ^ 64) × (0 < size p.forest) × (highest variables ≤ size p.forest)
+
+-- a call of the page found no fuel
+abbrev pub is_spent : {A : Type 0} → Result A PageStop → Bool
+is_spent (Ok a) = false
+is_spent (Err (Refused f)) = false
+is_spent (Err FuelSpent) = true
+is_spent (Err NoMemory) = false
+
+-- after a call of the page: its notes go into the log, and the line `fuel` where it found none
+abbrev pub after_call : Bool → State → State
+after_call false s = with_work (work_of s) s
+after_call true s = logged FuelLine (with_work (work_of s) s)
+
+-- the log was written out
+abbrev pub forgotten : State → State
+forgotten s = record s { log = [] }
+
+-- a definition has the class
+abbrev pub with_frozen : ℕ → State → State
+with_frozen k s = record s { classes = slice_set s.classes k (record (class_of s k) { frozen = true }) }
+
+-- the class whose callback a reaction runs, if it runs one
+abbrev pub callee : Option Definition → Reaction → Option ℕ
+callee None r = None
+callee (Some d) r = if has_what (what_of r) d then Some d.class else None
+
+-- a call of the page may have made nodes; each reaction that got a number has spent fuel, and no queue was pushed or popped
+pub record GrowsWithin (old new : Page) (before now : ℕ) : Type 0 where
+  pub reactions : new.queues.reactions + now ≤ old.queues.reactions + before
+  pub fuel : now ≤ before
+  pub pushed : new.queues.pushed ≡ old.queues.pushed
+  pub depth : length new.queues.stack ≡ length old.queues.stack
+  pub nodes : size old.forest ≤ size new.forest
+
+-- the first element of the backup element queue is taken
+pub record TakesBackup (old new : State) (e : ℕ) : Type 0 where
+  pub first : old.page.queues.backup ≡ e ∷ new.page.queues.backup
+  pub taken : new ≡ record old { page = with_queues (with_backup new.page.queues.backup) old.page }
+
+-- the first reaction that waits at a node is taken
+pub record TakesReaction (old new : State) (e : ℕ) (w : ℕ × Reaction) : Type 0 where
+  pub first : waiting_at old.page.queues e ≡ w ∷ waiting_at new.page.queues e
+  pub taken : new ≡ record old { page = with_queues (with_waiting e (waiting_at new.page.queues e)) old.page }

@@ -1,0 +1,198 @@
+// A class, as the lines of a script made it.
+ghost use Rattle.std.specs.Prelude.{◌≡◌, ◌++◌, ◌∷◌, ◌<◌, [], true, false, map, length, IfOk, IfSome, OnOk};
+ghost use Rattle.rule_lines.specs.Acts.{Log};
+ghost use Rattle.rule_script.specs.Built.{is_built_call};
+ghost use Rattle.rule_tokens.specs.declared.callback.CallName.TheVariants as calls;
+ghost use Rattle.ce_registry.specs.ClassFacts.{has_call};
+ghost use Rattle.ce_algorithms.specs.Body.{actions_of, same_call};
+ghost use Rattle.ce_algorithms.specs.Parts.{change_facts, with_body, with_has, with_observed};
+ghost use Rattle.ce_algorithms.specs.State.{class_named, new_class};
+ghost use Rattle.ce_drains.specs.Bodies.{IsBlank, bodies_of, logs_of};
+
+use ce_base::{NoMemory, Text, Texts};
+use ce_registry::ClassFacts;
+use rule_lines::Vals;
+use rule_tokens::CallName;
+use std::alloc::Global;
+use std::marker::Model;
+
+/// A class: what its definition takes over from it, and the bodies of its callbacks, which log values. So
+/// far it has no constructor of its own, and nothing changes its counter and its kept text.
+#[derive(Drop)]
+pub(crate) struct Class {
+    name: Text,
+    facts: ClassFacts,
+    bodies: Vec<(CallName, Vals)>,
+    frozen: bool,
+}
+
+impl Model for Class {
+    ghost use Rattle.std.specs.Prelude.{◌≡◌, false, []};
+    ghost use Rattle.std.specs.Coded.{codes};
+    ghost use Rattle.rule_lines.specs.ActCode.{act_code};
+    ghost use Rattle.rule_tokens.specs.declared.callback.CallName.TheVariants.{Constructor};
+    ghost use Rattle.ce_registry.specs.ClassFacts.{has_call};
+    ghost use Rattle.ce_algorithms.specs.State.{Class as IsClass};
+    ghost use Rattle.ce_drains.specs.Bodies.{bodies_of};
+
+    ghost Value = { IsClass };
+
+    ghost coded = { Prim.hlevel (codes, act_code) };
+
+    ghost view = { λ c. record { name = c.name; facts = c.facts; bodies = bodies_of c.bodies.items; frozen = c.frozen; count = 0; kept = [] } };
+
+    ghost invariant = { λ c. has_call Constructor c.facts.calls ≡ false };
+}
+
+impl Class {
+    /// A class without callbacks.
+    pub(crate) fn make(alloc: Global, name: Text) -> Class
+        ensures { result ≡ new_class name }
+    {
+        Class {
+            name,
+            facts: ClassFacts::make(alloc),
+            bodies: Vec::new(alloc),
+            frozen: false,
+        }
+    }
+
+    /// The class's name.
+    pub(crate) fn name(&self) -> &str
+        ensures name { result.now ≡ self.now.name }
+        ensures plain { has_call calls.Constructor self.now.facts.calls ≡ false }
+    {
+        self.name.as_str()
+    }
+
+    /// What a definition takes over from the class.
+    pub(crate) fn facts(&self) -> &ClassFacts
+        ensures { result.now ≡ self.now.facts }
+    {
+        &self.facts
+    }
+
+    /// Whether a definition has the class.
+    pub(crate) fn is_frozen(&self) -> bool
+        ensures { result ≡ self.now.frozen }
+    {
+        self.frozen
+    }
+
+    /// A definition has the class.
+    pub(crate) fn freeze(&mut self)
+        ensures { self.new ≡ record self.old { frozen = true } }
+    {
+        self.frozen = true;
+    }
+
+    /// The class has the callback.
+    pub(crate) fn add_call(&mut self, call: CallName)
+        requires { is_built_call call ≡ true }
+        ensures { self.new ≡ change_facts (with_has call) self.old }
+    {
+        self.facts.calls.add(call);
+    }
+
+    /// The class has the callback, and a `log` of the values comes last in its body.
+    pub(crate) fn add_log(&mut self, call: CallName, vals: Vals) -> Result<(), NoMemory>
+        requires { is_built_call call ≡ true }
+        ensures { OnOk result (self.new ≡ with_body call (Log vals) self.old) }
+    {
+        self.add_call(call);
+        self.bodies.push((call, vals))?;
+        Ok(())
+    }
+
+    /// The class observes these attribute names too.
+    pub(crate) fn observe(&mut self, alloc: Global, names: &Texts) -> Result<(), NoMemory>
+        ensures { OnOk result (self.new ≡ change_facts (with_observed names.now) self.old) }
+    {
+        push_all(alloc, &mut self.facts.observed, names)
+    }
+
+    /// The actions of a callback's body.
+    pub(crate) fn actions(&self, alloc: Global, call: CallName) -> Result<Actions, NoMemory>
+        ensures actions { IfOk result (λ a. a ≡ actions_of call self.now.bodies) }
+        ensures blank { IsBlank self.now }
+    {
+        actions_in(alloc, call, &self.bodies)
+    }
+}
+
+/// The place of the class with this name.
+pub(crate) fn place_of(classes: &[Class], name: &str) -> Option<usize>
+    ensures place { result ≡ class_named classes.now name.now }
+    ensures within { IfSome result (λ i. i < length classes.now) }
+{
+    classes.iter().position(|c| c.name() == name)
+}
+
+/// The actions of a body: of each the values that it logs.
+#[derive(Drop)]
+pub(crate) struct Actions {
+    items: Vec<Vals>,
+}
+
+impl Model for Actions {
+    ghost use Rattle.std.specs.Coded.{codes};
+    ghost use Rattle.rule_lines.specs.ActCode.{act_code};
+    ghost use Rattle.std.specs.Prelude.{List};
+    ghost use Rattle.rule_lines.specs.Acts.{Act};
+    ghost use Rattle.ce_drains.specs.Bodies.{logs_of};
+
+    ghost Value = { List Act };
+
+    ghost coded = { Prim.hlevel (codes, act_code) };
+
+    ghost view = { λ a. logs_of a.items.items };
+}
+
+impl Actions {
+    /// No actions.
+    pub(crate) fn make(alloc: Global) -> Actions
+        ensures { result ≡ [] }
+    {
+        Actions {
+            items: Vec::new(alloc),
+        }
+    }
+
+    /// The values that each action logs.
+    pub(crate) fn as_slice(&self) -> &[Vals]
+        ensures { logs_of result.now ≡ self.now }
+    {
+        self.items.as_slice()
+    }
+}
+
+fn actions_in(
+    alloc: Global,
+    call: CallName,
+    bodies: &[(CallName, Vals)],
+) -> Result<Actions, NoMemory>
+    ensures { IfOk result (λ a. a ≡ actions_of call (bodies_of bodies.now)) }
+{
+    let mut items = Vec::new(alloc);
+    for b in bodies {
+        if same_call(b.0, call) {
+            items.push(b.1.copy(alloc)?)?;
+        }
+    }
+    Ok(Actions { items })
+}
+
+fn same_call(a: CallName, b: CallName) -> bool
+    ensures { result ≡ same_call a b }
+{
+    a.word() == b.word()
+}
+
+fn push_all(alloc: Global, texts: &mut Texts, more: &Texts) -> Result<(), NoMemory>
+    ensures { OnOk result (texts.new ≡ texts.old ++ more.now) }
+{
+    for t in more.as_slice() {
+        texts.push(alloc, t.copy(alloc)?)?;
+    }
+    Ok(())
+}

@@ -1,0 +1,5 @@
+pub mod ReactLaws
+pub mod CommandLaws
+pub mod MachineLaws
+pub mod BuiltLaws
+pub mod CreateLaws

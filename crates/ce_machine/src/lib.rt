@@ -1,0 +1,16 @@
+//! The machine: the lines of a script as they were read, one after another, on the state of a session.
+#![tactic(auto)]
+
+mod command;
+mod create;
+mod end;
+mod machine;
+mod operands;
+mod operate;
+mod questions;
+mod react;
+mod resolve;
+mod steps;
+
+pub use end::End;
+pub use machine::Machine;

@@ -1,0 +1,129 @@
+// The machine: parsed lines of a script, one after another.
+ghost use Rattle.std.specs.Prelude.{◌≡◌, ◌≤◌, [], Err, false, true, IfOk, OnErr, IsErrOf};
+ghost use Rattle.ce_base.specs.Faults.{Rose};
+ghost use Rattle.ce_base.specs.Outside.{AppendsPart};
+ghost use Rattle.rule_lines.specs.Acts.{part_of};
+ghost use Rattle.rule_script.specs.Built.{is_built_command, is_built_part};
+ghost use Rattle.ce_algorithms.specs.Model.{model};
+ghost use Rattle.ce_algorithms.specs.Session.{command, class_part, run_line, start, log_of};
+ghost use Rattle.ce_algorithms.specs.Steps.{Goes};
+ghost use Rattle.ce_algorithms.specs.Text.{text};
+ghost use Rattle.ce_algorithms.specs.Written.{Did};
+ghost use Rattle.ce_machine.specs.Ended.{outcome_of};
+
+use crate::End;
+use crate::command::{reply_to_part, run_command};
+use ce_algorithms::Event;
+use ce_base::{NoMemory, Sink, Stop};
+use ce_drains::State;
+use rule_lines::{ClassPart, Cmd};
+use rule_tokens::Bad;
+use std::alloc::Global;
+use std::marker::Model;
+
+/// A machine: the state of a session of which everything logged was written out.
+#[derive(Drop)]
+pub struct Machine {
+    state: State,
+}
+
+impl Model for Machine {
+    ghost use Rattle.std.specs.Coded.{codes};
+    ghost use Rattle.rule_lines.specs.ActCode.{act_code};
+    ghost use Rattle.node_trees.specs.TreesCode.{trees_code};
+    ghost use Rattle.std.specs.Prelude.{◌≡◌, []};
+    ghost use Rattle.ce_algorithms.specs.State.{State as IsState};
+
+    ghost Value = { IsState };
+
+    ghost coded = { Prim.hlevel (codes, act_code, trees_code) };
+
+    ghost view = { λ m. m.state };
+
+    ghost invariant = { λ m. m.state.log ≡ [] };
+}
+
+impl Machine {
+    /// The machine before the first line, with so much fuel.
+    pub fn make(alloc: Global, fuel: u32) -> Result<Machine, NoMemory>
+        ensures { IfOk result (λ m. m ≡ start false fuel) }
+    {
+        Ok(Machine {
+            state: State::make(alloc, fuel)?,
+        })
+    }
+
+    /// Takes a part of a class, and writes the reply where it is refused.
+    pub fn part<K: Sink>(
+        self,
+        alloc: Global,
+        line: u64,
+        p: ClassPart,
+        trace: bool,
+        sink: &mut K,
+    ) -> Result<Machine, Stop>
+        requires { is_built_part (part_of p) ≡ true }
+        ensures ran { IfOk result (λ m. Did trace (K.held sink.old) (K.held sink.new) (class_part line (part_of p) self) (Goes tt m)) }
+        ensures empty { IfOk result (λ m. m.log ≡ []) }
+        ensures part { OnErr result (AppendsPart (K.held sink.old) (K.held sink.new) (text trace (log_of (class_part line (part_of p) self)))) }
+        ensures later { K.failed sink.old ≤ K.failed sink.new }
+        ensures cause { IsErrOf result Stop.WriteFault → Rose (K.failed sink.old) (K.failed sink.new) }
+        ensures home { K.home sink.new ≡ K.home sink.old }
+        ensures below { K.below sink.old ≤ K.below sink.new }
+    {
+        let Machine { state } = self;
+        let mut state = state;
+        reply_to_part(&mut state, alloc, line, p)?;
+        state.flush(alloc, trace, sink)?;
+        Ok(Machine { state })
+    }
+
+    /// Replies to a line that was refused.
+    pub fn refused<K: Sink>(
+        self,
+        alloc: Global,
+        line: u64,
+        bad: Bad,
+        trace: bool,
+        sink: &mut K,
+    ) -> Result<Machine, Stop>
+        ensures ran { IfOk result (λ m. Did trace (K.held sink.old) (K.held sink.new) (run_line model line (Err bad) self) (Goes tt m)) }
+        ensures empty { IfOk result (λ m. m.log ≡ []) }
+        ensures part { OnErr result (AppendsPart (K.held sink.old) (K.held sink.new) (text trace (log_of (run_line model line (Err bad) self)))) }
+        ensures later { K.failed sink.old ≤ K.failed sink.new }
+        ensures cause { IsErrOf result Stop.WriteFault → Rose (K.failed sink.old) (K.failed sink.new) }
+        ensures home { K.home sink.new ≡ K.home sink.old }
+        ensures below { K.below sink.old ≤ K.below sink.new }
+    {
+        let Machine { state } = self;
+        let mut state = state;
+        state.log(Event::WasBad(line, bad))?;
+        state.flush(alloc, trace, sink)?;
+        Ok(Machine { state })
+    }
+
+    /// Runs a command, and writes what comes of it.
+    pub fn command<K: Sink>(
+        self,
+        alloc: Global,
+        line: u64,
+        c: Cmd,
+        trace: bool,
+        sink: &mut K,
+    ) -> Result<(Machine, End), Stop>
+        requires { is_built_command c ≡ true }
+        ensures ran { IfOk result (λ r. Did trace (K.held sink.old) (K.held sink.new) (command model line c self) (outcome_of r.1 r.0)) }
+        ensures empty { IfOk result (λ r. r.0.log ≡ []) }
+        ensures part { OnErr result (AppendsPart (K.held sink.old) (K.held sink.new) (text trace (log_of (command model line c self)))) }
+        ensures later { K.failed sink.old ≤ K.failed sink.new }
+        ensures cause { IsErrOf result Stop.WriteFault → Rose (K.failed sink.old) (K.failed sink.new) }
+        ensures home { K.home sink.new ≡ K.home sink.old }
+        ensures below { K.below sink.old ≤ K.below sink.new }
+    {
+        let Machine { state } = self;
+        let mut state = state;
+        let end = run_command(&mut state, alloc, line, c, trace, sink)?;
+        state.flush(alloc, trace, sink)?;
+        Ok((Machine { state }, end))
+    }
+}

@@ -1,9 +1,0 @@
-pub mod Rows
-pub mod Tied
-pub mod Steady
-pub mod Framed
-pub mod FramedDrain
-pub mod FramedSteps
-pub mod Growth
-pub mod Writing
-pub mod Calm

@@ -1,0 +1,74 @@
+-- A node that was taken out of where it stood.
+use Rattle.std.proofs.Common.{◌≡◌, ◌≢◌, ℕ, ◌==◌, ◌&&◌, Bool, true, false, if◌then◌else◌, Option, Some, None, ap, sym, ◌∙◌, subst, inl, inr, arith}
+use Rattle.std.specs.Prelude.{◌||◌, not}
+use Rattle.std.proofs.lemmas.Bool.{cases_eq}
+use Rattle.std.proofs.lemmas.Bool.Decides.{nat_tests}
+use Rattle.ce_base.specs.declared.fault.Fault.TheVariants.{HierarchyRequestError, NotFoundError}
+use Rattle.node_trees.specs.Facts.{is_document, is_text, is_shadow_root}
+use Rattle.node_trees.specs.Trees.{Trees, is_number}
+use Rattle.node_trees.specs.Spots.{parent_at, kind_at, next_sibling_at}
+use Rattle.node_trees.specs.Paths.{path, is_among}
+use Rattle.node_trees.specs.Insertion.{may_insert, is_child_or_none, has_element_child}
+use Rattle.node_trees.specs.Nodes.{IsNode, IsNodeOrNone, size}
+use Rattle.ce_page.specs.Loose.{IsLoosed, SamePlaces, child_before}
+
+here : (m n : ℕ) (a b : Option ℕ) → m ≡ n → (if m == n then a else b) ≡ a
+here m n a b e = grind (arith, nat_tests)
+
+elsewhere : (m n : ℕ) (a b : Option ℕ) → m ≢ n → (if m == n then a else b) ≡ b
+elsewhere m n a b ne = grind (arith, nat_tests)
+
+-- it was removed
+pub loosed : (old new : Trees) (n : ℕ) → parent_at new n ≡ None
+    → ((p : ℕ) (b : Option ℕ) → may_insert old p n b ≡ None → b ≢ Some n → may_insert new p n b ≡ None)
+    → ((p : ℕ) → IsNode old p → may_insert old p n (Some n) ≡ None → may_insert new p n (next_sibling_at old n) ≡ None)
+    → IsLoosed old new n
+loosed old new n free may in_place = record { free = free; may = allowed }
+  where
+    allowed : (p : ℕ) (b : Option ℕ) → IsNode old p → may_insert old p n b ≡ None → may_insert new p n (child_before old n b) ≡ None
+    allowed p None node h = may p None h (λ e. cc)
+    allowed p (Some m) node h = elim (cases_eq m n) [
+      | inl e ↦
+          let before : child_before old n (Some m) ≡ next_sibling_at old n = here m n (next_sibling_at old n) (Some m) e in
+          subst (λ b. may_insert new p n b ≡ None) (sym before) (in_place p node (subst (λ k. may_insert old p n (Some k) ≡ None) e h))
+      | inr ne ↦
+          let before : child_before old n (Some m) ≡ Some m = elsewhere m n (next_sibling_at old n) (Some m) ne in
+          subst (λ b. may_insert new p n b ≡ None) (sym before) (may p (Some m) h (λ e. ne cc))
+    ]
+
+-- it had no parent before
+
+sibling_test : (a b c d e g : Bool) → (if a then Some HierarchyRequestError else if b then Some HierarchyRequestError else if not c then Some NotFoundError else if d then Some HierarchyRequestError else if e then Some HierarchyRequestError else if g then Some HierarchyRequestError else None) ≡ None → c ≡ true
+sibling_test a b c d e g h = grind arith
+
+is_sibling : (f : Trees) (p n : ℕ) (b : Option ℕ) → may_insert f p n b ≡ None → is_child_or_none f p b ≡ true
+is_sibling f p n b h =
+    sibling_test (is_text (kind_at f p)) (is_among n (path p f)) (is_child_or_none f p b) (is_document (kind_at f n) || is_shadow_root (kind_at f n)) (is_text (kind_at f n) && is_document (kind_at f p))
+    (is_document (kind_at f p) && has_element_child f p) h
+
+no_child : (f : Trees) (p n : ℕ) → parent_at f n ≡ None → is_child_or_none f p (Some n) ≡ true → ⊥
+no_child f p n free h = let no_truth : false ≡ true = ap (λ q. is_number q p) (sym free) ∙ h in cc
+
+pub loose_already : (f : Trees) (n : ℕ) → parent_at f n ≡ None → IsLoosed f f n
+loose_already f n free = record { free = free; may = allowed }
+  where
+    allowed : (p : ℕ) (b : Option ℕ) → IsNode f p → may_insert f p n b ≡ None → may_insert f p n (child_before f n b) ≡ None
+    allowed p None node h = h
+    allowed p (Some m) node h = elim (cases_eq m n) [
+      | inl e ↦ absurd (no_child f p n free (is_sibling f p n (Some n) (subst (λ k. may_insert f p n (Some k) ≡ None) e h)))
+      | inr ne ↦
+          let before : child_before f n (Some m) ≡ Some m = elsewhere m n (next_sibling_at f n) (Some m) ne in
+          subst (λ b. may_insert f p n b ≡ None) (sym before) h
+    ]
+
+-- and nothing was moved since
+pub loose_still : (old mid new : Trees) (n : ℕ) → IsLoosed old mid n → SamePlaces mid new → IsLoosed old new n
+loose_still old mid new n a same = record {
+  free = same.parents n ∙ a.free;
+  may = λ p b node h. same.may p n (child_before old n b) ∙ a.may p b node h;
+}
+
+-- a node stays one where the trees have as many
+pub node_still : (old new : Trees) (b : Option ℕ) → size new ≡ size old → IsNodeOrNone old b → IsNodeOrNone new b
+node_still old new None same node = tt
+node_still old new (Some m) same node = record { low = node.low; high = omega arith }

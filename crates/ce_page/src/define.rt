@@ -1,0 +1,32 @@
+// Defining a custom element.
+ghost use Rattle.std.specs.Prelude.{◌≡◌};
+ghost use Rattle.ce_algorithms.specs.Define.{define_name};
+ghost use Rattle.ce_page.specs.Ends.{Ends, Keeps, work};
+ghost use Rattle.ce_page.specs.Numbers.{StaysWithin};
+
+use crate::{Page, PageStop};
+use ce_base::{ClassNo, DefNo, Fuel, Text};
+use ce_registry::ClassFacts;
+use std::alloc::Global;
+
+impl Page {
+    /// Adds a definition, and gives its number (HTML Standard, section "The CustomElementRegistry
+    /// interface", `define`). It is refused with the fault that `Registry::define` gives, and then nothing
+    /// has changed. Elements that are there already are not upgraded yet.
+    pub fn define_name(
+        &mut self,
+        alloc: Global,
+        name: Text,
+        class: ClassNo,
+        facts: ClassFacts,
+        base: Option<Text>,
+        fuel: &mut Fuel,
+    ) -> Result<DefNo, PageStop>
+        ensures step { Ends (λ d. d) result (work self.new fuel.new) (define_name name class facts base (work self.old fuel.old)) }
+        ensures within { StaysWithin self.old self.new fuel.old fuel.new }
+        ensures refused { Keeps result self.old self.new }
+    {
+        let d = self.registry.define(alloc, name, class, facts, base)?;
+        Ok(d)
+    }
+}

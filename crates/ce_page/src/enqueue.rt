@@ -1,0 +1,160 @@
+// Enqueuing reactions.
+ghost use Rattle.std.specs.Prelude.{◌≡◌, ◌+◌, ◌<◌, ◌^◌, ◌∷◌, ◌++◌, [], true, bytes_eq, OnOk, OnErr};
+ghost use Rattle.std.specs.List.{list_any};
+ghost use Rattle.rule_tokens.specs.declared.callback.CallOrUpgrade.{CallOrUpgrade};
+ghost use Rattle.reaction_queue.specs.Queues.{enqueued};
+ghost use Rattle.ce_algorithms.specs.Steps.{where_is};
+ghost use Rattle.ce_algorithms.specs.Page.{definition_of, is_custom, with_queues};
+ghost use Rattle.ce_algorithms.specs.Enqueue.{has_what, is_observed, gives, noted, enqueue, enqueue_callback, try_upgrade};
+ghost use Rattle.ce_page.specs.Callbacks.{is_callback, IsPlain};
+ghost use Rattle.ce_page.specs.Ends.{Does, NeverRefuses, work};
+ghost use Rattle.ce_page.specs.Numbers.{StaysWithin, OnlyEnqueues};
+
+use crate::{Page, PageStop};
+use ce_algorithms::Note;
+use ce_base::{Fuel, NoMemory, NodeNo, Text};
+use ce_registry::Definition;
+use reaction_queue::Reaction;
+use rule_tokens::CallOrUpgrade;
+use std::alloc::Global;
+
+impl Page {
+    /// OnlyEnqueues a callback (HTML Standard, section "Custom element reactions", "enqueue a custom element
+    /// callback reaction"): where the element's definition has the callback and, for an attribute, observes
+    /// its name, one unit of fuel is spent, the reaction gets the next number and waits at the element, and
+    /// the element is appended to the current element queue, or to the backup element queue where no queue
+    /// is pushed. An upgrade is no callback, and gives nothing.
+    pub fn enqueue_call(
+        &mut self,
+        alloc: Global,
+        n: NodeNo,
+        r: Reaction,
+        fuel: &mut Fuel,
+    ) -> Result<(), PageStop>
+        requires { self.old.queues.reactions + fuel.old < 2 ^ 64 }
+        ensures step { Does result (work self.new fuel.new) (enqueue_callback n r (work self.old fuel.old)) }
+        ensures within { StaysWithin self.old self.new fuel.old fuel.new }
+        ensures rest { OnlyEnqueues self.old self.new }
+        ensures refused { NeverRefuses result }
+    {
+        if self.gives(n, &r) {
+            self.enqueue(alloc, n, r, fuel)?;
+        }
+        Ok(())
+    }
+
+    /// Whether the element's definition gives a reaction. An upgrade it does not.
+    fn gives(&self, n: NodeNo, r: &Reaction) -> bool
+        ensures gives { result ≡ gives (definition_of self.now n) r.now }
+        ensures callback { result ≡ true → is_callback r.now ≡ true }
+    {
+        match self.definition_of(n) {
+            None => false,
+            Some(d) => has_what(r.what(), d) && is_observed(d, r),
+        }
+    }
+
+    /// One unit of fuel for a reaction that is enqueued.
+    fn enqueue(
+        &mut self,
+        alloc: Global,
+        n: NodeNo,
+        r: Reaction,
+        fuel: &mut Fuel,
+    ) -> Result<(), PageStop>
+        requires room { self.old.queues.reactions + fuel.old < 2 ^ 64 }
+        requires callback { is_callback r ≡ true }
+        ensures step { Does result (work self.new fuel.new) (enqueue n r (work self.old fuel.old)) }
+        ensures within { StaysWithin self.old self.new fuel.old fuel.new }
+        ensures rest { OnlyEnqueues self.old self.new }
+        ensures refused { NeverRefuses result }
+    {
+        if !fuel.spend() {
+            return Err(PageStop::FuelSpent);
+        }
+        self.record(alloc, n, r)?;
+        Ok(())
+    }
+
+    /// The reaction is enqueued, and noted.
+    fn record(&mut self, alloc: Global, n: NodeNo, r: Reaction) -> Result<(), NoMemory>
+        requires room { self.old.queues.reactions + 1 < 2 ^ 64 }
+        requires callback { is_callback r ≡ true }
+        ensures page { OnOk result (self.new ≡ noted n r (with_queues (enqueued n r) self.old)) }
+        ensures within { StaysWithin self.old self.new 1 0 }
+        ensures rest { OnlyEnqueues self.old self.new }
+    {
+        let what = r.what();
+        let (number, queue) = self.queues.enqueue(alloc, n, r)?;
+        self.notes.push_back(Note {
+            number,
+            node: n,
+            what,
+            queue,
+        })?;
+        Ok(())
+    }
+
+    /// OnlyEnqueues a callback, where the element is custom.
+    pub(crate) fn tell(
+        &mut self,
+        alloc: Global,
+        n: NodeNo,
+        r: Reaction,
+        fuel: &mut Fuel,
+    ) -> Result<(), PageStop>
+        requires { self.old.queues.reactions + fuel.old < 2 ^ 64 }
+        ensures step { Does result (work self.new fuel.new) (where_is (λ w. is_custom w.page n) (enqueue_callback n r) (work self.old fuel.old)) }
+        ensures within { StaysWithin self.old self.new fuel.old fuel.new }
+        ensures rest { OnlyEnqueues self.old self.new }
+        ensures refused { NeverRefuses result }
+    {
+        if self.is_custom(n) {
+            self.enqueue_call(alloc, n, r, fuel)?;
+        }
+        Ok(())
+    }
+
+    /// Tries to upgrade an element (HTML Standard, section "Upgrades", "try to upgrade an element").
+    /// Elements that are there already are not upgraded yet, so this does nothing.
+    pub fn try_upgrade(
+        &mut self,
+        _alloc: Global,
+        n: NodeNo,
+        fuel: &mut Fuel,
+    ) -> Result<(), PageStop>
+        ensures step { Does result (work self.new fuel.new) (try_upgrade n (work self.old fuel.old)) }
+        ensures within { StaysWithin self.old self.new fuel.old fuel.new }
+        ensures rest { OnlyEnqueues self.old self.new }
+        ensures refused { NeverRefuses result }
+    {
+        let _tree = self.tree();
+        Ok(())
+    }
+}
+
+/// Whether the definition has the callback. An upgrade is none.
+fn has_what(what: CallOrUpgrade, d: &Definition) -> bool
+    ensures { result ≡ has_what what d.now }
+{
+    match what {
+        CallOrUpgrade::Call(name) => d.facts.calls.has(name),
+        CallOrUpgrade::Upgrade => false,
+    }
+}
+
+/// An attribute callback wants the attribute's name observed.
+fn is_observed(d: &Definition, r: &Reaction) -> bool
+    ensures { result ≡ is_observed r.now d.now }
+{
+    match r {
+        Reaction::Attribute(name, _, _) => has_text(d.facts.observed.as_slice(), name.as_str()),
+        _ => true,
+    }
+}
+
+fn has_text(texts: &[Text], text: &str) -> bool
+    ensures { result ≡ list_any (λ t. bytes_eq t text.now) texts.now }
+{
+    texts.iter().any(|t| t.as_str() == text)
+}

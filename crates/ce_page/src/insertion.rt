@@ -1,0 +1,133 @@
+// Insertion.
+ghost use Rattle.std.specs.Prelude.{◌≡◌, ◌+◌, ◌<◌, ◌^◌, [], None, All};
+ghost use Rattle.node_trees.specs.Spots.{parent_at};
+ghost use Rattle.node_trees.specs.Insertion.{may_insert};
+ghost use Rattle.node_trees.specs.Nodes.{IsNode, IsNodeOrNone};
+ghost use Rattle.ce_algorithms.specs.Steps.{for_each};
+ghost use Rattle.ce_algorithms.specs.Mutation.{inserted, pre_insert, put_in};
+ghost use Rattle.ce_page.specs.Ends.{Does, Keeps, NeverRefuses, work};
+ghost use Rattle.ce_page.specs.Loose.{child_before};
+ghost use Rattle.ce_page.specs.Numbers.{StaysWithin, OnlyEnqueues};
+
+use crate::walk::node_at;
+use crate::{NodeKind, Page, PageStop};
+use ce_base::{Fuel, NodeNo, Nodes};
+use reaction_queue::Reaction;
+use std::alloc::Global;
+
+impl Page {
+    /// Inserts a node among the children of a parent, before one of them or at the end (DOM Standard,
+    /// section "Mutation algorithms", "pre-insert"). It is refused with the fault that `Tree::may_insert`
+    /// gives, and then nothing has changed. Else the node is adopted into the parent's document and put
+    /// in, and then each node of its shadow-including order that is connected has its turn: a custom
+    /// element is told that it was connected, and another element is tried to upgrade.
+    pub fn insert_node(
+        &mut self,
+        alloc: Global,
+        parent: NodeNo,
+        node: NodeNo,
+        before: Option<NodeNo>,
+        fuel: &mut Fuel,
+    ) -> Result<(), PageStop>
+        requires parent { IsNode self.old.forest parent }
+        requires node { IsNode self.old.forest node }
+        requires before { IsNodeOrNone self.old.forest before }
+        requires room { self.old.queues.reactions + fuel.old < 2 ^ 64 }
+        ensures step { Does result (work self.new fuel.new) (pre_insert parent node before (work self.old fuel.old)) }
+        ensures within { StaysWithin self.old self.new fuel.old fuel.new }
+        ensures refused { Keeps result self.old self.new }
+    {
+        let child = self.reference_child(node, &before);
+        self.tree.may_insert(parent, node, before)?;
+        let document = self.tree.document(parent);
+        self.adopt_node(alloc, document, node, fuel)?;
+        self.put_in(alloc, parent, node, child, fuel)?;
+        Ok(())
+    }
+
+    /// The child to insert before: where it is the node itself, its next sibling.
+    fn reference_child(&self, node: NodeNo, before: &Option<NodeNo>) -> Option<NodeNo>
+        requires node { IsNode self.now.forest node }
+        requires before { IsNodeOrNone self.now.forest before.now }
+        ensures child { result ≡ child_before self.now.forest node before.now }
+        ensures made { IsNodeOrNone self.now.forest result }
+    {
+        match before {
+            None => None,
+            Some(child) => {
+                if *child == node {
+                    self.tree.next_sibling(node)
+                } else {
+                    Some(*child)
+                }
+            }
+        }
+    }
+
+    /// Puts in a node that stands nowhere.
+    fn put_in(
+        &mut self,
+        alloc: Global,
+        parent: NodeNo,
+        node: NodeNo,
+        before: Option<NodeNo>,
+        fuel: &mut Fuel,
+    ) -> Result<(), PageStop>
+        requires parent { IsNode self.old.forest parent }
+        requires node { IsNode self.old.forest node }
+        requires before { IsNodeOrNone self.old.forest before }
+        requires may { may_insert self.old.forest parent node before ≡ None }
+        requires free { parent_at self.old.forest node ≡ None }
+        requires room { self.old.queues.reactions + fuel.old < 2 ^ 64 }
+        ensures step { Does result (work self.new fuel.new) (put_in parent node before (work self.old fuel.old)) }
+        ensures within { StaysWithin self.old self.new fuel.old fuel.new }
+        ensures refused { NeverRefuses result }
+    {
+        self.tree.insert(alloc, parent, node, before)?;
+        let walk = self.tree.shadow_order(alloc, node)?;
+        self.tell_inserted(alloc, &walk, fuel)?;
+        Ok(())
+    }
+
+    /// Each node of an inserted tree has its turn.
+    fn tell_inserted(
+        &mut self,
+        alloc: Global,
+        walk: &Nodes,
+        fuel: &mut Fuel,
+    ) -> Result<(), PageStop>
+        requires nodes { All (IsNode self.old.forest) walk.now }
+        requires room { self.old.queues.reactions + fuel.old < 2 ^ 64 }
+        ensures step { Does result (work self.new fuel.new) (for_each walk.now (inserted []) (work self.old fuel.old)) }
+        ensures within { StaysWithin self.old self.new fuel.old fuel.new }
+        ensures rest { OnlyEnqueues self.old self.new }
+        ensures refused { NeverRefuses result }
+    {
+        for i in 0..walk.len() {
+            let n = node_at(walk, i);
+            self.inserted(alloc, n, fuel)?;
+        }
+        Ok(())
+    }
+
+    /// One node of an inserted tree.
+    fn inserted(&mut self, alloc: Global, n: NodeNo, fuel: &mut Fuel) -> Result<(), PageStop>
+        requires node { IsNode self.old.forest n }
+        requires room { self.old.queues.reactions + fuel.old < 2 ^ 64 }
+        ensures step { Does result (work self.new fuel.new) (inserted [] n (work self.old fuel.old)) }
+        ensures within { StaysWithin self.old self.new fuel.old fuel.new }
+        ensures rest { OnlyEnqueues self.old self.new }
+        ensures refused { NeverRefuses result }
+    {
+        if !self.tree.is_connected(n) {
+            return Ok(());
+        }
+        if self.is_custom(n) {
+            return self.enqueue_call(alloc, n, Reaction::Connected, fuel);
+        }
+        if self.tree.kind(n) == NodeKind::Element {
+            return self.try_upgrade(alloc, n, fuel);
+        }
+        Ok(())
+    }
+}

@@ -1,0 +1,86 @@
+// The element queues, and what waits.
+ghost use Rattle.std.specs.Prelude.{◌≡◌, ◌+◌, ◌<◌, ◌^◌, ◌∷◌, [], true, length, MatchOption, IfOk, IfSome, OnOk};
+ghost use Rattle.reaction_queue.specs.Queues.{begun, ended, current_elements, waiting_at, with_waiting};
+ghost use Rattle.reaction_queue.specs.Changes.{DropsFirst};
+ghost use Rattle.ce_algorithms.specs.Page.{with_queues};
+ghost use Rattle.ce_page.specs.Callbacks.{is_callback};
+ghost use Rattle.ce_page.specs.Numbers.{SameNumbers};
+
+use crate::Page;
+use ce_algorithms::Note;
+use ce_base::{NoMemory, NodeNo, QueueNo, ReactionNo};
+use reaction_queue::{ElementQueue, Reaction};
+use std::alloc::Global;
+
+impl Page {
+    /// Pushes a new element queue, and gives its number.
+    pub fn begin(&mut self, alloc: Global) -> Result<QueueNo, NoMemory>
+        requires { self.old.queues.pushed + 1 < 2 ^ 64 }
+        ensures number { IfOk result (λ q. q ≡ self.old.queues.pushed + 1) }
+        ensures page { OnOk result (self.new ≡ with_queues begun self.old) }
+        ensures forest { self.new.forest ≡ self.old.forest }
+        ensures reactions { self.new.queues.reactions ≡ self.old.queues.reactions }
+        ensures pushed { self.new.queues.pushed ≡ self.old.queues.pushed + 1 }
+        ensures depth { OnOk result (length self.new.queues.stack ≡ length self.old.queues.stack + 1) }
+    {
+        self.queues.begin(alloc)
+    }
+
+    /// Pops the current element queue.
+    pub fn end(&mut self) -> ElementQueue
+        requires { 0 < length self.old.queues.stack }
+        ensures elements { result ≡ current_elements self.old.queues }
+        ensures page { self.new ≡ with_queues ended self.old }
+        ensures reactions { self.new.queues.reactions ≡ self.old.queues.reactions }
+        ensures pushed { self.new.queues.pushed ≡ self.old.queues.pushed }
+        ensures depth { length self.new.queues.stack + 1 ≡ length self.old.queues.stack }
+    {
+        self.queues.end()
+    }
+
+    /// Takes the first element of an element queue that was popped. None exactly where it is empty.
+    pub fn next_element(&mut self, q: &mut ElementQueue) -> Option<NodeNo>
+        ensures first { MatchOption result ((q.old ≡ []) × (q.new ≡ [])) (λ n. q.old ≡ n ∷ q.new) }
+        ensures page { self.new ≡ self.old }
+    {
+        self.queues.next_element(q)
+    }
+
+    /// Takes the first element of the backup element queue. None exactly where it is empty.
+    pub fn next_backup(&mut self) -> Option<NodeNo>
+        ensures first { MatchOption result ((self.old.queues.backup ≡ []) × (self.new ≡ self.old)) (λ n. self.old.queues.backup ≡ n ∷ self.new.queues.backup) }
+        ensures page { self.new ≡ with_queues (λ q. record q { backup = self.new.queues.backup }) self.old }
+        ensures numbers { SameNumbers self.old self.new }
+    {
+        self.queues.next_backup()
+    }
+
+    /// Takes the first reaction of a node's reaction queue, with its number. It is no upgrade. None exactly
+    /// where none waits at the node.
+    pub fn next(&mut self, node: NodeNo) -> Option<(ReactionNo, Reaction)>
+        ensures first { MatchOption result (waiting_at self.old.queues node ≡ []) (λ w. waiting_at self.old.queues node ≡ w ∷ waiting_at self.new.queues node) }
+        ensures page { MatchOption result (self.new ≡ self.old) (λ w. self.new ≡ with_queues (with_waiting node (waiting_at self.new.queues node)) self.old) }
+        ensures callback { IfSome result (λ w. is_callback w.1 ≡ true) }
+        ensures numbers { SameNumbers self.old self.new }
+    {
+        self.queues.next(node)
+    }
+
+    /// Drops the first reaction of a node's reaction queue, and gives its number. None exactly where none
+    /// waits at the node.
+    pub fn drop_first(&mut self, node: NodeNo) -> Option<ReactionNo>
+        ensures first { MatchOption result (waiting_at self.old.queues node ≡ []) (λ number. DropsFirst self.old.queues self.new.queues node number) }
+        ensures page { MatchOption result (self.new ≡ self.old) (λ number. self.new ≡ with_queues (with_waiting node (waiting_at self.new.queues node)) self.old) }
+        ensures numbers { SameNumbers self.old self.new }
+    {
+        self.queues.drop_first(node)
+    }
+
+    /// The oldest enqueue that was not told yet. None exactly where all were told.
+    pub fn take_note(&mut self) -> Option<Note>
+        ensures first { MatchOption result ((self.old.notes ≡ []) × (self.new ≡ self.old)) (λ n. self.old.notes ≡ n ∷ self.new.notes) }
+        ensures page { self.new ≡ record self.old { notes = self.new.notes } }
+    {
+        self.notes.pop_front()
+    }
+}
