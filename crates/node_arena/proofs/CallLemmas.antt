@@ -8,7 +8,7 @@ use Rattle.node_trees.specs.Facts.{Facts, is_element, is_shadow_root}
 use Rattle.node_trees.specs.Trees.{Trees, tree_of, graft, cut, single, with_node, with_shadow, with_facts}
 use Rattle.node_trees.specs.Spots.{Spot, spot_of, parent_at, facts_at, kind_at, shadow_at, first_of, or_no_spot}
 use Rattle.node_trees.specs.Insertion.{may_insert}
-use Rattle.node_trees.specs.Nodes.{times, size, IsNode}
+use Rattle.node_trees.specs.Nodes.{times, size, surplus_at, IsNode}
 use Rattle.node_arena.specs.Rows.{row_at, IsForest, Grafted, Severed, Attached, Changed}
 use Rattle.node_arena.specs.Nodes.{rows, row, facts_of, IsLoose}
 use Rattle.node_arena.specs.Seen.{Forest}
@@ -20,6 +20,7 @@ use Rattle.node_arena.proofs.AllowedCut.{parent-outside}
 use Rattle.node_arena.proofs.AtNode.{node_spot}
 use Rattle.node_arena.proofs.CutReads.{in-tree}
 use Rattle.node_arena.proofs.Sizes.{new-absent}
+use Rattle.node_arena.proofs.Surplus.{KeepsKind}
 use Rattle.node_arena.proofs.ForestLemmas.{graft_forest, cut_forest, change_forest, push_forest, attach_forest, stands_at}
 
 -- a vector whose slice was written
@@ -58,9 +59,9 @@ pub removed : (old now new after : List Node) (f : Trees) (p n : ℕ) → IsFore
 removed old now new after f p n a at parent same back g = rw back (cut_forest (rows old) (rows new) f p n a at (sym parent) (rw same at g))
 
 -- what a change of facts leaves
-module _ (old now new after : List Node) (f : Trees) (n : ℕ) (change : Facts → Facts) (a : IsForest (rows old) f) (at : IsNode f n) (kind : (x : Facts) → (change x).kind ≡ x.kind) (same : now ≡ old) (back : after ≡ new) where
+module _ (old now new after : List Node) (f : Trees) (n : ℕ) (change : Facts → Facts) (a : IsForest (rows old) f) (at : IsNode f n) (keeps : KeepsKind f n change) (same : now ≡ old) (back : after ≡ new) where
   pub altered : Changed (rows now) (rows new) n change → IsForest (rows after) (with_facts n change f)
-  altered g = rw back (change_forest (rows old) (rows new) f n change a at kind (rw same at g))
+  altered g = rw back (change_forest (rows old) (rows new) f n change a at keeps (rw same at g))
 
   pub unaltered : rows new ≡ rows now → IsForest (rows after) f
   unaltered e = rw (back, e, same) a
@@ -76,9 +77,9 @@ own_row old now f n a at same =
     (spot_of st.it.facts st.it.parent st.it.host st.it.shadow st.it.children, rw same st.row, ap (λ v. (or_no_spot v).facts) st.it.spot_is)
 
 -- a new node at the end
-module _ (nodes new : List Node) (f : Trees) (node : Node) (a : IsForest (rows nodes) f) (loose : IsLoose node) (kind : is_shadow_root node.kind ≡ false) where
+module _ (nodes new : List Node) (f : Trees) (node : Node) (a : IsForest (rows nodes) f) (loose : IsLoose node) (kind : is_shadow_root node.kind ≡ false) (own : surplus_at (facts_of node) ≡ 0) where
   pub pushed : new ≡ nodes ++ node ∷ [] → IsForest (rows new) (with_node (size f + 1) (facts_of node) f)
-  pushed e = rw (e, map-append row nodes (node ∷ []), row_loose node (facts_of node) refl loose) (push_forest (rows nodes) f (facts_of node) a kind)
+  pushed e = rw (e, map-append row nodes (node ∷ []), row_loose node (facts_of node) refl loose) (push_forest (rows nodes) f (facts_of node) a kind own)
 
   pub pushed_or_not : (b : Bool) → new ≡ cond b (nodes ++ node ∷ []) nodes → Forest (rows new)
   pushed_or_not true e = (_, pushed e)
@@ -90,13 +91,13 @@ no_first : (ns : List ℕ) → first_of ns ≡ None → ns ≡ []
 no_first [] e = refl
 no_first (n ∷ ns) e = cc
 
-module _ (old new : List Node) (f : Trees) (h : ℕ) (x : Facts) (a : IsForest (rows old) f) (at : IsNode f h) (element : kind_at f h ≡ Element) (bare : shadow_at f h ≡ None) (fit : is_shadow_root x.kind ≡ true) where
+module _ (old new : List Node) (f : Trees) (h : ℕ) (x : Facts) (a : IsForest (rows old) f) (at : IsNode f h) (element : kind_at f h ≡ Element) (bare : shadow_at f h ≡ None) (fit : is_shadow_root x.kind ≡ true) (own : surplus_at x ≡ 0) where
   pub attached_forest : Attached (rows old) (rows new) h (length old + 1) x → IsForest (rows new) (with_shadow h (single (size f + 1) x) f)
   attached_forest w =
       let st = node_spot f h a.tidy at in
       let empty : st.row.shadow ≡ [] = no_first st.row.shadow (ap (λ v. first_of (or_no_spot v).shadow) (sym st.is) ∙ bare) in
       let count : length old + 1 ≡ size f + 1 = omega (arith, a.counted, length-map old row) in
-      attach_forest (rows old) (rows new) f h x st.row a at st.is (ap is_element element) empty fit (rw count at w)
+      attach_forest (rows old) (rows new) f h x st.row a at st.is (ap is_element element) empty fit own (rw count at w)
 
   pub attached_or_not : (r : Result ℕ NoMemory) → OnOk r (Attached (rows old) (rows new) h (length old + 1) x) → OnErr r (new ≡ old) → Forest (rows new)
   attached_or_not (Ok n) ok err = (_, attached_forest ok)

@@ -7,7 +7,7 @@ use Rattle.node_trees.specs.Facts.{Facts, is_element, is_shadow_root}
 use Rattle.node_trees.specs.Trees.{Trees, none, tree, roots, tree_of, without, single, with_node, with_shadow, with_facts, cut, graft}
 use Rattle.node_trees.specs.Spots.{Spot, spot, spot_of, parent_at, kind_at}
 use Rattle.node_trees.specs.Insertion.{may_insert}
-use Rattle.node_trees.specs.Nodes.{times, size, IsNode}
+use Rattle.node_trees.specs.Nodes.{times, size, surplus_at, IsNode}
 use Rattle.node_arena.specs.Numbers.{remove_number}
 use Rattle.node_arena.specs.Rows.{row_at, Stands, IsForest, Grafted, Severed, Attached, Changed}
 use Rattle.node_arena.proofs.Sums.{tidy-apart, times-without}
@@ -16,6 +16,7 @@ use Rattle.node_arena.proofs.Above.{parent-above, parent-no_host}
 use Rattle.node_arena.proofs.AllowedCut.{parent-outside}
 use Rattle.node_arena.proofs.Changed.{size-with}
 use Rattle.node_arena.proofs.Sizes.{size-with_node, size-with_shadow, size-cut, new-absent}
+use Rattle.node_arena.proofs.Surplus.{KeepsKind}
 use Rattle.node_arena.proofs.Tidy.{tidy-with, tidy-with_node, tidy-with_shadow}
 use Rattle.node_arena.proofs.PlaceFits.{free-host}
 use Rattle.node_arena.proofs.AllowedGraft.{allowed-fits, allowed-size, allowed-tidy, tidy-cut-child}
@@ -33,35 +34,35 @@ node_of_row : (rows : List Spot) (f : Trees) (n : ℕ) (row : Spot) → IsForest
 node_of_row rows f n row a lo at = record { low = lo; high = omega (arith, lo, a.counted, slice_get_within rows (n - 1) row at) }
 
 -- a new node at the end
-pub push_forest : (rs : List Spot) (f : Trees) (x : Facts) → IsForest rs f → is_shadow_root x.kind ≡ false → IsForest (rs ++ spot_of x None None none none ∷ []) (with_node (size f + 1) x f)
-push_forest rs f x a fit =
+pub push_forest : (rs : List Spot) (f : Trees) (x : Facts) → IsForest rs f → is_shadow_root x.kind ≡ false → surplus_at x ≡ 0 → IsForest (rs ++ spot_of x None None none none ∷ []) (with_node (size f + 1) x f)
+push_forest rs f x a fit own =
     let row0 = spot_of x None None none none in
     let last : row_at (rs ++ row0 ∷ []) (size f + 1) ≡ Some row0 = slice_get-append_end rs row0 (size f + 1 - 1) (omega (arith, a.counted)) in
     let low : Stands (rs ++ row0 ∷ []) None None f = Stands-frame rs (rs ++ row0 ∷ []) None None f a.stands (λ m lo pos. let at = a.tidy.only m pos in slice_get-append_front rs (row0 ∷ []) (m - 1) (omega (arith, at.low, at.high, a.counted))) in
     let top : Stands (rs ++ row0 ∷ []) None None (single (size f + 1) x) = (omega arith, last, tt, tt, tt) in
     record {
       stands = Stands-join _ None None f (single (size f + 1) x) low top;
-      tidy = tidy-with_node f x a.tidy fit;
+      tidy = tidy-with_node f x a.tidy fit own;
       counted = omega (arith, size-with_node (size f + 1) x f, a.counted, length-append rs (row0 ∷ []));
     }
 
 -- a shadow root
-pub attach_forest : (rows rows' : List Spot) (f : Trees) (h : ℕ) (x : Facts) (it : Spot) → IsForest rows f → IsNode f h → spot f h ≡ Some it → is_element (kind_at f h) ≡ true → it.shadow ≡ [] → is_shadow_root x.kind ≡ true
+pub attach_forest : (rows rows' : List Spot) (f : Trees) (h : ℕ) (x : Facts) (it : Spot) → IsForest rows f → IsNode f h → spot f h ≡ Some it → is_element (kind_at f h) ≡ true → it.shadow ≡ [] → is_shadow_root x.kind ≡ true → surplus_at x ≡ 0
     → Attached rows rows' h (size f + 1) x → IsForest rows' (with_shadow h (single (size f + 1) x) f)
-attach_forest rows rows' f h x it a at is element bare fit w =
+attach_forest rows rows' f h x it a at is element bare fit own w =
     let one = a.tidy.once h at in
     let empty : (row : Spot) → row_at rows h ≡ Some row → row.shadow ≡ [] = λ row here. let same : row ≡ it = cc (row_is rows f h row a at here, is) in cc (same, bare) in
     record {
       stands = Stands-with_shadow rows rows' h (size f + 1) x w (omega arith) empty None None f (new-absent f a.tidy) (omega (arith, one)) a.stands;
-      tidy = tidy-with_shadow f h x a.tidy at element fit;
+      tidy = tidy-with_shadow f h x a.tidy at element fit own;
       counted = omega (arith, size-with_shadow h (size f + 1) x f a.tidy at, a.counted, w.length_is);
     }
 
 -- facts that change
-pub change_forest : (rows rows' : List Spot) (f : Trees) (n : ℕ) (change : Facts → Facts) → IsForest rows f → IsNode f n → ((x : Facts) → (change x).kind ≡ x.kind) → Changed rows rows' n change → IsForest rows' (with_facts n change f)
-change_forest rows rows' f n change a at same w = record {
+pub change_forest : (rows rows' : List Spot) (f : Trees) (n : ℕ) (change : Facts → Facts) → IsForest rows f → IsNode f n → KeepsKind f n change → Changed rows rows' n change → IsForest rows' (with_facts n change f)
+change_forest rows rows' f n change a at keeps w = record {
   stands = Stands-with_facts rows rows' n change w None None f (omega (arith, a.tidy.once n at)) a.stands;
-  tidy = tidy-with f n change same a.tidy;
+  tidy = tidy-with f n change at keeps a.tidy;
   counted = omega (arith, size-with n change f, a.counted, w.length_is);
 }
 

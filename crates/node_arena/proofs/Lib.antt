@@ -28,6 +28,7 @@ pub mod ShadowReads
 pub mod Rising
 pub mod Fitting
 pub mod FittingPut
+pub mod Surplus
 pub mod Tidy
 pub mod ChildFits
 pub mod PlaceFits

@@ -17,6 +17,7 @@ tidy_document = record {
   only = λ i pos. let e : 1 ≡ i = grind (arith, nat_tests) in record { low = omega arith; high = omega arith };
   rises = (omega arith, tt);
   kinds = refl;
+  parts = refl;
 }
 
 pub row_loose : (node : Node) (x : Facts) → facts_of node ≡ x → IsLoose node → row node ≡ spot_of x None None none none

@@ -4,7 +4,7 @@ use Rattle.std.proofs.lemmas.Bool.Decides.{nat_tests}
 use Rattle.std.proofs.lemmas.Bool.{cases_eq}
 use Rattle.node_trees.specs.Facts.{Facts, is_element, is_text, is_shadow_root}
 use Rattle.node_trees.specs.Trees.{Trees, single, tree_of, without, place, cut, graft, with_node, with_shadow, with_facts}
-use Rattle.node_trees.specs.Nodes.{times, size, Rises, Place, AtTop, AsChild, fits, unless, misfits, IsNode, IsTidy}
+use Rattle.node_trees.specs.Nodes.{times, size, Rises, Place, AtTop, AsChild, fits, unless, misfits, surplus_at, surplus, IsNode, IsTidy}
 use Rattle.node_trees.specs.Spots.{kind_at}
 use Rattle.node_arena.proofs.Sums.{tidy-apart, one_at, weight-without}
 use Rattle.node_arena.proofs.Inside.{found}
@@ -16,22 +16,24 @@ use Rattle.node_arena.proofs.ShadowReads.{roots-shadow}
 use Rattle.node_arena.proofs.Sizes.{weight-cut, weight-graft, weight-with_node, weight-with_shadow, size-cut, size-graft, size-with_node, size-with_shadow, new-absent}
 use Rattle.node_arena.proofs.Rising.{rises-same, rises-without, rises-place, rises-new}
 use Rattle.node_arena.proofs.Fitting.{only_at, only-there, misfits-join, misfits-place, misfits-without, misfits-tree_of}
+use Rattle.node_arena.proofs.Surplus.{KeepsKind, surplus-with}
 use Rattle.node_arena.proofs.FittingPut.{text_is, element_is, misfits-put, misfits-shadow, misfits-with}
 
 -- as many nodes, with the same numbers
-tidy-still : (f g : Trees) → IsTidy f → size g ≡ size f → ((i : ℕ) → times i g ≡ times i f) → Rises 0 g → misfits AtTop g ≡ 0 → IsTidy g
-tidy-still f g tidy same_size same_times rises kinds = record {
+tidy-still : (f g : Trees) → IsTidy f → size g ≡ size f → ((i : ℕ) → times i g ≡ times i f) → Rises 0 g → misfits AtTop g ≡ 0 → surplus g ≡ surplus f → IsTidy g
+tidy-still f g tidy same_size same_times rises kinds parts = record {
   once = λ i node. same_times i ∙ tidy.once i (record { low = node.low; high = omega (arith, node.high) });
   only = λ i pos.
       let node = tidy.only i (omega (arith, same_times i)) in
       record { low = node.low; high = omega (arith, node.high) };
   rises = rises;
   kinds = kinds;
+  parts = parts ∙ tidy.parts;
 }
 
 -- one more, with the next number
-tidy-more : (f g : Trees) → IsTidy f → size g ≡ size f + 1 → ((i : ℕ) → times i g ≡ times i f + (if size f + 1 == i then 1 else 0)) → Rises 0 g → misfits AtTop g ≡ 0 → IsTidy g
-tidy-more f g tidy more_size more_times rises kinds = record {
+tidy-more : (f g : Trees) → IsTidy f → size g ≡ size f + 1 → ((i : ℕ) → times i g ≡ times i f + (if size f + 1 == i then 1 else 0)) → Rises 0 g → misfits AtTop g ≡ 0 → surplus g ≡ 0 → IsTidy g
+tidy-more f g tidy more_size more_times rises kinds parts = record {
   once = λ i node. elim (cases_eq (size f + 1) i) [
     | inl e ↦
         let gone : times i f ≡ 0 = subst (λ v. times v f ≡ 0) e (new-absent f tidy) in
@@ -52,12 +54,13 @@ tidy-more f g tidy more_size more_times rises kinds = record {
   ];
   rises = rises;
   kinds = kinds;
+  parts = parts;
 }
 
-pub tidy-with : (f : Trees) (n : ℕ) (c : Facts → Facts) → ((x : Facts) → (c x).kind ≡ x.kind) → IsTidy f → IsTidy (with_facts n c f)
-tidy-with f n c keeps tidy =
+pub tidy-with : (f : Trees) (n : ℕ) (c : Facts → Facts) → IsNode f n → KeepsKind f n c → IsTidy f → IsTidy (with_facts n c f)
+tidy-with f n c node keeps tidy =
     tidy-still f (with_facts n c f) tidy (size-with n c f) (λ i. times-with n c i f) (rises-same 0 f (with_facts n c f) (sym (roots-with n c f)) tidy.rises)
-    (misfits-with n c keeps AtTop f ∙ tidy.kinds)
+    (misfits-with n c keeps.kind AtTop f ∙ tidy.kinds) (surplus-with f n c tidy node keeps ∙ sym tidy.parts)
 
 -- ---- the node taken out of its place
 
@@ -82,7 +85,7 @@ module _ (f : Trees) (n : ℕ) (tidy : IsTidy f) (node : IsNode f n) where
       let rising : Rises 0 (place n (tree_of n f) (without n f)) =
       subst (λ t. Rises 0 (place n t (without n f))) (sym it.tree_is) (rises-place 0 n it.facts it.shadow it.children (without n f) node.low n-left (rises-without 0 n f tidy.rises)) in
       tidy-still f (cut f n) tidy (size-cut f n tidy) (λ i. weight-cut (one_at i) f n tidy) rising
-      (misfits-place AtTop n (tree_of n f) (without n f) ∙ omega (arith, rest-fits, tree-fits AtTop (ap not h)))
+      (misfits-place AtTop n (tree_of n f) (without n f) ∙ omega (arith, rest-fits, tree-fits AtTop (ap not h))) (weight-cut (λ m x. surplus_at x) f n tidy)
 
   -- an element or a text put among the children of a node that is no text
   pub tidy-graft : (p : ℕ) (b : Option ℕ) → IsNode f p → times p (tree_of n f) ≡ 0 → is_text (kind_at f p) ≡ false → fits AsChild (kind_at f n) ≡ true → IsTidy (graft f p n b)
@@ -94,17 +97,19 @@ module _ (f : Trees) (n : ℕ) (tidy : IsTidy f) (node : IsNode f n) where
       tidy-still f (graft f p n b) tidy (size-graft f p n b tidy node_p outside) (λ i. weight-graft (one_at i) f p n b tidy node_p outside)
       (rises-same 0 (without n f) (graft f p n b) (sym (roots-put p b (tree_of n f) (without n f))) (rises-without 0 n f tidy.rises))
       (misfits-put AtTop p b (tree_of n f) (without n f) rest-fits (tree-fits AsChild fit) (omega (arith, all, none_in, no_text)))
+      (weight-graft (λ m x. surplus_at x) f p n b tidy node_p outside)
 
 -- ---- one node more
 
-pub tidy-with_node : (f : Trees) (x : Facts) → IsTidy f → is_shadow_root x.kind ≡ false → IsTidy (with_node (size f + 1) x f)
-tidy-with_node f x tidy h =
+pub tidy-with_node : (f : Trees) (x : Facts) → IsTidy f → is_shadow_root x.kind ≡ false → surplus_at x ≡ 0 → IsTidy (with_node (size f + 1) x f)
+tidy-with_node f x tidy h own =
     tidy-more f (with_node (size f + 1) x f) tidy (size-with_node (size f + 1) x f) (λ i. weight-with_node (one_at i) (size f + 1) x f)
     (rises-new 0 (size f + 1) x f (omega arith) (λ i pos. let node = tidy.only i pos in omega (arith, node.high)) tidy.rises)
     (misfits-join AtTop f (single (size f + 1) x) ∙ omega (arith, tidy.kinds, ap (λ v. unless (not v)) h))
+    (weight-with_node (λ m y. surplus_at y) (size f + 1) x f ∙ omega (arith, tidy.parts, own))
 
-pub tidy-with_shadow : (f : Trees) (q : ℕ) (x : Facts) → IsTidy f → IsNode f q → is_element (kind_at f q) ≡ true → is_shadow_root x.kind ≡ true → IsTidy (with_shadow q (single (size f + 1) x) f)
-tidy-with_shadow f q x tidy node h fit =
+pub tidy-with_shadow : (f : Trees) (q : ℕ) (x : Facts) → IsTidy f → IsNode f q → is_element (kind_at f q) ≡ true → is_shadow_root x.kind ≡ true → surplus_at x ≡ 0 → IsTidy (with_shadow q (single (size f + 1) x) f)
+tidy-with_shadow f q x tidy node h fit own =
     let st = node_spot f q tidy node in
     let all = only-there q element_is None None f st.row (tidy-apart f tidy) (node_stands f q tidy node) st.is in
     let element : element_is st.row.facts ≡ 0 = ap element_is (sym (facts_at-is f q st.row st.is)) ∙ ap unless h in
@@ -112,3 +117,4 @@ tidy-with_shadow f q x tidy node h fit =
     (λ i. omega (arith, weight-with_shadow (one_at i) q (single (size f + 1) x) f (tidy.once q node)))
     (rises-same 0 f (with_shadow q (single (size f + 1) x) f) (sym (roots-shadow q (single (size f + 1) x) f)) tidy.rises)
     (misfits-shadow AtTop q (single (size f + 1) x) f tidy.kinds (omega (arith, ap unless fit)) (all ∙ element))
+    (weight-with_shadow (λ m y. surplus_at y) q (single (size f + 1) x) f (tidy.once q node) ∙ omega (arith, tidy.parts, own))

@@ -1,7 +1,7 @@
 // Changes of one node's facts.
-ghost use Rattle.std.specs.Prelude.{◌≡◌, ◌<◌, ◌≤◌, ℕ, Option, Some, length, IfOk, OnOk, OnErr, option_copied, slice_get};
+ghost use Rattle.std.specs.Prelude.{◌≡◌, ◌<◌, ◌≤◌, ℕ, Option, Some, None, false, length, IfOk, OnOk, OnErr, option_copied, slice_get};
 ghost use Rattle.node_trees.specs.declared.kind.NodeKind.TheVariants.{Element};
-ghost use Rattle.node_trees.specs.Facts.{value_in, with_value, without_value};
+ghost use Rattle.node_trees.specs.Facts.{is_element, value_in, with_value, without_value};
 ghost use Rattle.node_trees.specs.Trees.{with_attribute, without_attribute, with_document};
 ghost use Rattle.node_trees.specs.Spots.{parent_at, Spot, facts_at, kind_at, attribute_at};
 ghost use Rattle.node_trees.specs.Nodes.{size, IsNode};
@@ -53,7 +53,8 @@ impl Tree {
     /// None exactly where there is none of that name.
     pub fn attr(&self, n: NodeNo, name: &str) -> Option<&str>
         requires { IsNode self.now n }
-        ensures { option_copied result ≡ attribute_at self.now n name.now }
+        ensures value { option_copied result ≡ attribute_at self.now n name.now }
+        ensures lacking { is_element (kind_at self.now n) ≡ false → option_copied result ≡ None }
     {
         self.node(n).attributes.get(name)
     }
@@ -61,7 +62,8 @@ impl Tree {
     /// How many attributes a node has: an element's, for another node none.
     pub fn attr_count(&self, n: NodeNo) -> usize
         requires { IsNode self.now n }
-        ensures { result ≡ length (facts_at self.now n).attributes }
+        ensures count { result ≡ length (facts_at self.now n).attributes }
+        ensures lacking { is_element (kind_at self.now n) ≡ false → result ≡ 0 }
     {
         self.node(n).attributes.len()
     }

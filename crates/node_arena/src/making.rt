@@ -4,7 +4,7 @@ ghost use Rattle.node_trees.specs.declared.kind.NodeKind.TheVariants.{Document, 
 ghost use Rattle.node_trees.specs.Facts.{blank, new_element, new_text, is_shadow_root};
 ghost use Rattle.node_trees.specs.Trees.{single, with_node, with_shadow};
 ghost use Rattle.node_trees.specs.Spots.{kind_at, document_at, parent_at, shadow_at};
-ghost use Rattle.node_trees.specs.Nodes.{size, IsNode};
+ghost use Rattle.node_trees.specs.Nodes.{size, surplus_at, IsNode};
 ghost use Rattle.node_arena.specs.Nodes.{facts_of, rows, IsLoose, IsRootOf};
 ghost use Rattle.node_arena.specs.Rows.{Attached};
 
@@ -44,6 +44,7 @@ impl Tree {
     fn add(&mut self, node: Node) -> Result<NodeNo, NoMemory>
         requires loose { IsLoose node }
         requires kind { is_shadow_root node.kind ≡ false }
+        requires parts { surplus_at (facts_of node) ≡ 0 }
         ensures number { IfOk result (λ n. n ≡ size self.old + 1) }
         ensures size { OnOk result (size self.new ≡ size self.old + 1) }
         ensures free { IfOk result (λ n. parent_at self.new n ≡ None) }

@@ -1,9 +1,10 @@
 // What is known of a node, and who stands next to it.
-ghost use Rattle.std.specs.Prelude.{◌≡◌, ◌<◌, ◌∷◌, ◌++◌, [], Some, IfOk, IfSome, length, option_copied, slice_get};
+ghost use Rattle.std.specs.Prelude.{◌≡◌, ◌<◌, ◌∷◌, ◌++◌, [], Some, None, false, IfOk, IfSome, length, option_copied, slice_get};
+ghost use Rattle.node_trees.specs.Facts.{is_element, is_text};
 ghost use Rattle.node_trees.specs.Trees.{tree_of};
 ghost use Rattle.node_trees.specs.Spots.{spot, facts_at, kind_at, attribute_at, document_at, parent_at, host_at, shadow_at, children_at, first_child_at, next_sibling_at};
 ghost use Rattle.node_trees.specs.Orders.{order};
-ghost use Rattle.node_trees.specs.Nodes.{size, IsNode, IsNodeOrNone, IsTidy};
+ghost use Rattle.node_trees.specs.Nodes.{size, HasOwnParts, IsNode, IsNodeOrNone, IsTidy};
 ghost use Rattle.node_arena.specs.Nodes.{row, text_in};
 ghost use Rattle.node_arena.specs.Walks.{above, orders, AreNodes, IsUp};
 
@@ -53,6 +54,7 @@ impl Tree {
         ensures links { AreNodes self.now ((row result.now).shadow ++ (row result.now).children) }
         ensures parent { IsNodeOrNone self.now (row result.now).parent }
         ensures host { IsNodeOrNone self.now (row result.now).host }
+        ensures parts { HasOwnParts (facts_at self.now n) }
         ensures tidy { IsTidy self.now }
     {
         &self.nodes[index_of(n)]
@@ -69,7 +71,8 @@ impl Tree {
     /// An element's local name (DOM Standard, section "Interface Element", "local name"), or the empty text.
     pub fn local(&self, n: NodeNo) -> &str
         requires { IsNode self.now n }
-        ensures { result.now ≡ (facts_at self.now n).local }
+        ensures local { result.now ≡ (facts_at self.now n).local }
+        ensures lacking { is_element (kind_at self.now n) ≡ false → result.now ≡ [] }
     {
         text_of(&self.node(n).local)
     }
@@ -78,7 +81,8 @@ impl Tree {
     /// none.
     pub fn is_value(&self, n: NodeNo) -> Option<&str>
         requires { IsNode self.now n }
-        ensures { option_copied result ≡ (facts_at self.now n).is_value }
+        ensures value { option_copied result ≡ (facts_at self.now n).is_value }
+        ensures lacking { is_element (kind_at self.now n) ≡ false → option_copied result ≡ None }
     {
         match &self.node(n).is_value {
             Some(text) => Some(text.as_str()),
@@ -90,7 +94,8 @@ impl Tree {
     /// text.
     pub fn chars(&self, n: NodeNo) -> &str
         requires { IsNode self.now n }
-        ensures { result.now ≡ (facts_at self.now n).chars }
+        ensures chars { result.now ≡ (facts_at self.now n).chars }
+        ensures lacking { is_text (kind_at self.now n) ≡ false → result.now ≡ [] }
     {
         text_of(&self.node(n).chars)
     }

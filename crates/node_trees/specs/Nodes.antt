@@ -1,5 +1,6 @@
 -- The nodes of a forest, and what holds of each forest that is built up by making, inserting and removing.
-use Rattle.std.specs.Prelude.{◌≡◌, ℕ, Bool, true, false, not, ◌==◌, ◌&&◌, ◌||◌, ◌+◌, ◌<◌, ◌≤◌, if◌then◌else◌, Option, Some, None, ⊤}
+use Rattle.std.specs.Prelude.{◌≡◌, ℕ, Bool, true, false, not, ◌==◌, ◌&&◌, ◌||◌, ◌+◌, ◌<◌, ◌≤◌, if◌then◌else◌, Option, Some, None, ⊤, [], length}
+use Rattle.std.specs.Option.{option_to_list}
 use Rattle.node_trees.specs.Facts.{Facts, is_document, is_element, is_text, is_shadow_root}
 use Rattle.node_trees.specs.declared.kind.NodeKind.{NodeKind}
 use Rattle.node_trees.specs.Trees.{Trees, none, tree}
@@ -59,9 +60,26 @@ misfits place (tree m x shadow children rest) =
     (unless (fits place x.kind) + (unless (is_none shadow || is_element x.kind) + unless (is_none children || not (is_text x.kind))))
     + (misfits InShadow shadow + (misfits AsChild children + misfits place rest))
 
--- each number from 1 to the size is that of one node, and no other number is; the trees stand in the order of their roots' numbers; each node stands where its kind does
+-- a part that the kind of a node lacks is empty: the local name, the `is` value and the attributes are an element's, the characters a text's
+pub record HasOwnParts (x : Facts) : Type 0 where
+  pub local : is_element x.kind ≡ false → x.local ≡ []
+  pub is_value : is_element x.kind ≡ false → x.is_value ≡ None
+  pub attributes : is_element x.kind ≡ false → x.attributes ≡ []
+  pub chars : is_text x.kind ≡ false → x.chars ≡ []
+
+-- how much there is in the parts that the kind lacks
+abbrev pub surplus_at : Facts → ℕ
+surplus_at x =
+    (if is_element x.kind then 0 else length x.local + (length (option_to_list x.is_value) + length x.attributes))
+    + (if is_text x.kind then 0 else length x.chars)
+
+abbrev pub surplus : Trees → ℕ
+surplus f = weight (λ m x. surplus_at x) f
+
+-- each number from 1 to the size is that of one node, and no other number is; the trees stand in the order of their roots' numbers; each node stands where its kind does, and has no part that its kind lacks
 pub record IsTidy (forest : Trees) : Type 0 where
   pub once : (n : ℕ) → IsNode forest n → times n forest ≡ 1
   pub only : (n : ℕ) → 0 < times n forest → IsNode forest n
   pub rises : Rises 0 forest
   pub kinds : misfits AtTop forest ≡ 0
+  pub parts : surplus forest ≡ 0

@@ -3,7 +3,7 @@ ghost use Rattle.std.specs.Prelude.{◌≡◌, ◌∷◌, [], Some, None, true, 
 ghost use Rattle.ce_base.specs.declared.fault.Fault.TheVariants.{HierarchyRequestError, NotFoundError};
 ghost use Rattle.node_trees.specs.Ids.{first_with_id};
 ghost use Rattle.node_trees.specs.Insertion.{may_insert};
-ghost use Rattle.node_trees.specs.Nodes.{AtTop, misfits, size};
+ghost use Rattle.node_trees.specs.Nodes.{AtTop, misfits, size, surplus};
 ghost use Rattle.node_trees.specs.Orders.{order_of, tree_order_of};
 ghost use Rattle.node_trees.specs.Paths.{connected, path, root_at};
 ghost use Rattle.node_trees.specs.Spots.{children_at, host_at, next_sibling_at, parent_at, shadow_at};
@@ -38,4 +38,5 @@ pub fn worked_trees()
     ensures no_id { first_with_id page_named 1 [] ≡ None }
     ensures size { size page ≡ 7 }
     ensures kinds { misfits AtTop page ≡ 0 }
+    ensures parts { surplus page ≡ 0 }
 {}

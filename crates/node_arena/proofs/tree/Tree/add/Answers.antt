@@ -7,7 +7,7 @@ use Rattle.node_arena.proofs.CallLemmas.{pushed, pushed_or_not, new_free}
 use Rattle.node_arena.proofs.tree.Tree.add.Goals as goal
 
 pub invariant_of-self-inside : goal.invariant_of-self-inside
-invariant_of-self-inside c = (pushed_or_not _ _ _ _ (seen_fact _ _ _ c.self.view_is) c.requires.loose c.requires.kind _ c.push.ensures.items, tt)
+invariant_of-self-inside c = (pushed_or_not _ _ _ _ (seen_fact _ _ _ c.self.view_is) c.requires.loose c.requires.kind c.requires.parts _ c.push.ensures.items, tt)
 
 pub returns-in_err-push-clause-err : goal.returns-in_err-push-clause-err
 returns-in_err-push-clause-err c =
@@ -20,7 +20,7 @@ returns-clause-number c =
     omega (arith, c.len.ensures, c.in_ok-push.ensures.len, old, length-map c.self.inside.nodes.items row, c.self.inside.nodes.ok.0)
 
 pub returns-clause-ok : goal.returns-clause-ok
-returns-clause-ok c = seen_is _ _ _ (pushed _ _ _ _ (seen_fact _ _ _ c.self.view_is) c.requires.loose c.requires.kind c.in_ok-push.ensures.items)
+returns-clause-ok c = seen_is _ _ _ (pushed _ _ _ _ (seen_fact _ _ _ c.self.view_is) c.requires.loose c.requires.kind c.requires.parts c.in_ok-push.ensures.items)
 
 pub returns-clause-size : goal.returns-clause-size
 returns-clause-size c =

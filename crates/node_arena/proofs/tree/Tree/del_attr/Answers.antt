@@ -1,8 +1,9 @@
-use Rattle.std.proofs.Common.{◌∙◌, arith, refl, ap, sym}
-use Rattle.node_trees.specs.Facts.{value_in}
+use Rattle.std.proofs.Common.{◌∙◌, arith, ap, sym}
+use Rattle.node_trees.specs.Facts.{value_in, without_value}
 use Rattle.node_arena.specs.Seen.{seen_fact, seen_is, seen_size}
 use Rattle.node_arena.proofs.CallLemmas.{size_written, written, altered, own_row}
 use Rattle.node_arena.proofs.ReadLemmas.{in_range}
+use Rattle.node_arena.proofs.Surplus.{keeps-attributes}
 use Rattle.node_arena.proofs.tree.Tree.del_attr.Goals as goal
 
 pub remove_attribute-requires : goal.remove_attribute-requires
@@ -13,7 +14,7 @@ pub invariant_of-self-inside : goal.invariant_of-self-inside
 invariant_of-self-inside c = (
   (
     _,
-    altered _ _ _ _ _ _ _ (seen_fact _ _ _ c.self.view_is) c.requires.node (λ x. refl) c.deref_mut.ensures.value
+    altered _ _ _ _ _ _ _ (seen_fact _ _ _ c.self.view_is) c.requires.node (keeps-attributes _ _ (without_value c.args.name.now) (seen_fact _ _ _ c.self.view_is).tidy c.requires.node c.requires.element) c.deref_mut.ensures.value
         (written _ _ _ _ c.deref_mut.ensures.value c.self.inside.nodes.ok.0 c.remove_attribute.auto.nodes) c.remove_attribute.ensures.left,
   ),
   tt,
@@ -21,7 +22,7 @@ invariant_of-self-inside c = (
 
 pub returns-clause-left : goal.returns-clause-left
 returns-clause-left c =
-    seen_is _ _ _ (altered _ _ _ _ _ _ _ (seen_fact _ _ _ c.self.view_is) c.requires.node (λ x. refl) c.deref_mut.ensures.value
+    seen_is _ _ _ (altered _ _ _ _ _ _ _ (seen_fact _ _ _ c.self.view_is) c.requires.node (keeps-attributes _ _ (without_value c.args.name.now) (seen_fact _ _ _ c.self.view_is).tidy c.requires.node c.requires.element) c.deref_mut.ensures.value
     (written _ _ _ _ c.deref_mut.ensures.value c.self.inside.nodes.ok.0 c.remove_attribute.auto.nodes) c.remove_attribute.ensures.left)
 
 pub returns-clause-was : goal.returns-clause-was

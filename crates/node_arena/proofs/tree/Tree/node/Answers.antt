@@ -1,6 +1,7 @@
 use Rattle.std.proofs.Common.{arith}
 use Rattle.node_arena.specs.Seen.{seen_fact}
 use Rattle.node_arena.proofs.ReadLemmas.{in_range, read}
+use Rattle.node_arena.proofs.Surplus.{has-own-parts}
 use Rattle.node_arena.proofs.tree.Tree.node.Goals as goal
 
 pub index-requires : goal.index-requires
@@ -26,3 +27,6 @@ returns-clause-host c = (read _ _ _ c.index_of.result c.index.result.now (seen_f
 
 pub returns-clause-tidy : goal.returns-clause-tidy
 returns-clause-tidy c = (seen_fact _ _ _ c.self.view_is).tidy
+
+pub returns-clause-parts : goal.returns-clause-parts
+returns-clause-parts c = has-own-parts _ _ (seen_fact _ _ _ c.self.view_is).tidy c.requires

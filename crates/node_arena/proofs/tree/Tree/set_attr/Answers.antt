@@ -1,10 +1,11 @@
-use Rattle.std.proofs.Common.{◌≡◌, ◌∙◌, arith, refl, ap, sym}
+use Rattle.std.proofs.Common.{◌≡◌, ◌∙◌, arith, ap, sym}
 use Rattle.std.proofs.lemmas.Result.{on_ok_weaker, on_err_weaker, IfOk-weaker}
-use Rattle.node_trees.specs.Facts.{value_in}
+use Rattle.node_trees.specs.Facts.{value_in, with_value}
 use Rattle.node_trees.specs.Spots.{attribute_at}
 use Rattle.node_arena.specs.Seen.{seen_fact, seen_is, seen_size}
 use Rattle.node_arena.proofs.CallLemmas.{size_written, written, altered, unaltered, altered_or_not, own_row}
 use Rattle.node_arena.proofs.ReadLemmas.{in_range}
+use Rattle.node_arena.proofs.Surplus.{keeps-attributes}
 use Rattle.node_arena.proofs.tree.Tree.set_attr.Goals as goal
 
 pub set_attribute-requires : goal.set_attribute-requires
@@ -13,7 +14,7 @@ set_attribute-requires c =
 
 pub invariant_of-self-inside : goal.invariant_of-self-inside
 invariant_of-self-inside c = (
-  altered_or_not _ _ _ _ _ _ _ (seen_fact _ _ _ c.self.view_is) c.requires.node (λ x. refl) c.deref_mut.ensures.value
+  altered_or_not _ _ _ _ _ _ _ (seen_fact _ _ _ c.self.view_is) c.requires.node (keeps-attributes _ _ (with_value c.args.name c.args.value) (seen_fact _ _ _ c.self.view_is).tidy c.requires.node c.requires.element) c.deref_mut.ensures.value
       (written _ _ _ _ c.deref_mut.ensures.value c.self.inside.nodes.ok.0 c.set_attribute.auto.nodes) _ c.set_attribute.ensures.ok c.set_attribute.ensures.err,
   tt,
 )
@@ -21,7 +22,7 @@ invariant_of-self-inside c = (
 pub returns-clause-set : goal.returns-clause-set
 returns-clause-set c =
     on_ok_weaker c.set_attribute.result (λ g. seen_is _ _ _
-    (altered _ _ _ _ _ _ _ (seen_fact _ _ _ c.self.view_is) c.requires.node (λ x. refl) c.deref_mut.ensures.value
+    (altered _ _ _ _ _ _ _ (seen_fact _ _ _ c.self.view_is) c.requires.node (keeps-attributes _ _ (with_value c.args.name c.args.value) (seen_fact _ _ _ c.self.view_is).tidy c.requires.node c.requires.element) c.deref_mut.ensures.value
     (written _ _ _ _ c.deref_mut.ensures.value c.self.inside.nodes.ok.0 c.set_attribute.auto.nodes) g)) c.set_attribute.ensures.ok
 
 pub returns-clause-was : goal.returns-clause-was
@@ -32,7 +33,7 @@ returns-clause-was c =
 pub returns-clause-err : goal.returns-clause-err
 returns-clause-err c =
     on_err_weaker c.set_attribute.result (λ g. seen_is _ _ _
-    (unaltered _ _ _ _ _ _ (λ x. x) (seen_fact _ _ _ c.self.view_is) c.requires.node (λ x. refl) c.deref_mut.ensures.value
+    (unaltered _ _ _ _ _ _ _ (seen_fact _ _ _ c.self.view_is) c.requires.node (keeps-attributes _ _ (with_value c.args.name c.args.value) (seen_fact _ _ _ c.self.view_is).tidy c.requires.node c.requires.element) c.deref_mut.ensures.value
     (written _ _ _ _ c.deref_mut.ensures.value c.self.inside.nodes.ok.0 c.set_attribute.auto.nodes) g)) c.set_attribute.ensures.err
 
 pub returns-clause-size : goal.returns-clause-size

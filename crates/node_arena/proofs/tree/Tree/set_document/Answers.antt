@@ -1,7 +1,8 @@
-use Rattle.std.proofs.Common.{◌∙◌, arith, refl}
+use Rattle.std.proofs.Common.{◌∙◌, arith}
 use Rattle.node_arena.specs.Seen.{seen_fact, seen_is, seen_size}
 use Rattle.node_arena.proofs.CallLemmas.{size_written, written, altered}
 use Rattle.node_arena.proofs.ReadLemmas.{in_range}
+use Rattle.node_arena.proofs.Surplus.{keeps-document}
 use Rattle.node_arena.proofs.Allowed.{may_insert-with_document}
 use Rattle.node_arena.proofs.ChangedReads.{parent_at-with}
 use Rattle.node_arena.proofs.tree.Tree.set_document.Goals as goal
@@ -13,14 +14,14 @@ pub invariant_of-self-inside : goal.invariant_of-self-inside
 invariant_of-self-inside c = (
   (
     _,
-    altered _ _ _ _ _ _ _ (seen_fact _ _ _ c.self.view_is) c.requires (λ x. refl) c.deref_mut.ensures.value (written _ _ _ _ c.deref_mut.ensures.value c.self.inside.nodes.ok.0 c.move_to.auto.nodes) c.move_to.ensures,
+    altered _ _ _ _ _ _ _ (seen_fact _ _ _ c.self.view_is) c.requires (keeps-document _ _ _ (seen_fact _ _ _ c.self.view_is).tidy c.requires) c.deref_mut.ensures.value (written _ _ _ _ c.deref_mut.ensures.value c.self.inside.nodes.ok.0 c.move_to.auto.nodes) c.move_to.ensures,
   ),
   tt,
 )
 
 pub returns-clause-document : goal.returns-clause-document
 returns-clause-document c =
-    seen_is _ _ _ (altered _ _ _ _ _ _ _ (seen_fact _ _ _ c.self.view_is) c.requires (λ x. refl) c.deref_mut.ensures.value
+    seen_is _ _ _ (altered _ _ _ _ _ _ _ (seen_fact _ _ _ c.self.view_is) c.requires (keeps-document _ _ _ (seen_fact _ _ _ c.self.view_is).tidy c.requires) c.deref_mut.ensures.value
     (written _ _ _ _ c.deref_mut.ensures.value c.self.inside.nodes.ok.0 c.move_to.auto.nodes) c.move_to.ensures)
 
 pub returns-clause-size : goal.returns-clause-size
