@@ -19,7 +19,7 @@ use rule_tokens::CallOrUpgrade;
 use std::alloc::Global;
 
 impl Page {
-    /// OnlyEnqueues a callback (HTML Standard, section "Custom element reactions", "enqueue a custom element
+    /// Enqueues a callback (HTML Standard, section "Custom element reactions", "enqueue a custom element
     /// callback reaction"): where the element's definition has the callback and, for an attribute, observes
     /// its name, one unit of fuel is spent, the reaction gets the next number and waits at the element, and
     /// the element is appended to the current element queue, or to the backup element queue where no queue
@@ -95,7 +95,7 @@ impl Page {
         Ok(())
     }
 
-    /// OnlyEnqueues a callback, where the element is custom.
+    /// Enqueues a callback, where the element is custom.
     pub(crate) fn tell(
         &mut self,
         alloc: Global,
