@@ -206,25 +206,32 @@ fn with_definition(alloc: Global, facts: ClassFacts) -> Result<Page, Fail>
     Ok(page)
 }
 
-// Element 2 stands in the page's document. Apart from it, element 3 has the shadow root 5 and the child 4; 4
-// and the element 6 in the shadow tree are custom.
-fn with_tree(rt: &impl Abort, alloc: Global, fuel: u8) -> Result<Trial, Fail> {
+// Elements 2, 3, 4 and 6, and the shadow root 5 of 3, each by itself.
+fn with_nodes(rt: &impl Abort, alloc: Global, fuel: u8) -> Result<Trial, Fail> {
     let calls = [
         CallName::Connected,
         CallName::Disconnected,
         CallName::Adopted,
     ];
     let mut t = Trial::make(alloc, fuel, &calls)?;
-    assert_eq!(rt; t.make_element(alloc, "html")?, 2);
-    assert_eq!(rt; t.make_element(alloc, "div")?, 3);
-    assert_eq!(rt; t.make_element(alloc, "x-a")?, 4);
+    for local in ["html", "div", "x-a"] {
+        t.make_element(alloc, local)?;
+    }
     assert_eq!(rt; t.attach_root(rt, alloc, 3)?, 5);
     assert_eq!(rt; t.make_element(alloc, "x-a")?, 6);
-    t.insert(rt, alloc, 1, 2, None)?;
-    t.insert(rt, alloc, 3, 4, None)?;
-    t.insert(rt, alloc, 5, 6, None)?;
-    t.make_custom(alloc, 4)?;
-    t.make_custom(alloc, 6)?;
+    Ok(t)
+}
+
+// Element 2 stands in the page's document. Apart from it, element 3 has the shadow root 5 and the child 4; 4
+// and the element 6 in the shadow tree are custom.
+fn with_tree(rt: &impl Abort, alloc: Global, fuel: u8) -> Result<Trial, Fail> {
+    let mut t = with_nodes(rt, alloc, fuel)?;
+    for (parent, node) in [(1, 2), (3, 4), (5, 6)] {
+        t.insert(rt, alloc, parent, node, None)?;
+    }
+    for n in [4, 6] {
+        t.make_custom(alloc, n)?;
+    }
     Ok(t)
 }
 
