@@ -1,6 +1,7 @@
 #!/bin/sh
 # Runs the built program over each examples/NAME.script, and compares what it writes with NAME.transcript
-# and its exit status with the file NAME.status (0 where there is none). `rt ci` and `rt run` build it.
+# and its exit status with the file NAME.status (0 where there is none); with a word it refuses to run.
+# `rt ci` and `rt run` build it.
 
 program=crates/cepage/out/cepage
 
@@ -43,6 +44,13 @@ compare() {
         return 1
     fi
 }
+
+# A word is refused before anything is read.
+"$program" --trace <examples/first.script >"$room/transcript"
+status=$?
+if [ "$status" != 2 ] || [ -s "$room/transcript" ]; then
+    fail "a word: the status is $status, and not 2, or something was written"
+fi
 
 for script in examples/*.script; do
     if [ ! -f "$script" ]; then

@@ -1,9 +1,11 @@
 mod scripts;
 
 use super::*;
-use ce_base::{MemSink, MemSource, Source, SureSink, SureSource};
+use ce_base::{MemSink, MemSource, Sink, Source, StdSink, SureSink, SureSource};
 use scripts::*;
 use std::alloc::Global;
+use std::io;
+use std::io::Write;
 use std::test::Fail;
 
 // The status and the transcript of a script that is read in pieces of at most `cut` bytes.
@@ -151,6 +153,52 @@ fn failing_devices_end_the_run(rt: HostRuntime) -> Result<(), Fail> {
     let (status, text) = ran_failing(alloc, FIRST.as_bytes(), 4096, 2, 0)?;
     assert_eq!(rt; status, Status::ReadFault);
     assert_eq!(rt; text.as_slice(), FIRST_TRANSCRIPT.as_bytes());
+    Ok(())
+}
+
+// A writer that takes three bytes a call, and fails at the call with this number.
+#[derive(Drop)]
+struct Pipe {
+    taken: Vec<u8>,
+    calls: u64,
+    fails: u64,
+}
+
+impl Write for Pipe {
+    fn write(&mut self, buf: &[u8]) -> io::Result<usize> {
+        self.calls = self.calls.saturating_add(1);
+        if self.calls == self.fails {
+            return Err(io::Error::from(io::ErrorKind::Other));
+        }
+        let few = &buf[..buf.len().min(3)];
+        self.taken.extend_from_slice(few)?;
+        Ok(few.len())
+    }
+
+    fn flush(&mut self) -> io::Result<()> {
+        Ok(())
+    }
+}
+
+#[test]
+fn a_writer_may_take_a_few_bytes_at_a_time(rt: HostRuntime) -> Result<(), Fail> {
+    let alloc = rt.alloc();
+    for (fails, status, faults, length) in [
+        (0, Status::Done, 0, FIRST_TRANSCRIPT.len()),
+        (1, Status::WriteFault, 1, 0),
+        (4, Status::WriteFault, 1, 9),
+    ] {
+        let mut pipe = Pipe {
+            taken: Vec::new(alloc),
+            calls: 0,
+            fails,
+        };
+        let mut source = SureSource::make(FIRST.as_bytes().to_vec(alloc)?, 4096);
+        let mut sink = StdSink::make(&mut pipe);
+        let is = run(alloc, &Vec::new(alloc), &mut source, &mut sink);
+        assert_eq!(rt; (is, sink.faults()), (status, faults));
+        assert_eq!(rt; pipe.taken.as_slice(), &FIRST_TRANSCRIPT.as_bytes()[..length]);
+    }
     Ok(())
 }
 

@@ -1,7 +1,7 @@
 // A whole run, from the words and the source to the sink and a status.
 ghost use Rattle.std.specs.Prelude.{◌≡◌, ◌≤◌, ◌<◌, ◌↔◌, length, map, string_bytes, Some, IfOk, vec_len, List, ℕ};
 ghost use Rattle.ce_base.specs.Faults.{Rose};
-ghost use Rattle.page_runner.specs.Table.{RunMeets, RunsWhole, limit, status_of};
+ghost use Rattle.page_runner.specs.Table.{RunMeets, RunsWhole, limit, piece, status_of};
 ghost use Rattle.page_runner.specs.Words.{meaning};
 
 use crate::answers::{finish, take_piece};
@@ -60,7 +60,7 @@ fn run_script<S: Source, K: Sink>(
 }
 
 fn make_buffer(alloc: Global) -> Result<Vec<u8>, NoMemory>
-    ensures { IfOk result (λ buffer. vec_len buffer ≡ BUFFER) }
+    ensures { IfOk result (λ buffer. vec_len buffer ≡ piece) }
 {
     Ok(vec![in alloc; 0u8; BUFFER]?)
 }
@@ -73,7 +73,7 @@ fn run_pieces<S: Source, K: Sink>(
     source: &mut S,
     sink: &mut K,
 ) -> Result<Status, Stop>
-    requires { length buffer.old ≡ BUFFER }
+    requires { length buffer.old ≡ piece }
     ensures table { RunMeets (Meaning.Script settings) (status_of result) (S.left source.old) (S.left source.new) (K.held sink.old) (K.held sink.new)
         (S.ended source.new) (S.failed source.old) (S.failed source.new) (K.failed sink.old) (K.failed sink.new) }
     ensures later { (S.failed source.old ≤ S.failed source.new) × (K.failed sink.old ≤ K.failed sink.new) }
