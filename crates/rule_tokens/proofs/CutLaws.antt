@@ -41,7 +41,7 @@ put_quoted : (ps : List Piece) (line : List ℕ) (r : Result (List Raw) Bad) →
 put_quoted ps line (Ok tokens) fit c = record { items = QuotedToken ps ∷ c.items; fit = (fit, c.fit); last = c.last; last_tokens = c.last_tokens; line_is = quoted_line (pieces ps) (items_text c.items) c.last line c.line_is; tokens_are = ap (λ (t : List Raw). raw true (pieces ps) ∷ t) c.tokens_are; is_last = c.is_last }
 put_quoted ps line (Err b) fit c = (c.0, record { items = QuotedToken ps ∷ c.1.items; fit = (fit, c.1.fit); last = c.1.last; line_is = quoted_line (pieces ps) (items_text c.1.items) c.1.last line c.1.line_is; is = c.1.is })
 
--- nothing stands in items_text of it
+-- nothing stands in front of it
 at_end : (last : List ℕ) (tokens : List Raw) → IsEnd last tokens → Cuts last (Ok tokens)
 at_end last tokens is = record { items = []; fit = tt; last = last; last_tokens = tokens; line_is = refl; tokens_are = refl; is_last = is }
 
