@@ -1,4 +1,4 @@
--- Classes without a constructor of their own, and what a definition is looked up for.
+-- Classes without a constructor of their own.
 use Rattle.std.proofs.Common.{◌≡◌, ◌<◌, ◌+◌, ℕ, suc, Bool, true, false, List, [], ◌∷◌, Option, Some, None, refl, ap, sym, ◌∙◌}
 use Rattle.rule_tokens.specs.declared.callback.CallName.{CallName}
 use Rattle.rule_tokens.specs.declared.callback.CallName.TheVariants.{Constructor, Connected, Disconnected, Adopted, Attribute, FormAssociated, FormDisabled, FormReset, FormStateRestore}

@@ -37,12 +37,6 @@ use Rattle.ce_drains.proofs.HaltLaws.{writes_then}
 
 -- a reaction's calls
 
--- a step that gives nothing, and then nothing
-then_done : (o : Outcome State (Unit {0})) → then_do o (λ _. done) ≡ o
-then_done (Goes a s) = refl
-then_done (Throws f s) = refl
-then_done (Spent s) = refl
-
 -- a callback runs the calls of the element's definition
 pub reaction_calls : (e : ℕ) (r : Reaction) (s : State) → is_callback r ≡ true → run_reaction model e r s ≡ run_calls model e (definition_of s.page e) r s
 reaction_calls e (Upgrade d) s h = cc
@@ -244,37 +238,6 @@ pub backup_halt : (h : Halt) (t : Bool) (h0 h1 : Option (List ℕ)) (e : ℕ) (s
 backup_halt h t h0 h1 e s s1 s2 k w =
     subst (λ o. Writes {A = Unit {0}} t h0 h1 (Err h) s2 o) (sym (backup_took e s s1 k)) (writes_then h t h0 h1 s2 (drain model (e ∷ []) s1) (λ _. model DrainBackup >> done) w (λ _. framed_backup))
 
--- one less is in it
-pub backup_less : (e : ℕ) (s s1 s2 : State) → TakesBackup s s1 e → s2.page.queues.backup ≡ s1.page.queues.backup → length s2.page.queues.backup < length s.page.queues.backup
-backup_less e s s1 s2 k same =
-    let rest : length s2.page.queues.backup ≡ length s1.page.queues.backup = ap length same in
-    let first : length s.page.queues.backup ≡ suc (length s1.page.queues.backup) = ap length k.first in
-    omega (arith, rest, first)
-
--- the checkpoint, by whether the queue is empty
-checkpoint_at : Bool → Step State (Unit {0})
-checkpoint_at empty = elim empty as (λ _. Step State (Unit {0})) [ true ↦ done | false ↦ drain_all_backup model ]
-
-both_empty : (l : List ℕ) → has_none l ≡ is_empty l
-both_empty [] = refl
-both_empty (x ∷ xs) = refl
-
-pub checkpoint_drains : (s : State) → not (has_none s.page.queues.backup) ≡ true → checkpoint model s ≡ drain_all_backup model s
-unfolding checkpoint_at
-checkpoint_drains s has = ap (λ empty. checkpoint_at empty s) (sym (both_empty s.page.queues.backup) ∙ flip (has_none s.page.queues.backup) has)
-  where
-    flip : (b : Bool) → not b ≡ true → b ≡ false
-    flip true p = cc
-    flip false p = refl
-
-pub checkpoint_done : (s : State) → not (has_none s.page.queues.backup) ≡ false → checkpoint model s ≡ Goes tt s
-unfolding checkpoint_at
-checkpoint_done s none = ap (λ empty. checkpoint_at empty s) (sym (both_empty s.page.queues.backup) ∙ flip (has_none s.page.queues.backup) none)
-  where
-    flip : (b : Bool) → not b ≡ false → b ≡ true
-    flip true p = refl
-    flip false p = cc
-
 -- with the lines around
 
 -- a step between two lines stopped
@@ -308,12 +271,6 @@ popped_halt h t h0 h1 n es s s0 s1 p eq w =
 pub popped_part : (t : Bool) (h0 h1 : Option (List ℕ)) (n : ℕ) (es : List ℕ) (s0 s1 s2 : State) → es ≡ current_elements s0.page.queues → s1 ≡ logged (DrainBegun n) (record s0 { page = with_queues ended s0.page }) → Did t h0 h1 (drain model es s1) (Goes tt s2) → AppendsPart h0 h1 (text t (log_of (drain_popped model n s0)))
 popped_part t h0 h1 n es s0 s1 s2 p eq d =
     between_part t h0 h1 n (drain model (current_elements s0.page.queues)) (record s0 { page = with_queues ended s0.page }) s1 s2 eq (subst (λ l. Did t h0 h1 (drain model l s1) (Goes tt s2)) p d)
-
--- it was drained, and its last line was logged
-pub popped_done : (t : Bool) (h0 h1 : Option (List ℕ)) (n : ℕ) (es : List ℕ) (s0 s1 s2 s3 : State) → es ≡ current_elements s0.page.queues → s1 ≡ logged (DrainBegun n) (record s0 { page = with_queues ended s0.page }) → Did t h0 h1 (drain model es s1) (Goes tt s2) → s3 ≡ logged (QueueClosed n) s2 → Did t h0 h1 (drain_popped model n s0) (Goes tt s3)
-popped_done t h0 h1 n es s0 s1 s2 s3 p eq d last =
-    let begun : Did t h0 h1 (drain model (current_elements s0.page.queues) (logged (DrainBegun n) (record s0 { page = with_queues ended s0.page }))) (Goes tt s2) = subst (λ x. Did t h0 h1 (drain model (current_elements s0.page.queues) x) (Goes tt s2)) eq (subst (λ l. Did t h0 h1 (drain model l s1) (Goes tt s2)) p d) in
-    did_more (λ _. log (QueueClosed n)) begun (framed_log (QueueClosed n)) (ap (Goes tt) (sym last))
 
 -- the page
 

@@ -30,10 +30,6 @@ wrote_after answer (Err FuelSpent) t h0 h1 h2 s1 s c o k d framed w = did_then k
 wrote_after answer (Err NoMemory) t h0 h1 h2 s1 s c o k d framed w = did_part h2 k d framed w
 wrote_after answer (Err WriteFault) t h0 h1 h2 s1 s c o k d framed w = did_part h2 k d framed w
 
--- the same of steps that give nothing
-pub writes_after : (r : Result (Unit {0}) Halt) (t : Bool) (h0 h1 h2 : Option (List ℕ)) (s1 s : State) (o : Outcome State (Unit {0})) (k : Unit {0} → Step State (Unit {0})) → Did t h0 h1 o (Goes tt s1) → Framed (k tt) → Writes t h1 h2 r s (k tt s1) → Writes t h0 h2 r s (then_do o k)
-writes_after r t h0 h1 h2 s1 s o k d framed w = wrote_after (λ _. tt) r t h0 h1 h2 s1 s tt o k d framed w
-
 -- what was written up to an outcome, and from there on
 pub did_trans : {A : Type 0} {t : Bool} {h0 h1 h2 : Option (List ℕ)} {o p q : Outcome State A} → Did t h0 h1 o p → Did t h1 h2 p q → Did t h0 h2 o q
 did_trans d e = did_through (λ x. x) d (λ events. refl) e

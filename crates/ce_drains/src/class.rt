@@ -4,11 +4,12 @@ ghost use Rattle.rule_lines.specs.Acts.{Log};
 ghost use Rattle.rule_script.specs.Built.{is_built_call};
 ghost use Rattle.rule_tokens.specs.declared.callback.CallName.TheVariants as calls;
 ghost use Rattle.ce_registry.specs.ClassFacts.{has_call};
-ghost use Rattle.ce_algorithms.specs.Body.{actions_of, same_call};
+ghost use Rattle.ce_algorithms.specs.Body.{actions_of};
 ghost use Rattle.ce_algorithms.specs.Parts.{change_facts, with_body, with_has, with_observed};
 ghost use Rattle.ce_algorithms.specs.State.{class_named, new_class};
 ghost use Rattle.ce_drains.specs.Bodies.{IsBlank, bodies_of, logs_of};
 
+use ce_algorithms::same_call;
 use ce_base::{NoMemory, Text, Texts};
 use ce_registry::ClassFacts;
 use rule_lines::Vals;
@@ -180,12 +181,6 @@ fn actions_in(
         }
     }
     Ok(Actions { items })
-}
-
-fn same_call(a: CallName, b: CallName) -> bool
-    ensures { result ≡ same_call a b }
-{
-    a.word() == b.word()
 }
 
 fn push_all(alloc: Global, texts: &mut Texts, more: &Texts) -> Result<(), NoMemory>

@@ -82,7 +82,7 @@ impl State {
         }
     }
 
-    /// Constructs a class (Web IDL, "construct"). Its constructor is the base call, since no class has one of
+    /// Constructs a class (Web IDL, section "Invoking callback functions", "construct a callback function"). Its constructor is the base call, since no class has one of
     /// its own yet.
     pub fn construct(&mut self, alloc: Global, class: ClassNo) -> Result<NodeNo, PageStop>
         ensures step { Ends (λ n. n) result self.new (construct model class self.old) }
@@ -120,6 +120,7 @@ fn base_call(
     ensures within { GrowsWithin page.old page.new fuel.old fuel.new }
     ensures made { IfOk result (IsNode page.new.forest) }
 {
+    // No element waits for its constructor: the tree's clause says that the page upgrades nothing.
     let _tree = page.tree();
     match defined(page, class) {
         None => Err(PageStop::Refused(Fault::TypeError)),

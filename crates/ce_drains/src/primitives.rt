@@ -59,7 +59,7 @@ impl State {
         outcome
     }
 
-    /// Removes a node from its parent, if it has one (DOM Standard, section "Interface ChildNode", `remove`).
+    /// Removes a node from its parent, if it has one (DOM Standard, section "Mixin ChildNode", `remove`).
     pub fn detach(&mut self, alloc: Global, node: NodeNo) -> Result<(), PageStop>
         requires { IsNode self.old.page.forest node }
         ensures step { Does result self.new (on_page (detach node) self.old) }

@@ -34,6 +34,7 @@ fn first(state: &State) -> NodeNo
     ensures first { result ≡ 1 }
     ensures made { IsNode state.now.page.forest result }
 {
+    // Node 1 is there: the tree's clause says so.
     let _tree = state.tree();
     NodeNo(1)
 }

@@ -55,13 +55,6 @@ enqueued_keeps n r q p all =
 
 -- and the element queue that it was appended to is still the current one
 
-current-appended_to : (s : List Open) (n : ℕ) (q : Queues) → s ≡ q.stack → current (appended_to s n q) ≡ number_of s
-current-appended_to [] n q is = ap number_of (sym is)
-current-appended_to (o ∷ os) n q is = refl
-
-pub current-enqueued : (n : ℕ) (r : Reaction) (q : Queues) → current (enqueued n r q) ≡ current q
-current-enqueued n r q = current-appended_to q.stack n (with_reaction n r (counted q)) refl
-
 -- the first reaction of a node taken
 
 taken_keeps : (old new : Queues) (n : ℕ) (w : ℕ × Reaction) → all_callbacks old.waiting ≡ true → waiting_at old n ≡ w ∷ waiting_at new n → new ≡ with_waiting n (waiting_at new n) old → all_callbacks new.waiting ≡ true

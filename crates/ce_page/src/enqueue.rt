@@ -128,6 +128,7 @@ impl Page {
         ensures rest { OnlyEnqueues self.old self.new }
         ensures refused { NeverRefuses result }
     {
+        // A page upgrades nothing yet: the tree's clause says so.
         let _tree = self.tree();
         Ok(())
     }

@@ -185,10 +185,6 @@ meets_end_stop stop set left mid left' held held' held'' s feed n sb sn kb kn be
 needed_first : (set : Settings) → TakesOnlyNeeded set []
 needed_first set = record { before = []; last = []; split = refl; short = omega arith; within = omega arith; goes = refl }
 
--- a run that did not begin, since memory was refused
-pub meets_nothing : (set : Settings) (left held : Option (List ℕ)) (ended : Bool) (sb sn kb kn : ℕ) → RunMeets (Script set) NoMemory left left held held ended sb sn kb kn
-meets_nothing set left held ended sb sn kb kn = record { taken = []; written = []; took = Consumes-nil left; wrote = Appends-nil held; as_said = ((answers (fresh set) (counted ended []), refl), needed_first set) }
-
 -- a run whose words are refused
 pub meets_refused : (left held : Option (List ℕ)) (ended : Bool) (sb sn kb kn : ℕ) → RunMeets Refused Usage left left held held ended sb sn kb kn
 meets_refused left held ended sb sn kb kn = record { taken = []; written = []; took = Consumes-nil left; wrote = Appends-nil held; as_said = (refl, refl, refl) }

@@ -47,16 +47,6 @@ below_part held below pending bytes part le =
 
 -- ---- answers that are passed on
 
--- all were passed on
-pub passed_all : (a s : Sitting) (xs : List (List ℕ)) (end : End) (held mid below : Option (List ℕ)) (before after : List ℕ)
-    → before ≡ [] → Answered a xs end s (behind held before) mid → Keeps mid (behind below after) → after ≡ [] → Answered a xs end s held below
-passed_all a s xs end held mid below before after none done keeps all =
-    let at_first : behind held before ≡ held = ap (behind held) none ∙ nothing_pending held in
-    let at_last : behind below after ≡ below = ap (behind below) all ∙ nothing_pending below in
-    let P : Option (List ℕ) → Type 0 = λ h. Appends h below (text a.trace done.events) in
-    let Q : Option (List ℕ) → Type 0 = λ h. Appends (behind held before) h (text a.trace done.events) in
-    record { events = done.events; ran = done.ran; wrote = subst P at_first (subst Q at_last (appends_keeps (behind held before) mid (behind below after) (text a.trace done.events) done.wrote keeps)) }
-
 -- a write failed, and a front was passed on
 pub passed_some : (a s : Sitting) (xs : List (List ℕ)) (end : End) (held mid below : Option (List ℕ)) (before after : List ℕ)
     → before ≡ [] → Answered a xs end s (behind held before) mid → Keeps mid (behind below after) → count_of held ≤ count_of below → AppendsPart held below (answers a xs)

@@ -31,20 +31,6 @@ pub record Streamed (set : Settings) (left left' held held' : Option (List ℕ))
 clean_nil : All (λ (b : ℕ). b ≢ 10) []
 clean_nil = grind (arith, common_steps)
 
-pub streamed_nothing : (set : Settings) (left held : Option (List ℕ)) (s : Sitting) (feed : List ℕ) → s ≡ fresh set → feed ≡ [] → Streamed set left left held held s feed 0
-streamed_nothing set left held s feed is empty =
-    let P : Sitting → Type 0 = λ t. Streamed set left left held held t feed 0 in
-    let Q : List ℕ → Type 0 = λ l. Streamed set left left held held (fresh set) l 0 in
-    subst P (sym is) (subst Q (sym empty) (record {
-      taken = [];
-      took = Consumes-nil left;
-      length_is = refl;
-      done = answered_nothing (fresh set) held refl;
-      drained = record { part = refl; clean = clean_nil };
-      number = omega arith;
-      within = omega arith;
-    }))
-
 -- ---- the lines that count
 
 take_all : (xs : List ℕ) (n : ℕ) → length xs ≤ n → take n xs ≡ xs

@@ -115,11 +115,6 @@ answers_more a b xs ys events ran =
     ap (text a.trace) (ap log_of (run_more a b xs ys events ran) ∙ log_of-behind events (run_from (b.line + 1) ys b.state))
     ∙ (text-append a.trace events (log_of (run_from (b.line + 1) ys b.state)) ∙ ap (λ t. text a.trace events ++ text t (log_of (run_from (b.line + 1) ys b.state))) (sym ran.trace))
 
--- what is written where more lines may follow
-pub answers_front : (a b : Sitting) (xs ys : List (List ℕ)) (end : End) (events : List Event) → Ran a xs end b events → IsPrefix (text a.trace events) (answers a (xs ++ ys))
-answers_front a b xs ys Replied events ran = (answers b ys, sym (answers_more a b xs ys events ran))
-answers_front a b xs ys FuelSpent events ran = ([], append-nil (text a.trace events) ∙ sym (ran_answers a b (xs ++ ys) FuelSpent events (ran_spent a b xs ys events ran)))
-
 -- ---- with what was written
 
 -- lines that say the same write the same

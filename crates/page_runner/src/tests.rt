@@ -197,7 +197,10 @@ fn a_writer_may_take_a_few_bytes_at_a_time(rt: HostRuntime) -> Result<(), Fail> 
         let mut sink = StdSink::make(&mut pipe);
         let is = run(alloc, &Vec::new(alloc), &mut source, &mut sink);
         assert_eq!(rt; (is, sink.faults()), (status, faults));
-        assert_eq!(rt; pipe.taken.as_slice(), &FIRST_TRANSCRIPT.as_bytes()[..length]);
+        assert_eq!(rt;
+            pipe.taken.as_slice(),
+            &FIRST_TRANSCRIPT.as_bytes()[..length]
+        );
     }
     Ok(())
 }
