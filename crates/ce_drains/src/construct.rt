@@ -82,8 +82,8 @@ impl State {
         }
     }
 
-    /// Constructs a class (Web IDL, section "Invoking callback functions", "construct a callback function"). Its constructor is the base call, since no class has one of
-    /// its own yet.
+    /// Constructs a class (Web IDL, section "Invoking callback functions", "construct a callback
+    /// function"). Its constructor is the base call, since no class has one of its own yet.
     pub fn construct(&mut self, alloc: Global, class: ClassNo) -> Result<NodeNo, PageStop>
         ensures step { Ends (λ n. n) result self.new (construct model class self.old) }
         ensures made { IfOk result (IsNode self.new.page.forest) }
