@@ -14,3 +14,6 @@ mod steps;
 
 pub use end::End;
 pub use machine::Machine;
+
+#[cfg(test)]
+mod tests;
