@@ -35,12 +35,12 @@ ask_rows =
 
 abbrev pub user_rows : Rows
 user_rows =
-    Row words.Edit (One kinds.Node (One kinds.Chars End))
+    Row words.Edit (One kinds.Node (One kinds.Value End))
     (Row words.Check (One kinds.Node on_off)
     (Row words.Choose (One kinds.Node on_off)
     (Row words.Reset (One kinds.Node End)
-    (Row words.Restore (One kinds.Node (One kinds.Chars End))
-    (Row words.Autofill (One kinds.Node (One kinds.Chars End))
+    (Row words.Restore (One kinds.Node (One kinds.Value End))
+    (Row words.Autofill (One kinds.Node (One kinds.Value End))
     (LastRow words.Press (One kinds.Node End)))))))
 
 abbrev pub state_rows : Rows

@@ -55,3 +55,16 @@ OtherRows =
     × (read_tokens (bare (codes "ask") ∷ bare (codes "attr") ∷ bare (codes "$e") ∷ []) ≡ Err Arity)
     × (read_tokens (bare (codes "check") ∷ bare (codes "$e") ∷ bare (codes "yes") ∷ []) ≡ Err Word)
     × (read_tokens (quoted (codes "bump") ∷ []) ≡ Err Word)
+
+abbrev after_user : List ℕ → Token → List Token
+after_user deed val = bare (codes "user") ∷ bare deed ∷ bare (codes "$e") ∷ val ∷ []
+
+-- what a user enters is a value
+abbrev pub UserRows : Type 0
+UserRows =
+    IsRead (read_tokens (after_user (codes "edit") (bare (codes "@1"))))
+    × IsRead (read_tokens (after_user (codes "restore") (bare (codes "@kept"))))
+    × IsRead (read_tokens (after_user (codes "autofill") (quoted (codes "@"))))
+    × (read_tokens (after_user (codes "edit") (bare (codes "@4"))) ≡ Err Word)
+    × (read_tokens (after_user (codes "restore") (bare (codes "$e"))) ≡ Err Word)
+    × (read_tokens (bare (codes "user") ∷ bare (codes "autofill") ∷ bare (codes "$e") ∷ []) ≡ Err Arity)

@@ -1,6 +1,6 @@
 // What holds of reading a form, as the contract of a function that does nothing.
 ghost use Rattle.rule_forms.specs.Laws.{CanonicalIsClean, CanonicalIsSpelled, FaultsAreApart, FormsAreRead, SpelledIsRead};
-ghost use Rattle.rule_forms.specs.Worked.{ActionRows, CreateRows, OtherRows};
+ghost use Rattle.rule_forms.specs.Worked.{ActionRows, CreateRows, OtherRows, UserRows};
 
 use rule_tokens::flags_are_read;
 
@@ -15,6 +15,7 @@ pub fn worked_forms()
     ensures create { CreateRows }
     ensures actions { ActionRows }
     ensures others { OtherRows }
+    ensures user { UserRows }
 {}
 
 /// What is read of tokens is what they spell by the table of forms, and what they spell is read.

@@ -142,12 +142,12 @@ disable_in words.Shadow gs = leaves.DisableShadow (class_in (at0 gs))
 disable_in _ gs = leaves.DisableInternals (class_in (at0 gs))
 
 abbrev user_in : Word → List Got → Leaf
-user_in words.Edit gs = leaves.UserEdit (node_in (at1 gs)) (chars_in (at2 gs))
+user_in words.Edit gs = leaves.UserEdit (node_in (at1 gs)) (value_in (at2 gs))
 user_in words.Check gs = leaves.UserCheck (node_in (at1 gs)) (is_on (word_in (at2 gs)))
 user_in words.Choose gs = leaves.UserChoose (node_in (at1 gs)) (is_on (word_in (at2 gs)))
 user_in words.Reset gs = leaves.UserReset (node_in (at1 gs))
-user_in words.Restore gs = leaves.UserRestore (node_in (at1 gs)) (chars_in (at2 gs))
-user_in words.Autofill gs = leaves.UserAutofill (node_in (at1 gs)) (chars_in (at2 gs))
+user_in words.Restore gs = leaves.UserRestore (node_in (at1 gs)) (value_in (at2 gs))
+user_in words.Autofill gs = leaves.UserAutofill (node_in (at1 gs)) (value_in (at2 gs))
 user_in _ gs = leaves.UserPress (node_in (at1 gs))
 
 abbrev leaf_in : Flags → Word → List Got → Leaf

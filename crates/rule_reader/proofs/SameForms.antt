@@ -129,8 +129,8 @@ same_has action ts = one action kinds.Class class_name gots.Class (One kinds.Cal
 pub same_associate : (action : List Token → Reads) (ts : List Token) → with_front (gots.Word words.Associate ∷ []) (read action (One kinds.Class End) ts) ≡ shows leaf_gots (associate_of ts)
 same_associate action ts = one action kinds.Class class_name gots.Class End _ leaf_gots (gots.Word words.Associate ∷ []) (λ t. refl) (λ x0 ts0. the_end action (gots.Word words.Associate ∷ gots.Class x0 ∷ []) _ leaf_gots refl ts0) ts
 
-pub same_user_edit : (action : List Token → Reads) (ts : List Token) → with_front (gots.Word words.User ∷ gots.Word words.Edit ∷ []) (read action (One kinds.Node (One kinds.Chars End)) ts) ≡ shows leaf_gots (users.edit_of ts)
-same_user_edit action ts = one action kinds.Node node gots.Node (One kinds.Chars End) _ leaf_gots (gots.Word words.User ∷ gots.Word words.Edit ∷ []) (λ t. refl) (λ x0 ts0. one action kinds.Chars text gots.Chars End _ leaf_gots (gots.Word words.User ∷ gots.Word words.Edit ∷ gots.Node x0 ∷ []) (λ t. refl) (λ x1 ts1. the_end action (gots.Word words.User ∷ gots.Word words.Edit ∷ gots.Node x0 ∷ gots.Chars x1 ∷ []) _ leaf_gots refl ts1) ts0) ts
+pub same_user_edit : (action : List Token → Reads) (ts : List Token) → with_front (gots.Word words.User ∷ gots.Word words.Edit ∷ []) (read action (One kinds.Node (One kinds.Value End)) ts) ≡ shows leaf_gots (users.edit_of ts)
+same_user_edit action ts = one action kinds.Node node gots.Node (One kinds.Value End) _ leaf_gots (gots.Word words.User ∷ gots.Word words.Edit ∷ []) (λ t. refl) (λ x0 ts0. one action kinds.Value value gots.Value End _ leaf_gots (gots.Word words.User ∷ gots.Word words.Edit ∷ gots.Node x0 ∷ []) (λ t. refl) (λ x1 ts1. the_end action (gots.Word words.User ∷ gots.Word words.Edit ∷ gots.Node x0 ∷ gots.Value x1 ∷ []) _ leaf_gots refl ts1) ts0) ts
 
 pub same_user_check : (action : List Token → Reads) (ts : List Token) → with_front (gots.Word words.User ∷ gots.Word words.Check ∷ []) (read action (One kinds.Node on_off_wants) ts) ≡ shows leaf_gots (users.check_of ts)
 same_user_check action ts = one action kinds.Node node gots.Node on_off_wants _ leaf_gots (gots.Word words.User ∷ gots.Word words.Check ∷ []) (λ t. refl) (λ x0 ts0. switched action (λ o. leaves.UserCheck x0 o) leaf_gots (gots.Word words.User ∷ gots.Word words.Check ∷ gots.Node x0 ∷ []) (λ x1. refl) ts0) ts
@@ -141,11 +141,11 @@ same_user_choose action ts = one action kinds.Node node gots.Node on_off_wants _
 pub same_user_reset : (action : List Token → Reads) (ts : List Token) → with_front (gots.Word words.User ∷ gots.Word words.Reset ∷ []) (read action (One kinds.Node End) ts) ≡ shows leaf_gots (users.reset_of ts)
 same_user_reset action ts = one action kinds.Node node gots.Node End _ leaf_gots (gots.Word words.User ∷ gots.Word words.Reset ∷ []) (λ t. refl) (λ x0 ts0. the_end action (gots.Word words.User ∷ gots.Word words.Reset ∷ gots.Node x0 ∷ []) _ leaf_gots refl ts0) ts
 
-pub same_user_restore : (action : List Token → Reads) (ts : List Token) → with_front (gots.Word words.User ∷ gots.Word words.Restore ∷ []) (read action (One kinds.Node (One kinds.Chars End)) ts) ≡ shows leaf_gots (users.restore_of ts)
-same_user_restore action ts = one action kinds.Node node gots.Node (One kinds.Chars End) _ leaf_gots (gots.Word words.User ∷ gots.Word words.Restore ∷ []) (λ t. refl) (λ x0 ts0. one action kinds.Chars text gots.Chars End _ leaf_gots (gots.Word words.User ∷ gots.Word words.Restore ∷ gots.Node x0 ∷ []) (λ t. refl) (λ x1 ts1. the_end action (gots.Word words.User ∷ gots.Word words.Restore ∷ gots.Node x0 ∷ gots.Chars x1 ∷ []) _ leaf_gots refl ts1) ts0) ts
+pub same_user_restore : (action : List Token → Reads) (ts : List Token) → with_front (gots.Word words.User ∷ gots.Word words.Restore ∷ []) (read action (One kinds.Node (One kinds.Value End)) ts) ≡ shows leaf_gots (users.restore_of ts)
+same_user_restore action ts = one action kinds.Node node gots.Node (One kinds.Value End) _ leaf_gots (gots.Word words.User ∷ gots.Word words.Restore ∷ []) (λ t. refl) (λ x0 ts0. one action kinds.Value value gots.Value End _ leaf_gots (gots.Word words.User ∷ gots.Word words.Restore ∷ gots.Node x0 ∷ []) (λ t. refl) (λ x1 ts1. the_end action (gots.Word words.User ∷ gots.Word words.Restore ∷ gots.Node x0 ∷ gots.Value x1 ∷ []) _ leaf_gots refl ts1) ts0) ts
 
-pub same_user_autofill : (action : List Token → Reads) (ts : List Token) → with_front (gots.Word words.User ∷ gots.Word words.Autofill ∷ []) (read action (One kinds.Node (One kinds.Chars End)) ts) ≡ shows leaf_gots (users.autofill_of ts)
-same_user_autofill action ts = one action kinds.Node node gots.Node (One kinds.Chars End) _ leaf_gots (gots.Word words.User ∷ gots.Word words.Autofill ∷ []) (λ t. refl) (λ x0 ts0. one action kinds.Chars text gots.Chars End _ leaf_gots (gots.Word words.User ∷ gots.Word words.Autofill ∷ gots.Node x0 ∷ []) (λ t. refl) (λ x1 ts1. the_end action (gots.Word words.User ∷ gots.Word words.Autofill ∷ gots.Node x0 ∷ gots.Chars x1 ∷ []) _ leaf_gots refl ts1) ts0) ts
+pub same_user_autofill : (action : List Token → Reads) (ts : List Token) → with_front (gots.Word words.User ∷ gots.Word words.Autofill ∷ []) (read action (One kinds.Node (One kinds.Value End)) ts) ≡ shows leaf_gots (users.autofill_of ts)
+same_user_autofill action ts = one action kinds.Node node gots.Node (One kinds.Value End) _ leaf_gots (gots.Word words.User ∷ gots.Word words.Autofill ∷ []) (λ t. refl) (λ x0 ts0. one action kinds.Value value gots.Value End _ leaf_gots (gots.Word words.User ∷ gots.Word words.Autofill ∷ gots.Node x0 ∷ []) (λ t. refl) (λ x1 ts1. the_end action (gots.Word words.User ∷ gots.Word words.Autofill ∷ gots.Node x0 ∷ gots.Value x1 ∷ []) _ leaf_gots refl ts1) ts0) ts
 
 pub same_user_press : (action : List Token → Reads) (ts : List Token) → with_front (gots.Word words.User ∷ gots.Word words.Press ∷ []) (read action (One kinds.Node End) ts) ≡ shows leaf_gots (users.press_of ts)
 same_user_press action ts = one action kinds.Node node gots.Node End _ leaf_gots (gots.Word words.User ∷ gots.Word words.Press ∷ []) (λ t. refl) (λ x0 ts0. the_end action (gots.Word words.User ∷ gots.Word words.Press ∷ gots.Node x0 ∷ []) _ leaf_gots refl ts0) ts

@@ -4,7 +4,7 @@ use Rattle.rule_tokens.specs.declared.refused.Bad.{Bad}
 use Rattle.rule_tokens.specs.declared.refused.Bad.TheVariants.{Word}
 use Rattle.rule_tokens.specs.declared.token.Token.{Token}
 use Rattle.rule_tokens.specs.Gives.{◌>>=◌}
-use Rattle.rule_tokens.specs.Operands.{is_word, node, text}
+use Rattle.rule_tokens.specs.Operands.{is_word, node, value}
 use Rattle.rule_forms.specs.declared.word.Word.TheVariants as words
 use Rattle.rule_forms.specs.Words.{spelling}
 use Rattle.rule_reader.specs.declared.form.Leaf.{Leaf}
@@ -14,7 +14,7 @@ use Rattle.rule_reader.specs.Takes.{next, take_one, ended, on_off}
 abbrev pub edit_of : List Token → Result Leaf Bad
 edit_of ts = do
   place ← take_one node ts
-  val ← take_one text place.1
+  val ← take_one value place.1
   end ← ended val.1
   Ok (leaves.UserEdit place.0 val.0)
 
@@ -41,14 +41,14 @@ reset_of ts = do
 abbrev pub restore_of : List Token → Result Leaf Bad
 restore_of ts = do
   place ← take_one node ts
-  val ← take_one text place.1
+  val ← take_one value place.1
   end ← ended val.1
   Ok (leaves.UserRestore place.0 val.0)
 
 abbrev pub autofill_of : List Token → Result Leaf Bad
 autofill_of ts = do
   place ← take_one node ts
-  val ← take_one text place.1
+  val ← take_one value place.1
   end ← ended val.1
   Ok (leaves.UserAutofill place.0 val.0)
 

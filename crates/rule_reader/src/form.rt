@@ -46,7 +46,7 @@ pub enum Leaf {
     /// `doc $var`
     Doc { var: Text },
     /// `user edit node value`
-    UserEdit { node: Operand, value: Text },
+    UserEdit { node: Operand, value: Val },
     /// `user check node on`
     UserCheck { node: Operand, on: bool },
     /// `user choose node on`
@@ -54,9 +54,9 @@ pub enum Leaf {
     /// `user reset form`
     UserReset { form: Operand },
     /// `user restore node value`
-    UserRestore { node: Operand, value: Text },
+    UserRestore { node: Operand, value: Val },
     /// `user autofill node value`
-    UserAutofill { node: Operand, value: Text },
+    UserAutofill { node: Operand, value: Val },
     /// `user press node`
     UserPress { node: Operand },
 }

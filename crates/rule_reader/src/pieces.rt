@@ -1,5 +1,5 @@
 // Reads a line piece by piece.
-ghost use Rattle.std.specs.Prelude.{◌≡◌, ◌++◌, ◌∷◌, [], OnOk, option_to_list};
+ghost use Rattle.std.specs.Prelude.{◌≡◌, ◌++◌, ◌∷◌, [], OnOk};
 ghost use Rattle.rule_tokens.specs.Gives.{Gives, GivesSeen, or_word};
 ghost use Rattle.rule_reader.specs.First.{first_word};
 ghost use Rattle.rule_reader.specs.Pieces.{form_of, piece_at};
@@ -46,13 +46,6 @@ impl Wraps {
     {
         self.items.push(w)?;
         Ok(())
-    }
-
-    /// Takes the innermost. None exactly where there is none.
-    pub fn pop(&mut self) -> Option<Wrap>
-        ensures { self.old ≡ self.new ++ option_to_list result }
-    {
-        self.items.pop()
     }
 
     /// All, borrowed.

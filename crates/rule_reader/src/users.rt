@@ -3,7 +3,7 @@ ghost use Rattle.rule_tokens.specs.Gives.{Gives};
 ghost use Rattle.rule_reader.specs.Users.{autofill_of, check_of, choose_of, deed_of, edit_of, press_of, reset_of, restore_of, user_of};
 
 use crate::Leaf;
-use crate::operands::{ended, next, node_at, on_off_at, text_at};
+use crate::operands::{ended, next, node_at, on_off_at, value_at};
 use rule_forms::Word;
 use rule_tokens::{Bad, LineRefused, Token, is_word};
 use std::alloc::Global;
@@ -12,7 +12,7 @@ pub(crate) fn edit(alloc: Global, tokens: &[Token]) -> Result<Leaf, LineRefused>
     ensures { Gives result (edit_of tokens.now) }
 {
     let (node, rest) = node_at(alloc, tokens)?;
-    let (value, rest) = text_at(alloc, rest)?;
+    let (value, rest) = value_at(alloc, rest)?;
     ended(rest)?;
     Ok(Leaf::UserEdit { node, value })
 }
@@ -47,7 +47,7 @@ pub(crate) fn restore(alloc: Global, tokens: &[Token]) -> Result<Leaf, LineRefus
     ensures { Gives result (restore_of tokens.now) }
 {
     let (node, rest) = node_at(alloc, tokens)?;
-    let (value, rest) = text_at(alloc, rest)?;
+    let (value, rest) = value_at(alloc, rest)?;
     ended(rest)?;
     Ok(Leaf::UserRestore { node, value })
 }
@@ -56,7 +56,7 @@ pub(crate) fn autofill(alloc: Global, tokens: &[Token]) -> Result<Leaf, LineRefu
     ensures { Gives result (autofill_of tokens.now) }
 {
     let (node, rest) = node_at(alloc, tokens)?;
-    let (value, rest) = text_at(alloc, rest)?;
+    let (value, rest) = value_at(alloc, rest)?;
     ended(rest)?;
     Ok(Leaf::UserAutofill { node, value })
 }

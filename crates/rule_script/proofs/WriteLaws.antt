@@ -4,6 +4,7 @@ use Rattle.std.specs.Option.{option_map, option_and_then}
 use Rattle.std.specs.Str.{IsUtf8, chars}
 use Rattle.std.proofs.lemmas.Bool.{le-ltb}
 use Rattle.std.proofs.lemmas.Str.{encodes-chars, encodes_same, is_utf8-from_IsUtf8}
+use Rattle.rule_tokens.specs.declared.operand.Val.TheVariants as values
 use Rattle.rule_tokens.specs.declared.token.Token.{Token}
 use Rattle.rule_tokens.specs.Laws.{IsAnswer}
 use Rattle.rule_tokens.specs.Spaced.{as_line}
@@ -50,12 +51,15 @@ top_tokens (leaves.Associate class) x e = same_said (Declares (acts.Associate cl
 top_tokens (leaves.DisableShadow class) x e = same_said (Declares (acts.DisableShadow class)) x _ refl e
 top_tokens (leaves.DisableInternals class) x e = same_said (Declares (acts.DisableInternals class)) x _ refl e
 top_tokens (leaves.Doc var) x e = same_said (Command (commands.Doc var)) x _ refl e
-top_tokens (leaves.UserEdit place text) x e = same_said (Command (commands.UserEdit place text)) x _ refl e
+top_tokens (leaves.UserEdit place (values.Fixed text)) x e = same_said (Command (commands.UserEdit place text)) x _ refl e
+top_tokens (leaves.UserEdit place val) x e = absurd cc
 top_tokens (leaves.UserCheck place on) x e = same_said (Command (commands.UserCheck place on)) x _ refl e
 top_tokens (leaves.UserChoose place on) x e = same_said (Command (commands.UserChoose place on)) x _ refl e
 top_tokens (leaves.UserReset form) x e = same_said (Command (commands.UserReset form)) x _ refl e
-top_tokens (leaves.UserRestore place text) x e = same_said (Command (commands.UserRestore place text)) x _ refl e
-top_tokens (leaves.UserAutofill place text) x e = same_said (Command (commands.UserAutofill place text)) x _ refl e
+top_tokens (leaves.UserRestore place (values.Fixed text)) x e = same_said (Command (commands.UserRestore place text)) x _ refl e
+top_tokens (leaves.UserRestore place val) x e = absurd cc
+top_tokens (leaves.UserAutofill place (values.Fixed text)) x e = same_said (Command (commands.UserAutofill place text)) x _ refl e
+top_tokens (leaves.UserAutofill place val) x e = absurd cc
 top_tokens (leaves.UserPress place) x e = same_said (Command (commands.UserPress place)) x _ refl e
 
 body_tokens : (leaf : Leaf) (a : Act) → said_in_body leaf ≡ Some a → act_tokens a ≡ leaf_tokens leaf
@@ -73,12 +77,12 @@ body_tokens (leaves.Associate class) a e = absurd cc
 body_tokens (leaves.DisableShadow class) a e = absurd cc
 body_tokens (leaves.DisableInternals class) a e = absurd cc
 body_tokens (leaves.Doc var) a e = absurd cc
-body_tokens (leaves.UserEdit place text) a e = absurd cc
+body_tokens (leaves.UserEdit place val) a e = absurd cc
 body_tokens (leaves.UserCheck place on) a e = absurd cc
 body_tokens (leaves.UserChoose place on) a e = absurd cc
 body_tokens (leaves.UserReset form) a e = absurd cc
-body_tokens (leaves.UserRestore place text) a e = absurd cc
-body_tokens (leaves.UserAutofill place text) a e = absurd cc
+body_tokens (leaves.UserRestore place val) a e = absurd cc
+body_tokens (leaves.UserAutofill place val) a e = absurd cc
 body_tokens (leaves.UserPress place) a e = absurd cc
 
 -- an action that another one is put around

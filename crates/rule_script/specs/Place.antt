@@ -24,16 +24,16 @@ use Rattle.rule_reader.specs.Gots.{leaf_gots}
 
 -- ---- what a form says
 
--- at top level: a command or a part of a class. A word of bodies says nothing there
+-- at top level: a command or a part of a class. A word of bodies says nothing there, nor what a user enters by an @
 abbrev pub said_at_top : Leaf → Option Said
 said_at_top (leaves.Both op) = Some (Command (commands.Both op))
 said_at_top (leaves.Doc var) = Some (Command (commands.Doc var))
-said_at_top (leaves.UserEdit place text) = Some (Command (commands.UserEdit place text))
+said_at_top (leaves.UserEdit place (values.Fixed text)) = Some (Command (commands.UserEdit place text))
 said_at_top (leaves.UserCheck place on) = Some (Command (commands.UserCheck place on))
 said_at_top (leaves.UserChoose place on) = Some (Command (commands.UserChoose place on))
 said_at_top (leaves.UserReset form) = Some (Command (commands.UserReset form))
-said_at_top (leaves.UserRestore place text) = Some (Command (commands.UserRestore place text))
-said_at_top (leaves.UserAutofill place text) = Some (Command (commands.UserAutofill place text))
+said_at_top (leaves.UserRestore place (values.Fixed text)) = Some (Command (commands.UserRestore place text))
+said_at_top (leaves.UserAutofill place (values.Fixed text)) = Some (Command (commands.UserAutofill place text))
 said_at_top (leaves.UserPress place) = Some (Command (commands.UserPress place))
 said_at_top (leaves.Class name) = Some (Declares (acts.Class name))
 said_at_top (leaves.Has class call) = Some (Declares (acts.Has class call))

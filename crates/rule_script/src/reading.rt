@@ -4,7 +4,7 @@ ghost use Rattle.rule_tokens.specs.Gives.{GivesSeen, IfBad};
 ghost use Rattle.rule_lines.specs.Acts.{Said, line_of};
 ghost use Rattle.rule_script.specs.Below.{Below};
 ghost use Rattle.rule_script.specs.Cases.{RefusedByGrammar, RefusedFor};
-ghost use Rattle.rule_script.specs.Reading.{grammar_reading, reading};
+ghost use Rattle.rule_script.specs.Reading.{grammar_reading, longest, reading};
 ghost use Rattle.rule_script.specs.Spells.{Spells, SpellsBuilt};
 
 use crate::built::is_built;
@@ -88,13 +88,13 @@ fn built(alloc: Global, bytes: &[u8]) -> Result<Line, LineRefused>
 /// memory was refused, and tells nothing of the line.
 pub fn read_line(alloc: Global, bytes: &[u8]) -> Result<Line, LineRefused>
     // What is read is spelled so, and built.
-    ensures found { IfOk result (λ x. SpellsBuilt LONGEST bytes.now (line_of x)) }
+    ensures found { IfOk result (λ x. SpellsBuilt longest bytes.now (line_of x)) }
 
     // What is spelled so and built is read, unless memory is refused.
-    ensures only { (x : Said) → SpellsBuilt LONGEST bytes.now x → GivesSeen line_of result (Ok x) }
+    ensures only { (x : Said) → SpellsBuilt longest bytes.now x → GivesSeen line_of result (Ok x) }
 
     // What is wrong with the line is the first of the cases that holds.
-    ensures refused { IfBad result (RefusedFor LONGEST bytes.now) }
+    ensures refused { IfBad result (RefusedFor longest bytes.now) }
 
     // Which it is, as a function that computes.
     ensures exact { GivesSeen line_of result (reading bytes.now) }

@@ -2,12 +2,55 @@
 ghost use Rattle.std.specs.Prelude.{[]};
 ghost use Rattle.rule_tokens.specs.Gives.{GivesSeen};
 ghost use Rattle.rule_lines.specs.Acts.{line_of};
+ghost use Rattle.rule_reader.specs.declared.form.Leaf.TheVariants as leaves;
 ghost use Rattle.rule_script.specs.Place.{placed_within};
 
 use crate::operands::{has_body_operand, is_this};
 use rule_lines::{ClassPart, Cmd, Line};
 use rule_reader::Leaf;
-use rule_tokens::{Bad, LineRefused};
+use rule_tokens::{Bad, LineRefused, Operand, Val};
+
+// `user edit` takes a text at top level, and no node of a body.
+#[tactic(auto, using(crate::proofs::OperandLaws::operand_steps))]
+fn edit(node: Operand, value: Val) -> Result<Line, LineRefused>
+    ensures { GivesSeen line_of result (placed_within [] (leaves.UserEdit node value)) }
+{
+    if is_this(&node) {
+        return Err(LineRefused::Bad(Bad::Place));
+    }
+    match value {
+        Val::Fixed(value) => Ok(Line::Command(Cmd::UserEdit { node, value })),
+        _ => Err(LineRefused::Bad(Bad::Place)),
+    }
+}
+
+// `user restore` takes a text at top level, and no node of a body.
+#[tactic(auto, using(crate::proofs::OperandLaws::operand_steps))]
+fn restore(node: Operand, value: Val) -> Result<Line, LineRefused>
+    ensures { GivesSeen line_of result (placed_within [] (leaves.UserRestore node value)) }
+{
+    if is_this(&node) {
+        return Err(LineRefused::Bad(Bad::Place));
+    }
+    match value {
+        Val::Fixed(value) => Ok(Line::Command(Cmd::UserRestore { node, value })),
+        _ => Err(LineRefused::Bad(Bad::Place)),
+    }
+}
+
+// `user autofill` takes a text at top level, and no node of a body.
+#[tactic(auto, using(crate::proofs::OperandLaws::operand_steps))]
+fn autofill(node: Operand, value: Val) -> Result<Line, LineRefused>
+    ensures { GivesSeen line_of result (placed_within [] (leaves.UserAutofill node value)) }
+{
+    if is_this(&node) {
+        return Err(LineRefused::Bad(Bad::Place));
+    }
+    match value {
+        Val::Fixed(value) => Ok(Line::Command(Cmd::UserAutofill { node, value })),
+        _ => Err(LineRefused::Bad(Bad::Place)),
+    }
+}
 
 /// What the form says at top level.
 #[tactic(auto, using(crate::proofs::OperandLaws::operand_steps))]
@@ -22,12 +65,7 @@ pub(crate) fn at_top(leaf: Leaf) -> Result<Line, LineRefused>
             Ok(Line::Command(Cmd::Both(op)))
         }
         Leaf::Doc { var } => Ok(Line::Command(Cmd::Doc { var })),
-        Leaf::UserEdit { node, value } => {
-            if is_this(&node) {
-                return Err(LineRefused::Bad(Bad::Place));
-            }
-            Ok(Line::Command(Cmd::UserEdit { node, value }))
-        }
+        Leaf::UserEdit { node, value } => edit(node, value),
         Leaf::UserCheck { node, on } => {
             if is_this(&node) {
                 return Err(LineRefused::Bad(Bad::Place));
@@ -46,18 +84,8 @@ pub(crate) fn at_top(leaf: Leaf) -> Result<Line, LineRefused>
             }
             Ok(Line::Command(Cmd::UserReset { form }))
         }
-        Leaf::UserRestore { node, value } => {
-            if is_this(&node) {
-                return Err(LineRefused::Bad(Bad::Place));
-            }
-            Ok(Line::Command(Cmd::UserRestore { node, value }))
-        }
-        Leaf::UserAutofill { node, value } => {
-            if is_this(&node) {
-                return Err(LineRefused::Bad(Bad::Place));
-            }
-            Ok(Line::Command(Cmd::UserAutofill { node, value }))
-        }
+        Leaf::UserRestore { node, value } => restore(node, value),
+        Leaf::UserAutofill { node, value } => autofill(node, value),
         Leaf::UserPress { node } => {
             if is_this(&node) {
                 return Err(LineRefused::Bad(Bad::Place));

@@ -1,5 +1,6 @@
 -- The canonical tokens of what a line says.
 use Rattle.std.specs.Prelude.{List, [], ◌∷◌, ◌++◌}
+use Rattle.rule_tokens.specs.declared.operand.Val.TheVariants as values
 use Rattle.rule_tokens.specs.declared.token.Token.{Token}
 use Rattle.rule_lines.specs.Acts.{Act, Part, Said, Blank, Command, Declares}
 use Rattle.rule_lines.specs.Acts as acts
@@ -61,16 +62,16 @@ part_tokens (acts.Associate class) = leaf_tokens (leaves.Associate class)
 part_tokens (acts.DisableShadow class) = leaf_tokens (leaves.DisableShadow class)
 part_tokens (acts.DisableInternals class) = leaf_tokens (leaves.DisableInternals class)
 
--- of a command
+-- of a command; what a user enters is a text
 abbrev pub command_tokens : Cmd → List Token
 command_tokens (commands.Both op) = leaf_tokens (leaves.Both op)
 command_tokens (commands.Doc var) = leaf_tokens (leaves.Doc var)
-command_tokens (commands.UserEdit place text) = leaf_tokens (leaves.UserEdit place text)
+command_tokens (commands.UserEdit place text) = leaf_tokens (leaves.UserEdit place (values.Fixed text))
 command_tokens (commands.UserCheck place on) = leaf_tokens (leaves.UserCheck place on)
 command_tokens (commands.UserChoose place on) = leaf_tokens (leaves.UserChoose place on)
 command_tokens (commands.UserReset form) = leaf_tokens (leaves.UserReset form)
-command_tokens (commands.UserRestore place text) = leaf_tokens (leaves.UserRestore place text)
-command_tokens (commands.UserAutofill place text) = leaf_tokens (leaves.UserAutofill place text)
+command_tokens (commands.UserRestore place text) = leaf_tokens (leaves.UserRestore place (values.Fixed text))
+command_tokens (commands.UserAutofill place text) = leaf_tokens (leaves.UserAutofill place (values.Fixed text))
 command_tokens (commands.UserPress place) = leaf_tokens (leaves.UserPress place)
 
 -- of a line; a blank one has none

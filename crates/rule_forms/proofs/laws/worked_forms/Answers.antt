@@ -9,3 +9,6 @@ returns-clause-actions c = (tt, refl, refl, refl, refl, refl, refl)
 
 pub returns-clause-others : goal.returns-clause-others
 returns-clause-others c = (refl, refl, refl, refl, refl, tt, refl, refl, refl)
+
+pub returns-clause-user : goal.returns-clause-user
+returns-clause-user c = (tt, tt, tt, refl, refl, refl)
