@@ -19,6 +19,3 @@ mod variables;
 
 pub use halt::Halt;
 pub use state::State;
-
-#[cfg(test)]
-mod tests;
