@@ -9,7 +9,9 @@ use std::marker::Model;
 /// list").
 #[derive(Debug, Drop)]
 pub struct Entry {
+    /// The name that the value is sent under.
     pub name: Text,
+    /// What is sent.
     pub value: Text,
 }
 

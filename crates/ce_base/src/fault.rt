@@ -6,13 +6,21 @@ use std::alloc::{AllocError, AllocFailed};
 /// "Exceptions" and "DOMException"), or one that a body threw itself, with its text.
 #[derive(Debug, Drop)]
 pub enum Fault {
+    /// A value isn't of the kind that is wanted.
     TypeError,
+    /// A name or a value isn't there.
     ReferenceError,
+    /// A text doesn't have the form that is wanted.
     SyntaxError,
+    /// The operation isn't supported here.
     NotSupportedError,
+    /// The operation would give an incorrect node tree.
     HierarchyRequestError,
+    /// The object isn't found here.
     NotFoundError,
+    /// A text has characters that it can't have.
     InvalidCharacterError,
+    /// A body threw this text itself.
     UserThrow(Text),
 }
 

@@ -16,10 +16,15 @@ pub struct Calls(pub [bool; 9]);
 /// lifecycle callbacks, observed attributes, form-associated, disable shadow, disable internals).
 #[derive(Debug, Drop)]
 pub struct ClassFacts {
+    /// The callbacks that it has.
     pub calls: Calls,
+    /// The attributes whose changes it is told of.
     pub observed: Texts,
+    /// Its elements are form-associated.
     pub associated: bool,
+    /// Its elements can't have a shadow root.
     pub no_shadow: bool,
+    /// Its elements have no element internals.
     pub no_internals: bool,
 }
 

@@ -4,8 +4,12 @@
 /// character data but text.
 #[derive(Clone, Copy, Debug, PartialEq, Eq)]
 pub enum NodeKind {
+    /// A document.
     Document,
+    /// An element.
     Element,
+    /// A text node.
     TextNode,
+    /// A shadow root, the root of a shadow tree.
     ShadowRoot,
 }

@@ -59,7 +59,9 @@ impl Wraps {
 /// What a line says: a form without an action, and what stands around it.
 #[derive(Debug, Drop)]
 pub struct Form {
+    /// What stands around the form, from the outside in.
     pub wraps: Wraps,
+    /// The form.
     pub leaf: Leaf,
 }
 
