@@ -1,6 +1,7 @@
 use super::*;
 use ce_base::Text;
 use std::alloc::Global;
+use std::process::Abort;
 use std::test::Fail;
 
 // What a line is read as: each token with a `|` behind it, a quoted one with a `"` before it.
@@ -23,8 +24,20 @@ fn shown(alloc: Global, line: &[u8]) -> Result<String, Fail> {
     Ok(out)
 }
 
-// A token with this text.
-fn token(alloc: Global, quoted: bool, text: &str) -> Result<Token, Fail> {
+// The two sides of a row.
+fn sides(row: &str) -> Result<(&str, &str), Fail> {
+    match row.split_once(" => ") {
+        Some(sides) => Ok(sides),
+        None => Err("a row".into()),
+    }
+}
+
+// The token that a row names: what stands behind a quote was quoted.
+fn token(alloc: Global, row: &str) -> Result<Token, Fail> {
+    let (quoted, text) = match row.strip_prefix('"') {
+        Some(text) => (true, text),
+        None => (false, row),
+    };
     Ok(Token {
         quoted,
         text: Text::of(alloc, text)?,
@@ -40,109 +53,114 @@ fn row(alloc: Global, read: Result<Text, LineRefused>) -> Result<String, Fail> {
     }
 }
 
-#[test]
-fn lines_are_cut_into_tokens(rt: HostRuntime) -> Result<(), Fail> {
-    for (line, want) in [
-        ("", "blank"),
-        ("   ", "blank"),
-        ("  # \" \\ \t \u{1}", "blank"),
-        ("#\r", "blank"),
-        (" \r", "Word"),
-        ("create $a p", "create|$a|p|"),
-        ("  create   $a  ", "create|$a|"),
-        ("a#b c #", "a#b|c|#|"),
-        ("\"\"", "\"|"),
-        ("a \"b  c\" d", "a|\"b  c|d|"),
-        ("\"# a\"", "\"# a|"),
-        ("  \"a\"  ", "\"a|"),
-        ("\"\" \"\"", "\"|\"|"),
-        ("# \u{7f}", "blank"),
-        ("a\u{a0}b", "a\u{a0}b|"),
-        ("\u{e9}\u{80} \"\u{1F600}\"", "\u{e9}\u{80}|\"\u{1F600}|"),
-    ] {
-        assert_eq!(rt; shown(rt.alloc(), line.as_bytes())?.as_str(), want);
+// Compares what lines are read as.
+fn compare(rt: &impl Abort, alloc: Global, rows: &str) -> Result<(), Fail> {
+    for row in rows.lines() {
+        let (line, want) = sides(row)?;
+        assert_eq!(rt; shown(alloc, line.as_bytes())?.as_str(), want, "at {line}");
     }
     Ok(())
 }
+
+// Sees that each line has this fault.
+fn refuse(rt: &impl Abort, alloc: Global, lines: &str, want: &str) -> Result<(), Fail> {
+    for line in lines.lines() {
+        assert_eq!(rt; shown(alloc, line.as_bytes())?.as_str(), want, "at {line}");
+    }
+    Ok(())
+}
+
+const CUT: &str = r##" => blank
+    => blank
+create $a p => create|$a|p|
+  create   $a   => create|$a|
+a#b c # => a#b|c|#|
+"" => "|
+a "b  c" d => a|"b  c|d|
+"# a" => "# a|
+  "a"   => "a|
+"" "" => "|"|
+"\\" a => "\|a|"##;
+
+const ODD: &str =
+    "#\r => blank\n \r => Word\n# \u{7f} => blank\n  # \" \\ \t \u{1} => blank\na\u{a0}b => a\u{a0}b|\n\u{e9}\u{80} \"\u{1F600}\" => \u{e9}\u{80}|\"\u{1F600}|";
+
+#[test]
+fn lines_are_cut_into_tokens(rt: HostRuntime) -> Result<(), Fail> {
+    compare(&rt, rt.alloc(), CUT)?;
+    compare(&rt, rt.alloc(), ODD)
+}
+
+const UNQUOTED: &str = r#"a "
+a "b
+a "b\"
+"a\
+"b"c
+"b""c"
+"b"\
+a"b"
+ab"
+$"a"
+""""
+"a\\\"
+a\"
+"\x" ""#;
+
+const CLOSED_TOO_SOON: &str = "\"a\"\r \n\"a\"\t b\n\u{1} a\"";
 
 #[test]
 fn quotes_stand_around_a_token(rt: HostRuntime) -> Result<(), Fail> {
-    for line in [
-        "\"",
-        "a \"b",
-        "a \"b\\\"",
-        "\"a\\",
-        "\"b\"c",
-        "\"b\"\"c\"",
-        "\"b\"\\",
-        "a\"b\"",
-        "ab\"",
-        "$\"a\"",
-        "\"\"\"\"",
-        "\"a\\\\\\\"",
-        "a\\\"",
-        "\"a\"\r",
-        "\"a\"\t b",
-    ] {
-        assert_eq!(rt; shown(rt.alloc(), line.as_bytes())?.as_str(), "Quote");
-    }
-    Ok(())
+    refuse(&rt, rt.alloc(), UNQUOTED, "Quote")?;
+    refuse(&rt, rt.alloc(), CLOSED_TOO_SOON, "Quote")
 }
+
+const ESCAPED: &str = r#""\\\"" => "\"|
+"\u{41}\u{1F600}\u{1f600}" => "A😀😀|
+"\u{000041}\u{5a}\u{5A}" => "AZZ|"#;
+
+const NO_ESCAPE: &str = r#""\u{D800}"
+"\u{DFFF}"
+"\u{110000}"
+"\u{0000041}"
+"\u{}"
+"\u{41"
+"\u{4G}"
+"\u{ 41}"
+"\u41"
+"\u"
+"\x"
+"\N"
+"\0"
+"\U{41}"
+"\u{4_1}"
+"\u{+41}"
+"\'""#;
 
 #[test]
 fn escapes_are_read(rt: HostRuntime) -> Result<(), Fail> {
+    let alloc = rt.alloc();
+    compare(&rt, alloc, ESCAPED)?;
+    refuse(&rt, alloc, NO_ESCAPE, "Escape")?;
     for (line, want) in [
-        ("\"\\\\\\\"\\n\\r\\t\"", "\"\\\"\n\r\t|"),
+        ("\"\\n\\r\\t\\u{0}\"", "\"\n\r\t\0|"),
         (
-            "\"\\u{41}\\u{1F600}\\u{1f600}\\u{0}\"",
-            "\"A\u{1F600}\u{1F600}\0|",
+            "\"\\u{10FFFF}\\u{D7FF}\\u{E000}\"",
+            "\"\u{10FFFF}\u{D7FF}\u{E000}|",
         ),
-        (
-            "\"\\u{000041}\\u{10FFFF}\\u{D7FF}\\u{E000}\"",
-            "\"A\u{10FFFF}\u{D7FF}\u{E000}|",
-        ),
-        ("\"\\u{D800}\"", "Escape"),
-        ("\"\\u{DFFF}\"", "Escape"),
-        ("\"\\u{110000}\"", "Escape"),
-        ("\"\\u{0000041}\"", "Escape"),
-        ("\"\\u{}\"", "Escape"),
-        ("\"\\u{41\"", "Escape"),
-        ("\"\\u{4G}\"", "Escape"),
-        ("\"\\u{ 41}\"", "Escape"),
-        ("\"\\u41\"", "Escape"),
-        ("\"\\u\"", "Escape"),
-        ("\"\\x\"", "Escape"),
-        ("\"\\N\"", "Escape"),
-        ("\"\\0\"", "Escape"),
-        ("\"\\U{41}\"", "Escape"),
-        ("\"\\u{4_1}\"", "Escape"),
-        ("\"\\u{+41}\"", "Escape"),
-        ("\"\\'\"", "Escape"),
     ] {
-        assert_eq!(rt; shown(rt.alloc(), line.as_bytes())?.as_str(), want);
+        assert_eq!(rt; shown(alloc, line.as_bytes())?.as_str(), want);
     }
     Ok(())
 }
 
+const NO_WORD: &str = "a\\b\n\\\na \u{7f}\n\t\na \u{c}\na\tb\n\"\u{7f}\"\na\rb\n\"\u{1}\"";
+
 #[test]
 fn the_first_fault_is_told(rt: HostRuntime) -> Result<(), Fail> {
-    for (line, want) in [
-        ("\"\\x\" \"", "Quote"),
-        ("\u{1} a\"", "Quote"),
-        ("\"\\x\" \u{1} \\", "Escape"),
-        ("a\\b", "Word"),
-        ("\\", "Word"),
-        ("a \u{7f}", "Word"),
-        ("\t", "Word"),
-        ("a \u{c}", "Word"),
-        ("a\tb", "Word"),
-        ("\"\u{7f}\"", "Word"),
-        ("a\r", "Word"),
-        ("\"\u{1}\"", "Word"),
-        ("\"\\\\\" a", "\"\\|a|"),
-    ] {
-        assert_eq!(rt; shown(rt.alloc(), line.as_bytes())?.as_str(), want);
-    }
+    let alloc = rt.alloc();
+    refuse(&rt, alloc, NO_WORD, "Word")?;
+    assert_eq!(rt; shown(alloc, b"a\r")?.as_str(), "Word");
+    assert_eq!(rt; shown(alloc, b"\"\\x\" \x01 \\")?.as_str(), "Escape");
     Ok(())
 }
 
@@ -187,89 +205,88 @@ fn the_bytes_of_a_line_are_counted(rt: HostRuntime) -> Result<(), Fail> {
 #[test]
 fn a_quoted_word_is_no_word(rt: HostRuntime) -> Result<(), Fail> {
     let alloc = rt.alloc();
-    for (quoted, text, want) in [
-        (false, "deep", true),
-        (true, "deep", false),
-        (false, "Deep", false),
-        (false, "deeper", false),
-    ] {
-        assert_eq!(rt; is_word(&token(alloc, quoted, text)?, "deep"), want);
+    assert!(rt; is_word(&token(alloc, "deep")?, "deep"));
+    for row in "\"deep Deep deeper".split_whitespace() {
+        assert!(rt; !is_word(&token(alloc, row)?, "deep"), "at {row}");
     }
     Ok(())
 }
+
+const VARIABLES: &str = r#"$a => a
+$a1_b => a1_b
+$abcdefghijabcdefghijabcdefghijab => abcdefghijabcdefghijabcdefghijab
+$abcdefghijabcdefghijabcdefghijabc => Word
+$ => Word
+$A => Word
+$1 => Word
+$_a => Word
+$aB => Word
+$a-b => Word
+$é => Word
+a => Word
+"$a => Word"#;
 
 #[test]
 fn variables_have_their_form(rt: HostRuntime) -> Result<(), Fail> {
     let alloc = rt.alloc();
-    for (quoted, word, want) in [
-        (false, "$a", "a"),
-        (false, "$a1_b", "a1_b"),
-        (
-            false,
-            "$abcdefghijabcdefghijabcdefghijab",
-            "abcdefghijabcdefghijabcdefghijab",
-        ),
-        (false, "$abcdefghijabcdefghijabcdefghijabc", "Word"),
-        (false, "$", "Word"),
-        (false, "$A", "Word"),
-        (false, "$1", "Word"),
-        (false, "$_a", "Word"),
-        (false, "$aB", "Word"),
-        (false, "$a-b", "Word"),
-        (false, "$\u{e9}", "Word"),
-        (false, "a", "Word"),
-        (true, "$a", "Word"),
-    ] {
-        let t = token(alloc, quoted, word)?;
-        assert_eq!(rt; row(alloc, variable(alloc, &t))?.as_str(), want);
+    for line in VARIABLES.lines() {
+        let (t, want) = sides(line)?;
+        let t = token(alloc, t)?;
+        assert_eq!(rt;
+            row(alloc, variable(alloc, &t))?.as_str(),
+            want,
+            "at {line}"
+        );
     }
     Ok(())
 }
+
+const CLASSES: &str = r#"A => A
+Ab_1 => Ab_1
+Abcdefghijabcdefghijabcdefghijab => Abcdefghijabcdefghijabcdefghijab
+Abcdefghijabcdefghijabcdefghijabc => Word
+aB => Word
+_A => Word
+1A => Word
+A- => Word
+Aé => Word
+$a => Word
+"A => Word
+" => Word"#;
 
 #[test]
 fn classes_have_their_form(rt: HostRuntime) -> Result<(), Fail> {
     let alloc = rt.alloc();
-    for (quoted, word, want) in [
-        (false, "A", "A"),
-        (false, "Ab_1", "Ab_1"),
-        (
-            false,
-            "Abcdefghijabcdefghijabcdefghijab",
-            "Abcdefghijabcdefghijabcdefghijab",
-        ),
-        (false, "Abcdefghijabcdefghijabcdefghijabc", "Word"),
-        (false, "aB", "Word"),
-        (false, "_A", "Word"),
-        (false, "1A", "Word"),
-        (false, "A-", "Word"),
-        (false, "A\u{e9}", "Word"),
-        (false, "$a", "Word"),
-        (true, "A", "Word"),
-        (true, "", "Word"),
-    ] {
-        let t = token(alloc, quoted, word)?;
-        assert_eq!(rt; row(alloc, class_name(alloc, &t))?.as_str(), want);
+    for line in CLASSES.lines() {
+        let (t, want) = sides(line)?;
+        let t = token(alloc, t)?;
+        assert_eq!(rt;
+            row(alloc, class_name(alloc, &t))?.as_str(),
+            want,
+            "at {line}"
+        );
     }
     Ok(())
 }
 
+const TEXTS: &str = r#"a => a
+a@b => a@b
+x$ => x$
+é => é
+$a => Word
+$ => Word
+@x => Word
+"$a => $a
+"@x => @x
+" => "#;
+
 #[test]
 fn texts_have_their_form(rt: HostRuntime) -> Result<(), Fail> {
     let alloc = rt.alloc();
-    for (quoted, word, want) in [
-        (false, "a", "a"),
-        (false, "a@b", "a@b"),
-        (false, "x$", "x$"),
-        (false, "\u{e9}", "\u{e9}"),
-        (false, "$a", "Word"),
-        (false, "$", "Word"),
-        (false, "@x", "Word"),
-        (true, "$a", "$a"),
-        (true, "@x", "@x"),
-        (true, "", ""),
-    ] {
-        let t = token(alloc, quoted, word)?;
-        assert_eq!(rt; row(alloc, text(alloc, &t))?.as_str(), want);
+    for line in TEXTS.lines() {
+        let (t, want) = sides(line)?;
+        let t = token(alloc, t)?;
+        assert_eq!(rt; row(alloc, text(alloc, &t))?.as_str(), want, "at {line}");
     }
     Ok(())
 }
@@ -303,54 +320,70 @@ fn value_row(alloc: Global, t: &Token) -> Result<String, Fail> {
     }
 }
 
+const NODES: &str = r#"doc => the document
+"doc => Word
+this => this element
+"this => Word
+$e => e
+Doc => Word
+@count => Word"#;
+
 #[test]
-fn nodes_and_values_have_their_forms(rt: HostRuntime) -> Result<(), Fail> {
+fn nodes_have_their_forms(rt: HostRuntime) -> Result<(), Fail> {
     let alloc = rt.alloc();
-    for (quoted, word, as_node, as_value) in [
-        (false, "doc", "the document", "doc"),
-        (true, "doc", "Word", "doc"),
-        (false, "this", "this element", "this"),
-        (true, "this", "Word", "this"),
-        (false, "$e", "e", "Word"),
-        (false, "Doc", "Word", "Doc"),
-        (false, "@count", "Word", "the counter"),
-        (true, "@count", "Word", "@count"),
-        (false, "@kept", "Word", "the kept text"),
-        (false, "@1", "Word", "the first"),
-        (false, "@2", "Word", "the second"),
-        (false, "@3", "Word", "the third"),
-        (false, "@4", "Word", "Word"),
-        (false, "@", "Word", "Word"),
-    ] {
-        let t = token(alloc, quoted, word)?;
-        assert_eq!(rt; node_row(alloc, &t)?.as_str(), as_node);
-        assert_eq!(rt; value_row(alloc, &t)?.as_str(), as_value);
+    for line in NODES.lines() {
+        let (t, want) = sides(line)?;
+        assert_eq!(rt;
+            node_row(alloc, &token(alloc, t)?)?.as_str(),
+            want,
+            "at {line}"
+        );
     }
     Ok(())
 }
 
+const VALUES: &str = r#"doc => doc
+"this => this
+$e => Word
+"$e => $e
+@count => the counter
+"@count => @count
+@kept => the kept text
+@1 => the first
+@2 => the second
+@3 => the third
+@4 => Word
+@ => Word"#;
+
+#[test]
+fn values_have_their_forms(rt: HostRuntime) -> Result<(), Fail> {
+    let alloc = rt.alloc();
+    for line in VALUES.lines() {
+        let (t, want) = sides(line)?;
+        assert_eq!(rt;
+            value_row(alloc, &token(alloc, t)?)?.as_str(),
+            want,
+            "at {line}"
+        );
+    }
+    Ok(())
+}
+
+const CALLBACKS: &str =
+    "constructor connected disconnected adopted attribute formAssociated formDisabled formReset formStateRestore";
+
 #[test]
 fn callbacks_have_their_words(rt: HostRuntime) -> Result<(), Fail> {
     let alloc = rt.alloc();
-    for word in [
-        "constructor",
-        "connected",
-        "disconnected",
-        "adopted",
-        "attribute",
-        "formAssociated",
-        "formDisabled",
-        "formReset",
-        "formStateRestore",
-    ] {
+    for word in CALLBACKS.split_whitespace() {
         let call = CallName::named(word).ok_or("a callback")?;
         assert_eq!(rt; call.word(), word);
-        assert_eq!(rt; call_name(&token(alloc, false, word)?), Some(call));
-        assert_eq!(rt; call_name(&token(alloc, true, word)?), None);
+        let got = call_name(&token(alloc, word)?);
+        assert!(rt; got == Some(call), "at {word}");
     }
-    for word in ["", "formreset", "connectedCallback", "Connected"] {
+    for word in "\"connected formreset connectedCallback Connected".split_whitespace() {
         assert!(rt; CallName::named(word).is_none());
-        assert_eq!(rt; call_name(&token(alloc, false, word)?), None);
+        assert!(rt; call_name(&token(alloc, word)?).is_none(), "at {word}");
     }
     Ok(())
 }
@@ -371,30 +404,30 @@ fn flags_row(alloc: Global, t: &Token) -> Result<String, Fail> {
     }
 }
 
+const FLAGS: &str = r#"none => 0000000000
+"none => Word
+valueMissing => 1000000000
+"valueMissing => Word
+customError,tooLong,tooLong => 0001000001
+valueMissing,typeMismatch,patternMismatch,tooLong,tooShort,rangeUnderflow,rangeOverflow,stepMismatch,badInput,customError => 1111111111
+ => Word
+, => Word
+none,none => Word
+tooLong, => Word
+toolong => Word
+tooLong,none => Word
+none,tooLong => Word"#;
+
 #[test]
 fn flags_are_named(rt: HostRuntime) -> Result<(), Fail> {
     let alloc = rt.alloc();
-    for (quoted, word, want) in [
-        (false, "none", "0000000000"),
-        (true, "none", "Word"),
-        (false, "valueMissing", "1000000000"),
-        (true, "valueMissing", "Word"),
-        (false, "customError,tooLong,tooLong", "0001000001"),
-        (
-            false,
-            "valueMissing,typeMismatch,patternMismatch,tooLong,tooShort,rangeUnderflow,rangeOverflow,stepMismatch,badInput,customError",
-            "1111111111",
-        ),
-        (false, "", "Word"),
-        (false, ",", "Word"),
-        (false, "none,none", "Word"),
-        (false, "tooLong,", "Word"),
-        (false, "toolong", "Word"),
-        (false, "tooLong,none", "Word"),
-        (false, "none,tooLong", "Word"),
-    ] {
-        let t = token(alloc, quoted, word)?;
-        assert_eq!(rt; flags_row(alloc, &t)?.as_str(), want);
+    for line in FLAGS.lines() {
+        let (t, want) = sides(line)?;
+        assert_eq!(rt;
+            flags_row(alloc, &token(alloc, t)?)?.as_str(),
+            want,
+            "at {line}"
+        );
     }
     Ok(())
 }
