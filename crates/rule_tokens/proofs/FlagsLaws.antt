@@ -8,7 +8,7 @@ use Rattle.std.proofs.lemmas.Bool.{and_parts}
 use Rattle.std.proofs.lemmas.Bool.Decides.{nat_tests}
 use Rattle.std.proofs.lemmas.List.Folds.{list_all-append}
 use Rattle.rule_tokens.specs.Flags.{flag_names, flags, is_comma, is_one_of, raised}
-use Rattle.rule_tokens.specs.FlagsText.{after_commas, joined_or_none, raised_names}
+use Rattle.rule_tokens.specs.FlagsText.{names_after, names_joined, raised_names}
 use Rattle.rule_tokens.specs.Laws.{FlagsAreBare, FlagsAreRead, FlagsAreTen}
 use Rattle.rule_tokens.specs.Spaced.{is_bare_byte}
 
@@ -56,6 +56,12 @@ cut_at_end [] are = refl
 cut_at_end (b ∷ bs) are =
     let both = and_parts (is_name_byte b) (list_all is_name_byte bs) are in
     rw (no_comma b both.0, cut_at_end bs both.1) refl
+
+abbrev after_commas : List (List ℕ) → List ℕ
+after_commas names = names_after (codes ",") names
+
+abbrev joined_or_none : List (List ℕ) → List ℕ
+joined_or_none names = names_joined (codes ",") (codes "none") names
 
 names_back : (name : List ℕ) (names : List (List ℕ)) → is_plain name ≡ true → list_all is_plain names ≡ true → slice_split is_comma (name ++ after_commas names) ≡ name ∷ names
 names_back name [] is are = cut_at_end name (all_name_bytes name is)

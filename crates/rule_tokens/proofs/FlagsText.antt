@@ -1,11 +1,11 @@
 -- The canonical text of validity flags, name by name.
-use Rattle.std.proofs.Common.{◌≡◌, ◌<◌, ◌+◌, ℕ, Bool, true, false, ◌||◌, List, [], ◌∷◌, ◌++◌, length, get_or, drop, refl, add-one, drop-cons}
-use Rattle.rule_tokens.specs.FlagsText.{after_commas, joined_or_none, put_name, raised_names}
+use Rattle.std.proofs.Common.{◌≡◌, ◌<◌, ◌+◌, ℕ, Bool, true, false, ◌||◌, List, [], ◌∷◌, ◌++◌, length, get_or, drop, refl, add-one, drop-cons, append_assoc}
+use Rattle.rule_tokens.specs.FlagsText.{names_after, names_joined, put_name, raised_names}
 
 -- the text of the names that are left, where a name is put already and where none is
-abbrev pub text_from : Bool → List (List ℕ) → List ℕ
-text_from true names = after_commas names
-text_from false names = joined_or_none names
+abbrev pub text_from : List ℕ → List ℕ → Bool → List (List ℕ) → List ℕ
+text_from between none true names = names_after between names
+text_from between none false names = names_joined between none names
 
 -- the names, and this one before them where its flag is raised
 abbrev with_name : Bool → List ℕ → List (List ℕ) → List (List ℕ)
@@ -16,14 +16,14 @@ names_first : (name : List ℕ) (names : List (List ℕ)) (f : Bool) (fs : List 
 names_first name names true fs = refl
 names_first name names false fs = refl
 
-text_first : (named f : Bool) (name : List ℕ) (names : List (List ℕ)) → text_from named (with_name f name names) ≡ put_name named f name ++ text_from (named || f) names
-text_first true true name names = refl
-text_first true false name names = refl
-text_first false true name names = refl
-text_first false false name names = refl
+text_first : (between none : List ℕ) (named f : Bool) (name : List ℕ) (names : List (List ℕ)) → text_from between none named (with_name f name names) ≡ put_name between named f name ++ text_from between none (named || f) names
+text_first between none true true name names = rw append_assoc refl
+text_first between none true false name names = refl
+text_first between none false true name names = refl
+text_first between none false false name names = refl
 
 -- one more flag
-pub text_step : (named : Bool) (i : ℕ) (names : List (List ℕ)) (fs : List Bool) → i < length names → i < length fs →
-    text_from named (raised_names (drop i names) (drop i fs)) ≡ put_name named (get_or fs i false) (get_or names i []) ++ text_from (named || get_or fs i false) (raised_names (drop (i + 1) names) (drop (i + 1) fs))
-text_step named i names fs in_names in_fs =
-    rw (add-one, drop-cons names i [], drop-cons fs i false, names_first) (text_first named (get_or fs i false) (get_or names i []) _)
+pub text_step : (between none : List ℕ) (named : Bool) (i : ℕ) (names : List (List ℕ)) (fs : List Bool) → i < length names → i < length fs →
+    text_from between none named (raised_names (drop i names) (drop i fs)) ≡ put_name between named (get_or fs i false) (get_or names i []) ++ text_from between none (named || get_or fs i false) (raised_names (drop (i + 1) names) (drop (i + 1) fs))
+text_step between none named i names fs in_names in_fs =
+    rw (add-one, drop-cons names i [], drop-cons fs i false, names_first) (text_first between none named (get_or fs i false) (get_or names i []) _)

@@ -9,22 +9,23 @@ raised_names (name ∷ names) [] = []
 raised_names (name ∷ names) (true ∷ flags) = name ∷ raised_names names flags
 raised_names (name ∷ names) (false ∷ flags) = raised_names names flags
 
--- names with a comma before each
-abbrev pub after_commas : List (List ℕ) → List ℕ
-after_commas [] = []
-after_commas (name ∷ names) = 44 ∷ (name ++ after_commas names)
+-- names with a text before each
+abbrev pub names_after : List ℕ → List (List ℕ) → List ℕ
+names_after between [] = []
+names_after between (name ∷ names) = between ++ name ++ names_after between names
 
--- names with commas between them; where there is no name it is `none`
-abbrev pub joined_or_none : List (List ℕ) → List ℕ
-joined_or_none [] = codes "none"
-joined_or_none (name ∷ names) = name ++ after_commas names
+-- names with a text between them, or the text for no name
+abbrev pub names_joined : List ℕ → List ℕ → List (List ℕ) → List ℕ
+names_joined between none [] = none
+names_joined between none (name ∷ names) = name ++ names_after between names
 
--- the canonical text of validity flags
+-- the canonical text of validity flags: names with commas between them, or `none`
 abbrev pub flags_text : List Bool → List ℕ
-flags_text flags = joined_or_none (raised_names flag_names flags)
+flags_text flags = names_joined (codes ",") (codes "none") (raised_names flag_names flags)
 
--- what stands for one flag's name: nothing unless it is raised, and a comma first where a name is before it
-abbrev pub put_name : Bool → Bool → List ℕ → List ℕ
-put_name named false name = []
-put_name false true name = name
-put_name true true name = 44 ∷ name
+-- what stands for one flag's name: nothing unless it is raised, and the text between names first where a
+-- name is before it
+abbrev pub put_name : List ℕ → Bool → Bool → List ℕ → List ℕ
+put_name between named false name = []
+put_name between false true name = name
+put_name between true true name = between ++ name

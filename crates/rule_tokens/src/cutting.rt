@@ -11,7 +11,9 @@ use std::alloc::Global;
 /// A token as it stands in the line, without its quotes.
 #[derive(Debug, Drop)]
 pub struct Raw {
+    /// It stands in quotes.
     pub quoted: bool,
+    /// Its characters, with escapes as they are written.
     pub chars: Chars,
 }
 

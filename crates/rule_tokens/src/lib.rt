@@ -23,7 +23,7 @@ pub use quoting::{push_quoted, quoted};
 pub use refused::{Bad, LineRefused};
 pub use token::{Token, Tokens};
 pub use tokens::tokens_of;
-pub use validity::{flags, push_flags};
+pub use validity::{flags, push_flags, push_names};
 
 #[cfg(test)]
 mod tests;

@@ -5,10 +5,12 @@ use ce_base::{NoMemory, Text};
 use std::alloc::Global;
 use std::marker::Model;
 
-/// A token: the text that it says, and whether it stood in quotes.
+/// A token of a line.
 #[derive(Debug, Drop)]
 pub struct Token {
+    /// It stood in quotes.
     pub quoted: bool,
+    /// The text that it says.
     pub text: Text,
 }
 

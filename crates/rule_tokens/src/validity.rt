@@ -2,7 +2,7 @@
 ghost use Rattle.std.specs.Prelude.{◌≡◌, ◌<◌, ◌++◌, ◌||◌, [], IfOk, OnOk, map, slice_index_or, string_bytes};
 ghost use Rattle.std.specs.List.{list_all, slice_split};
 ghost use Rattle.rule_tokens.specs.Flags.{flag_names, flags, is_comma, is_one_of, raised};
-ghost use Rattle.rule_tokens.specs.FlagsText.{flags_text, put_name};
+ghost use Rattle.rule_tokens.specs.FlagsText.{flags_text, names_joined, put_name, raised_names};
 ghost use Rattle.rule_tokens.specs.Gives.{GivesSeen, or_word};
 
 use crate::{Bad, LineRefused, Token};
@@ -108,31 +108,49 @@ fn flag_name(i: usize) -> &'static str
     }
 }
 
-fn push_name(out: &mut String, named: bool, raised: bool, name: &str) -> Result<bool, NoMemory>
-    ensures text { OnOk result (string_bytes out.new ≡ string_bytes out.old ++ put_name named raised name.now) }
+fn push_name(
+    out: &mut String,
+    between: &str,
+    named: bool,
+    raised: bool,
+    name: &str,
+) -> Result<bool, NoMemory>
+    ensures text { OnOk result (string_bytes out.new ≡ string_bytes out.old ++ put_name between.now named raised name.now) }
     ensures named { IfOk result (λ r. r ≡ (named || raised)) }
 {
     if !raised {
         return Ok(named);
     }
     if named {
-        out.push(',')?;
+        out.push_str(between)?;
     }
     out.push_str(name)?;
     Ok(true)
 }
 
-/// Puts the canonical text of validity flags at the end: the names of those that are raised, in their
-/// order, with commas between them, or `none`.
-pub fn push_flags(out: &mut String, raised: &Flags) -> Result<(), NoMemory>
-    ensures { OnOk result (string_bytes out.new ≡ string_bytes out.old ++ flags_text raised.now.0) }
+/// Puts the names of the validity flags that are raised at the end, in their order, with a text between
+/// them, or the text for none.
+pub fn push_names(
+    out: &mut String,
+    raised: &Flags,
+    between: &str,
+    none: &str,
+) -> Result<(), NoMemory>
+    ensures { OnOk result (string_bytes out.new ≡ string_bytes out.old ++ names_joined between.now none.now (raised_names flag_names raised.now.0)) }
 {
     let mut named = false;
     for i in 0..10 {
-        named = push_name(out, named, raised.0[i], flag_name(i))?;
+        named = push_name(out, between, named, raised.0[i], flag_name(i))?;
     }
     if !named {
-        out.push_str("none")?;
+        out.push_str(none)?;
     }
     Ok(())
+}
+
+/// Puts the canonical text of validity flags at the end: their names with commas between them, or `none`.
+pub fn push_flags(out: &mut String, raised: &Flags) -> Result<(), NoMemory>
+    ensures { OnOk result (string_bytes out.new ≡ string_bytes out.old ++ flags_text raised.now.0) }
+{
+    push_names(out, raised, ",", "none")
 }
