@@ -13,6 +13,3 @@ pub use laws::{
     what_is_spelled_is_read, worked_forms,
 };
 pub use word::Word;
-
-#[cfg(test)]
-mod tests;

@@ -12,6 +12,3 @@ pub use ask_word::AskWord;
 pub use line::{ClassPart, Cmd, Line};
 pub use op::Op;
 pub use vals::Vals;
-
-#[cfg(test)]
-mod tests;

@@ -20,6 +20,3 @@ mod users;
 pub use form::{Leaf, Wrap};
 pub use laws::{lines_are_read_by_the_table, operands_tell_forms};
 pub use pieces::{Form, Wraps, form_of};
-
-#[cfg(test)]
-mod tests;

@@ -15,6 +15,8 @@ pub use rule_tokens::{Bad, CallName, CallOrUpgrade, LineRefused, Operand, Val};
 pub use writing::write_line;
 
 #[cfg(test)]
+mod line_tests;
+#[cfg(test)]
 mod tests;
 #[cfg(test)]
 mod write_tests;

@@ -114,6 +114,67 @@ fn a_token_over_is_no_wrong_word(rt: HostRuntime) -> Result<(), Fail> {
     compare(&rt, rt.alloc(), TOKENS_OVER)
 }
 
+const WRONG_WORDS: &str = r#""create" $a p
+Create $a p
+create a
+create $a p in x
+append $a b c
+check $e "on"
+state $e remove
+state x add
+request $f x y
+return x
+ask what $e
+ask "kids" $e
+log $x
+log 1 2 3 4 5 6 7 $x 9
+formlist $e $a
+formlist $e a $b
+formlist $e a b $c
+disable C attributes
+has C Connected
+user edit $e @4
+user restore $e $x
+user autofill $e @
+try x
+on C connected bump
+on C connected ":" bump
+if eq a : bump
+if is a b : bump"#;
+
+#[test]
+fn a_wrong_word_is_refused(rt: HostRuntime) -> Result<(), Fail> {
+    all_are(&rt, rt.alloc(), WRONG_WORDS, "Word")
+}
+
+const WRONG_NUMBERS: &str = r#"create
+create $a p "is" x
+create $a p in doc is x
+create $a p q $
+append $a $b c
+clone $a $b deep deep
+check $e
+state $e
+state $e clear x
+return $x y
+ask kids $e k
+log 1 2 3 4 5 6 7 8 $x
+observe C
+observe C a b c d e f g h i j k l m n o p $q
+disable C
+disable C shadow x
+has C
+try
+on C connected
+on C connected :
+if eq a b
+if eq a b : try"#;
+
+#[test]
+fn a_wrong_number_is_refused(rt: HostRuntime) -> Result<(), Fail> {
+    all_are(&rt, rt.alloc(), WRONG_NUMBERS, "Arity")
+}
+
 const FIXED_WORDS: &str = r#"on A connected => Arity
 on A connected : => Arity
 on A connected bump => Word
@@ -186,7 +247,17 @@ on A connected : class B
 on A connected : doc $d
 on A connected : user reset $f
 on A connected : on A connected : bump
-on A constructor : try on A connected : bump";
+on A constructor : try on A connected : bump
+detach this
+setattr $e k @count
+internals this
+log a
+log 1 2 3 4 5 6 7 8
+return this
+throw @1
+keep @kept
+on C connected : if eq @1 a : try on D adopted : class E
+if ne a b : user press $b";
 
 #[test]
 fn forms_stand_where_they_may(rt: HostRuntime) -> Result<(), Fail> {
@@ -239,7 +310,9 @@ delattr $a delattr
 clone $a $b deep
 clone $a doc
 adopt $a $b
-adopt  doc doc"#;
+adopt  doc doc
+create $a "is" is ""
+text $a "$x" in $d"#;
 
 #[test]
 fn forms_on_nodes_are_read(rt: HostRuntime) -> Result<(), Fail> {
@@ -285,7 +358,9 @@ ask attr doc k
 ask states $a
 ask saved doc
 let $a $b
-let $a doc"#;
+let $a doc
+formlist $e a b a c
+validity $e none """#;
 
 #[test]
 fn forms_on_controls_are_read(rt: HostRuntime) -> Result<(), Fail> {
@@ -331,7 +406,8 @@ user restore $a s
 user autofill $a "s"
 user autofill $a s
 user press $a
-user press doc"#;
+user press doc
+observe C a b c d e f g h i j k l m n o p"#;
 
 #[test]
 fn other_forms_are_read(rt: HostRuntime) -> Result<(), Fail> {

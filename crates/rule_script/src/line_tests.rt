@@ -1,6 +1,6 @@
 use super::*;
 use ce_base::{Entries, Entry, Text};
-use rule_tokens::{Operand, Val};
+use rule_forms::{Keyword, Word};
 use std::alloc::Global;
 use std::test::Fail;
 
@@ -71,29 +71,25 @@ fn values_are_kept(rt: HostRuntime) -> Result<(), Fail> {
     Ok(())
 }
 
+const ASKED: &str =
+    "attr parent kids state owner controls disabled candidate valid message value saved checked states";
+
 #[test]
 fn what_is_asked_has_its_word(rt: HostRuntime) -> Result<(), Fail> {
-    for word in [
-        "attr",
-        "parent",
-        "kids",
-        "state",
-        "owner",
-        "controls",
-        "disabled",
-        "candidate",
-        "valid",
-        "message",
-        "value",
-        "saved",
-        "checked",
-        "states",
-    ] {
+    for word in ASKED.split_whitespace() {
         let asked = AskWord::named(word).ok_or("a word")?;
         assert_eq!(rt; asked.word(), word);
     }
-    for word in ["", "Attr", "children", "flags"] {
+    for word in "Attr children flags".split_whitespace() {
         assert!(rt; AskWord::named(word).is_none());
     }
     Ok(())
+}
+
+#[test]
+fn words_have_their_text(rt: HostRuntime) {
+    assert_eq!(rt; Word::SetAttr.text(), "setattr");
+    assert_eq!(rt; Word::Colon.text(), ":");
+    assert_eq!(rt; Word::States.text(), "states");
+    assert_eq!(rt; Keyword::Extends.text(), "extends");
 }
