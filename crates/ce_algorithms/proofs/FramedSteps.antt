@@ -11,7 +11,8 @@ use Rattle.ce_algorithms.specs.declared.event.Event.{Event}
 use Rattle.ce_algorithms.specs.declared.event.Event.TheVariants.{Threw}
 use Rattle.ce_algorithms.specs.Steps.{Step, done}
 use Rattle.ce_algorithms.specs.State.{State, Class}
-use Rattle.ce_algorithms.specs.Drain.{drain_all_backup, checkpoint, is_empty}
+use Rattle.reaction_queue.specs.ElementQueues.{is_empty}
+use Rattle.ce_algorithms.specs.Drain.{drain_all_backup, checkpoint}
 use Rattle.ce_algorithms.specs.Model.{model}
 use Rattle.ce_algorithms.specs.Parts.{add_class, change_open, part}
 use Rattle.ce_algorithms.specs.Session.{perform, command, part_reply, class_part, run_line, run_lines}

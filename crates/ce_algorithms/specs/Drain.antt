@@ -7,6 +7,7 @@ use Rattle.rule_lines.specs.Acts.{Act}
 use Rattle.reaction_queue.specs.declared.reaction.Reaction.{Reaction}
 use Rattle.reaction_queue.specs.declared.reaction.Reaction.TheVariants.{Upgrade, Connected, Disconnected, Adopted, Attribute, FormAssociated, FormDisabled, FormReset, FormStateRestore}
 use Rattle.reaction_queue.specs.Reactions.{what_of}
+use Rattle.reaction_queue.specs.ElementQueues.{is_empty}
 use Rattle.reaction_queue.specs.Queues.{Queues, waiting_at, with_waiting, begun, current_elements, ended}
 use Rattle.ce_registry.specs.declared.definition.Definition.{Definition}
 use Rattle.ce_algorithms.specs.declared.event.Event.TheVariants.{Connected as ConnectedLine, Disconnected as DisconnectedLine, Adopted as AdoptedLine, Attribute as AttributeLine, FormAssociated as FormAssociatedLine, FormDisabled as FormDisabledLine, FormReset as FormResetLine, FormStateRestore as FormStateRestoreLine, Reported, QueueOpened, DrainBegun, Started, Finished, QueueClosed}
@@ -139,10 +140,6 @@ drain_all_backup again = do
   log (DrainBegun 0)
   drain_backup again
   log (QueueClosed 0)
-
-abbrev pub is_empty : List ℕ → Bool
-is_empty [] = true
-is_empty (n ∷ ns) = false
 
 -- after each command of the top level, before its reply: the backup element queue is drained, where it is not empty
 abbrev pub checkpoint : Again → Step State (Unit {0})

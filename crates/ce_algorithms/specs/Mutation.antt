@@ -2,7 +2,7 @@
 use Rattle.std.specs.Prelude.{ℕ, Bool, true, false, not, ◌&&◌, ◌==◌, if◌then◌else◌, List, Option, Some, None, is_some}
 use Rattle.reaction_queue.specs.declared.reaction.Reaction.TheVariants.{Connected, Disconnected, Adopted}
 use Rattle.node_trees.specs.Facts.{is_element}
-use Rattle.node_trees.specs.Trees.{cut, graft, with_document, is_number}
+use Rattle.node_trees.specs.Trees.{Trees, cut, graft, with_document, is_number}
 use Rattle.node_trees.specs.Orders.{order_of}
 use Rattle.node_trees.specs.Spots.{kind_at, parent_at, document_at, next_sibling_at}
 use Rattle.node_trees.specs.Paths.{connected}
@@ -82,8 +82,8 @@ put_in parent node before = do
   tell_others changes walk
 
 -- the reference child: the child to insert before, or where that is the node itself, its next sibling
-abbrev pub reference_child : ℕ → Option ℕ → Page → Option ℕ
-reference_child node before p = if is_number before node then next_sibling_at p.forest node else before
+abbrev pub reference_child : Trees → ℕ → Option ℕ → Option ℕ
+reference_child forest node before = if is_number before node then next_sibling_at forest node else before
 
 -- "insert": the node is adopted into the parent's document, and put in
 abbrev pub insert : ℕ → ℕ → Option ℕ → Step Work (Unit {0})
@@ -96,5 +96,5 @@ insert parent node child = do
 abbrev pub pre_insert : ℕ → ℕ → Option ℕ → Step Work (Unit {0})
 pre_insert parent node before = do
   refuse (λ w. may_insert w.page.forest parent node before)
-  child ← read_page (reference_child node before)
+  child ← read_page (λ p. reference_child p.forest node before)
   insert parent node child

@@ -5,7 +5,6 @@ use Rattle.rule_lines.specs.Acts.{Act}
 use Rattle.ce_base.specs.Outside.{AppendsPart}
 use Rattle.reaction_queue.specs.declared.reaction.Reaction.{Reaction}
 use Rattle.reaction_queue.specs.declared.reaction.Reaction.TheVariants.{Upgrade, Connected, Disconnected, Adopted, Attribute, FormAssociated, FormDisabled, FormReset, FormStateRestore}
-use Rattle.reaction_queue.specs.ElementQueues.{is_empty as has_none}
 use Rattle.reaction_queue.specs.Queues.{waiting_at, with_waiting, current_elements, ended}
 use Rattle.reaction_queue.specs.Reactions.{what_of}
 use Rattle.ce_registry.specs.declared.definition.Definition.{Definition}
@@ -14,7 +13,7 @@ use Rattle.ce_algorithms.specs.declared.event.Event.TheVariants.{Started, Finish
 use Rattle.ce_algorithms.specs.declared.event.Given.TheVariants.{Nothing}
 use Rattle.ce_algorithms.specs.Body.{body}
 use Rattle.ce_algorithms.specs.Calls.{DrainRest, DrainBackup}
-use Rattle.ce_algorithms.specs.Drain.{actions_for, log_call, call_back, run_calls, run_reaction, report, react, drain, drain_backup, drain_all_backup, drain_popped, checkpoint, is_empty, with_backup}
+use Rattle.ce_algorithms.specs.Drain.{actions_for, log_call, call_back, run_calls, run_reaction, report, react, drain, drain_backup, drain_all_backup, drain_popped, checkpoint, with_backup}
 use Rattle.ce_algorithms.specs.Enqueue.{has_what}
 use Rattle.ce_algorithms.specs.Model.{model}
 use Rattle.ce_algorithms.specs.Operands.{Args, args_of}

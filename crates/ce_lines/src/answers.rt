@@ -2,7 +2,7 @@
 ghost use Rattle.std.specs.Prelude.{◌≡◌, ◌++◌, OnOk};
 ghost use Rattle.ce_algorithms.specs.Text.{answer, event_text};
 
-use crate::lists::{put_nodes, put_raised, put_texts};
+use crate::lists::{put_nodes, put_texts};
 use crate::words::{state_word, yes_or_no};
 use crate::written::Written;
 use ce_algorithms::{Answer, Event};
@@ -22,7 +22,7 @@ pub(crate) fn put_answer(alloc: Global, out: &mut Written, given: &Answer) -> Re
         Answer::Texts(texts) => put_texts(alloc, out, texts.as_slice()),
         Answer::State(state) => out.put(state_word(*state)),
         Answer::Truth(yes) => out.put(yes_or_no(*yes)),
-        Answer::Raised(flags) => put_raised(out, flags),
+        Answer::Raised(flags) => out.put_raised(flags),
     }
 }
 

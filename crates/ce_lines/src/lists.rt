@@ -1,13 +1,9 @@
-// Lists of texts, of nodes and of flags.
-ghost use Rattle.std.specs.Prelude.{◌≡◌, ◌<◌, ◌++◌, ◌||◌, IfOk, OnOk, codes, drop, length, slice_index};
-ghost use Rattle.rule_tokens.specs.Flags.{flag_names};
-ghost use Rattle.rule_tokens.specs.FlagsText.{raised_names};
-ghost use Rattle.ce_algorithms.specs.Text.{names_or_valid, node, nodes_or_empty, spaced, spaced_nodes, texts_or_empty};
-ghost use Rattle.ce_lines.specs.Names.{name_behind};
+// Lists of texts and of nodes.
+ghost use Rattle.std.specs.Prelude.{◌≡◌, ◌<◌, ◌++◌, OnOk, codes, drop, length, slice_index};
+ghost use Rattle.ce_algorithms.specs.Text.{node, nodes_or_empty, spaced, spaced_nodes, texts_or_empty};
 
-use crate::words::flag_name;
 use crate::written::Written;
-use ce_base::{Flags, NoMemory, Nodes, Text};
+use ce_base::{NoMemory, Nodes, Text};
 use std::alloc::Global;
 
 /// Puts a space and then the text in quotes behind, for each.
@@ -64,33 +60,4 @@ pub(crate) fn put_nodes(out: &mut Written, nodes: &Nodes) -> Result<(), NoMemory
             put_nodes_from(out, nodes, 1)
         }
     }
-}
-
-fn put_name(out: &mut Written, named: bool, raised: bool, name: &str) -> Result<bool, NoMemory>
-    ensures text { OnOk result (out.new ≡ out.old ++ name_behind named raised name.now) }
-    ensures named { IfOk result (λ r. r ≡ (named || raised)) }
-{
-    if !raised {
-        return Ok(named);
-    }
-    if named {
-        out.put(" ")?;
-    }
-    out.put(name)?;
-    Ok(true)
-}
-
-/// Puts the names of the raised flags behind, in their order, with spaces between them, or the word for
-/// no flag.
-pub(crate) fn put_raised(out: &mut Written, raised: &Flags) -> Result<(), NoMemory>
-    ensures { OnOk result (out.new ≡ out.old ++ names_or_valid (raised_names flag_names raised.now.0)) }
-{
-    let mut named = false;
-    for i in 0..10 {
-        named = put_name(out, named, raised.0[i], flag_name(i))?;
-    }
-    if !named {
-        out.put("valid")?;
-    }
-    Ok(())
 }

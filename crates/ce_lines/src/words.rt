@@ -1,6 +1,5 @@
 // The words of a line.
-ghost use Rattle.std.specs.Prelude.{◌≡◌, ◌<◌, [], slice_index_or};
-ghost use Rattle.rule_tokens.specs.Flags.{flag_names};
+ghost use Rattle.std.specs.Prelude.{◌≡◌};
 ghost use Rattle.ce_algorithms.specs.Text.{bad_word, custom_state, mode, truth, what, yes_or_no};
 
 use ce_base::CustomState;
@@ -67,24 +66,5 @@ pub(crate) fn state_word(state: CustomState) -> &'static str
         CustomState::Uncustomized => "uncustomized",
         CustomState::Precustomized => "precustomized",
         CustomState::Custom => "custom",
-    }
-}
-
-/// The name of the validity flag at a place, from 0.
-pub(crate) fn flag_name(i: usize) -> &'static str
-    requires { i < 10 }
-    ensures { result.now ≡ slice_index_or flag_names i [] }
-{
-    match i {
-        0 => "valueMissing",
-        1 => "typeMismatch",
-        2 => "patternMismatch",
-        3 => "tooLong",
-        4 => "tooShort",
-        5 => "rangeUnderflow",
-        6 => "rangeOverflow",
-        7 => "stepMismatch",
-        8 => "badInput",
-        _ => "customError",
     }
 }

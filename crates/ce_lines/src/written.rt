@@ -2,10 +2,10 @@
 ghost use Rattle.std.specs.Prelude.{◌≡◌, ◌++◌, [], IfOk, OnOk};
 ghost use Rattle.std.specs.Fmt.{decimal};
 ghost use Rattle.rule_tokens.specs.Quoted.{in_quotes};
-ghost use Rattle.ce_algorithms.specs.Text.{node, node_or_null, text_or_null};
+ghost use Rattle.ce_algorithms.specs.Text.{node, node_or_null, raised_or_valid, text_or_null};
 
-use ce_base::{NoMemory, NodeNo, Text};
-use rule_tokens::push_quoted;
+use ce_base::{Flags, NoMemory, NodeNo, Text};
+use rule_tokens::{push_names, push_quoted};
 use std::alloc::Global;
 use std::fmt::Write;
 use std::marker::Model;
@@ -95,5 +95,13 @@ impl Written {
             None => self.put("null"),
             Some(text) => self.put_quoted(alloc, text.as_str()),
         }
+    }
+
+    /// Puts the names of the validity flags that are raised behind, in their order, with spaces between
+    /// them, or the word for none.
+    pub(crate) fn put_raised(&mut self, raised: &Flags) -> Result<(), NoMemory>
+        ensures { OnOk result (self.new ≡ self.old ++ raised_or_valid raised.now.0) }
+    {
+        push_names(&mut self.text, raised, " ", "valid")
     }
 }

@@ -10,7 +10,8 @@ use Rattle.node_trees.specs.Spots.{parent_at, kind_at, next_sibling_at}
 use Rattle.node_trees.specs.Paths.{path, is_among}
 use Rattle.node_trees.specs.Insertion.{may_insert, is_child_or_none, has_element_child}
 use Rattle.node_trees.specs.Nodes.{IsNode, IsNodeOrNone, size}
-use Rattle.ce_page.specs.Loose.{IsLoosed, SamePlaces, child_before}
+use Rattle.ce_algorithms.specs.Mutation.{reference_child}
+use Rattle.ce_page.specs.Loose.{IsLoosed, SamePlaces}
 
 here : (m n : ℕ) (a b : Option ℕ) → m ≡ n → (if m == n then a else b) ≡ a
 here m n a b e = grind (arith, nat_tests)
@@ -25,14 +26,14 @@ pub loosed : (old new : Trees) (n : ℕ) → parent_at new n ≡ None
     → IsLoosed old new n
 loosed old new n free may in_place = record { free = free; may = allowed }
   where
-    allowed : (p : ℕ) (b : Option ℕ) → IsNode old p → may_insert old p n b ≡ None → may_insert new p n (child_before old n b) ≡ None
+    allowed : (p : ℕ) (b : Option ℕ) → IsNode old p → may_insert old p n b ≡ None → may_insert new p n (reference_child old n b) ≡ None
     allowed p None node h = may p None h (λ e. cc)
     allowed p (Some m) node h = elim (cases_eq m n) [
       | inl e ↦
-          let before : child_before old n (Some m) ≡ next_sibling_at old n = here m n (next_sibling_at old n) (Some m) e in
+          let before : reference_child old n (Some m) ≡ next_sibling_at old n = here m n (next_sibling_at old n) (Some m) e in
           subst (λ b. may_insert new p n b ≡ None) (sym before) (in_place p node (subst (λ k. may_insert old p n (Some k) ≡ None) e h))
       | inr ne ↦
-          let before : child_before old n (Some m) ≡ Some m = elsewhere m n (next_sibling_at old n) (Some m) ne in
+          let before : reference_child old n (Some m) ≡ Some m = elsewhere m n (next_sibling_at old n) (Some m) ne in
           subst (λ b. may_insert new p n b ≡ None) (sym before) (may p (Some m) h (λ e. ne cc))
     ]
 

@@ -4,9 +4,8 @@ ghost use Rattle.node_trees.specs.Spots.{parent_at};
 ghost use Rattle.node_trees.specs.Insertion.{may_insert};
 ghost use Rattle.node_trees.specs.Nodes.{IsNode, IsNodeOrNone};
 ghost use Rattle.ce_algorithms.specs.Steps.{for_each};
-ghost use Rattle.ce_algorithms.specs.Mutation.{inserted, pre_insert, put_in};
+ghost use Rattle.ce_algorithms.specs.Mutation.{inserted, pre_insert, put_in, reference_child};
 ghost use Rattle.ce_page.specs.Ends.{Does, Keeps, NeverRefuses, work};
-ghost use Rattle.ce_page.specs.Loose.{child_before};
 ghost use Rattle.ce_page.specs.Numbers.{StaysWithin, OnlyEnqueues};
 
 use crate::walk::node_at;
@@ -49,7 +48,7 @@ impl Page {
     fn reference_child(&self, node: NodeNo, before: &Option<NodeNo>) -> Option<NodeNo>
         requires node { IsNode self.now.forest node }
         requires before { IsNodeOrNone self.now.forest before.now }
-        ensures child { result ≡ child_before self.now.forest node before.now }
+        ensures child { result ≡ reference_child self.now.forest node before.now }
         ensures made { IsNodeOrNone self.now.forest result }
     {
         match before {
