@@ -5,6 +5,7 @@ mod command;
 mod create;
 mod end;
 mod machine;
+mod making;
 mod operands;
 mod operate;
 mod questions;

@@ -14,8 +14,9 @@ ghost use Rattle.ce_page.specs.Ends.{Ends};
 ghost use Rattle.ce_drains.specs.Halts.{Wrote};
 ghost use Rattle.ce_machine.specs.Given.{kept};
 
+use crate::making::{operate_let, operate_shadow, operate_text};
 use crate::operands::document_or_page;
-use crate::questions::{operate_ask, operate_let, operate_shadow, operate_text};
+use crate::questions::operate_ask;
 use crate::react::{operate_reacting, react_create, settled};
 use ce_algorithms::Given;
 use ce_base::{Fault, NoMemory, NodeNo, Sink, Text};

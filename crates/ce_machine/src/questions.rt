@@ -1,17 +1,15 @@
-// Operations that push no queue: new nodes, shadow roots, variables, questions.
+// Questions about nodes.
 ghost use Rattle.std.specs.Prelude.{◌≡◌, ℕ, List, Option, None, true, IfOk};
 ghost use Rattle.std.specs.Str.{str_to_ascii_lowercase};
 ghost use Rattle.node_trees.specs.Spots.{attribute_at};
 ghost use Rattle.node_trees.specs.Nodes.{IsNode};
 ghost use Rattle.reaction_queue.specs.Queues.{or_empty};
 ghost use Rattle.rule_lines.specs.declared.ask_word.AskWord.TheVariants as words;
-ghost use Rattle.rule_lines.specs.declared.op.Op.TheVariants as ops;
 ghost use Rattle.rule_script.specs.Built.{is_built_word};
-ghost use Rattle.ce_algorithms.specs.Model.{model};
-ghost use Rattle.ce_algorithms.specs.Perform.{ask, operate, text_answer};
+ghost use Rattle.ce_algorithms.specs.Perform.{ask, text_answer};
 ghost use Rattle.ce_page.specs.Ends.{Ends};
 
-use crate::operands::{document_or_page, element, node};
+use crate::operands::{element, node};
 use ce_algorithms::{Answer, Given};
 use ce_base::{NoMemory, NodeNo, Text};
 use ce_drains::State;
@@ -19,50 +17,6 @@ use ce_page::PageStop;
 use rule_lines::AskWord;
 use rule_tokens::Operand;
 use std::alloc::Global;
-
-/// Makes a text node, and sets a variable to it.
-pub(crate) fn operate_text(
-    state: &mut State,
-    alloc: Global,
-    var: Text,
-    chars: Text,
-    document: &Option<Operand>,
-) -> Result<Given, PageStop>
-    ensures { Ends (λ g. g) result state.new (operate model None (ops.MakeText var chars document.now) state.old) }
-{
-    let d = document_or_page(state, document)?;
-    let n = state.make_text(alloc, chars, d)?;
-    state.set_variable(var, n)?;
-    Ok(Given::Node(n))
-}
-
-/// Attaches a shadow root, and sets a variable to it.
-pub(crate) fn operate_shadow(
-    state: &mut State,
-    alloc: Global,
-    var: Text,
-    host: &Operand,
-) -> Result<Given, PageStop>
-    ensures { Ends (λ g. g) result state.new (operate model None (ops.Shadow var host.now) state.old) }
-{
-    let host = element(state, host)?;
-    let n = state.attach_shadow(alloc, host)?;
-    state.set_variable(var, n)?;
-    Ok(Given::Node(n))
-}
-
-/// Sets a variable.
-pub(crate) fn operate_let(
-    state: &mut State,
-    var: Text,
-    operand: &Operand,
-) -> Result<Given, PageStop>
-    ensures { Ends (λ g. g) result state.new (operate model None (ops.Let var operand.now) state.old) }
-{
-    let n = node(state, operand)?;
-    state.set_variable(var, n)?;
-    Ok(Given::Nothing)
-}
 
 /// Asks something of a node.
 pub(crate) fn operate_ask(
