@@ -8,7 +8,7 @@ use Rattle.node_trees.specs.Nodes.{times}
 use Rattle.node_trees.specs.Paths.{path}
 use Rattle.node_trees.specs.Spots.{Spot, spot_in, or_spot}
 use Rattle.node_arena.proofs.Sums.{IsApart, apart-shadow, apart-children, apart-rest, times-join}
-use Rattle.node_arena.proofs.Pieces.{spot-absent, path-absent, tree_of-absent, tree_of-here}
+use Rattle.node_arena.proofs.Pieces.{or_spot-none, spot-absent, path-absent, tree_of-absent, tree_of-here}
 use Rattle.node_arena.proofs.Lists.{spot_lacking, roots-without}
 
 -- ---- trees side by side
@@ -16,10 +16,6 @@ use Rattle.node_arena.proofs.Lists.{spot_lacking, roots-without}
 or_spot-assoc : (a b c : Option Spot) → or_spot (or_spot a b) c ≡ or_spot a (or_spot b c)
 or_spot-assoc None b c = refl
 or_spot-assoc (Some a) b c = refl
-
-pub or_spot-none : (a : Option Spot) → or_spot a None ≡ a
-or_spot-none None = refl
-or_spot-none (Some a) = refl
 
 pub spot-join : (p h : Option ℕ) (i : ℕ) (f g : Trees) → spot_in p h i (join f g) ≡ or_spot (spot_in p h i f) (spot_in p h i g)
 spot-join p h i none g = refl

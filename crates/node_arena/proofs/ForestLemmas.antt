@@ -10,6 +10,7 @@ use Rattle.node_trees.specs.Insertion.{may_insert}
 use Rattle.node_trees.specs.Nodes.{times, size, surplus_at, IsNode}
 use Rattle.node_arena.specs.Numbers.{remove_number}
 use Rattle.node_arena.specs.Rows.{row_at, Stands, IsForest, Grafted, Severed, Attached, Changed}
+use Rattle.node_arena.specs.OneForest.{node_of_row}
 use Rattle.node_arena.proofs.Sums.{tidy-apart, times-without}
 use Rattle.node_arena.proofs.AtNode.{parent_at-is, host_at-is}
 use Rattle.node_arena.proofs.Above.{parent-above, parent-no_host}
@@ -29,9 +30,6 @@ stands_at rows f n a at = standing rows n f a.stands (tidy-apart f a.tidy) (a.ti
 
 pub row_is : (rows : List Spot) (f : Trees) (n : ℕ) (row : Spot) → IsForest rows f → IsNode f n → row_at rows n ≡ Some row → spot f n ≡ Some row
 row_is rows f n row a at is = let st = stands_at rows f n a at in cc (st.row, st.it.spot_is, is)
-
-node_of_row : (rows : List Spot) (f : Trees) (n : ℕ) (row : Spot) → IsForest rows f → 0 < n → row_at rows n ≡ Some row → IsNode f n
-node_of_row rows f n row a lo at = record { low = lo; high = omega (arith, lo, a.counted, slice_get_within rows (n - 1) row at) }
 
 -- a new node at the end
 pub push_forest : (rs : List Spot) (f : Trees) (x : Facts) → IsForest rs f → is_shadow_root x.kind ≡ false → surplus_at x ≡ 0 → IsForest (rs ++ spot_of x None None none none ∷ []) (with_node (size f + 1) x f)

@@ -34,7 +34,6 @@ pub mod ChildFits
 pub mod PlaceFits
 pub mod AllowedGraft
 pub mod OrderSteps
-pub mod Listed
 pub mod OrderLemmas
 pub mod UpLemmas
 pub mod WalkLemmas

@@ -7,8 +7,8 @@ use Rattle.node_trees.specs.Nodes.{times, IsNode, IsTidy}
 use Rattle.node_trees.specs.Paths.{path, is_among, under, or_number, shadow_root_at, connected}
 use Rattle.node_trees.specs.Spots.{Spot, spot_of, spot_in, or_spot, spot, spot_at, or_no_spot, facts_at, kind_at, document_at, first_of}
 use Rattle.node_arena.proofs.Next.{is_among-append}
-use Rattle.node_arena.proofs.Pieces.{spot-absent, path-long}
-use Rattle.node_arena.proofs.CutSpots.{or_spot-none, spot-join, path-join-left, path-join-right}
+use Rattle.node_arena.proofs.Pieces.{or_spot-none, spot-absent, path-long}
+use Rattle.node_arena.proofs.CutSpots.{spot-join, path-join-left, path-join-right}
 use Rattle.node_arena.proofs.AtNode.{node_stands}
 
 -- ---- the numbers on a path are those of nodes

@@ -15,7 +15,7 @@ spot-absent p h n none z = refl
 spot-absent p h n (tree m x s k r) z =
     grind (arith, nat_tests, spot-absent None (Some m) n s (omega arith), spot-absent (Some m) None n k (omega arith), spot-absent p h n r (omega arith))
 
-or_spot-none : (a : Option Spot) → or_spot a None ≡ a
+pub or_spot-none : (a : Option Spot) → or_spot a None ≡ a
 or_spot-none None = refl
 or_spot-none (Some a) = refl
 

@@ -7,7 +7,7 @@ use Rattle.node_trees.specs.Nodes.{times}
 use Rattle.node_trees.specs.Paths.{path}
 use Rattle.node_trees.specs.Spots.{Spot, spot_in, or_spot}
 use Rattle.node_arena.proofs.Sums.{IsApart, apart-shadow, apart-children, apart-rest, here, in_shadow, in_children, in_rest, stands_where, times-before, times-put}
-use Rattle.node_arena.proofs.Pieces.{spot-absent, path-absent, path-here, path-shadow, path-children, path-rest}
+use Rattle.node_arena.proofs.Pieces.{or_spot-none, spot-absent, path-absent, path-here, path-shadow, path-children, path-rest}
 use Rattle.node_arena.proofs.CutSpots.{spot-join, path-join-left, path-join-right}
 pub use Rattle.node_arena.specs.Numbers.{insert_number as inserted}
 
@@ -25,10 +25,6 @@ put-absent p b t (tree m x s k r) z =
     grind (arith, nat_tests, put-absent p b t s (omega arith), put-absent p b t k (omega arith), put-absent p b t r (omega arith))
 
 -- ---- beside the tree that is put
-
-or_spot-none : (a : Option Spot) → or_spot a None ≡ a
-or_spot-none None = refl
-or_spot-none (Some a) = refl
 
 spot-before-out : (p h : Option ℕ) (i : ℕ) (b : Option ℕ) (t f : Trees) → times i t ≡ 0 → spot_in p h i (before b t f) ≡ spot_in p h i f
 spot-before-out p h i b t none z = spot-absent p h i t z

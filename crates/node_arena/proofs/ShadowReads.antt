@@ -8,8 +8,8 @@ use Rattle.node_trees.specs.Nodes.{times, IsNode, IsTidy}
 use Rattle.node_trees.specs.Paths.{path, or_number, shadow_root_at, connected}
 use Rattle.node_trees.specs.Spots.{Spot, spot_of, spot_in, or_spot, spot, spot_at, or_no_spot, facts_at, kind_at, document_at, parent_at, children_at, first_of}
 use Rattle.node_arena.proofs.Sums.{IsApart, tidy-apart, apart-shadow, apart-children, apart-rest, here, in_shadow, in_children, in_rest, stands_where, weight-shadow, times-join, one_at}
-use Rattle.node_arena.proofs.Pieces.{spot-absent, path-long, path-here, path-shadow, path-children, path-rest}
-use Rattle.node_arena.proofs.CutSpots.{or_spot-none, spot-join, path-join-left, path-join-right}
+use Rattle.node_arena.proofs.Pieces.{or_spot-none, spot-absent, path-long, path-here, path-shadow, path-children, path-rest}
+use Rattle.node_arena.proofs.CutSpots.{spot-join, path-join-left, path-join-right}
 use Rattle.node_arena.proofs.Connected.{first-append}
 use Rattle.node_arena.proofs.NewReads.{shadow_root_at-node}
 use Rattle.node_arena.proofs.AtNode.{node_stands}

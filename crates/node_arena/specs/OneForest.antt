@@ -122,7 +122,7 @@ inner_row rows p h (tree m x s k r) n st top pos row e pn hn =
     ]
 
 -- what has a row is a node
-node_of_row : (rows : List Spot) (f : Trees) (n : ℕ) (row : Spot) → IsForest rows f → 0 < n → row_at rows n ≡ Some row → IsNode f n
+pub node_of_row : (rows : List Spot) (f : Trees) (n : ℕ) (row : Spot) → IsForest rows f → 0 < n → row_at rows n ≡ Some row → IsNode f n
 node_of_row rows f n row a lo at = record { low = lo; high = omega (arith, lo, a.counted, slice_get_within rows (n - 1) row at) }
 
 root_in_both : (rows : List Spot) (f g : Trees) (n : ℕ) → IsForest rows f → IsForest rows g → 0 < root_times n f → 0 < root_times n g
