@@ -50,17 +50,17 @@ row_take front false x y c o ts k see p q = q
 
 abbrev ask_after : AskWord × List Token → Result Leaf Bad
 ask_after what = do
-  place ← take_one node what.1
-  name ← name_for what.0 place.1
+  target ← take_one node what.1
+  name ← name_for what.0 target.1
   end ← ended name.1
-  Ok (leaves.Both (ops.Ask what.0 place.0 name.0))
+  Ok (leaves.Both (ops.Ask what.0 target.0 name.0))
 
 abbrev token : Bool → List ℕ → Token
 token q w = record { quoted = q; text = w }
 
 asks_first : (action : List Token → Reads) (q : Bool) (w : List ℕ) (ts : List Token) → with_front (gots.Word words.Ask ∷ []) (read_row action ask_rows (token q w) ts) ≡ shows leaf_gots (ask_of (token q w ∷ ts))
 asks_first action true w ts = refl
-asks_first action false w ts = row_take (gots.Word words.Ask ∷ []) (bytes_eq w (spelling words.Attr)) _ _ asks.Attr _ ts ask_after leaf_gots (fronts (gots.Word words.Ask ∷ []) (gots.Word words.Attr) _ ∙ one action kinds.Node node gots.Node (One kinds.Chars End) _ leaf_gots (gots.Word words.Ask ∷ gots.Word words.Attr ∷ []) (λ t. refl) (λ place r. one_some action kinds.Chars text gots.Chars End _ leaf_gots (gots.Word words.Ask ∷ gots.Word words.Attr ∷ gots.Node place ∷ []) (λ t. refl) (λ n r2. the_end action (gots.Word words.Ask ∷ gots.Word words.Attr ∷ gots.Node place ∷ gots.Chars n ∷ []) (leaves.Both (ops.Ask asks.Attr place (Some n))) leaf_gots refl r2) r) ts) (row_take (gots.Word words.Ask ∷ []) (bytes_eq w (spelling words.Parent)) _ _ asks.Parent _ ts ask_after leaf_gots (fronts (gots.Word words.Ask ∷ []) (gots.Word words.Parent) _ ∙ one action kinds.Node node gots.Node End _ leaf_gots (gots.Word words.Ask ∷ gots.Word words.Parent ∷ []) (λ t. refl) (λ place r. the_end action (gots.Word words.Ask ∷ gots.Word words.Parent ∷ gots.Node place ∷ []) (leaves.Both (ops.Ask asks.Parent place None)) leaf_gots refl r) ts) (row_take (gots.Word words.Ask ∷ []) (bytes_eq w (spelling words.Kids)) _ _ asks.Kids _ ts ask_after leaf_gots (fronts (gots.Word words.Ask ∷ []) (gots.Word words.Kids) _ ∙ one action kinds.Node node gots.Node End _ leaf_gots (gots.Word words.Ask ∷ gots.Word words.Kids ∷ []) (λ t. refl) (λ place r. the_end action (gots.Word words.Ask ∷ gots.Word words.Kids ∷ gots.Node place ∷ []) (leaves.Both (ops.Ask asks.Kids place None)) leaf_gots refl r) ts) (row_take (gots.Word words.Ask ∷ []) (bytes_eq w (spelling words.State)) _ _ asks.State _ ts ask_after leaf_gots (fronts (gots.Word words.Ask ∷ []) (gots.Word words.State) _ ∙ one action kinds.Node node gots.Node End _ leaf_gots (gots.Word words.Ask ∷ gots.Word words.State ∷ []) (λ t. refl) (λ place r. the_end action (gots.Word words.Ask ∷ gots.Word words.State ∷ gots.Node place ∷ []) (leaves.Both (ops.Ask asks.State place None)) leaf_gots refl r) ts) (row_take (gots.Word words.Ask ∷ []) (bytes_eq w (spelling words.Owner)) _ _ asks.Owner _ ts ask_after leaf_gots (fronts (gots.Word words.Ask ∷ []) (gots.Word words.Owner) _ ∙ one action kinds.Node node gots.Node End _ leaf_gots (gots.Word words.Ask ∷ gots.Word words.Owner ∷ []) (λ t. refl) (λ place r. the_end action (gots.Word words.Ask ∷ gots.Word words.Owner ∷ gots.Node place ∷ []) (leaves.Both (ops.Ask asks.Owner place None)) leaf_gots refl r) ts) (row_take (gots.Word words.Ask ∷ []) (bytes_eq w (spelling words.Controls)) _ _ asks.Controls _ ts ask_after leaf_gots (fronts (gots.Word words.Ask ∷ []) (gots.Word words.Controls) _ ∙ one action kinds.Node node gots.Node End _ leaf_gots (gots.Word words.Ask ∷ gots.Word words.Controls ∷ []) (λ t. refl) (λ place r. the_end action (gots.Word words.Ask ∷ gots.Word words.Controls ∷ gots.Node place ∷ []) (leaves.Both (ops.Ask asks.Controls place None)) leaf_gots refl r) ts) (row_take (gots.Word words.Ask ∷ []) (bytes_eq w (spelling words.Disabled)) _ _ asks.Disabled _ ts ask_after leaf_gots (fronts (gots.Word words.Ask ∷ []) (gots.Word words.Disabled) _ ∙ one action kinds.Node node gots.Node End _ leaf_gots (gots.Word words.Ask ∷ gots.Word words.Disabled ∷ []) (λ t. refl) (λ place r. the_end action (gots.Word words.Ask ∷ gots.Word words.Disabled ∷ gots.Node place ∷ []) (leaves.Both (ops.Ask asks.Disabled place None)) leaf_gots refl r) ts) (row_take (gots.Word words.Ask ∷ []) (bytes_eq w (spelling words.Candidate)) _ _ asks.Candidate _ ts ask_after leaf_gots (fronts (gots.Word words.Ask ∷ []) (gots.Word words.Candidate) _ ∙ one action kinds.Node node gots.Node End _ leaf_gots (gots.Word words.Ask ∷ gots.Word words.Candidate ∷ []) (λ t. refl) (λ place r. the_end action (gots.Word words.Ask ∷ gots.Word words.Candidate ∷ gots.Node place ∷ []) (leaves.Both (ops.Ask asks.Candidate place None)) leaf_gots refl r) ts) (row_take (gots.Word words.Ask ∷ []) (bytes_eq w (spelling words.Valid)) _ _ asks.Valid _ ts ask_after leaf_gots (fronts (gots.Word words.Ask ∷ []) (gots.Word words.Valid) _ ∙ one action kinds.Node node gots.Node End _ leaf_gots (gots.Word words.Ask ∷ gots.Word words.Valid ∷ []) (λ t. refl) (λ place r. the_end action (gots.Word words.Ask ∷ gots.Word words.Valid ∷ gots.Node place ∷ []) (leaves.Both (ops.Ask asks.Valid place None)) leaf_gots refl r) ts) (row_take (gots.Word words.Ask ∷ []) (bytes_eq w (spelling words.Message)) _ _ asks.Message _ ts ask_after leaf_gots (fronts (gots.Word words.Ask ∷ []) (gots.Word words.Message) _ ∙ one action kinds.Node node gots.Node End _ leaf_gots (gots.Word words.Ask ∷ gots.Word words.Message ∷ []) (λ t. refl) (λ place r. the_end action (gots.Word words.Ask ∷ gots.Word words.Message ∷ gots.Node place ∷ []) (leaves.Both (ops.Ask asks.Message place None)) leaf_gots refl r) ts) (row_take (gots.Word words.Ask ∷ []) (bytes_eq w (spelling words.Value)) _ _ asks.Value _ ts ask_after leaf_gots (fronts (gots.Word words.Ask ∷ []) (gots.Word words.Value) _ ∙ one action kinds.Node node gots.Node End _ leaf_gots (gots.Word words.Ask ∷ gots.Word words.Value ∷ []) (λ t. refl) (λ place r. the_end action (gots.Word words.Ask ∷ gots.Word words.Value ∷ gots.Node place ∷ []) (leaves.Both (ops.Ask asks.Value place None)) leaf_gots refl r) ts) (row_take (gots.Word words.Ask ∷ []) (bytes_eq w (spelling words.Saved)) _ _ asks.Saved _ ts ask_after leaf_gots (fronts (gots.Word words.Ask ∷ []) (gots.Word words.Saved) _ ∙ one action kinds.Node node gots.Node End _ leaf_gots (gots.Word words.Ask ∷ gots.Word words.Saved ∷ []) (λ t. refl) (λ place r. the_end action (gots.Word words.Ask ∷ gots.Word words.Saved ∷ gots.Node place ∷ []) (leaves.Both (ops.Ask asks.Saved place None)) leaf_gots refl r) ts) (row_take (gots.Word words.Ask ∷ []) (bytes_eq w (spelling words.Checked)) _ _ asks.Checked _ ts ask_after leaf_gots (fronts (gots.Word words.Ask ∷ []) (gots.Word words.Checked) _ ∙ one action kinds.Node node gots.Node End _ leaf_gots (gots.Word words.Ask ∷ gots.Word words.Checked ∷ []) (λ t. refl) (λ place r. the_end action (gots.Word words.Ask ∷ gots.Word words.Checked ∷ gots.Node place ∷ []) (leaves.Both (ops.Ask asks.Checked place None)) leaf_gots refl r) ts) (row_take (gots.Word words.Ask ∷ []) (bytes_eq w (spelling words.States)) _ _ asks.States _ ts ask_after leaf_gots (fronts (gots.Word words.Ask ∷ []) (gots.Word words.States) _ ∙ one action kinds.Node node gots.Node End _ leaf_gots (gots.Word words.Ask ∷ gots.Word words.States ∷ []) (λ t. refl) (λ place r. the_end action (gots.Word words.Ask ∷ gots.Word words.States ∷ gots.Node place ∷ []) (leaves.Both (ops.Ask asks.States place None)) leaf_gots refl r) ts) (refl))))))))))))))
+asks_first action false w ts = row_take (gots.Word words.Ask ∷ []) (bytes_eq w (spelling words.Attr)) _ _ asks.Attr _ ts ask_after leaf_gots (fronts (gots.Word words.Ask ∷ []) (gots.Word words.Attr) _ ∙ one action kinds.Node node gots.Node (One kinds.Chars End) _ leaf_gots (gots.Word words.Ask ∷ gots.Word words.Attr ∷ []) (λ t. refl) (λ target r. one_some action kinds.Chars text gots.Chars End _ leaf_gots (gots.Word words.Ask ∷ gots.Word words.Attr ∷ gots.Node target ∷ []) (λ t. refl) (λ n r2. the_end action (gots.Word words.Ask ∷ gots.Word words.Attr ∷ gots.Node target ∷ gots.Chars n ∷ []) (leaves.Both (ops.Ask asks.Attr target (Some n))) leaf_gots refl r2) r) ts) (row_take (gots.Word words.Ask ∷ []) (bytes_eq w (spelling words.Parent)) _ _ asks.Parent _ ts ask_after leaf_gots (fronts (gots.Word words.Ask ∷ []) (gots.Word words.Parent) _ ∙ one action kinds.Node node gots.Node End _ leaf_gots (gots.Word words.Ask ∷ gots.Word words.Parent ∷ []) (λ t. refl) (λ target r. the_end action (gots.Word words.Ask ∷ gots.Word words.Parent ∷ gots.Node target ∷ []) (leaves.Both (ops.Ask asks.Parent target None)) leaf_gots refl r) ts) (row_take (gots.Word words.Ask ∷ []) (bytes_eq w (spelling words.Kids)) _ _ asks.Kids _ ts ask_after leaf_gots (fronts (gots.Word words.Ask ∷ []) (gots.Word words.Kids) _ ∙ one action kinds.Node node gots.Node End _ leaf_gots (gots.Word words.Ask ∷ gots.Word words.Kids ∷ []) (λ t. refl) (λ target r. the_end action (gots.Word words.Ask ∷ gots.Word words.Kids ∷ gots.Node target ∷ []) (leaves.Both (ops.Ask asks.Kids target None)) leaf_gots refl r) ts) (row_take (gots.Word words.Ask ∷ []) (bytes_eq w (spelling words.State)) _ _ asks.State _ ts ask_after leaf_gots (fronts (gots.Word words.Ask ∷ []) (gots.Word words.State) _ ∙ one action kinds.Node node gots.Node End _ leaf_gots (gots.Word words.Ask ∷ gots.Word words.State ∷ []) (λ t. refl) (λ target r. the_end action (gots.Word words.Ask ∷ gots.Word words.State ∷ gots.Node target ∷ []) (leaves.Both (ops.Ask asks.State target None)) leaf_gots refl r) ts) (row_take (gots.Word words.Ask ∷ []) (bytes_eq w (spelling words.Owner)) _ _ asks.Owner _ ts ask_after leaf_gots (fronts (gots.Word words.Ask ∷ []) (gots.Word words.Owner) _ ∙ one action kinds.Node node gots.Node End _ leaf_gots (gots.Word words.Ask ∷ gots.Word words.Owner ∷ []) (λ t. refl) (λ target r. the_end action (gots.Word words.Ask ∷ gots.Word words.Owner ∷ gots.Node target ∷ []) (leaves.Both (ops.Ask asks.Owner target None)) leaf_gots refl r) ts) (row_take (gots.Word words.Ask ∷ []) (bytes_eq w (spelling words.Controls)) _ _ asks.Controls _ ts ask_after leaf_gots (fronts (gots.Word words.Ask ∷ []) (gots.Word words.Controls) _ ∙ one action kinds.Node node gots.Node End _ leaf_gots (gots.Word words.Ask ∷ gots.Word words.Controls ∷ []) (λ t. refl) (λ target r. the_end action (gots.Word words.Ask ∷ gots.Word words.Controls ∷ gots.Node target ∷ []) (leaves.Both (ops.Ask asks.Controls target None)) leaf_gots refl r) ts) (row_take (gots.Word words.Ask ∷ []) (bytes_eq w (spelling words.Disabled)) _ _ asks.Disabled _ ts ask_after leaf_gots (fronts (gots.Word words.Ask ∷ []) (gots.Word words.Disabled) _ ∙ one action kinds.Node node gots.Node End _ leaf_gots (gots.Word words.Ask ∷ gots.Word words.Disabled ∷ []) (λ t. refl) (λ target r. the_end action (gots.Word words.Ask ∷ gots.Word words.Disabled ∷ gots.Node target ∷ []) (leaves.Both (ops.Ask asks.Disabled target None)) leaf_gots refl r) ts) (row_take (gots.Word words.Ask ∷ []) (bytes_eq w (spelling words.Candidate)) _ _ asks.Candidate _ ts ask_after leaf_gots (fronts (gots.Word words.Ask ∷ []) (gots.Word words.Candidate) _ ∙ one action kinds.Node node gots.Node End _ leaf_gots (gots.Word words.Ask ∷ gots.Word words.Candidate ∷ []) (λ t. refl) (λ target r. the_end action (gots.Word words.Ask ∷ gots.Word words.Candidate ∷ gots.Node target ∷ []) (leaves.Both (ops.Ask asks.Candidate target None)) leaf_gots refl r) ts) (row_take (gots.Word words.Ask ∷ []) (bytes_eq w (spelling words.Valid)) _ _ asks.Valid _ ts ask_after leaf_gots (fronts (gots.Word words.Ask ∷ []) (gots.Word words.Valid) _ ∙ one action kinds.Node node gots.Node End _ leaf_gots (gots.Word words.Ask ∷ gots.Word words.Valid ∷ []) (λ t. refl) (λ target r. the_end action (gots.Word words.Ask ∷ gots.Word words.Valid ∷ gots.Node target ∷ []) (leaves.Both (ops.Ask asks.Valid target None)) leaf_gots refl r) ts) (row_take (gots.Word words.Ask ∷ []) (bytes_eq w (spelling words.Message)) _ _ asks.Message _ ts ask_after leaf_gots (fronts (gots.Word words.Ask ∷ []) (gots.Word words.Message) _ ∙ one action kinds.Node node gots.Node End _ leaf_gots (gots.Word words.Ask ∷ gots.Word words.Message ∷ []) (λ t. refl) (λ target r. the_end action (gots.Word words.Ask ∷ gots.Word words.Message ∷ gots.Node target ∷ []) (leaves.Both (ops.Ask asks.Message target None)) leaf_gots refl r) ts) (row_take (gots.Word words.Ask ∷ []) (bytes_eq w (spelling words.Value)) _ _ asks.Value _ ts ask_after leaf_gots (fronts (gots.Word words.Ask ∷ []) (gots.Word words.Value) _ ∙ one action kinds.Node node gots.Node End _ leaf_gots (gots.Word words.Ask ∷ gots.Word words.Value ∷ []) (λ t. refl) (λ target r. the_end action (gots.Word words.Ask ∷ gots.Word words.Value ∷ gots.Node target ∷ []) (leaves.Both (ops.Ask asks.Value target None)) leaf_gots refl r) ts) (row_take (gots.Word words.Ask ∷ []) (bytes_eq w (spelling words.Saved)) _ _ asks.Saved _ ts ask_after leaf_gots (fronts (gots.Word words.Ask ∷ []) (gots.Word words.Saved) _ ∙ one action kinds.Node node gots.Node End _ leaf_gots (gots.Word words.Ask ∷ gots.Word words.Saved ∷ []) (λ t. refl) (λ target r. the_end action (gots.Word words.Ask ∷ gots.Word words.Saved ∷ gots.Node target ∷ []) (leaves.Both (ops.Ask asks.Saved target None)) leaf_gots refl r) ts) (row_take (gots.Word words.Ask ∷ []) (bytes_eq w (spelling words.Checked)) _ _ asks.Checked _ ts ask_after leaf_gots (fronts (gots.Word words.Ask ∷ []) (gots.Word words.Checked) _ ∙ one action kinds.Node node gots.Node End _ leaf_gots (gots.Word words.Ask ∷ gots.Word words.Checked ∷ []) (λ t. refl) (λ target r. the_end action (gots.Word words.Ask ∷ gots.Word words.Checked ∷ gots.Node target ∷ []) (leaves.Both (ops.Ask asks.Checked target None)) leaf_gots refl r) ts) (row_take (gots.Word words.Ask ∷ []) (bytes_eq w (spelling words.States)) _ _ asks.States _ ts ask_after leaf_gots (fronts (gots.Word words.Ask ∷ []) (gots.Word words.States) _ ∙ one action kinds.Node node gots.Node End _ leaf_gots (gots.Word words.Ask ∷ gots.Word words.States ∷ []) (λ t. refl) (λ target r. the_end action (gots.Word words.Ask ∷ gots.Word words.States ∷ gots.Node target ∷ []) (leaves.Both (ops.Ask asks.States target None)) leaf_gots refl r) ts) (refl))))))))))))))
 
 pub same_ask : (action : List Token → Reads) (ts : List Token) → with_front (gots.Word words.Ask ∷ []) (read action (Pick ask_rows) ts) ≡ shows leaf_gots (ask_of ts)
 same_ask action [] = refl

@@ -90,7 +90,7 @@ all_pairs (suc n) front (t ∷ u ∷ ts) =
     rw (z, k) (pair_got (text t) (text u) front (read_pairs n kinds.Chars ts) (entries_up_to n ts) (λ e. all_pairs n (front ++ gots.Chars e.name ∷ gots.Chars e.value ∷ []) ts))
 
 pub same_form_list : (action : List Token → Reads) (ts : List Token) → with_front (gots.Word words.FormList ∷ []) (read action (One kinds.Node (Pairs 32 kinds.Chars)) ts) ≡ shows leaf_gots (form_list_of ts)
-same_form_list action ts = one action kinds.Node node gots.Node (Pairs 32 kinds.Chars) _ leaf_gots (gots.Word words.FormList ∷ []) (λ t. refl) (λ place rest. all_pairs 32 (gots.Word words.FormList ∷ gots.Node place ∷ []) rest ∙ seen (λ es. gots.Word words.FormList ∷ gots.Node place ∷ pairs es) (λ es. leaves.Both (ops.FormList place es)) leaf_gots (λ es. refl) (entries_up_to 32 rest)) ts
+same_form_list action ts = one action kinds.Node node gots.Node (Pairs 32 kinds.Chars) _ leaf_gots (gots.Word words.FormList ∷ []) (λ t. refl) (λ target rest. all_pairs 32 (gots.Word words.FormList ∷ gots.Node target ∷ []) rest ∙ seen (λ es. gots.Word words.FormList ∷ gots.Node target ∷ pairs es) (λ es. leaves.Both (ops.FormList target es)) leaf_gots (λ es. refl) (entries_up_to 32 rest)) ts
 
 pub by_if : {B : Type 0} (b : Bool) (front : List Got) (see : B → List Got) (x y : Reads) (u v : Result B Bad) → with_front front x ≡ shows see u → with_front front y ≡ shows see v → with_front front (if b then x else y) ≡ shows see (if b then u else v)
 by_if true front see x y u v p q = p
@@ -100,12 +100,12 @@ pub same_user : (action : List Token → Reads) (ts : List Token) → with_front
 same_user action [] = refl
 same_user action (t ∷ ts) = by_if (is_word (spelling words.Edit) t) (gots.Word words.User ∷ []) leaf_gots _ _ _ _ (fronts (gots.Word words.User ∷ []) (gots.Word words.Edit) _ ∙ same_user_edit action ts) (by_if (is_word (spelling words.Check) t) (gots.Word words.User ∷ []) leaf_gots _ _ _ _ (fronts (gots.Word words.User ∷ []) (gots.Word words.Check) _ ∙ same_user_check action ts) (by_if (is_word (spelling words.Choose) t) (gots.Word words.User ∷ []) leaf_gots _ _ _ _ (fronts (gots.Word words.User ∷ []) (gots.Word words.Choose) _ ∙ same_user_choose action ts) (by_if (is_word (spelling words.Reset) t) (gots.Word words.User ∷ []) leaf_gots _ _ _ _ (fronts (gots.Word words.User ∷ []) (gots.Word words.Reset) _ ∙ same_user_reset action ts) (by_if (is_word (spelling words.Restore) t) (gots.Word words.User ∷ []) leaf_gots _ _ _ _ (fronts (gots.Word words.User ∷ []) (gots.Word words.Restore) _ ∙ same_user_restore action ts) (by_if (is_word (spelling words.Autofill) t) (gots.Word words.User ∷ []) leaf_gots _ _ _ _ (fronts (gots.Word words.User ∷ []) (gots.Word words.Autofill) _ ∙ same_user_autofill action ts) (by_if (is_word (spelling words.Press) t) (gots.Word words.User ∷ []) leaf_gots _ _ _ _ (fronts (gots.Word words.User ∷ []) (gots.Word words.Press) _ ∙ same_user_press action ts) (refl)))))))
 
-changes : (action : List Token → Reads) (place : Operand) (ts : List Token) → with_front (gots.Word words.State ∷ gots.Node place ∷ []) (read action (Pick state_rows) ts) ≡ shows leaf_gots (next ts >>= λ change. state_change_of place change.0 change.1)
-changes action place [] = refl
-changes action place (t ∷ ts) = by_if (is_word (spelling words.Add) t) (gots.Word words.State ∷ gots.Node place ∷ []) leaf_gots _ _ _ _ (fronts (gots.Word words.State ∷ gots.Node place ∷ []) (gots.Word words.Add) (read action (One kinds.Chars End) ts) ∙ one action kinds.Chars text gots.Chars End _ leaf_gots (gots.Word words.State ∷ gots.Node place ∷ gots.Word words.Add ∷ []) (λ t. refl) (λ x rest. the_end action (gots.Word words.State ∷ gots.Node place ∷ gots.Word words.Add ∷ gots.Chars x ∷ []) (leaves.Both (ops.StateAdd place x)) leaf_gots refl rest) ts) (by_if (is_word (spelling words.Delete) t) (gots.Word words.State ∷ gots.Node place ∷ []) leaf_gots _ _ _ _ (fronts (gots.Word words.State ∷ gots.Node place ∷ []) (gots.Word words.Delete) (read action (One kinds.Chars End) ts) ∙ one action kinds.Chars text gots.Chars End _ leaf_gots (gots.Word words.State ∷ gots.Node place ∷ gots.Word words.Delete ∷ []) (λ t. refl) (λ x rest. the_end action (gots.Word words.State ∷ gots.Node place ∷ gots.Word words.Delete ∷ gots.Chars x ∷ []) (leaves.Both (ops.StateDelete place x)) leaf_gots refl rest) ts) (by_if (is_word (spelling words.Clear) t) (gots.Word words.State ∷ gots.Node place ∷ []) leaf_gots _ _ _ _ (fronts (gots.Word words.State ∷ gots.Node place ∷ []) (gots.Word words.Clear) (read action End ts) ∙ the_end action (gots.Word words.State ∷ gots.Node place ∷ gots.Word words.Clear ∷ []) (leaves.Both (ops.StateClear place)) leaf_gots refl ts) (refl)))
+changes : (action : List Token → Reads) (target : Operand) (ts : List Token) → with_front (gots.Word words.State ∷ gots.Node target ∷ []) (read action (Pick state_rows) ts) ≡ shows leaf_gots (next ts >>= λ change. state_change_of target change.0 change.1)
+changes action target [] = refl
+changes action target (t ∷ ts) = by_if (is_word (spelling words.Add) t) (gots.Word words.State ∷ gots.Node target ∷ []) leaf_gots _ _ _ _ (fronts (gots.Word words.State ∷ gots.Node target ∷ []) (gots.Word words.Add) (read action (One kinds.Chars End) ts) ∙ one action kinds.Chars text gots.Chars End _ leaf_gots (gots.Word words.State ∷ gots.Node target ∷ gots.Word words.Add ∷ []) (λ t. refl) (λ x rest. the_end action (gots.Word words.State ∷ gots.Node target ∷ gots.Word words.Add ∷ gots.Chars x ∷ []) (leaves.Both (ops.StateAdd target x)) leaf_gots refl rest) ts) (by_if (is_word (spelling words.Delete) t) (gots.Word words.State ∷ gots.Node target ∷ []) leaf_gots _ _ _ _ (fronts (gots.Word words.State ∷ gots.Node target ∷ []) (gots.Word words.Delete) (read action (One kinds.Chars End) ts) ∙ one action kinds.Chars text gots.Chars End _ leaf_gots (gots.Word words.State ∷ gots.Node target ∷ gots.Word words.Delete ∷ []) (λ t. refl) (λ x rest. the_end action (gots.Word words.State ∷ gots.Node target ∷ gots.Word words.Delete ∷ gots.Chars x ∷ []) (leaves.Both (ops.StateDelete target x)) leaf_gots refl rest) ts) (by_if (is_word (spelling words.Clear) t) (gots.Word words.State ∷ gots.Node target ∷ []) leaf_gots _ _ _ _ (fronts (gots.Word words.State ∷ gots.Node target ∷ []) (gots.Word words.Clear) (read action End ts) ∙ the_end action (gots.Word words.State ∷ gots.Node target ∷ gots.Word words.Clear ∷ []) (leaves.Both (ops.StateClear target)) leaf_gots refl ts) (refl)))
 
 pub same_state : (action : List Token → Reads) (ts : List Token) → with_front (gots.Word words.State ∷ []) (read action (One kinds.Node (Pick state_rows)) ts) ≡ shows leaf_gots (state_of ts)
-same_state action ts = one action kinds.Node node gots.Node (Pick state_rows) _ leaf_gots (gots.Word words.State ∷ []) (λ t. refl) (λ place rest. changes action place rest) ts
+same_state action ts = one action kinds.Node node gots.Node (Pick state_rows) _ leaf_gots (gots.Word words.State ∷ []) (λ t. refl) (λ target rest. changes action target rest) ts
 
 disables : (action : List Token → Reads) (class : List ℕ) (ts : List Token) → with_front (gots.Word words.Disable ∷ gots.Class class ∷ []) (read action (Pick (Row words.Shadow End (LastRow words.Internals End))) ts) ≡ shows leaf_gots (next ts >>= λ what. disabled_of class what.0 what.1)
 disables action class [] = refl

@@ -11,15 +11,15 @@ use Rattle.rule_reader.specs.Takes.{take_one, ended}
 
 abbrev pub set_attr_of : List Token → Result Leaf Bad
 set_attr_of ts = do
-  place ← take_one node ts
-  name ← take_one text place.1
+  target ← take_one node ts
+  name ← take_one text target.1
   val ← take_one value name.1
   end ← ended val.1
-  Ok (leaves.Both (ops.SetAttr place.0 name.0 val.0))
+  Ok (leaves.Both (ops.SetAttr target.0 name.0 val.0))
 
 abbrev pub del_attr_of : List Token → Result Leaf Bad
 del_attr_of ts = do
-  place ← take_one node ts
-  name ← take_one text place.1
+  target ← take_one node ts
+  name ← take_one text target.1
   end ← ended name.1
-  Ok (leaves.Both (ops.DelAttr place.0 name.0))
+  Ok (leaves.Both (ops.DelAttr target.0 name.0))

@@ -15,9 +15,9 @@ base_call_of ts = do
 
 abbrev pub return_form_of : List Token → Result Leaf Bad
 return_form_of ts = do
-  place ← maybe node ts
-  end ← ended place.1
-  Ok (leaves.Return place.0)
+  target ← maybe node ts
+  end ← ended target.1
+  Ok (leaves.Return target.0)
 
 abbrev pub throw_of : List Token → Result Leaf Bad
 throw_of ts = do

@@ -14,43 +14,43 @@ use Rattle.rule_reader.specs.Takes.{take_one, maybe, ended, on_off}
 
 abbrev pub reset_of : List Token → Result Leaf Bad
 reset_of ts = do
-  place ← take_one node ts
-  end ← ended place.1
-  Ok (leaves.Both (ops.Reset place.0))
+  target ← take_one node ts
+  end ← ended target.1
+  Ok (leaves.Both (ops.Reset target.0))
 
 abbrev pub value_of : List Token → Result Leaf Bad
 value_of ts = do
-  place ← take_one node ts
-  val ← take_one value place.1
+  target ← take_one node ts
+  val ← take_one value target.1
   end ← ended val.1
-  Ok (leaves.Both (ops.Value place.0 val.0))
+  Ok (leaves.Both (ops.Value target.0 val.0))
 
 abbrev pub check_of : List Token → Result Leaf Bad
 check_of ts = do
-  place ← take_one node ts
-  on ← take_one on_off place.1
+  target ← take_one node ts
+  on ← take_one on_off target.1
   end ← ended on.1
-  Ok (leaves.Both (ops.Check place.0 on.0))
+  Ok (leaves.Both (ops.Check target.0 on.0))
 
 abbrev pub choose_of : List Token → Result Leaf Bad
 choose_of ts = do
-  place ← take_one node ts
-  on ← take_one on_off place.1
+  target ← take_one node ts
+  on ← take_one on_off target.1
   end ← ended on.1
-  Ok (leaves.Both (ops.Choose place.0 on.0))
+  Ok (leaves.Both (ops.Choose target.0 on.0))
 
 abbrev pub submit_of : List Token → Result Leaf Bad
 submit_of ts = do
-  place ← take_one node ts
-  end ← ended place.1
-  Ok (leaves.Both (ops.Submit place.0))
+  target ← take_one node ts
+  end ← ended target.1
+  Ok (leaves.Both (ops.Submit target.0))
 
 abbrev pub request_of : List Token → Result Leaf Bad
 request_of ts = do
-  place ← take_one node ts
-  submitter ← maybe node place.1
+  target ← take_one node ts
+  submitter ← maybe node target.1
   end ← ended submitter.1
-  Ok (leaves.Both (ops.Request place.0 submitter.0))
+  Ok (leaves.Both (ops.Request target.0 submitter.0))
 
 -- the name of an attribute, where one is asked for
 abbrev pub name_for : AskWord → List Token → Result (Option (List ℕ) × List Token) Bad
@@ -64,7 +64,7 @@ asked t = if t.quoted then None else ask_named t.text
 abbrev pub ask_of : List Token → Result Leaf Bad
 ask_of ts = do
   what ← take_one asked ts
-  place ← take_one node what.1
-  name ← name_for what.0 place.1
+  target ← take_one node what.1
+  name ← name_for what.0 target.1
   end ← ended name.1
-  Ok (leaves.Both (ops.Ask what.0 place.0 name.0))
+  Ok (leaves.Both (ops.Ask what.0 target.0 name.0))

@@ -20,6 +20,6 @@ define_of ts = do
 
 abbrev pub upgrade_of : List Token → Result Leaf Bad
 upgrade_of ts = do
-  place ← take_one node ts
-  end ← ended place.1
-  Ok (leaves.Both (ops.Upgrade place.0))
+  target ← take_one node ts
+  end ← ended target.1
+  Ok (leaves.Both (ops.Upgrade target.0))

@@ -17,72 +17,72 @@ use Rattle.rule_reader.specs.Takes.{next, take_one, optional, entries_up_to, end
 
 abbrev pub internals_of : List Token → Result Leaf Bad
 internals_of ts = do
-  place ← take_one node ts
-  end ← ended place.1
-  Ok (leaves.Both (ops.Internals place.0))
+  target ← take_one node ts
+  end ← ended target.1
+  Ok (leaves.Both (ops.Internals target.0))
 
 abbrev pub form_value_of : List Token → Result Leaf Bad
 form_value_of ts = do
-  place ← take_one node ts
-  val ← take_one value place.1
+  target ← take_one node ts
+  val ← take_one value target.1
   saved ← optional keywords.State value val.1
   end ← ended saved.1
-  Ok (leaves.Both (ops.FormValue place.0 val.0 saved.0))
+  Ok (leaves.Both (ops.FormValue target.0 val.0 saved.0))
 
 abbrev pub form_null_of : List Token → Result Leaf Bad
 form_null_of ts = do
-  place ← take_one node ts
-  end ← ended place.1
-  Ok (leaves.Both (ops.FormNull place.0))
+  target ← take_one node ts
+  end ← ended target.1
+  Ok (leaves.Both (ops.FormNull target.0))
 
 abbrev pub validity_of : List Token → Result Leaf Bad
 validity_of ts = do
-  place ← take_one node ts
-  raised ← take_one flags place.1
+  target ← take_one node ts
+  raised ← take_one flags target.1
   message ← take_one value raised.1
   end ← ended message.1
-  Ok (leaves.Both (ops.Validity place.0 (record { 0 = raised.0 }) message.0))
+  Ok (leaves.Both (ops.Validity target.0 (record { 0 = raised.0 }) message.0))
 
 abbrev pub custom_of : List Token → Result Leaf Bad
 custom_of ts = do
-  place ← take_one node ts
-  message ← take_one value place.1
+  target ← take_one node ts
+  message ← take_one value target.1
   end ← ended message.1
-  Ok (leaves.Both (ops.Custom place.0 message.0))
+  Ok (leaves.Both (ops.Custom target.0 message.0))
 
 abbrev pub state_add_of : Operand → List Token → Result Leaf Bad
-state_add_of place ts = do
+state_add_of target ts = do
   word ← take_one text ts
   end ← ended word.1
-  Ok (leaves.Both (ops.StateAdd place word.0))
+  Ok (leaves.Both (ops.StateAdd target word.0))
 
 abbrev pub state_delete_of : Operand → List Token → Result Leaf Bad
-state_delete_of place ts = do
+state_delete_of target ts = do
   word ← take_one text ts
   end ← ended word.1
-  Ok (leaves.Both (ops.StateDelete place word.0))
+  Ok (leaves.Both (ops.StateDelete target word.0))
 
 abbrev pub state_clear_of : Operand → List Token → Result Leaf Bad
-state_clear_of place ts = do
+state_clear_of target ts = do
   end ← ended ts
-  Ok (leaves.Both (ops.StateClear place))
+  Ok (leaves.Both (ops.StateClear target))
 
 -- what the word says that is done to the states
 abbrev pub state_change_of : Operand → Token → List Token → Result Leaf Bad
-state_change_of place t ts =
-    if is_word (spelling words.Add) t then state_add_of place ts
-    else (if is_word (spelling words.Delete) t then state_delete_of place ts
-    else (if is_word (spelling words.Clear) t then state_clear_of place ts
+state_change_of target t ts =
+    if is_word (spelling words.Add) t then state_add_of target ts
+    else (if is_word (spelling words.Delete) t then state_delete_of target ts
+    else (if is_word (spelling words.Clear) t then state_clear_of target ts
     else Err Word))
 
 abbrev pub state_of : List Token → Result Leaf Bad
 state_of ts = do
-  place ← take_one node ts
-  change ← next place.1
-  state_change_of place.0 change.0 change.1
+  target ← take_one node ts
+  change ← next target.1
+  state_change_of target.0 change.0 change.1
 
 abbrev pub form_list_of : List Token → Result Leaf Bad
 form_list_of ts = do
-  place ← take_one node ts
-  entries ← entries_up_to 32 place.1
-  Ok (leaves.Both (ops.FormList place.0 entries))
+  target ← take_one node ts
+  entries ← entries_up_to 32 target.1
+  Ok (leaves.Both (ops.FormList target.0 entries))

@@ -44,52 +44,52 @@ shadow_of ts = do
 abbrev pub append_of : List Token → Result Leaf Bad
 append_of ts = do
   parent ← take_one node ts
-  place ← take_one node parent.1
-  end ← ended place.1
-  Ok (leaves.Both (ops.Append parent.0 place.0))
+  target ← take_one node parent.1
+  end ← ended target.1
+  Ok (leaves.Both (ops.Append parent.0 target.0))
 
 abbrev pub before_of : List Token → Result Leaf Bad
 before_of ts = do
   parent ← take_one node ts
-  place ← take_one node parent.1
-  before ← take_one node place.1
+  target ← take_one node parent.1
+  before ← take_one node target.1
   end ← ended before.1
-  Ok (leaves.Both (ops.Before parent.0 place.0 before.0))
+  Ok (leaves.Both (ops.Before parent.0 target.0 before.0))
 
 abbrev pub remove_of : List Token → Result Leaf Bad
 remove_of ts = do
   parent ← take_one node ts
-  place ← take_one node parent.1
-  end ← ended place.1
-  Ok (leaves.Both (ops.Remove parent.0 place.0))
+  target ← take_one node parent.1
+  end ← ended target.1
+  Ok (leaves.Both (ops.Remove parent.0 target.0))
 
 abbrev pub detach_of : List Token → Result Leaf Bad
 detach_of ts = do
-  place ← take_one node ts
-  end ← ended place.1
-  Ok (leaves.Both (ops.Detach place.0))
+  target ← take_one node ts
+  end ← ended target.1
+  Ok (leaves.Both (ops.Detach target.0))
 
 abbrev pub clone_of : List Token → Result Leaf Bad
 clone_of ts = do
   var ← take_one variable ts
-  place ← take_one node var.1
-  deep ← Ok (marked keywords.Deep place.1)
+  target ← take_one node var.1
+  deep ← Ok (marked keywords.Deep target.1)
   end ← ended deep.1
-  Ok (leaves.Both (ops.Clone var.0 place.0 deep.0))
+  Ok (leaves.Both (ops.Clone var.0 target.0 deep.0))
 
 abbrev pub adopt_of : List Token → Result Leaf Bad
 adopt_of ts = do
   document ← take_one node ts
-  place ← take_one node document.1
-  end ← ended place.1
-  Ok (leaves.Both (ops.Adopt document.0 place.0))
+  target ← take_one node document.1
+  end ← ended target.1
+  Ok (leaves.Both (ops.Adopt document.0 target.0))
 
 abbrev pub let_variable_of : List Token → Result Leaf Bad
 let_variable_of ts = do
   var ← take_one variable ts
-  place ← take_one node var.1
-  end ← ended place.1
-  Ok (leaves.Both (ops.Let var.0 place.0))
+  target ← take_one node var.1
+  end ← ended target.1
+  Ok (leaves.Both (ops.Let var.0 target.0))
 
 abbrev pub doc_of : List Token → Result Leaf Bad
 doc_of ts = do

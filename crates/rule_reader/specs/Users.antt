@@ -13,50 +13,50 @@ use Rattle.rule_reader.specs.Takes.{next, take_one, ended, on_off}
 
 abbrev pub edit_of : List Token → Result Leaf Bad
 edit_of ts = do
-  place ← take_one node ts
-  val ← take_one value place.1
+  target ← take_one node ts
+  val ← take_one value target.1
   end ← ended val.1
-  Ok (leaves.UserEdit place.0 val.0)
+  Ok (leaves.UserEdit target.0 val.0)
 
 abbrev pub check_of : List Token → Result Leaf Bad
 check_of ts = do
-  place ← take_one node ts
-  on ← take_one on_off place.1
+  target ← take_one node ts
+  on ← take_one on_off target.1
   end ← ended on.1
-  Ok (leaves.UserCheck place.0 on.0)
+  Ok (leaves.UserCheck target.0 on.0)
 
 abbrev pub choose_of : List Token → Result Leaf Bad
 choose_of ts = do
-  place ← take_one node ts
-  on ← take_one on_off place.1
+  target ← take_one node ts
+  on ← take_one on_off target.1
   end ← ended on.1
-  Ok (leaves.UserChoose place.0 on.0)
+  Ok (leaves.UserChoose target.0 on.0)
 
 abbrev pub reset_of : List Token → Result Leaf Bad
 reset_of ts = do
-  place ← take_one node ts
-  end ← ended place.1
-  Ok (leaves.UserReset place.0)
+  target ← take_one node ts
+  end ← ended target.1
+  Ok (leaves.UserReset target.0)
 
 abbrev pub restore_of : List Token → Result Leaf Bad
 restore_of ts = do
-  place ← take_one node ts
-  val ← take_one value place.1
+  target ← take_one node ts
+  val ← take_one value target.1
   end ← ended val.1
-  Ok (leaves.UserRestore place.0 val.0)
+  Ok (leaves.UserRestore target.0 val.0)
 
 abbrev pub autofill_of : List Token → Result Leaf Bad
 autofill_of ts = do
-  place ← take_one node ts
-  val ← take_one value place.1
+  target ← take_one node ts
+  val ← take_one value target.1
   end ← ended val.1
-  Ok (leaves.UserAutofill place.0 val.0)
+  Ok (leaves.UserAutofill target.0 val.0)
 
 abbrev pub press_of : List Token → Result Leaf Bad
 press_of ts = do
-  place ← take_one node ts
-  end ← ended place.1
-  Ok (leaves.UserPress place.0)
+  target ← take_one node ts
+  end ← ended target.1
+  Ok (leaves.UserPress target.0)
 
 -- what the word says that the user does
 abbrev pub deed_of : Token → List Token → Result Leaf Bad

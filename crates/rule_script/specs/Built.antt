@@ -34,15 +34,15 @@ abbrev pub is_built_op : Op → Bool
 is_built_op (ops.Create var local None document) = true
 is_built_op (ops.MakeText var chars document) = true
 is_built_op (ops.Shadow var host) = true
-is_built_op (ops.Append parent place) = true
-is_built_op (ops.Before parent place child) = true
-is_built_op (ops.Remove parent place) = true
-is_built_op (ops.Detach place) = true
-is_built_op (ops.SetAttr place name val) = true
-is_built_op (ops.DelAttr place name) = true
+is_built_op (ops.Append parent target) = true
+is_built_op (ops.Before parent target child) = true
+is_built_op (ops.Remove parent target) = true
+is_built_op (ops.Detach target) = true
+is_built_op (ops.SetAttr target name val) = true
+is_built_op (ops.DelAttr target name) = true
 is_built_op (ops.Define name class None) = true
-is_built_op (ops.Ask word place name) = is_built_word word
-is_built_op (ops.Let var place) = true
+is_built_op (ops.Ask word target name) = is_built_word word
+is_built_op (ops.Let var target) = true
 is_built_op _ = false
 
 abbrev pub is_built_command : Cmd → Bool

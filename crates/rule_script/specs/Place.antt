@@ -28,13 +28,13 @@ use Rattle.rule_reader.specs.Gots.{leaf_gots}
 abbrev pub said_at_top : Leaf → Option Said
 said_at_top (leaves.Both op) = Some (Command (commands.Both op))
 said_at_top (leaves.Doc var) = Some (Command (commands.Doc var))
-said_at_top (leaves.UserEdit place (values.Fixed text)) = Some (Command (commands.UserEdit place text))
-said_at_top (leaves.UserCheck place on) = Some (Command (commands.UserCheck place on))
-said_at_top (leaves.UserChoose place on) = Some (Command (commands.UserChoose place on))
+said_at_top (leaves.UserEdit target (values.Fixed text)) = Some (Command (commands.UserEdit target text))
+said_at_top (leaves.UserCheck target on) = Some (Command (commands.UserCheck target on))
+said_at_top (leaves.UserChoose target on) = Some (Command (commands.UserChoose target on))
 said_at_top (leaves.UserReset form) = Some (Command (commands.UserReset form))
-said_at_top (leaves.UserRestore place (values.Fixed text)) = Some (Command (commands.UserRestore place text))
-said_at_top (leaves.UserAutofill place (values.Fixed text)) = Some (Command (commands.UserAutofill place text))
-said_at_top (leaves.UserPress place) = Some (Command (commands.UserPress place))
+said_at_top (leaves.UserRestore target (values.Fixed text)) = Some (Command (commands.UserRestore target text))
+said_at_top (leaves.UserAutofill target (values.Fixed text)) = Some (Command (commands.UserAutofill target text))
+said_at_top (leaves.UserPress target) = Some (Command (commands.UserPress target))
 said_at_top (leaves.Class name) = Some (Declares (acts.Class name))
 said_at_top (leaves.Has class call) = Some (Declares (acts.Has class call))
 said_at_top (leaves.Observe class names) = Some (Declares (acts.Observe class names))
@@ -48,7 +48,7 @@ abbrev pub said_in_body : Leaf → Option Act
 said_in_body (leaves.Both op) = Some (acts.Both op)
 said_in_body (leaves.Log vals) = Some (acts.Log vals)
 said_in_body leaves.Super = Some acts.Super
-said_in_body (leaves.Return place) = Some (acts.Return place)
+said_in_body (leaves.Return target) = Some (acts.Return target)
 said_in_body (leaves.Throw val) = Some (acts.Throw val)
 said_in_body leaves.Bump = Some acts.Bump
 said_in_body (leaves.Keep val) = Some (acts.Keep val)
@@ -91,7 +91,7 @@ is_of_body _ = true
 
 -- `this`, or a value with @
 abbrev pub names_body : Got → Bool
-names_body (gots.Node place) = is_this place
+names_body (gots.Node target) = is_this target
 names_body (gots.Value val) = is_of_body val
 names_body _ = false
 
