@@ -1,5 +1,5 @@
 -- The body of a callback, action by action.
-use Rattle.std.proofs.Common.{◌≡◌, ◌≤◌, ◌<◌, ◌+◌, ℕ, suc, Bool, List, ◌∷◌, length, get_or, drop, map, sym, ap, subst, ◌∙◌, add-one, drop-cons, Some}
+use Rattle.std.proofs.Common.{◌≡◌, ◌≤◌, ◌<◌, ◌+◌, ℕ, suc, Bool, List, ◌∷◌, length, get_or, drop, map, sym, ap, subst, ◌∙◌, add-one, drop-cons}
 use Rattle.std.specs.Prelude.{Err}
 use Rattle.std.proofs.lemmas.List.{drop_all}
 use Rattle.std.specs.declared.option.Option.{Option}

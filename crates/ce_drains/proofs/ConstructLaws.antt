@@ -14,7 +14,7 @@ use Rattle.ce_algorithms.specs.Operands.{no_args}
 use Rattle.ce_algorithms.specs.Model.{model}
 use Rattle.ce_algorithms.specs.Page.{Work, definition_at, or_no_definition, read_page}
 use Rattle.ce_algorithms.specs.State.{State, class_of, logged, on_page}
-use Rattle.ce_algorithms.specs.Steps.{Step, Outcome, Goes, Throws, Spent, ◌>>=◌, found, then_do, give}
+use Rattle.ce_algorithms.specs.Steps.{Step, Outcome, ◌>>=◌, found, then_do, give}
 use Rattle.ce_page.specs.Ends.{Ends}
 use Rattle.ce_page.specs.Parts.{empty_stacks}
 use Rattle.ce_page.specs.declared.stop.PageStop.{PageStop}

@@ -1,6 +1,6 @@
 -- What draining writes, one reaction after another.
-use Rattle.std.proofs.Common.{◌≡◌, ◌<◌, ◌≤◌, ℕ, suc, Bool, true, false, List, [], ◌∷◌, length, Option, Some, None, refl, sym, ap, ◌∙◌, subst, arith}
-use Rattle.std.specs.Prelude.{Result, Ok, Err, MatchOption, IfSome, not, if◌then◌else◌}
+use Rattle.std.proofs.Common.{◌≡◌, ◌<◌, ℕ, suc, Bool, true, false, List, [], ◌∷◌, length, Option, Some, None, refl, sym, ap, ◌∙◌, subst, arith}
+use Rattle.std.specs.Prelude.{Result, Ok, Err, MatchOption, IfSome, if◌then◌else◌}
 use Rattle.rule_lines.specs.Acts.{Act}
 use Rattle.ce_base.specs.Outside.{AppendsPart}
 use Rattle.reaction_queue.specs.declared.reaction.Reaction.{Reaction}
@@ -13,7 +13,7 @@ use Rattle.ce_algorithms.specs.declared.event.Event.TheVariants.{Started, Finish
 use Rattle.ce_algorithms.specs.declared.event.Given.TheVariants.{Nothing}
 use Rattle.ce_algorithms.specs.Body.{body}
 use Rattle.ce_algorithms.specs.Calls.{DrainRest, DrainBackup}
-use Rattle.ce_algorithms.specs.Drain.{actions_for, log_call, call_back, run_calls, run_reaction, report, react, drain, drain_backup, drain_all_backup, drain_popped, checkpoint, with_backup}
+use Rattle.ce_algorithms.specs.Drain.{actions_for, log_call, call_back, run_calls, run_reaction, report, react, drain, drain_backup, drain_popped, with_backup}
 use Rattle.ce_algorithms.specs.Enqueue.{has_what}
 use Rattle.ce_algorithms.specs.Model.{model}
 use Rattle.ce_algorithms.specs.Operands.{Args, args_of}

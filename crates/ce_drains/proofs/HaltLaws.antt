@@ -1,5 +1,5 @@
 -- How a step ends that another stands before or behind: one lemma for all the ends.
-use Rattle.std.proofs.Common.{◌≡◌, ℕ, Bool, List, Option, refl, ap, sym, ◌∙◌, subst}
+use Rattle.std.proofs.Common.{ℕ, Bool, List, Option, refl, sym, subst}
 use Rattle.std.specs.Prelude.{Result, Ok, Err}
 use Rattle.ce_base.specs.Outside.{AppendsPart}
 use Rattle.ce_algorithms.specs.Session.{log_of}

@@ -1,5 +1,5 @@
 -- The numbers that variables hold.
-use Rattle.std.proofs.Common.{◌≡◌, ◌<◌, ◌≤◌, ℕ, zero, suc, Bool, true, false, cond, List, [], ◌∷◌, ◌++◌, arith, Option, Some, None}
+use Rattle.std.proofs.Common.{◌<◌, ◌≤◌, ℕ, zero, suc, Bool, true, false, cond, List, [], ◌∷◌, ◌++◌, arith, Option, Some, None}
 use Rattle.std.specs.Prelude.{max, slice_set, bytes_eq, option_map, IfSome}
 use Rattle.std.specs.List.{find}
 use Rattle.ce_algorithms.specs.State.{value_of}

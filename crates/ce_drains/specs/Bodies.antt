@@ -1,5 +1,5 @@
 -- The bodies of a class: so far each of their actions is a `log`.
-use Rattle.std.specs.Prelude.{◌≡◌, ℕ, [], List, map}
+use Rattle.std.specs.Prelude.{◌≡◌, [], List, map}
 use Rattle.rule_tokens.specs.declared.callback.CallName.{CallName}
 use Rattle.rule_tokens.specs.declared.operand.Val.{Val}
 use Rattle.rule_lines.specs.Acts.{Act, Log}

@@ -10,7 +10,7 @@ use Rattle.ce_algorithms.specs.Drain.{checkpoint}
 use Rattle.ce_algorithms.specs.Model.{model}
 use Rattle.ce_algorithms.specs.Session.{perform, command, reply, log_of}
 use Rattle.ce_algorithms.specs.State.{State, log, logged, spend}
-use Rattle.ce_algorithms.specs.Steps.{Step, Outcome, Goes, then_do, ◌>>◌, attempt_in}
+use Rattle.ce_algorithms.specs.Steps.{Step, Goes, then_do, ◌>>◌, attempt_in}
 use Rattle.ce_algorithms.specs.Text.{text}
 use Rattle.ce_algorithms.specs.Written.{Did}
 use Rattle.ce_algorithms.proofs.Framed.{Framed, framed_log, framed_seq}

@@ -1,7 +1,6 @@
 -- A look-up without an `is` value finds an autonomous definition.
-use Rattle.std.proofs.Common.{◌≡◌, ◌<◌, refl, ℕ, Bool, true, false, List, Option, Some, None, sym, ap, ◌∙◌, get_or}
-use Rattle.std.specs.Prelude.{bytes_eq, slice_get, ◌&&◌, if◌then◌else◌}
-use Rattle.std.specs.List.{position}
+use Rattle.std.proofs.Common.{◌≡◌, refl, ℕ, Bool, true, false, List, Option, Some, None, sym, ap, ◌∙◌, get_or}
+use Rattle.std.specs.Prelude.{bytes_eq, ◌&&◌, if◌then◌else◌}
 use Rattle.std.proofs.lemmas.List.Quantifiers.{position-Some}
 use Rattle.std.proofs.lemmas.Option.{slice_get-get_or}
 use Rattle.std.proofs.lemmas.Slice.Eq.{bytes_eq-Decides}

@@ -8,8 +8,7 @@ use Rattle.node_trees.specs.Nodes.{IsNode, IsNodeOrNone}
 use Rattle.node_trees.specs.Spots.{kind_at}
 use Rattle.node_trees.specs.Trees.{Trees}
 use Rattle.rule_lines.specs.declared.op.Op.{Op}
-use Rattle.std.specs.declared.option.Option.{Option}
-use Rattle.std.specs.Prelude.{ℕ, None}
+use Rattle.std.specs.Prelude.{None}
 use Rattle.ce_algorithms.specs.Attributes.{remove_attribute}
 use Rattle.ce_algorithms.specs.Drain.{reacting}
 use Rattle.ce_algorithms.specs.Model.{model}

@@ -2,7 +2,7 @@
 use Rattle.std.proofs.Common.{◌≡◌, ℕ, zero, suc, ◌+◌, ◌-◌, Bool, true, false, List, [], ◌∷◌, ◌++◌, refl, ap, sym, ◌∙◌, Option, Some, None, MatchOption, IfSome}
 use Rattle.std.specs.Prelude.{◌&&◌}
 use Rattle.reaction_queue.specs.declared.reaction.Reaction.{Reaction}
-use Rattle.reaction_queue.specs.Queues.{Queues, Open, ahead, list_at, with_list, waiting_at, with_waiting, counted, with_reaction, appended_to, enqueued, current, number_of}
+use Rattle.reaction_queue.specs.Queues.{Queues, Open, ahead, list_at, with_list, waiting_at, with_waiting, counted, with_reaction, appended_to, enqueued}
 use Rattle.reaction_queue.specs.Changes.{DropsFirst}
 use Rattle.ce_page.specs.Callbacks.{is_callback, are_callbacks, all_callbacks}
 

@@ -1,17 +1,13 @@
 -- A node that was taken out of where it stood.
-use Rattle.std.proofs.Common.{◌≡◌, ◌≢◌, ℕ, ◌==◌, ◌&&◌, Bool, true, false, if◌then◌else◌, Option, Some, None, ap, sym, ◌∙◌, subst, inl, inr, arith}
-use Rattle.std.specs.Prelude.{◌||◌, not}
+use Rattle.std.proofs.Common.{◌≡◌, ◌≢◌, ℕ, ◌==◌, if◌then◌else◌, Option, Some, None, sym, subst, inl, inr, arith}
 use Rattle.std.proofs.lemmas.Bool.{cases_eq}
 use Rattle.std.proofs.lemmas.Bool.Decides.{nat_tests}
-use Rattle.ce_base.specs.declared.fault.Fault.TheVariants.{HierarchyRequestError, NotFoundError}
-use Rattle.node_trees.specs.Facts.{is_document, is_text, is_shadow_root}
-use Rattle.node_trees.specs.Trees.{Trees, is_number}
-use Rattle.node_trees.specs.Spots.{parent_at, kind_at, next_sibling_at}
-use Rattle.node_trees.specs.Paths.{path, is_among}
-use Rattle.node_trees.specs.Insertion.{may_insert, is_child_or_none, has_element_child}
-use Rattle.node_trees.specs.Nodes.{IsNode, IsNodeOrNone, size}
+use Rattle.node_trees.specs.Trees.{Trees}
+use Rattle.node_trees.specs.Spots.{parent_at, next_sibling_at}
+use Rattle.node_trees.specs.Insertion.{may_insert}
+use Rattle.node_trees.specs.Nodes.{IsNode}
 use Rattle.ce_algorithms.specs.Mutation.{reference_child}
-use Rattle.ce_page.specs.Loose.{IsLoosed, SamePlaces}
+use Rattle.ce_page.specs.Loose.{IsLoosed}
 
 here : (m n : ℕ) (a b : Option ℕ) → m ≡ n → (if m == n then a else b) ≡ a
 here m n a b e = grind (arith, nat_tests)

@@ -2,7 +2,6 @@
 use Rattle.std.proofs.Common.{◌≡◌, ◌≢◌, ℕ, ◌+◌, ◌-◌, ◌<◌, List, [], ◌∷◌, ◌++◌, Option, Some, None, refl, ap, sym, ◌∙◌, arith, inl, inr, true, false, length-append}
 use Rattle.std.proofs.lemmas.Bool.Decides.{nat_tests}
 use Rattle.std.proofs.lemmas.Bool.{cases_eq}
-use Rattle.std.proofs.lemmas.Option.{slice_get_within}
 use Rattle.node_trees.specs.Facts.{Facts, is_element, is_shadow_root}
 use Rattle.node_trees.specs.Trees.{Trees, none, tree, roots, tree_of, without, single, with_node, with_shadow, with_facts, cut, graft}
 use Rattle.node_trees.specs.Spots.{Spot, spot, spot_of, parent_at, kind_at}

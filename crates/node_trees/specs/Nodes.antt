@@ -1,7 +1,7 @@
 -- The nodes of a forest, and what holds of each forest that is built up by making, inserting and removing.
-use Rattle.std.specs.Prelude.{◌≡◌, ℕ, Bool, true, false, not, ◌==◌, ◌&&◌, ◌||◌, ◌+◌, ◌<◌, ◌≤◌, if◌then◌else◌, Option, Some, None, ⊤, [], length}
+use Rattle.std.specs.Prelude.{◌≡◌, ℕ, Bool, true, false, not, ◌==◌, ◌||◌, ◌+◌, ◌<◌, ◌≤◌, if◌then◌else◌, Option, Some, None, ⊤, [], length}
 use Rattle.std.specs.Option.{option_to_list}
-use Rattle.node_trees.specs.Facts.{Facts, is_document, is_element, is_text, is_shadow_root}
+use Rattle.node_trees.specs.Facts.{Facts, is_element, is_text, is_shadow_root}
 use Rattle.node_trees.specs.declared.kind.NodeKind.{NodeKind}
 use Rattle.node_trees.specs.Trees.{Trees, none, tree}
 

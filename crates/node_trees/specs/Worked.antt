@@ -1,5 +1,5 @@
 -- A page's trees, worked through.
-use Rattle.std.specs.Prelude.{ℕ, List, [], ◌∷◌, Option, Some, None, codes}
+use Rattle.std.specs.Prelude.{ℕ, List, None, codes}
 use Rattle.node_trees.specs.declared.kind.NodeKind.TheVariants.{Document, ShadowRoot}
 use Rattle.node_trees.specs.Facts.{Facts, blank, new_element, new_text}
 use Rattle.node_trees.specs.Trees.{Trees, none, tree, single, with_attribute}

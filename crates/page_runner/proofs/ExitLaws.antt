@@ -21,7 +21,7 @@ use Rattle.page_runner.specs.Ran.{Answered, answers, fresh}
 use Rattle.page_runner.specs.Sitting.{Sitting}
 use Rattle.page_runner.specs.Table.{limit, piece, counted, spends_all, Row, TakesOnlyNeeded, RunMeets, status_at, status_of_stop}
 use Rattle.page_runner.specs.declared.status.Status.{Status}
-use Rattle.page_runner.specs.declared.status.Status.TheVariants.{Done, BadLines, Usage, Fuel, ReadFault, NoMemory, TooLong}
+use Rattle.page_runner.specs.declared.status.Status.TheVariants.{Done, BadLines, Usage, Fuel, ReadFault, TooLong}
 use Rattle.page_runner.specs.declared.words.Settings.{Settings}
 use Rattle.page_runner.specs.declared.words.Meaning.TheVariants.{Refused, Script}
 use Rattle.page_runner.proofs.SittingLaws.{ran_answers}

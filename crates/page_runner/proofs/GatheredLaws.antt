@@ -4,7 +4,6 @@ use Rattle.std.specs.Io.KnownBytes.{Appends, Keeps}
 use Rattle.std.specs.declared.option.Option.{Option}
 use Rattle.ce_base.specs.Gathered.{behind, count_of}
 use Rattle.ce_base.specs.Outside.{AppendsPart}
-use Rattle.ce_algorithms.specs.Text.{text}
 use Rattle.ce_machine.specs.declared.end.End.{End}
 use Rattle.page_runner.specs.Ran.{Answered, answers}
 use Rattle.page_runner.specs.Sitting.{Sitting}

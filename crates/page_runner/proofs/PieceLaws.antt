@@ -1,6 +1,6 @@
 -- What a run has done between two reads, and what a piece adds.
-use Rattle.std.proofs.Common.{◌≡◌, ◌≢◌, ◌≤◌, ◌+◌, ◌-◌, ◌⊎◌, min, nat_le, cond, inl, inr, ℕ, true, false, List, [], ◌++◌, length, take, drop, refl, sym, ap, subst, ◌∙◌, append-nil, arith, length-append, length-take-le, All}
-use Rattle.std.proofs.KnownBytes.{Consumes-nil, Consumes-trans}
+use Rattle.std.proofs.Common.{◌≡◌, ◌≢◌, ◌≤◌, ◌+◌, ◌-◌, ◌⊎◌, min, nat_le, cond, inl, inr, ℕ, true, false, List, [], ◌++◌, length, take, drop, sym, ap, subst, ◌∙◌, append-nil, arith, length-append, length-take-le, All}
+use Rattle.std.proofs.KnownBytes.{Consumes-trans}
 use Rattle.std.proofs.lemmas.Grind.{common_steps}
 use Rattle.std.proofs.lemmas.List.{take-append-le, take-append-drop}
 use Rattle.std.proofs.Math.ListN.{drop_of_length-le}
@@ -16,7 +16,7 @@ use Rattle.page_runner.specs.Sitting.{Sitting}
 use Rattle.page_runner.specs.Table.{limit, counted}
 use Rattle.page_runner.specs.declared.words.Settings.{Settings}
 use Rattle.page_runner.proofs.LineLaws.{whole_lines-piece, last_part-piece}
-use Rattle.page_runner.proofs.SittingLaws.{answered_nothing, answered_more, answered_part}
+use Rattle.page_runner.proofs.SittingLaws.{answered_more, answered_part}
 
 -- the whole lines of what was taken were run and answered, and what stands behind them is in the feed
 pub record Streamed (set : Settings) (left left' held held' : Option (List ℕ)) (s : Sitting) (feed : List ℕ) (count : ℕ) : Type 0 where

@@ -7,7 +7,7 @@ use Rattle.std.proofs.lemmas.List.Folds.{list_any-append}
 use Rattle.std.specs.Io.KnownBytes.{Appends}
 use Rattle.std.specs.List.{list_any}
 use Rattle.std.specs.declared.option.Option.{Option}
-use Rattle.ce_base.specs.Outside.{AppendsPart, IsPrefix}
+use Rattle.ce_base.specs.Outside.{AppendsPart}
 use Rattle.rule_script.specs.Reading.{reading}
 use Rattle.ce_algorithms.specs.declared.event.Event.{Event}
 use Rattle.ce_algorithms.specs.Model.{model}

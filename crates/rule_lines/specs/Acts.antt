@@ -1,6 +1,5 @@
 -- What an action does, without where an inner action lies in memory.
 use Rattle.std.specs.Prelude.{ℕ, List, Bool, Option}
-use Rattle.ce_base.specs.declared.flags.Flags.{Flags}
 use Rattle.rule_tokens.specs.declared.callback.CallName.{CallName}
 use Rattle.rule_tokens.specs.declared.operand.Operand.{Operand}
 use Rattle.rule_tokens.specs.declared.operand.Val.{Val}

@@ -1,5 +1,5 @@
 -- What the tokens of a line are read as tells the form: it can be had back.
-use Rattle.std.proofs.Common.{◌≡◌, ◌<◌, ◌+◌, ℕ, zero, suc, length, arith, Bool, true, false, List, [], ◌∷◌, ◌++◌, map, Option, Some, None, refl, sym, ap, ◌∙◌}
+use Rattle.std.proofs.Common.{◌≡◌, ◌<◌, ◌+◌, ℕ, zero, suc, length, arith, Bool, true, false, List, [], ◌∷◌, map, Option, Some, None, refl, sym, ap, ◌∙◌}
 use Rattle.ce_base.specs.declared.entries.Entry.{Entry}
 use Rattle.ce_base.specs.declared.flags.Flags.{Flags}
 use Rattle.rule_tokens.specs.declared.callback.CallName.{CallName}
@@ -20,7 +20,7 @@ use Rattle.rule_reader.specs.declared.form.Leaf.TheVariants as leaves
 use Rattle.rule_reader.specs.declared.form.Wrap.{Wrap}
 use Rattle.rule_reader.specs.declared.form.Wrap.TheVariants as wraps
 use Rattle.rule_reader.specs.declared.pieces.Form.{Form}
-use Rattle.rule_reader.specs.Gots.{pairs, named, ask_as, leaf_gots, wraps_gots, form_gots}
+use Rattle.rule_reader.specs.Gots.{pairs, named, ask_as, leaf_gots, wraps_gots}
 use Rattle.rule_reader.specs.Laws.{OperandsTellForms}
 use Rattle.rule_reader.specs.Pieces.{form}
 

@@ -9,7 +9,7 @@ use Rattle.rule_tokens.specs.declared.token.Token.{Token}
 use Rattle.rule_tokens.specs.Gives.{◌>>=◌, with_front, or_word}
 use Rattle.rule_tokens.specs.Operands.{is_word, node, class_name, text, value}
 use Rattle.rule_lines.specs.declared.op.Op.TheVariants as ops
-use Rattle.rule_forms.specs.Grammar.{said_as, Wants, End, One, Pick, Many, Pairs, Rows, LastRow, Row}
+use Rattle.rule_forms.specs.Grammar.{said_as, End, One, Pick, Many, Pairs, LastRow, Row}
 use Rattle.rule_forms.specs.Read.{Reads, then_got, read_many, read_pairs, read}
 use Rattle.rule_forms.specs.Rows.{state_rows, user_rows}
 use Rattle.rule_forms.specs.Words.{spelling}

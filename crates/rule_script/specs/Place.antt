@@ -11,7 +11,7 @@ use Rattle.rule_tokens.specs.declared.operand.Val.TheVariants as values
 use Rattle.rule_tokens.specs.declared.refused.Bad.{Bad}
 use Rattle.rule_tokens.specs.declared.refused.Bad.TheVariants as bad
 use Rattle.rule_lines.specs.declared.line.Cmd.TheVariants as commands
-use Rattle.rule_lines.specs.Acts.{Act, Part, Said, Command, Declares}
+use Rattle.rule_lines.specs.Acts.{Act, Said, Command, Declares}
 use Rattle.rule_lines.specs.Acts as acts
 use Rattle.rule_forms.specs.declared.got.Got.{Got}
 use Rattle.rule_forms.specs.declared.got.Got.TheVariants as gots

@@ -1,4 +1,4 @@
-use Rattle.std.proofs.Common.{refl, sym}
+use Rattle.std.proofs.Common.{sym}
 use Rattle.ce_page.specs.Ends.{work}
 use Rattle.ce_drains.proofs.ConstructLaws.{base_makes}
 use Rattle.ce_drains.proofs.construct.base_call.Goals as goal

@@ -1,4 +1,4 @@
-use Rattle.std.proofs.Common.{◌∙◌, ap, ◌≡◌, ℕ, List}
+use Rattle.std.proofs.Common.{◌∙◌, ap, ℕ, List}
 use Rattle.ce_algorithms.specs.declared.event.Event.TheVariants.{Logged}
 use Rattle.ce_algorithms.specs.State.{logged}
 use Rattle.ce_drains.proofs.state.State.act.Goals as goal

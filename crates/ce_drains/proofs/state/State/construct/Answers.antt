@@ -1,4 +1,4 @@
-use Rattle.std.proofs.Common.{◌∙◌, ap, ◌≡◌, ℕ, List}
+use Rattle.std.proofs.Common.{◌∙◌, ap, ℕ, List}
 use Rattle.ce_algorithms.specs.declared.event.Event.TheVariants.{Construct}
 use Rattle.ce_algorithms.specs.Construction.{base_call}
 use Rattle.ce_algorithms.specs.State.{logged}

@@ -1,4 +1,3 @@
-use Rattle.std.proofs.Common.{◌∙◌, ap, sym}
 use Rattle.ce_algorithms.specs.Mutation.{pre_insert}
 use Rattle.ce_drains.specs.Steps.{after_call}
 use Rattle.ce_drains.proofs.PageLaws.{page_ends}

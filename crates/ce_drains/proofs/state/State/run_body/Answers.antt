@@ -1,4 +1,4 @@
-use Rattle.std.proofs.Common.{◌≡◌, ◌∙◌, ap, arith, Some}
+use Rattle.std.proofs.Common.{◌∙◌, ap, arith, Some}
 use Rattle.std.proofs.lemmas.Result.{err_from_is_err_and}
 use Rattle.ce_algorithms.specs.State.{State}
 use Rattle.ce_algorithms.proofs.Writing.{did_front}

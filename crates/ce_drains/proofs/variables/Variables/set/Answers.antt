@@ -1,5 +1,3 @@
-use Rattle.std.proofs.Common.{◌≡◌, ap}
-use Rattle.ce_drains.specs.Variables.{highest}
 use Rattle.ce_drains.proofs.VariableLaws.{highest-append, highest-set, positive-append, positive-set}
 use Rattle.ce_drains.proofs.variables.Variables.set.Goals as goal
 
