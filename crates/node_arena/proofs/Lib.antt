@@ -22,6 +22,7 @@ pub mod AllowedCut
 pub mod PutSpots
 pub mod GraftReads
 pub mod Connected
+pub mod ConnectedBelow
 pub mod Sizes
 pub mod NewReads
 pub mod ShadowReads

@@ -1,6 +1,7 @@
 // The shadow-including order.
 ghost use Rattle.std.specs.Prelude.{◌≡◌, ◌++◌, reverse, OnOk, IfOk, All};
 ghost use Rattle.node_trees.specs.Orders.{order_of};
+ghost use Rattle.node_trees.specs.Paths.{connected};
 ghost use Rattle.node_trees.specs.Nodes.{IsNode};
 ghost use Rattle.node_arena.specs.Nodes.{row};
 
@@ -35,10 +36,12 @@ fn push_links(stack: &mut Vec<NodeNo>, node: &Node) -> Result<(), NoMemory>
 impl Tree {
     /// The node and all below it in shadow-including tree order (DOM Standard, section "Shadow tree",
     /// "shadow-including tree order"): a node, then its shadow tree, then its children, each in this order.
+    /// They are all connected, or none is.
     pub fn shadow_order(&self, alloc: Global, n: NodeNo) -> Result<Nodes, NoMemory>
         requires { IsNode self.now n }
         ensures order { IfOk result (λ ns. ns ≡ order_of self.now n) }
         ensures nodes { IfOk result (All (IsNode self.now)) }
+        ensures connected { IfOk result (All (λ m. connected self.now m ≡ connected self.now n)) }
     {
         let mut out = Nodes::make(alloc);
         let mut todo = Vec::new(alloc);

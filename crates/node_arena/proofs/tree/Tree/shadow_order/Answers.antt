@@ -1,3 +1,6 @@
+use Rattle.std.proofs.Common.{arith}
+use Rattle.std.proofs.lemmas.Grind.{common_steps}
+use Rattle.node_arena.proofs.ConnectedBelow.{all_connected}
 use Rattle.node_arena.proofs.WalkLemmas.{walk_on, walk_less, walk_nodes, walk_out, all_nodes}
 use Rattle.node_arena.proofs.tree.Tree.shadow_order.Goals as goal
 
@@ -9,7 +12,11 @@ loop-m-preserved c = record {
   so_far = walk_on _ c.in-Some.m _ _ _ c.push_links.new.stack.items c.in-Some.ensures.items c.in_ok-push_links.ensures _ _ _ c.node-node.ensures.walk c.in_ok-push-2.ensures c.loop-m.invariant.so_far;
   left = walk_nodes _ c.in-Some.m _ _ _ c.push_links.new.stack.items c.in-Some.ensures.items c.in_ok-push_links.ensures c.loop-m.invariant.left c.node-node.ensures.links;
   out = walk_out _ c.in-Some.m _ _ _ c.push_links.new.stack.items c.in-Some.ensures.items c.in_ok-push_links.ensures _ _ c.loop-m.invariant.left c.in_ok-push-2.ensures c.loop-m.invariant.out;
+  tidy = λ some. c.node-node.ensures.tidy;
 }
 
 pub returns-clause-nodes : goal.returns-clause-nodes
 returns-clause-nodes c = all_nodes _ _ c.loop-m.invariant.out
+
+pub returns-clause-connected : goal.returns-clause-connected
+returns-clause-connected c = all_connected _ _ _ c.requires c.loop-m.invariant.tidy (grind (arith, common_steps))

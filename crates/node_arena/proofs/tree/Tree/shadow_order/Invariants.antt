@@ -1,7 +1,8 @@
-use Rattle.std.proofs.Common.{◌≡◌, ◌++◌, length}
+use Rattle.std.proofs.Common.{◌≡◌, ◌++◌, ◌<◌, length}
 use Rattle.std.specs.Prelude.{reverse}
 use Rattle.node_trees.specs.Trees.{tree_of}
 use Rattle.node_trees.specs.Orders.{order}
+use Rattle.node_trees.specs.Nodes.{IsTidy}
 use Rattle.node_arena.specs.Walks.{AreNodes, orders}
 use Rattle.node_arena.proofs.tree.Tree.shadow_order.Given as goal
 
@@ -10,6 +11,7 @@ invariant-loop-m l = record {
   so_far : l.out ++ orders l.self (reverse l.todo.items) ≡ order (tree_of l.fn.n l.self);
   left : AreNodes l.self (reverse l.todo.items);
   out : AreNodes l.self l.out;
+  tidy : 0 < length l.out → IsTidy l.self;
 }
 
 abbrev pub decreases-loop-m : goal.decreases-loop-m
