@@ -1,6 +1,7 @@
 // Insertion.
 ghost use Rattle.std.specs.Prelude.{◌≡◌, ◌+◌, ◌<◌, ◌^◌, [], None, All};
 ghost use Rattle.node_trees.specs.Spots.{parent_at};
+ghost use Rattle.node_trees.specs.Paths.{connected};
 ghost use Rattle.node_trees.specs.Insertion.{may_insert};
 ghost use Rattle.node_trees.specs.Nodes.{IsNode, IsNodeOrNone};
 ghost use Rattle.ce_algorithms.specs.Steps.{for_each};
@@ -83,19 +84,22 @@ impl Page {
         ensures refused { NeverRefuses result }
     {
         self.tree.insert(alloc, parent, node, before)?;
+        let now_connected = self.tree.is_connected(node);
         let walk = self.tree.shadow_order(alloc, node)?;
-        self.tell_inserted(alloc, &walk, fuel)?;
+        self.tell_inserted(alloc, &walk, now_connected, fuel)?;
         Ok(())
     }
 
-    /// Each node of an inserted tree has its turn.
+    /// Each node of an inserted tree has its turn. All of them are connected, or none is.
     fn tell_inserted(
         &mut self,
         alloc: Global,
         walk: &Nodes,
+        now_connected: bool,
         fuel: &mut Fuel,
     ) -> Result<(), PageStop>
         requires nodes { All (IsNode self.old.forest) walk.now }
+        requires connected { All (λ m. connected self.old.forest m ≡ now_connected) walk.now }
         requires room { self.old.queues.reactions + fuel.old < 2 ^ 64 }
         ensures step { Does result (work self.new fuel.new) (for_each walk.now (inserted []) (work self.old fuel.old)) }
         ensures within { StaysWithin self.old self.new fuel.old fuel.new }
@@ -104,21 +108,28 @@ impl Page {
     {
         for i in 0..walk.len() {
             let n = node_at(walk, i);
-            self.inserted(alloc, n, fuel)?;
+            self.inserted(alloc, n, now_connected, fuel)?;
         }
         Ok(())
     }
 
     /// One node of an inserted tree.
-    fn inserted(&mut self, alloc: Global, n: NodeNo, fuel: &mut Fuel) -> Result<(), PageStop>
+    fn inserted(
+        &mut self,
+        alloc: Global,
+        n: NodeNo,
+        now_connected: bool,
+        fuel: &mut Fuel,
+    ) -> Result<(), PageStop>
         requires node { IsNode self.old.forest n }
+        requires connected { connected self.old.forest n ≡ now_connected }
         requires room { self.old.queues.reactions + fuel.old < 2 ^ 64 }
         ensures step { Does result (work self.new fuel.new) (inserted [] n (work self.old fuel.old)) }
         ensures within { StaysWithin self.old self.new fuel.old fuel.new }
         ensures rest { OnlyEnqueues self.old self.new }
         ensures refused { NeverRefuses result }
     {
-        if !self.tree.is_connected(n) {
+        if !now_connected {
             return Ok(());
         }
         if self.is_custom(n) {
