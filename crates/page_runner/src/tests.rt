@@ -46,9 +46,7 @@ fn ran_into(alloc: Global, script: &str, sink: &mut impl Sink) -> Result<Status,
 
 // A text, and another one behind it.
 fn joined(alloc: Global, first: &str, second: &str) -> Result<String, Fail> {
-    let mut text = String::from_str(alloc, first)?;
-    text.push_str(second)?;
-    Ok(text)
+    Ok(format!(in alloc; "{first}{second}")?)
 }
 
 // Runs a script that is read in pieces of at most `cut` bytes.
@@ -163,7 +161,7 @@ fn odd_lines_are_refused_and_the_next_ones_run(rt: HostRuntime) -> Result<(), Fa
 
 // The words of a call that has one.
 fn one_word(alloc: Global, word: &str) -> Result<Vec<String>, Fail> {
-    Ok(vec![in alloc; String::from_str(alloc, word)?]?)
+    Ok(vec![in alloc; format!(in alloc; "{word}")?]?)
 }
 
 #[test]

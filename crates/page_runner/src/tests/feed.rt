@@ -32,35 +32,34 @@ fn a_feed_gives_back_lines(rt: HostRuntime) -> Result<(), Fail> {
     leaves(&rt, feed, b"d")
 }
 
-// A line of so many bytes that begins with others than it ends with.
-fn line_of(alloc: Global, length: usize) -> Result<Vec<u8>, Fail> {
-    let mut line = b"first".to_vec(alloc)?;
-    line.resize(length, b'x')?;
-    Ok(line)
+// So many bytes of a long line, which ends otherwise than it begins.
+fn front(line: &str, length: usize) -> &[u8] {
+    &line.as_bytes()[..length.min(line.len())]
 }
 
-// Sees that of a line the first bytes are given, up to so many, and whole what stands behind it.
-fn cuts(rt: &impl Abort, alloc: Global, line: &[u8], given: usize) -> Result<(), Fail> {
+// Sees that of a line at most 4097 bytes are given, and that the next one is whole.
+fn cuts(rt: &impl Abort, alloc: Global, line: &[u8]) -> Result<(), Fail> {
     let mut feed = fed(alloc, line)?;
     feed.piece(alloc, b"\nabc\nd")?;
-    gives(rt, alloc, &mut feed, &line[..given.min(line.len())])?;
+    gives(rt, alloc, &mut feed, &line[..line.len().min(4097)])?;
     gives(rt, alloc, &mut feed, b"abc")
 }
 
 #[test]
 fn a_feed_gives_the_first_bytes_of_a_long_line(rt: HostRuntime) -> Result<(), Fail> {
+    let line = "a long line, ".repeat(rt.alloc(), 400)?;
     for length in [4096, 4097, 5000] {
-        let line = line_of(rt.alloc(), length)?;
-        cuts(&rt, rt.alloc(), line.as_slice(), 4097)?;
+        cuts(&rt, rt.alloc(), front(line.as_str(), length))?;
     }
     Ok(())
 }
 
 #[test]
 fn the_rest_is_whole(rt: HostRuntime) -> Result<(), Fail> {
+    let line = "a long line, ".repeat(rt.alloc(), 400)?;
     for length in [4096, 4097, 5000] {
-        let line = line_of(rt.alloc(), length)?;
-        leaves(&rt, fed(rt.alloc(), line.as_slice())?, line.as_slice())?;
+        let rest = front(line.as_str(), length);
+        leaves(&rt, fed(rt.alloc(), rest)?, rest)?;
     }
     Ok(())
 }
