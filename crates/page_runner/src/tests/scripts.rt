@@ -399,3 +399,17 @@ construct A
 call #5 connected
 15: ok
 ";
+
+// A class takes no part behind its definition, nor one before it is there.
+pub(super) const PARTS: &str = "class A
+class A
+observe B k
+define x-a A
+observe A k
+";
+
+pub(super) const PARTS_TRANSCRIPT: &str = "2: throw NotSupportedError
+3: throw TypeError
+4: ok
+5: throw NotSupportedError
+";
