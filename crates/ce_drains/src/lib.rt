@@ -19,3 +19,6 @@ mod variables;
 
 pub use halt::Halt;
 pub use state::State;
+
+#[cfg(test)]
+mod tests;
