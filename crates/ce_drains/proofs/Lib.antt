@@ -4,5 +4,6 @@ pub mod FlushLaws
 pub mod BodyLaws
 pub mod DrainLaws
 pub mod ClassLaws
+pub mod ClassesLaws
 pub mod ConstructLaws
 pub mod PageLaws

@@ -1,5 +1,5 @@
 -- Steps of the session's state that the definitions do not name.
-use Rattle.std.specs.Prelude.{◌≡◌, ◌≤◌, ◌<◌, ◌+◌, ◌^◌, ℕ, Bool, true, false, if◌then◌else◌, List, [], ◌∷◌, Option, None, Some, Result, Ok, Err, length, slice_set}
+use Rattle.std.specs.Prelude.{◌≡◌, ◌≤◌, ◌<◌, ◌+◌, ◌^◌, ℕ, Bool, true, false, if◌then◌else◌, List, [], ◌∷◌, Option, None, Some, Result, Ok, Err, length}
 use Rattle.node_trees.specs.Nodes.{size}
 use Rattle.reaction_queue.specs.declared.reaction.Reaction.{Reaction}
 use Rattle.reaction_queue.specs.Reactions.{what_of}
@@ -9,9 +9,10 @@ use Rattle.ce_algorithms.specs.declared.event.Event.TheVariants.{FuelLine}
 use Rattle.ce_algorithms.specs.Drain.{with_backup}
 use Rattle.ce_algorithms.specs.Enqueue.{has_what}
 use Rattle.ce_algorithms.specs.Page.{Page, with_queues}
-use Rattle.ce_algorithms.specs.State.{State, with_work, work_of, logged, class_of}
+use Rattle.ce_algorithms.specs.State.{State, with_work, work_of, logged}
 use Rattle.ce_page.specs.declared.stop.PageStop.{PageStop}
 use Rattle.ce_page.specs.declared.stop.PageStop.TheVariants.{Refused, FuelSpent, NoMemory}
+use Rattle.ce_drains.specs.Classes.{changed, frozen_class}
 use Rattle.ce_drains.specs.Variables.{highest}
 
 -- the fuel bounds the numbers that are still given; there is a document; each variable holds the number of a node
@@ -36,7 +37,7 @@ forgotten s = record s { log = [] }
 
 -- a definition has the class
 abbrev pub with_frozen : ℕ → State → State
-with_frozen k s = record s { classes = slice_set s.classes k (record (class_of s k) { frozen = true }) }
+with_frozen k s = record s { classes = changed k frozen_class s.classes }
 
 -- the class whose callback a reaction runs, if it runs one
 abbrev pub callee : Option Definition → Reaction → Option ℕ

@@ -6,7 +6,7 @@ ghost use Rattle.rule_tokens.specs.declared.callback.CallName.TheVariants as cal
 ghost use Rattle.ce_registry.specs.ClassFacts.{has_call};
 ghost use Rattle.ce_algorithms.specs.Body.{actions_of};
 ghost use Rattle.ce_algorithms.specs.Parts.{change_facts, with_body, with_has, with_observed};
-ghost use Rattle.ce_algorithms.specs.State.{class_named, new_class};
+ghost use Rattle.ce_algorithms.specs.State.{new_class};
 ghost use Rattle.ce_drains.specs.Bodies.{IsBlank, bodies_of, logs_of};
 
 use ce_algorithms::same_call;
@@ -98,7 +98,8 @@ impl Class {
     /// The class has the callback, and a `log` of the values comes last in its body.
     pub(crate) fn add_log(&mut self, call: CallName, vals: Vals) -> Result<(), NoMemory>
         requires { is_built_call call ≡ true }
-        ensures { OnOk result (self.new ≡ with_body call (Log vals) self.old) }
+        ensures added { OnOk result (self.new ≡ with_body call (Log vals) self.old) }
+        ensures name { self.new.name ≡ self.old.name }
     {
         self.add_call(call);
         self.bodies.push((call, vals))?;
@@ -107,7 +108,8 @@ impl Class {
 
     /// The class observes these attribute names too.
     pub(crate) fn observe(&mut self, alloc: Global, names: &Texts) -> Result<(), NoMemory>
-        ensures { OnOk result (self.new ≡ change_facts (with_observed names.now) self.old) }
+        ensures observed { OnOk result (self.new ≡ change_facts (with_observed names.now) self.old) }
+        ensures name { self.new.name ≡ self.old.name }
     {
         push_all(alloc, &mut self.facts.observed, names)
     }
@@ -119,14 +121,6 @@ impl Class {
     {
         actions_in(alloc, call, &self.bodies)
     }
-}
-
-/// The place of the class with this name.
-pub(crate) fn place_of(classes: &[Class], name: &str) -> Option<usize>
-    ensures place { result ≡ class_named classes.now name.now }
-    ensures within { IfSome result (λ i. i < length classes.now) }
-{
-    classes.iter().position(|c| c.name() == name)
 }
 
 /// The actions of a body: of each the values that it logs.

@@ -65,7 +65,7 @@ impl State {
     fn class_facts(&self, alloc: Global, class: ClassNo) -> Result<ClassFacts, NoMemory>
         ensures { IfOk result (λ facts. facts ≡ (class_of self.now class).facts) }
     {
-        match self.classes.get(class.0 as usize) {
+        match self.classes.get(class) {
             None => Ok(ClassFacts::make(alloc)),
             Some(c) => c.facts().copy(alloc),
         }
@@ -75,11 +75,7 @@ impl State {
         ensures frozen { self.new ≡ with_frozen class self.old }
         ensures page { self.new.page ≡ self.old.page }
     {
-        let i = class.0 as usize;
-        if i < self.classes.len() {
-            let c = &mut self.classes[i];
-            c.freeze();
-        }
+        self.classes.freeze(class);
     }
 
     /// Constructs a class (Web IDL, section "Invoking callback functions", "construct a callback
@@ -101,7 +97,7 @@ impl State {
         ensures name { IfOk result (λ name. name ≡ (class_of self.now class).name) }
         ensures plain { has_call calls.Constructor (class_of self.now class).facts.calls ≡ false }
     {
-        match self.classes.get(class.0 as usize) {
+        match self.classes.get(class) {
             None => Text::of(alloc, ""),
             Some(c) => Text::of(alloc, c.name()),
         }

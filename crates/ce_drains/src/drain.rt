@@ -274,7 +274,7 @@ impl State {
         ensures actions { IfOk result (λ a. a ≡ actions_for (what_of r.now) (class_of self.now class).bodies) }
         ensures blank { IsBlank (class_of self.now class) }
     {
-        match self.classes.get(class.0 as usize) {
+        match self.classes.get(class) {
             None => Ok(Actions::make(alloc)),
             Some(c) => match r.what() {
                 CallOrUpgrade::Call(call) => c.actions(alloc, call),

@@ -6,6 +6,7 @@
 mod args;
 mod body;
 mod class;
+mod classes;
 mod construct;
 mod drain;
 mod flush;

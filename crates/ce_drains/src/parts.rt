@@ -6,7 +6,6 @@ ghost use Rattle.ce_algorithms.specs.Parts.{part, add_class, open_class, change_
 ghost use Rattle.ce_drains.specs.Operands.{Names, Takes};
 
 use crate::State;
-use crate::class::{Class, place_of};
 use ce_base::{ClassNo, Fault, Refused, Text, Texts};
 use rule_lines::{Action, ClassPart};
 use rule_tokens::CallName;
@@ -36,10 +35,10 @@ impl State {
     fn add_class(&mut self, alloc: Global, name: Text) -> Result<(), Refused>
         ensures { Takes result self.new (add_class name self.old) }
     {
-        if place_of(&self.classes, name.as_str()).is_some() {
+        if self.classes.named(name.as_str()).is_some() {
             return Err(Refused::Fault(Fault::NotSupportedError));
         }
-        self.classes.push(Class::make(alloc, name))?;
+        self.classes.add(alloc, name)?;
         Ok(())
     }
 
@@ -48,13 +47,13 @@ impl State {
         ensures names { Names result self.now (open_class name.now self.now) }
         ensures within { IfOk result (λ k. k < length self.now.classes) }
     {
-        match place_of(&self.classes, name) {
+        match self.classes.named(name) {
             None => Err(Fault::TypeError),
-            Some(i) => {
-                if self.classes[i].is_frozen() {
+            Some(k) => {
+                if self.classes.at(k).is_frozen() {
                     return Err(Fault::NotSupportedError);
                 }
-                Ok(ClassNo(i as u64))
+                Ok(k)
             }
         }
     }
@@ -65,10 +64,9 @@ impl State {
         ensures { Takes result self.new (change_open class.now (with_body call (act_of action)) self.old) }
     {
         let k = self.open_class(class.as_str())?;
-        let c = &mut self.classes[k.0 as usize];
         match action {
             Action::Log(vals) => {
-                c.add_log(call, vals)?;
+                self.classes.add_log(k, call, vals)?;
                 Ok(())
             }
             Action::Both(_) => unreachable!(),
@@ -87,8 +85,7 @@ impl State {
         ensures { Takes result self.new (change_open class.now (change_facts (with_has call)) self.old) }
     {
         let k = self.open_class(class.as_str())?;
-        let c = &mut self.classes[k.0 as usize];
-        c.add_call(call);
+        self.classes.add_call(k, call);
         Ok(())
     }
 
@@ -96,8 +93,7 @@ impl State {
         ensures { Takes result self.new (change_open class.now (change_facts (with_observed names.now)) self.old) }
     {
         let k = self.open_class(class.as_str())?;
-        let c = &mut self.classes[k.0 as usize];
-        c.observe(alloc, names)?;
+        self.classes.observe(alloc, k, names)?;
         Ok(())
     }
 }

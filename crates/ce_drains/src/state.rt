@@ -9,7 +9,7 @@ ghost use Rattle.ce_drains.specs.Halts.{Comes};
 ghost use Rattle.ce_drains.specs.Steps.{after_call, is_spent};
 
 use crate::Halt;
-use crate::class::{Class, place_of};
+use crate::classes::Classes;
 use crate::variables::Variables;
 use ce_algorithms::{Event, Note};
 use ce_base::{ClassNo, Fuel, NoMemory, NodeNo, Text};
@@ -25,7 +25,7 @@ use std::marker::Model;
 pub struct State {
     pub(crate) page: Page,
     pub(crate) fuel: Fuel,
-    pub(crate) classes: Vec<Class>,
+    pub(crate) classes: Classes,
     pub(crate) variables: Variables,
     pub(crate) log: Vec<Event>,
 }
@@ -44,7 +44,7 @@ impl Model for State {
     ghost view = { λ s. record {
       page = s.page;
       fuel = s.fuel;
-      classes = s.classes.items;
+      classes = s.classes;
       variables = s.variables;
       log = s.log.items;
     } };
@@ -61,7 +61,7 @@ impl State {
         Ok(State {
             page: Page::make(alloc)?,
             fuel: Fuel::make(fuel),
-            classes: Vec::new(alloc),
+            classes: Classes::make(alloc),
             variables: Variables::make(alloc),
             log: Vec::new(alloc),
         })
@@ -104,10 +104,7 @@ impl State {
     pub fn class_named(&self, name: &str) -> Option<ClassNo>
         ensures { result ≡ class_named self.now.classes name.now }
     {
-        match place_of(&self.classes, name) {
-            None => None,
-            Some(i) => Some(ClassNo(i as u64)),
-        }
+        self.classes.named(name)
     }
 
     /// Logs an event.

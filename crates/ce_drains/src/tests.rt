@@ -124,11 +124,18 @@ fn what_is_refused_changes_nothing(rt: HostRuntime) -> Result<(), Fail> {
     go_on(&rt, rt.alloc(), 4, REFUSED, true)
 }
 
-// What a drain writes, where this write fails.
+// A sink whose write of this number fails.
+fn failing(alloc: Global, call: u64) -> Result<MemSink, Fail> {
+    let mut calls = Vec::new(alloc);
+    calls.push(call)?;
+    Ok(MemSink::make(alloc, calls))
+}
+
+// What a drain writes, where a write fails.
 fn cut_off(rt: &impl Abort, alloc: Global, call: u64) -> Result<MemSink, Fail> {
     let mut state = State::make(alloc, 20)?;
     compare(rt, alloc, &mut state, ELEMENTS, false)?;
-    let mut sink = MemSink::make(alloc, vec![in alloc; call]?);
+    let mut sink = failing(alloc, call)?;
     let end = react(rt, alloc, &mut state, "insert 2 3", false, &mut sink)?;
     assert_eq!(rt; end.as_str(), "Err(WriteFault)");
     Ok(sink)
