@@ -159,30 +159,48 @@ fn a_command_ends_where_the_fuel_is_spent(rt: HostRuntime) -> Result<(), Fail> {
     Ok(())
 }
 
-#[test]
-fn a_line_that_was_refused_is_told_by_its_number(rt: HostRuntime) -> Result<(), Fail> {
-    let alloc = rt.alloc();
+fn bad(word: &str) -> Bad {
+    match word {
+        "long" => Bad::Long,
+        "utf8" => Bad::Utf8,
+        "quote" => Bad::Quote,
+        "escape" => Bad::Escape,
+        "word" => Bad::Word,
+        "arity" => Bad::Arity,
+        _ => Bad::Place,
+    }
+}
+
+// Tells of the lines that were refused as the rows say.
+fn refuse(alloc: Global, rows: &str) -> Result<SureSink, Fail> {
     let mut machine = Machine::make(alloc, 0)?;
     let mut sink = SureSink::make(alloc);
-    for (number, bad) in [
-        (1, Bad::Long),
-        (2, Bad::Utf8),
-        (10, Bad::Quote),
-        (4, Bad::Escape),
-        (5, Bad::Word),
-        (6, Bad::Arity),
-        (u64::MAX, Bad::Place),
-    ] {
-        machine = machine.refused(alloc, number, bad, false, &mut sink)?;
+    for row in rows.lines() {
+        let (number, word) = row.split_once(": bad ").ok_or("a row")?;
+        let number = number.parse::<u64>()?;
+        machine = machine.refused(alloc, number, bad(word), false, &mut sink)?;
     }
+    Ok(sink)
+}
+
+#[test]
+fn a_line_that_was_refused_is_told_by_its_number(rt: HostRuntime) -> Result<(), Fail> {
+    let sink = refuse(rt.alloc(), REFUSED)?;
     assert_eq!(rt; str::from_utf8(sink.bytes())?, REFUSED);
     Ok(())
+}
+
+// A sink whose first write fails.
+fn failing(alloc: Global) -> Result<MemSink, Fail> {
+    let mut calls = Vec::new(alloc);
+    calls.push(1u64)?;
+    Ok(MemSink::make(alloc, calls))
 }
 
 // Whether a line ends in a fault of the first write, and nothing was written.
 fn faults(alloc: Global, line: &str) -> Result<bool, Fail> {
     let machine = Machine::make(alloc, 10)?;
-    let mut sink = MemSink::make(alloc, vec![in alloc; 1u64]?);
+    let mut sink = failing(alloc)?;
     let failed = match take(machine, alloc, 1, line, false, &mut sink) {
         Ok(_) => false,
         Err(stop) => stop == Stop::WriteFault,
