@@ -17,8 +17,6 @@ mod pending;
 mod standard;
 mod stop;
 mod sure;
-#[cfg(test)]
-mod tests;
 mod text;
 mod texts;
 

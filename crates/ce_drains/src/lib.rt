@@ -20,6 +20,3 @@ mod variables;
 
 pub use halt::Halt;
 pub use state::State;
-
-#[cfg(test)]
-mod tests;

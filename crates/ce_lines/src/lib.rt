@@ -10,8 +10,6 @@ mod lists;
 mod out;
 mod replies;
 mod submissions;
-#[cfg(test)]
-mod tests;
 mod trace;
 mod words;
 mod written;

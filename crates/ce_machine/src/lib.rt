@@ -15,6 +15,3 @@ mod steps;
 
 pub use end::End;
 pub use machine::Machine;
-
-#[cfg(test)]
-mod tests;

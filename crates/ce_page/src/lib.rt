@@ -12,8 +12,6 @@ mod page;
 mod reads;
 mod removal;
 mod stop;
-#[cfg(test)]
-mod tests;
 mod waiting;
 mod walk;
 

@@ -4,8 +4,6 @@
 mod class_facts;
 mod definition;
 mod registry;
-#[cfg(test)]
-mod tests;
 
 pub use class_facts::{Calls, ClassFacts};
 pub use definition::Definition;

@@ -11,8 +11,6 @@ mod local_name;
 mod name_char;
 mod reserved;
 mod shadow_host;
-#[cfg(test)]
-mod tests;
 
 pub use attr_name::is_attr_name;
 pub use custom_name::is_custom_name;

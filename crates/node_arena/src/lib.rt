@@ -14,8 +14,6 @@ mod node;
 mod orders;
 mod reading;
 mod removal;
-#[cfg(test)]
-mod tests;
 mod tree;
 
 pub use node_trees::NodeKind;

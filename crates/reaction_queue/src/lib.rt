@@ -5,8 +5,6 @@ mod element_queue;
 mod queues;
 mod reaction;
 mod stack;
-#[cfg(test)]
-mod tests;
 mod waiting;
 
 pub use element_queue::ElementQueue;

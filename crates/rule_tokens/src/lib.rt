@@ -24,6 +24,3 @@ pub use refused::{Bad, LineRefused};
 pub use token::{Token, Tokens};
 pub use tokens::tokens_of;
 pub use validity::{flags, push_flags, push_names};
-
-#[cfg(test)]
-mod tests;

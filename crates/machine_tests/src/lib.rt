@@ -1,0 +1,7 @@
+//! Tests of what a session does by itself, and of its commands.
+#![tactic(auto)]
+
+#[cfg(test)]
+mod drains;
+#[cfg(test)]
+mod machine;

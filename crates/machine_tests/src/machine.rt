@@ -1,0 +1,218 @@
+mod sessions;
+
+use ce_base::{MemSink, Sink, Stop, SureSink, write_all};
+use ce_machine::*;
+use rule_script::{Bad, Line, LineRefused, read_line};
+use sessions::*;
+use std::alloc::Global;
+use std::process::Abort;
+use std::test::Fail;
+
+// Reads a line, and gives what was read to the machine.
+fn take<K: Sink>(
+    machine: Machine,
+    alloc: Global,
+    number: u64,
+    line: &str,
+    trace: bool,
+    sink: &mut K,
+) -> Result<(Machine, End), Stop> {
+    match read_line(alloc, line.as_bytes()) {
+        Ok(Line::Blank) => Ok((machine, End::Replied)),
+        Ok(Line::Command(c)) => machine.command(alloc, number, c, trace, sink),
+        Ok(Line::Part(p)) => {
+            let machine = machine.part(alloc, number, p, trace, sink)?;
+            Ok((machine, End::Replied))
+        }
+        Err(LineRefused::Bad(bad)) => {
+            let machine = machine.refused(alloc, number, bad, trace, sink)?;
+            Ok((machine, End::Replied))
+        }
+        Err(LineRefused::NoMemory) => Err(Stop::NoMemory),
+    }
+}
+
+// Copies a row of a session.
+fn copy(row: &str, sink: &mut SureSink) -> Result<(), Stop> {
+    write_all(sink, row.as_bytes())?;
+    write_all(sink, b"\n")
+}
+
+// Runs a line that is to be replied to, and copies it before what it writes.
+fn step(
+    machine: Machine,
+    alloc: Global,
+    number: u64,
+    line: &str,
+    trace: bool,
+    sink: &mut SureSink,
+) -> Result<Machine, Stop> {
+    write_all(sink, b"> ")?;
+    copy(line, sink)?;
+    let (machine, end) = take(machine, alloc, number, line, trace, sink)?;
+    if end == End::FuelSpent {
+        copy("the end", sink)?;
+    }
+    Ok(machine)
+}
+
+// Runs the script lines of a session: its rows as the machine has them.
+fn run(alloc: Global, trace: bool, session: &str) -> Result<SureSink, Stop> {
+    let mut machine = Machine::make(alloc, 1000)?;
+    let mut sink = SureSink::make(alloc);
+    let mut number: u64 = 0;
+    for row in session.lines() {
+        if let Some(line) = row.strip_prefix("> ") {
+            number = number.saturating_add(1);
+            machine = step(machine, alloc, number, line, trace, &mut sink)?;
+        } else if row.starts_with("# ") {
+            copy(row, &mut sink)?;
+        }
+    }
+    Ok(sink)
+}
+
+// Compares a session with what its script lines write.
+fn compare(rt: &impl Abort, alloc: Global, trace: bool, session: &str) -> Result<(), Fail> {
+    let sink = run(alloc, trace, session)?;
+    assert_eq!(rt; str::from_utf8(sink.bytes())?, session);
+    Ok(())
+}
+
+#[test]
+fn each_operation_has_its_reply(rt: HostRuntime) -> Result<(), Fail> {
+    compare(&rt, rt.alloc(), false, REPLIES)
+}
+
+#[test]
+fn a_fault_is_replied_and_changes_nothing(rt: HostRuntime) -> Result<(), Fail> {
+    compare(&rt, rt.alloc(), false, FAULTS)
+}
+
+#[test]
+fn a_class_that_is_defined_makes_custom_elements(rt: HostRuntime) -> Result<(), Fail> {
+    compare(&rt, rt.alloc(), false, CLASSES)
+}
+
+#[test]
+fn a_reacting_operation_drains_a_queue_of_its_own(rt: HostRuntime) -> Result<(), Fail> {
+    compare(&rt, rt.alloc(), true, QUEUES)
+}
+
+// Lines that spend nine units: the definition one, the creation two, the attribute three, the text two, the
+// variable one.
+const LINES: &str = "class A
+observe A k
+on A attribute : log @3
+define x-a A
+create $e x-a
+setattr $e k v
+text $t x
+let $f $e";
+
+// Runs these lines until the fuel is spent: how the last one ends, and what it writes.
+fn last(alloc: Global, fuel: u32) -> Result<(End, SureSink), Stop> {
+    let mut machine = Machine::make(alloc, fuel)?;
+    let mut sink = SureSink::make(alloc);
+    let mut number: u64 = 0;
+    for line in LINES.lines() {
+        number = number.saturating_add(1);
+        sink = SureSink::make(alloc);
+        let (next, end) = take(machine, alloc, number, line, true, &mut sink)?;
+        if end == End::FuelSpent {
+            return Ok((end, sink));
+        }
+        machine = next;
+    }
+    Ok((End::Replied, sink))
+}
+
+// Copies how the last line ends with so much fuel, and what it writes.
+fn copy_last(alloc: Global, fuel: u32, sink: &mut SureSink) -> Result<(), Stop> {
+    let (end, written) = last(alloc, fuel)?;
+    let word = match end {
+        End::Replied => "replied",
+        End::FuelSpent => "spent",
+    };
+    copy(word, sink)?;
+    write_all(sink, written.bytes())
+}
+
+// Runs the lines with each fuel that the rows name.
+fn run_endings(alloc: Global, rows: &str) -> Result<SureSink, Fail> {
+    let mut sink = SureSink::make(alloc);
+    for row in rows.lines() {
+        if let Some(fuel) = row.strip_prefix("> ") {
+            copy(row, &mut sink)?;
+            copy_last(alloc, fuel.parse::<u32>()?, &mut sink)?;
+        } else if row.starts_with("# ") {
+            copy(row, &mut sink)?;
+        }
+    }
+    Ok(sink)
+}
+
+#[test]
+fn a_command_ends_where_the_fuel_is_spent(rt: HostRuntime) -> Result<(), Fail> {
+    let sink = run_endings(rt.alloc(), ENDINGS)?;
+    assert_eq!(rt; str::from_utf8(sink.bytes())?, ENDINGS);
+    Ok(())
+}
+
+fn bad(word: &str) -> Bad {
+    match word {
+        "long" => Bad::Long,
+        "utf8" => Bad::Utf8,
+        "quote" => Bad::Quote,
+        "escape" => Bad::Escape,
+        "word" => Bad::Word,
+        "arity" => Bad::Arity,
+        _ => Bad::Place,
+    }
+}
+
+// Tells of the lines that were refused as the rows say.
+fn refuse(alloc: Global, rows: &str) -> Result<SureSink, Fail> {
+    let mut machine = Machine::make(alloc, 0)?;
+    let mut sink = SureSink::make(alloc);
+    for row in rows.lines() {
+        let (number, word) = row.split_once(": bad ").ok_or("a row")?;
+        let number = number.parse::<u64>()?;
+        machine = machine.refused(alloc, number, bad(word), false, &mut sink)?;
+    }
+    Ok(sink)
+}
+
+#[test]
+fn a_line_that_was_refused_is_told_by_its_number(rt: HostRuntime) -> Result<(), Fail> {
+    let sink = refuse(rt.alloc(), REFUSED)?;
+    assert_eq!(rt; str::from_utf8(sink.bytes())?, REFUSED);
+    Ok(())
+}
+
+// A sink whose first write fails.
+fn failing(alloc: Global) -> Result<MemSink, Fail> {
+    let mut calls = Vec::new(alloc);
+    calls.push(1u64)?;
+    Ok(MemSink::make(alloc, calls))
+}
+
+// Whether a line ends in a fault of the first write, and nothing was written.
+fn faults(alloc: Global, line: &str) -> Result<bool, Fail> {
+    let machine = Machine::make(alloc, 10)?;
+    let mut sink = failing(alloc)?;
+    let failed = match take(machine, alloc, 1, line, false, &mut sink) {
+        Ok(_) => false,
+        Err(stop) => stop == Stop::WriteFault,
+    };
+    Ok(failed && sink.bytes().is_empty())
+}
+
+#[test]
+fn a_write_that_fails_is_told(rt: HostRuntime) -> Result<(), Fail> {
+    for row in WRITES.lines() {
+        let (line, end) = row.split_once(" => ").ok_or("a row")?;
+        assert_eq!(rt; faults(rt.alloc(), line)?, end == "failed", "at {line}");
+    }
+    Ok(())
+}

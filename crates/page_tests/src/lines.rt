@@ -1,0 +1,126 @@
+// Lines of events, as a transcript has them, and events written to a sink.
+mod events;
+mod tables;
+
+use ce_base::{MemSink, Sink, Stop, SureSink, Text};
+use ce_lines::{Event, write_event, write_out};
+use events::{event, texts};
+use std::alloc::Global;
+use std::process::Abort;
+use std::test::Fail;
+use tables::*;
+
+// Compares the line of each event of a table.
+fn compare(rt: &impl Abort, alloc: Global, table: &str) -> Result<(), Fail> {
+    for row in table.lines() {
+        let (words, line) = row.split_once(" => ").ok_or("a row")?;
+        let text = write_event(alloc, &event(alloc, words)?)?;
+        assert_eq!(rt; text.as_str(), line, "at {words}");
+    }
+    Ok(())
+}
+
+#[test]
+fn a_callback_that_starts_is_a_line(rt: HostRuntime) -> Result<(), Fail> {
+    compare(&rt, rt.alloc(), CALLBACKS)
+}
+
+#[test]
+fn a_fault_is_its_name(rt: HostRuntime) -> Result<(), Fail> {
+    compare(&rt, rt.alloc(), FAULTS)
+}
+
+#[test]
+fn an_answer_is_a_word_a_text_or_a_list(rt: HostRuntime) -> Result<(), Fail> {
+    compare(&rt, rt.alloc(), ANSWERS)
+}
+
+#[test]
+fn a_line_has_its_reply(rt: HostRuntime) -> Result<(), Fail> {
+    compare(&rt, rt.alloc(), REPLIES)
+}
+
+#[test]
+fn a_submission_is_sent_or_blocked(rt: HostRuntime) -> Result<(), Fail> {
+    compare(&rt, rt.alloc(), SUBMISSIONS)
+}
+
+// The line of a value that was logged.
+fn logged(alloc: Global, value: &str) -> Result<Text, Fail> {
+    let mut values = texts(alloc, "")?;
+    values.push(alloc, Text::of(alloc, value)?)?;
+    Ok(write_event(alloc, &Event::Logged(values))?)
+}
+
+#[test]
+fn what_would_not_be_seen_is_escaped(rt: HostRuntime) -> Result<(), Fail> {
+    let line = logged(rt.alloc(), "a\"b\\c\nd\re\tf\0g\u{1f}h\u{7f}iÁ")?;
+    let want = r#"log "a\"b\\c\nd\re\tf\u{0}g\u{1f}h\u{7f}iÁ""#;
+    assert_eq!(rt; line.as_str(), want);
+    Ok(())
+}
+
+// What is written of the events of a table.
+fn write_all_events(alloc: Global, trace: bool) -> Result<SureSink, Fail> {
+    let mut sink = SureSink::make(alloc);
+    for row in TRACE.lines() {
+        let (words, _) = row.split_once(" => ").ok_or("a row")?;
+        write_out(alloc, &mut sink, trace, &event(alloc, words)?)?;
+    }
+    Ok(sink)
+}
+
+// The lines of a table.
+fn lines_of(alloc: Global, table: &str) -> Result<String, Fail> {
+    let mut lines = String::new(alloc);
+    for row in table.lines() {
+        let (_, line) = row.split_once(" => ").ok_or("a row")?;
+        lines.push_str(line)?;
+        lines.push('\n')?;
+    }
+    Ok(lines)
+}
+
+#[test]
+fn a_trace_shows_queues_reactions_and_upgrades(rt: HostRuntime) -> Result<(), Fail> {
+    let alloc = rt.alloc();
+    let sink = write_all_events(alloc, true)?;
+    assert_eq!(rt;
+        str::from_utf8(sink.bytes())?,
+        lines_of(alloc, TRACE)?.as_str()
+    );
+    Ok(())
+}
+
+#[test]
+fn without_a_trace_they_are_not_written(rt: HostRuntime) -> Result<(), Fail> {
+    let sink = write_all_events(rt.alloc(), false)?;
+    assert_eq!(rt; sink.bytes().len(), 0);
+    Ok(())
+}
+
+// A sink whose third write fails.
+fn failing(alloc: Global) -> Result<MemSink, Fail> {
+    let mut faults = Vec::new(alloc);
+    faults.push(2u64)?;
+    Ok(MemSink::make(alloc, faults))
+}
+
+// Writes a reply, and says whether the write failed.
+fn fails(alloc: Global, sink: &mut MemSink, line: u64, trace: bool) -> Result<bool, Fail> {
+    match write_out(alloc, sink, trace, &Event::Fine(line)) {
+        Ok(()) => Ok(false),
+        Err(stop) => Ok(stop == Stop::WriteFault),
+    }
+}
+
+#[test]
+fn a_write_fails_and_the_next_line_is_written(rt: HostRuntime) -> Result<(), Fail> {
+    let alloc = rt.alloc();
+    let mut sink = failing(alloc)?;
+    for (line, trace, failed) in [(1, false, false), (2, true, true), (3, true, false)] {
+        assert_eq!(rt; fails(alloc, &mut sink, line, trace)?, failed, "at {line}");
+    }
+    assert_eq!(rt; str::from_utf8(sink.bytes())?, "1: ok\n3: ok\n");
+    Ok(())
+}
