@@ -7,15 +7,15 @@ use Rattle.rule_tokens.specs.declared.operand.Operand.{Operand}
 use Rattle.rule_tokens.specs.declared.token.Token.{Token}
 use Rattle.rule_tokens.specs.Gives.{◌>>=◌, with_front, or_word}
 use Rattle.rule_tokens.specs.Operands.{is_word, node}
-use Rattle.rule_forms.specs.Grammar.{said_as, Key, Wants, End, One, Pick, Maybe, LastRow, Row}
-use Rattle.rule_forms.specs.Read.{Reads, then_got, no_keys, behind_key, read_keys, read}
-use Rattle.rule_forms.specs.Words.{keyword, spelling}
-use Rattle.rule_forms.specs.declared.got.Kind.{Kind}
-use Rattle.rule_forms.specs.declared.got.Kind.TheVariants as kinds
-use Rattle.rule_forms.specs.declared.got.Got.{Got}
-use Rattle.rule_forms.specs.declared.got.Got.TheVariants as gots
-use Rattle.rule_forms.specs.declared.keyword.Keyword.{Keyword}
-use Rattle.rule_forms.specs.declared.word.Word.TheVariants as words
+use Rattle.rule_grammar.specs.Grammar.{said_as, Key, Wants, End, One, Pick, Maybe, LastRow, Row}
+use Rattle.rule_grammar.specs.Read.{Reads, then_got, no_keys, behind_key, read_keys, read}
+use Rattle.rule_grammar.specs.Words.{keyword, spelling}
+use Rattle.rule_grammar.specs.declared.got.Kind.{Kind}
+use Rattle.rule_grammar.specs.declared.got.Kind.TheVariants as kinds
+use Rattle.rule_grammar.specs.declared.got.Got.{Got}
+use Rattle.rule_grammar.specs.declared.got.Got.TheVariants as gots
+use Rattle.rule_grammar.specs.declared.keyword.Keyword.{Keyword}
+use Rattle.rule_grammar.specs.declared.word.Word.TheVariants as words
 use Rattle.rule_reader.specs.Gots.{part, mark, switch}
 use Rattle.rule_reader.specs.Takes.{take_one, optional, marked, maybe, on_off, ended}
 

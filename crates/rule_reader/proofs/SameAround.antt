@@ -7,14 +7,14 @@ use Rattle.rule_tokens.specs.declared.token.Token.{Token}
 use Rattle.rule_tokens.specs.Gives.{◌>>=◌, with_front}
 use Rattle.rule_tokens.specs.Operands.{is_word, node, class_name, text, value}
 use Rattle.rule_lines.specs.declared.op.Op.TheVariants as ops
-use Rattle.rule_forms.specs.Grammar.{said_as, Wants, End, One, Pick, LastRow, Row}
-use Rattle.rule_forms.specs.Read.{Reads, then_got, read}
-use Rattle.rule_forms.specs.Words.{spelling}
-use Rattle.rule_forms.specs.declared.got.Kind.{Kind}
-use Rattle.rule_forms.specs.declared.got.Kind.TheVariants as kinds
-use Rattle.rule_forms.specs.declared.got.Got.{Got}
-use Rattle.rule_forms.specs.declared.got.Got.TheVariants as gots
-use Rattle.rule_forms.specs.declared.word.Word.TheVariants as words
+use Rattle.rule_grammar.specs.Grammar.{said_as, Wants, End, One, Pick, LastRow, Row}
+use Rattle.rule_grammar.specs.Read.{Reads, then_got, read}
+use Rattle.rule_grammar.specs.Words.{spelling}
+use Rattle.rule_grammar.specs.declared.got.Kind.{Kind}
+use Rattle.rule_grammar.specs.declared.got.Kind.TheVariants as kinds
+use Rattle.rule_grammar.specs.declared.got.Got.{Got}
+use Rattle.rule_grammar.specs.declared.got.Got.TheVariants as gots
+use Rattle.rule_grammar.specs.declared.word.Word.TheVariants as words
 use Rattle.rule_reader.specs.declared.form.Leaf.{Leaf}
 use Rattle.rule_reader.specs.declared.form.Leaf.TheVariants as leaves
 use Rattle.rule_reader.specs.Gots.{leaf_gots}
@@ -25,8 +25,8 @@ use Rattle.rule_tokens.specs.Operands.{call_name}
 use Rattle.rule_tokens.specs.declared.operand.Val.{Val}
 use Rattle.rule_lines.specs.declared.ask_word.AskWord.{AskWord}
 use Rattle.rule_lines.specs.declared.ask_word.AskWord.TheVariants as asks
-use Rattle.rule_forms.specs.Grammar.{Inner}
-use Rattle.rule_forms.specs.Read.{read_row}
+use Rattle.rule_grammar.specs.Grammar.{Inner}
+use Rattle.rule_grammar.specs.Read.{read_row}
 use Rattle.rule_reader.specs.declared.form.Wrap.{Wrap}
 use Rattle.rule_reader.specs.declared.form.Wrap.TheVariants as wraps
 use Rattle.rule_reader.specs.Around.{on_of, if_of, compared}
@@ -34,7 +34,7 @@ use Rattle.rule_reader.specs.Controls.{name_for, ask_of}
 use Rattle.rule_reader.specs.Gots.{wrap_gots, test}
 use Rattle.rule_reader.specs.Takes.{behind}
 use Rattle.rule_reader.proofs.Same.{after, then_some, some_one}
-use Rattle.rule_forms.specs.Rows.{ask_rows}
+use Rattle.rule_grammar.specs.Rows.{ask_rows}
 
 one_some : {A B : Type 0} (action : List Token → Reads) (kind : Kind) (f : Token → Option A) (g : A → Got) (more : Wants) (k : Option A × List Token → Result B Bad) (see : B → List Got) (front : List Got) → ((t : Token) → said_as kind t ≡ option_map g (f t)) → ((a : A) (ts : List Token) → with_front (front ++ g a ∷ []) (read action more ts) ≡ shows see (k (Some a, ts))) → (ts : List Token) → with_front front (read action (One kind more) ts) ≡ shows see (some_one f ts >>= k)
 one_some action kind f g more k see front said rest [] = refl

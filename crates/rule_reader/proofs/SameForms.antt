@@ -4,12 +4,12 @@ use Rattle.rule_tokens.specs.declared.token.Token.{Token}
 use Rattle.rule_tokens.specs.Gives.{◌>>=◌, with_front}
 use Rattle.rule_tokens.specs.Operands.{variable, node, class_name, text, value, call_name}
 use Rattle.rule_lines.specs.declared.op.Op.TheVariants as ops
-use Rattle.rule_forms.specs.Grammar.{End, One, Keys, Maybe}
-use Rattle.rule_forms.specs.Read.{Reads, read}
-use Rattle.rule_forms.specs.declared.got.Kind.TheVariants as kinds
-use Rattle.rule_forms.specs.declared.got.Got.TheVariants as gots
-use Rattle.rule_forms.specs.declared.keyword.Keyword.TheVariants as keywords
-use Rattle.rule_forms.specs.declared.word.Word.TheVariants as words
+use Rattle.rule_grammar.specs.Grammar.{End, One, Keys, Maybe}
+use Rattle.rule_grammar.specs.Read.{Reads, read}
+use Rattle.rule_grammar.specs.declared.got.Kind.TheVariants as kinds
+use Rattle.rule_grammar.specs.declared.got.Got.TheVariants as gots
+use Rattle.rule_grammar.specs.declared.keyword.Keyword.TheVariants as keywords
+use Rattle.rule_grammar.specs.declared.word.Word.TheVariants as words
 use Rattle.rule_reader.specs.declared.form.Leaf.TheVariants as leaves
 use Rattle.rule_reader.specs.Gots.{part, mark, leaf_gots}
 use Rattle.rule_reader.specs.Takes.{ended}

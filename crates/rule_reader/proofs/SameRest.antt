@@ -9,15 +9,15 @@ use Rattle.rule_tokens.specs.declared.token.Token.{Token}
 use Rattle.rule_tokens.specs.Gives.{◌>>=◌, with_front, or_word}
 use Rattle.rule_tokens.specs.Operands.{is_word, node, class_name, text, value}
 use Rattle.rule_lines.specs.declared.op.Op.TheVariants as ops
-use Rattle.rule_forms.specs.Grammar.{said_as, End, One, Pick, Many, Pairs, LastRow, Row}
-use Rattle.rule_forms.specs.Read.{Reads, then_got, read_many, read_pairs, read}
-use Rattle.rule_forms.specs.Rows.{state_rows, user_rows}
-use Rattle.rule_forms.specs.Words.{spelling}
-use Rattle.rule_forms.specs.declared.got.Kind.{Kind}
-use Rattle.rule_forms.specs.declared.got.Kind.TheVariants as kinds
-use Rattle.rule_forms.specs.declared.got.Got.{Got}
-use Rattle.rule_forms.specs.declared.got.Got.TheVariants as gots
-use Rattle.rule_forms.specs.declared.word.Word.TheVariants as words
+use Rattle.rule_grammar.specs.Grammar.{said_as, End, One, Pick, Many, Pairs, LastRow, Row}
+use Rattle.rule_grammar.specs.Read.{Reads, then_got, read_many, read_pairs, read}
+use Rattle.rule_grammar.specs.Rows.{state_rows, user_rows}
+use Rattle.rule_grammar.specs.Words.{spelling}
+use Rattle.rule_grammar.specs.declared.got.Kind.{Kind}
+use Rattle.rule_grammar.specs.declared.got.Kind.TheVariants as kinds
+use Rattle.rule_grammar.specs.declared.got.Got.{Got}
+use Rattle.rule_grammar.specs.declared.got.Got.TheVariants as gots
+use Rattle.rule_grammar.specs.declared.word.Word.TheVariants as words
 use Rattle.rule_reader.specs.declared.form.Leaf.TheVariants as leaves
 use Rattle.rule_reader.specs.Bodies.{log_of}
 use Rattle.rule_reader.specs.Classes.{observe_of, disable_of, disabled_of}

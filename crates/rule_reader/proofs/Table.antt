@@ -4,11 +4,11 @@ use Rattle.std.specs.Str.{bytes_eq}
 use Rattle.rule_tokens.specs.declared.refused.Bad.{Bad}
 use Rattle.rule_tokens.specs.declared.token.Token.{Token}
 use Rattle.rule_tokens.specs.Gives.{◌>>=◌, with_front, or_word}
-use Rattle.rule_forms.specs.Read.{Reads, read_row, read_within, read_tokens}
-use Rattle.rule_forms.specs.Rows.{forms}
-use Rattle.rule_forms.specs.Words.{spelling}
-use Rattle.rule_forms.specs.declared.word.Word.{Word}
-use Rattle.rule_forms.specs.declared.word.Word.TheVariants as words
+use Rattle.rule_grammar.specs.Read.{Reads, read_row, read_within, read_tokens}
+use Rattle.rule_grammar.specs.Rows.{forms}
+use Rattle.rule_grammar.specs.Words.{spelling}
+use Rattle.rule_grammar.specs.declared.word.Word.{Word}
+use Rattle.rule_grammar.specs.declared.word.Word.TheVariants as words
 use Rattle.rule_reader.specs.declared.form.Leaf.{Leaf}
 use Rattle.rule_reader.specs.declared.form.Wrap.{Wrap}
 use Rattle.rule_reader.specs.declared.form.Wrap.TheVariants as wraps

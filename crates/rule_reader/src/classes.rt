@@ -5,7 +5,7 @@ ghost use Rattle.rule_reader.specs.Classes.{associate_of, class_of, disable_of, 
 use crate::Leaf;
 use crate::operands::{call_at, class_at, ended, next, texts};
 use ce_base::Text;
-use rule_forms::Word;
+use rule_grammar::Word;
 use rule_tokens::{Bad, LineRefused, Token, is_word};
 use std::alloc::Global;
 

@@ -2,7 +2,7 @@
 ghost use Rattle.std.specs.Prelude.{◌≡◌};
 ghost use Rattle.rule_reader.specs.First.{first_named};
 
-use rule_forms::Word;
+use rule_grammar::Word;
 
 /// The form's first word with this text.
 pub(crate) fn first_named(text: &str) -> Option<Word>

@@ -4,7 +4,7 @@ ghost use Rattle.rule_reader.specs.Internals.{custom_of, form_list_of, form_null
 
 use crate::Leaf;
 use crate::operands::{ended, entries, flags_at, next, node_at, optional_value, text_at, value_at};
-use rule_forms::{Keyword, Word};
+use rule_grammar::{Keyword, Word};
 use rule_lines::Op;
 use rule_tokens::{Bad, LineRefused, Operand, Token, is_word};
 use std::alloc::Global;

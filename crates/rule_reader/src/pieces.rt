@@ -10,7 +10,7 @@ use crate::leaves::leaf_of;
 use crate::operands::next;
 use crate::{Leaf, Wrap};
 use ce_base::NoMemory;
-use rule_forms::Word;
+use rule_grammar::Word;
 use rule_tokens::{Bad, LineRefused, Token};
 use std::alloc::Global;
 use std::marker::Model;

@@ -6,7 +6,7 @@ use crate::Leaf;
 use crate::operands::{
     class_at, ended, marked, node_at, optional_node, optional_text, text_at, variable_at,
 };
-use rule_forms::Keyword;
+use rule_grammar::Keyword;
 use rule_lines::Op;
 use rule_tokens::{LineRefused, Token};
 use std::alloc::Global;

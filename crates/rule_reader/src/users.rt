@@ -4,7 +4,7 @@ ghost use Rattle.rule_reader.specs.Users.{autofill_of, check_of, choose_of, deed
 
 use crate::Leaf;
 use crate::operands::{ended, next, node_at, on_off_at, value_at};
-use rule_forms::Word;
+use rule_grammar::Word;
 use rule_tokens::{Bad, LineRefused, Token, is_word};
 use std::alloc::Global;
 

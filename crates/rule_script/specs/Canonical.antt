@@ -3,7 +3,7 @@ use Rattle.std.specs.Prelude.{◌≡◌, ℕ, ◌≤◌, true, List, [], length,
 use Rattle.rule_tokens.specs.declared.token.Token.{Token}
 use Rattle.rule_tokens.specs.Spaced.{as_line}
 use Rattle.rule_lines.specs.Acts.{Said, Blank}
-use Rattle.rule_forms.specs.Canon.{canon_tokens}
+use Rattle.rule_grammar.specs.Canon.{canon_tokens}
 use Rattle.rule_reader.specs.declared.pieces.Form.{Form}
 use Rattle.rule_reader.specs.Gots.{form_gots}
 use Rattle.rule_script.specs.Built.{is_built}

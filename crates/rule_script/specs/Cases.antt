@@ -6,8 +6,8 @@ use Rattle.rule_tokens.specs.declared.refused.Bad.TheVariants.{Long, Utf8, Quote
 use Rattle.rule_tokens.specs.declared.token.Token.{Token}
 use Rattle.rule_tokens.specs.Cases.{SaysLine, LexicalCase, FirstOf}
 use Rattle.rule_lines.specs.Acts.{Said}
-use Rattle.rule_forms.specs.Spells.{Spelled}
-use Rattle.rule_forms.specs.Whole.{IsForm, HasWrongWord, HasWrongNumber}
+use Rattle.rule_grammar.specs.Spells.{Spelled}
+use Rattle.rule_grammar.specs.Whole.{IsForm, HasWrongWord, HasWrongNumber}
 use Rattle.rule_reader.specs.declared.pieces.Form.{Form}
 use Rattle.rule_reader.specs.Gots.{form_gots}
 use Rattle.rule_script.specs.Built.{is_built}

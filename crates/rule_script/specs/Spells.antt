@@ -3,7 +3,7 @@ use Rattle.std.specs.Prelude.{◌≡◌, ℕ, true, false, List, Option, Some, N
 use Rattle.rule_tokens.specs.declared.token.Token.{Token}
 use Rattle.rule_tokens.specs.Cases.{ReadsTo}
 use Rattle.rule_lines.specs.Acts.{Said, Blank}
-use Rattle.rule_forms.specs.Spells.{Spelled}
+use Rattle.rule_grammar.specs.Spells.{Spelled}
 use Rattle.rule_reader.specs.declared.pieces.Form.{Form}
 use Rattle.rule_reader.specs.Gots.{form_gots}
 use Rattle.rule_script.specs.Built.{is_built}

@@ -1,6 +1,6 @@
 use super::*;
 use ce_base::{Entries, Entry, Text};
-use rule_forms::{Keyword, Word};
+use rule_grammar::{Keyword, Word};
 use std::alloc::Global;
 use std::test::Fail;
 

@@ -1,7 +1,7 @@
 // Operands that only a body has.
 ghost use Rattle.std.specs.Prelude.{◌≡◌, Option, Some, None, false};
 ghost use Rattle.std.specs.List.{list_any};
-ghost use Rattle.rule_forms.specs.declared.got.Got.TheVariants as gots;
+ghost use Rattle.rule_grammar.specs.declared.got.Got.TheVariants as gots;
 ghost use Rattle.rule_reader.specs.declared.form.Leaf.TheVariants as leaves;
 ghost use Rattle.rule_reader.specs.Gots.{leaf_gots, part};
 ghost use Rattle.rule_script.specs.Place.{has_body_operand, is_of_body, is_this, names_body};

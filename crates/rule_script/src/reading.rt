@@ -9,7 +9,7 @@ ghost use Rattle.rule_script.specs.Spells.{Spells, SpellsBuilt};
 
 use crate::built::is_built;
 use crate::place::placed;
-use rule_forms::{faults_are_apart, forms_are_read, what_is_spelled_is_read};
+use rule_grammar::{faults_are_apart, forms_are_read, what_is_spelled_is_read};
 use rule_lines::Line;
 use rule_reader::{form_of, lines_are_read_by_the_table, operands_tell_forms};
 use rule_tokens::{Bad, LineRefused, a_line_says_one_thing, lines_are_answered, tokens_of};

@@ -1,6 +1,6 @@
 -- What holds of the canonical tokens.
 use Rattle.std.specs.Prelude.{◌≡◌}
-use Rattle.rule_forms.specs.Canon.{canon_tokens}
+use Rattle.rule_grammar.specs.Canon.{canon_tokens}
 use Rattle.rule_reader.specs.declared.pieces.Form.{Form}
 use Rattle.rule_reader.specs.Gots.{form_gots}
 use Rattle.rule_writer.specs.Canon.{form_tokens}

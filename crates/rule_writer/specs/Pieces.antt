@@ -1,8 +1,8 @@
 -- The canonical tokens of the pieces of a line.
 use Rattle.std.specs.Prelude.{List, [], ◌∷◌, ◌++◌, map}
 use Rattle.rule_tokens.specs.declared.token.Token.{Token}
-use Rattle.rule_forms.specs.Canon.{all_tokens, keyed, tokens_of}
-use Rattle.rule_forms.specs.declared.got.Got.TheVariants as gots
+use Rattle.rule_grammar.specs.Canon.{all_tokens, keyed, tokens_of}
+use Rattle.rule_grammar.specs.declared.got.Got.TheVariants as gots
 use Rattle.rule_reader.specs.Gots.{mark, pairs, part}
 use Rattle.rule_writer.specs.declared.piece.Piece.{Piece}
 use Rattle.rule_writer.specs.declared.piece.Piece.TheVariants as pieces

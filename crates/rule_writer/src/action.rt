@@ -2,14 +2,14 @@
 ghost use Rattle.std.specs.Prelude.{◌≡◌, ◌++◌, OnOk, string_bytes};
 ghost use Rattle.rule_tokens.specs.Spaced.{spaced};
 ghost use Rattle.rule_lines.specs.Acts.{act_of};
-ghost use Rattle.rule_forms.specs.Clean.{AreTexts};
+ghost use Rattle.rule_grammar.specs.Clean.{AreTexts};
 ghost use Rattle.rule_writer.specs.Canon.{act_tokens};
 
 use crate::op::put_op;
 use crate::piece::{Piece, put_all};
 use crate::words::test;
 use ce_base::NoMemory;
-use rule_forms::Word;
+use rule_grammar::Word;
 use rule_lines::Action;
 use std::alloc::Global;
 

@@ -3,7 +3,7 @@ ghost use Rattle.std.specs.Prelude.{◌≡◌, ◌++◌, IfOk, OnOk, string_byte
 ghost use Rattle.std.specs.Str.{IsUtf8};
 ghost use Rattle.rule_tokens.specs.Spaced.{as_line, spaced};
 ghost use Rattle.rule_lines.specs.Acts.{line_of, part_of};
-ghost use Rattle.rule_forms.specs.Clean.{AreTexts};
+ghost use Rattle.rule_grammar.specs.Clean.{AreTexts};
 ghost use Rattle.rule_writer.specs.Canon.{command_tokens, part_tokens, said_tokens};
 
 use crate::action::put_action;
@@ -11,7 +11,7 @@ use crate::op::put_op;
 use crate::piece::{Piece, put_all};
 use crate::words::switch;
 use ce_base::{NoMemory, Text};
-use rule_forms::Word;
+use rule_grammar::Word;
 use rule_lines::{ClassPart, Cmd, Line};
 use std::alloc::Global;
 

@@ -1,10 +1,10 @@
 // Writes operands that repeat.
 ghost use Rattle.std.specs.Prelude.{◌≡◌, ◌++◌, OnOk, map, string_bytes};
 ghost use Rattle.rule_tokens.specs.Spaced.{spaced};
-ghost use Rattle.rule_forms.specs.Canon.{all_tokens};
-ghost use Rattle.rule_forms.specs.declared.got.Got.TheVariants as gots;
+ghost use Rattle.rule_grammar.specs.Canon.{all_tokens};
+ghost use Rattle.rule_grammar.specs.declared.got.Got.TheVariants as gots;
 ghost use Rattle.rule_reader.specs.Gots.{pairs};
-ghost use Rattle.rule_forms.specs.Clean.{AreTexts};
+ghost use Rattle.rule_grammar.specs.Clean.{AreTexts};
 
 use crate::operands::{put_text, put_value};
 use ce_base::{Entry, NoMemory, Text};

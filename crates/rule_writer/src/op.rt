@@ -1,14 +1,14 @@
 // Writes operations.
 ghost use Rattle.std.specs.Prelude.{◌≡◌, ◌++◌, OnOk, string_bytes};
 ghost use Rattle.rule_tokens.specs.Spaced.{spaced};
-ghost use Rattle.rule_forms.specs.Clean.{AreTexts};
+ghost use Rattle.rule_grammar.specs.Clean.{AreTexts};
 ghost use Rattle.rule_reader.specs.declared.form.Leaf.TheVariants as leaves;
 ghost use Rattle.rule_writer.specs.Canon.{leaf_tokens};
 
 use crate::piece::{Piece, put_all};
 use crate::words::{ask_as, switch};
 use ce_base::NoMemory;
-use rule_forms::{Keyword, Word};
+use rule_grammar::{Keyword, Word};
 use rule_lines::Op;
 use std::alloc::Global;
 

@@ -1,14 +1,14 @@
 // Writes optional parts.
 ghost use Rattle.std.specs.Prelude.{◌≡◌, ◌++◌, OnOk, string_bytes};
 ghost use Rattle.rule_tokens.specs.Spaced.{spaced};
-ghost use Rattle.rule_forms.specs.Canon.{keyed, tokens_of};
-ghost use Rattle.rule_forms.specs.declared.got.Got.TheVariants as gots;
+ghost use Rattle.rule_grammar.specs.Canon.{keyed, tokens_of};
+ghost use Rattle.rule_grammar.specs.declared.got.Got.TheVariants as gots;
 ghost use Rattle.rule_reader.specs.Gots.{mark, part};
-ghost use Rattle.rule_forms.specs.Clean.{AreTexts};
+ghost use Rattle.rule_grammar.specs.Clean.{AreTexts};
 
 use crate::operands::{put_bare, put_node, put_text, put_value};
 use ce_base::{NoMemory, Text};
-use rule_forms::Keyword;
+use rule_grammar::Keyword;
 use rule_tokens::{Operand, Val};
 use std::alloc::Global;
 

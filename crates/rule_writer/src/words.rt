@@ -2,7 +2,7 @@
 ghost use Rattle.std.specs.Prelude.{◌≡◌};
 ghost use Rattle.rule_reader.specs.Gots.{ask_as, switch, test};
 
-use rule_forms::Word;
+use rule_grammar::Word;
 use rule_lines::AskWord;
 
 pub(crate) fn switch(on: bool) -> Word

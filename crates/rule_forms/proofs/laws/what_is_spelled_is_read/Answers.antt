@@ -1,5 +1,0 @@
-use Rattle.rule_forms.proofs.SpellLaws.{read_is_spelled, spelled_is_read}
-use Rattle.rule_forms.proofs.laws.what_is_spelled_is_read.Goals as goal
-
-pub returns : goal.returns
-returns c = λ ts gots. (spelled_is_read ts gots, read_is_spelled ts gots)

@@ -1,0 +1,97 @@
+-- The canonical tokens of what is read: each operand by the token that is its own, behind the keywords that the table
+-- wants.
+use Rattle.std.specs.Prelude.{ℕ, zero, suc, Bool, true, false, List, [], ◌∷◌, ◌++◌, length, codes, if◌then◌else◌}
+use Rattle.std.specs.Str.{bytes_eq}
+use Rattle.rule_tokens.specs.declared.operand.Operand.{Operand}
+use Rattle.rule_tokens.specs.declared.operand.Operand.TheVariants as operands
+use Rattle.rule_tokens.specs.declared.operand.Val.{Val}
+use Rattle.rule_tokens.specs.declared.operand.Val.TheVariants as values
+use Rattle.rule_tokens.specs.declared.token.Token.{Token}
+use Rattle.rule_tokens.specs.Callbacks.{call_word}
+use Rattle.rule_tokens.specs.FlagsText.{flags_text}
+use Rattle.rule_grammar.specs.declared.got.Got.{Got}
+use Rattle.rule_grammar.specs.declared.got.Got.TheVariants as gots
+use Rattle.rule_grammar.specs.declared.keyword.Keyword.{Keyword}
+use Rattle.rule_grammar.specs.declared.word.Word.{Word}
+use Rattle.rule_grammar.specs.Grammar.{Key, Wants, End, One, Pick, Keys, Maybe, Many, Pairs, Inner, Rows, LastRow, Row}
+use Rattle.rule_grammar.specs.Rows.{forms}
+use Rattle.rule_grammar.specs.Words.{keyword, spelling}
+
+abbrev pub bare : List ℕ → Token
+bare text = record { quoted = false; text = text }
+
+abbrev pub quoted : List ℕ → Token
+quoted text = record { quoted = true; text = text }
+
+abbrev pub node_token : Operand → Token
+node_token operands.Doc = bare (codes "doc")
+node_token operands.This = bare (codes "this")
+node_token (operands.Variable v) = bare (36 ∷ v)
+
+abbrev pub value_token : Val → Token
+value_token (values.Fixed text) = quoted text
+value_token values.Count = bare (codes "@count")
+value_token values.Kept = bare (codes "@kept")
+value_token values.First = bare (codes "@1")
+value_token values.Second = bare (codes "@2")
+value_token values.Third = bare (codes "@3")
+
+-- the token of an operand; none where there is no operand
+abbrev pub tokens_of : Got → List Token
+tokens_of (gots.Variable v) = bare (36 ∷ v) ∷ []
+tokens_of (gots.Node place) = node_token place ∷ []
+tokens_of (gots.Class name) = bare name ∷ []
+tokens_of (gots.Chars text) = quoted text ∷ []
+tokens_of (gots.Value val) = value_token val ∷ []
+tokens_of (gots.Flags raised) = bare (flags_text raised.0) ∷ []
+tokens_of (gots.Callback call) = bare (call_word call) ∷ []
+tokens_of (gots.Word word) = bare (spelling word) ∷ []
+tokens_of gots.There = []
+tokens_of gots.NotThere = []
+
+-- an optional part behind its keyword
+abbrev pub keyed : Keyword → Got → List Token
+keyed word gots.NotThere = []
+keyed word got = bare (keyword word) ∷ tokens_of got
+
+-- the operands one after the other
+abbrev pub all_tokens : List Got → List Token
+all_tokens [] = []
+all_tokens (g ∷ gs) = tokens_of g ++ all_tokens gs
+
+abbrev pub keys_tokens : List Key → List Got → List Token
+keys_tokens [] gs = []
+keys_tokens (key ∷ keys) [] = []
+keys_tokens (key ∷ keys) (g ∷ gs) = keyed key.word g ++ keys_tokens keys gs
+
+-- the word that is read is this one
+abbrev pub is_got_word : Word → Got → Bool
+is_got_word word (gots.Word read) = bytes_eq (spelling read) (spelling word)
+is_got_word word _ = false
+
+-- the tokens of what is wanted, where those of an action are these
+abbrev mutual
+  pub canon : (List Got → List Token) → Wants → List Got → List Token
+  canon action End gs = all_tokens gs
+  canon action (One kind more) [] = []
+  canon action (One kind more) (g ∷ gs) = tokens_of g ++ canon action more gs
+  canon action (Pick rows) [] = []
+  canon action (Pick rows) (g ∷ gs) = canon_row action rows g gs
+  canon action (Keys keys) gs = keys_tokens keys gs
+  canon action (Maybe kind) gs = all_tokens gs
+  canon action (Many n kind) gs = all_tokens gs
+  canon action (Pairs n kind) gs = all_tokens gs
+  canon action Inner gs = action gs
+
+  pub canon_row : (List Got → List Token) → Rows → Got → List Got → List Token
+  canon_row action (LastRow word wants) g gs = tokens_of g ++ canon action wants gs
+  canon_row action (Row word wants rows) g gs = if is_got_word word g then tokens_of g ++ canon action wants gs else canon_row action rows g gs
+
+-- of an action of so many operands at most
+abbrev pub canon_within : ℕ → List Got → List Token
+canon_within zero gs = []
+canon_within (suc n) gs = canon (canon_within n) (Pick forms) gs
+
+-- the canonical tokens of a form
+abbrev pub canon_tokens : List Got → List Token
+canon_tokens gs = canon_within (length gs) gs
