@@ -1,55 +1,48 @@
 -- No algorithm reads the log, where what it calls again reads none.
 use Rattle.std.proofs.Common.{ℕ, Bool, List, [], ◌∷◌, Option, Some, None, refl}
 use Rattle.ce_base.specs.declared.fault.Fault.{Fault}
-use Rattle.node_trees.specs.declared.kind.NodeKind.{NodeKind}
-use Rattle.node_trees.specs.Facts.{is_document}
 use Rattle.rule_tokens.specs.declared.callback.CallName.TheVariants.{Constructor}
 use Rattle.rule_tokens.specs.declared.operand.Operand.{Operand}
-use Rattle.rule_tokens.specs.declared.operand.Operand.TheVariants.{Doc, This, Variable}
 use Rattle.rule_lines.specs.Acts.{Act, Both, Log, Super, Return, Throw, Bump, Keep, Try, If}
-use Rattle.rule_lines.specs.declared.ask_word.AskWord.{AskWord}
-use Rattle.rule_lines.specs.declared.ask_word.AskWord.TheVariants.{Attr, Parent, Kids, State as StateWord}
 use Rattle.rule_lines.specs.declared.op.Op.{Op}
-use Rattle.rule_lines.specs.declared.op.Op.TheVariants.{Create, New, MakeText, Shadow, Append, Before, Remove, Detach, SetAttr, DelAttr, Clone, Adopt, Define, Upgrade, Ask, Let}
 use Rattle.reaction_queue.specs.declared.reaction.Reaction.{Reaction}
 use Rattle.reaction_queue.specs.declared.reaction.Reaction.TheVariants.{Upgrade as UpgradeReaction, Connected, Disconnected, Adopted, Attribute, FormAssociated, FormDisabled, FormReset, FormStateRestore}
 use Rattle.reaction_queue.specs.Queues.{waiting_at, with_waiting}
 use Rattle.ce_registry.specs.ClassFacts.{has_call}
 use Rattle.ce_registry.specs.declared.definition.Definition.{Definition}
 use Rattle.ce_registry.specs.Registry.{is_autonomous}
-use Rattle.ce_algorithms.specs.declared.event.Answer.{Answer}
+use Rattle.ce_algorithms.specs.declared.deed.Deed.{Deed}
+use Rattle.ce_algorithms.specs.declared.deed.Deed.TheVariants as deeds
+use Rattle.ce_algorithms.specs.declared.deed.Deed.TheVariants.{OnPage}
 use Rattle.ce_algorithms.specs.declared.event.Given.{Given}
-use Rattle.ce_algorithms.specs.declared.event.Given.TheVariants.{Nothing, Node, Answers}
+use Rattle.ce_algorithms.specs.declared.event.Given.TheVariants.{Nothing, Node, Answers, Ignored}
 use Rattle.ce_algorithms.specs.Steps.{Step, give}
-use Rattle.ce_algorithms.specs.Page.{Page, with_queues}
-use Rattle.ce_algorithms.specs.CreateLater.{first_state, make_in_state}
+use Rattle.ce_algorithms.specs.Page.{with_queues}
+use Rattle.ce_algorithms.specs.CreateLater.{make_undefined}
 use Rattle.ce_algorithms.specs.State.{State, Class, class_of}
 use Rattle.ce_algorithms.specs.Calls.{Call, Operate, DrainRest, DrainBackup, Again}
-use Rattle.ce_algorithms.specs.Operands.{Args, no_args, node, text_of}
+use Rattle.ce_algorithms.specs.Values.{Args, no_args, text_of}
 use Rattle.ce_algorithms.specs.Body.{Flow, Next, Ended, told, returned, caught, holds, act, body, actions_of}
 use Rattle.ce_algorithms.specs.Construct.{base_alone, constructor_body, construct}
 use Rattle.ce_algorithms.specs.Upgrade.{construct_for, drop_reactions, upgrade_threw, upgrade_now, upgrade}
-use Rattle.ce_algorithms.specs.Drain.{log_call, call_back, run_calls, run_reaction, react, drain, open_queue, pop_queue, drain_popped, reacting, with_backup, drain_backup}
+use Rattle.ce_algorithms.specs.Drain.{log_call, call_back, call_defined, run_reaction, react, drain, open_queue, pop_queue, drain_popped, reacting, with_backup, drain_backup}
 use Rattle.ce_algorithms.specs.Create.{construct_fit, create_failed, upgrade_failed, create_extended, create_defined, create_found, create}
-use Rattle.ce_algorithms.specs.Perform.{node_of, document_or_page, class, as_nothing, as_variable, answers, create_named, define, ask, operate}
+use Rattle.ce_algorithms.specs.Perform.{create_named, define_element, gives_nothing, gives_node, page_steps, steps, perform_deed, keep, kept, operate}
+use Rattle.ce_algorithms.specs.Deeds.{resolve, is_reacting, variable}
 use Rattle.ce_algorithms.specs.Model.{level}
-use Rattle.ce_algorithms.proofs.Framed.{Framed, framed_steps, framed_bind, framed_seq, framed_give, framed_done, framed_read, framed_read_page, framed_change_page, framed_log, framed_found, framed_on_page, framed_spend, framed_set_variable, framed_list, framed_if, framed_catch, framed_finally}
+use Rattle.ce_algorithms.proofs.Framed.{Framed, framed_steps, framed_bind, framed_seq, framed_give, framed_done, framed_read, framed_read_page, framed_look, framed_change_page, framed_log, framed_on_page, framed_spend, framed_set_variable, framed_list, framed_if, framed_catch, framed_finally}
 
 -- what calls nothing again
-
-pub framed_node : (this : Option ℕ) (o : Operand) → Framed (node this o)
-framed_node this Doc = framed_give 1
-framed_node this This = framed_found this _
-framed_node this (Variable v) = search (framed_steps) depth 12
 
 pub framed_told : (given : Given) → Framed (told given)
 framed_told Nothing = framed_done
 framed_told (Node n) = framed_done
 framed_told (Answers a) = framed_log _
+framed_told Ignored = framed_done
 
 pub framed_returned : (this : Option ℕ) (o : Option Operand) → Framed (returned this o)
 framed_returned this None = framed_give _
-framed_returned this (Some o) = search (framed_steps, framed_node) depth 12
+framed_returned this (Some o) = search (framed_steps) depth 12
 
 pub framed_caught : (this : Option ℕ) (x : Fault) → Framed (caught this x)
 framed_caught this x = search (framed_steps) depth 12
@@ -88,42 +81,29 @@ framed_create_failed local d x = search (framed_steps) depth 12
 pub framed_upgrade_failed : (n : ℕ) (x : Fault) → Framed (upgrade_failed n x)
 framed_upgrade_failed n x = search (framed_steps) depth 12
 
--- the node of an operand, where its kind fits
-pub framed_node_of : (fits : NodeKind → Bool) (this : Option ℕ) (o : Operand) → Framed (node_of fits this o)
-framed_node_of fits this o = search (framed_steps, framed_node) depth 12
+-- what gives nothing
+pub framed_gives_nothing : {f : Step State (Unit {0})} → Framed f → Framed (gives_nothing f)
+framed_gives_nothing h = framed_seq h (framed_give Nothing)
 
--- the document of an operand, or the page
-pub framed_document_or_page : (this : Option ℕ) (o : Option Operand) → Framed (document_or_page this o)
-framed_document_or_page this None = framed_give 1
-framed_document_or_page this (Some o) = framed_node_of is_document this o
+-- what gives a node
+pub framed_gives_node : {f : Step State ℕ} → Framed f → Framed (gives_node f)
+framed_gives_node h = framed_bind h (λ n. framed_give (Node n))
 
--- the class with a name
-pub framed_class : (name : List ℕ) → Framed (class name)
-framed_class name = search (framed_steps) depth 12
+-- the variable
+pub framed_keep : (var : Option (List ℕ)) (given : Given) → Framed (keep var given)
+framed_keep None given = framed_done
+framed_keep (Some var) Nothing = framed_done
+framed_keep (Some var) (Node n) = framed_set_variable var n
+framed_keep (Some var) (Answers a) = framed_done
+framed_keep (Some var) Ignored = framed_done
 
--- an operation that gives nothing
-pub framed_as_nothing : {f : Step State (Unit {0})} → Framed f → Framed (as_nothing f)
-framed_as_nothing h = framed_seq h (framed_give Nothing)
-
--- an operation that gives a node
-pub framed_as_variable : {f : Step State ℕ} (v : List ℕ) → Framed f → Framed (as_variable v f)
-framed_as_variable v h = framed_bind h (λ n. framed_seq (framed_set_variable v n) (framed_give (Node n)))
-
--- what is read off the page as an answer
-pub framed_answers : (of : Page → Answer) → Framed (answers of)
-framed_answers of = framed_read _ (λ events s. refl)
+-- what is given, and its variable
+pub framed_kept : {f : Step State Given} (var : Option (List ℕ)) → Framed f → Framed (kept var f)
+framed_kept var h = framed_bind h (λ given. framed_seq (framed_keep var given) (framed_give given))
 
 -- a definition
-pub framed_define : (name : List ℕ) (k : ℕ) (base : Option (List ℕ)) → Framed (define name k base)
-framed_define name k base = search (framed_steps) depth 12
-
--- a question
-pub framed_ask : (w : AskWord) (this : Option ℕ) (o : Operand) (name : Option (List ℕ)) → Framed (ask w this o name)
-framed_ask Attr this o name = search (framed_steps, framed_node_of, framed_answers) depth 12
-framed_ask Parent this o name = search (framed_steps, framed_node, framed_answers) depth 12
-framed_ask Kids this o name = search (framed_steps, framed_node, framed_answers) depth 12
-framed_ask StateWord this o name = search (framed_steps, framed_node_of, framed_answers) depth 12
-framed_ask _ this o name = framed_give Nothing
+pub framed_define_element : (name : List ℕ) (k : ℕ) (base : Option (List ℕ)) → Framed (define_element name k base)
+framed_define_element name k base = search (framed_steps) depth 12
 
 module _ (again : Again) (below : (call : Call) → Framed (again call)) where
   -- bodies
@@ -138,7 +118,7 @@ module _ (again : Again) (below : (call : Call) → Framed (again call)) where
   act_framed k args this (Keep val) = search (framed_steps) depth 12
   act_framed k args this (Try a) = framed_catch (framed_seq framed_spend (act_framed k args this a)) (framed_caught this)
   act_framed k args this (If equal left right a) =
-      framed_bind (framed_read (λ s. class_of s k) (λ events s. refl)) (λ c. framed_if (holds equal (text_of c args left) (text_of c args right)) (framed_seq framed_spend (act_framed k args this a)) (framed_give (Next this)))
+      framed_bind (framed_read (λ s. (class_of s k).memory) (λ events s. refl)) (λ memory. framed_if (holds equal (text_of memory args left) (text_of memory args right)) (framed_seq framed_spend (act_framed k args this a)) (framed_give (Next this)))
 
   pub body_framed : (k : ℕ) (args : Args) (this : Option ℕ) (actions : List Act) → Framed (body again k args this actions)
   body_framed k args this [] = framed_give this
@@ -170,13 +150,13 @@ module _ (again : Again) (below : (call : Call) → Framed (again call)) where
   pub call_back_framed : (n k : ℕ) (r : Reaction) → Framed (call_back again n k r)
   call_back_framed n k r = search (framed_steps, framed_log_call, body_framed) depth 14
 
-  pub run_calls_framed : (n : ℕ) (d : Option Definition) (r : Reaction) → Framed (run_calls again n d r)
-  run_calls_framed n None r = framed_done
-  run_calls_framed n (Some d) r = search (framed_steps, call_back_framed) depth 12
+  pub call_defined_framed : (n : ℕ) (r : Reaction) (d : Option Definition) → Framed (call_defined again n r d)
+  call_defined_framed n r None = framed_done
+  call_defined_framed n r (Some d) = call_back_framed n d.class r
 
   pub run_reaction_framed : (n : ℕ) (r : Reaction) → Framed (run_reaction again n r)
   run_reaction_framed n (UpgradeReaction d) = upgrade_framed n d
-  run_reaction_framed n r = search (framed_steps, run_calls_framed) depth 12
+  run_reaction_framed n r = search (framed_steps, call_defined_framed) depth 12
 
   pub react_framed : (n : ℕ) (w : ℕ × Reaction) → Framed (react again n w)
   react_framed n w = search (framed_steps, run_reaction_framed) depth 12
@@ -208,7 +188,7 @@ module _ (again : Again) (below : (call : Call) → Framed (again call)) where
   create_defined_framed local is d n x = framed_if (is_autonomous x) (framed_catch (construct_fit_framed local d x.class) (framed_create_failed local d)) (create_extended_framed local is d n)
 
   pub create_found_framed : (local : List ℕ) (is : Option (List ℕ)) (d : ℕ) (o : Option ℕ) → Framed (create_found again local is d o)
-  create_found_framed local is d None = framed_on_page (make_in_state local is d (first_state local is))
+  create_found_framed local is d None = framed_on_page (make_undefined local is d)
   create_found_framed local is d (Some x) = search (framed_steps, create_defined_framed) depth 12
 
   pub create_framed : (local : List ℕ) (is : Option (List ℕ)) (d : ℕ) → Framed (create again local is d)
@@ -219,24 +199,19 @@ module _ (again : Again) (below : (call : Call) → Framed (again call)) where
 
   -- operations
 
+  pub steps_framed : (deed : Deed) → Framed (steps again deed)
+  steps_framed (deeds.Create local is document) = framed_gives_node (create_named_framed local is document)
+  steps_framed (deeds.New class) = framed_gives_node (construct_framed class)
+  steps_framed (deeds.Define name class base) = framed_gives_nothing (framed_define_element name class base)
+  steps_framed (OnPage what) = framed_on_page (page_steps what)
+  steps_framed (deeds.Ask word n name) = framed_read _ (λ events s. refl)
+  steps_framed (deeds.Let var n) = framed_gives_nothing (framed_set_variable var n)
+
+  pub perform_deed_framed : (deed : Deed) → Framed (perform_deed again deed)
+  perform_deed_framed deed = framed_if (is_reacting deed) (reacting_framed (steps_framed deed)) (steps_framed deed)
+
   pub operate_framed : (this : Option ℕ) (op : Op) → Framed (operate again this op)
-  operate_framed this (Create var name is within) = search (framed_steps, framed_document_or_page, framed_as_variable, reacting_framed, create_named_framed) depth 14
-  operate_framed this (New var name) = search (framed_steps, framed_class, framed_as_variable, construct_framed) depth 14
-  operate_framed this (MakeText var chars within) = search (framed_steps, framed_document_or_page, framed_as_variable) depth 14
-  operate_framed this (Shadow var host) = search (framed_steps, framed_node_of, framed_as_variable) depth 14
-  operate_framed this (Append parent child) = search (framed_steps, framed_node, framed_as_nothing, reacting_framed) depth 14
-  operate_framed this (Before parent child before) = search (framed_steps, framed_node, framed_as_nothing, reacting_framed) depth 14
-  operate_framed this (Remove parent child) = search (framed_steps, framed_node, framed_as_nothing, reacting_framed) depth 14
-  operate_framed this (Detach child) = search (framed_steps, framed_node_of, framed_as_nothing, reacting_framed) depth 14
-  operate_framed this (SetAttr operand name value) = search (framed_steps, framed_node_of, framed_as_nothing, reacting_framed) depth 14
-  operate_framed this (DelAttr operand name) = search (framed_steps, framed_node_of, framed_as_nothing, reacting_framed) depth 14
-  operate_framed this (Clone var operand deep) = search (framed_steps, framed_node, framed_as_variable, reacting_framed) depth 14
-  operate_framed this (Adopt within operand) = search (framed_steps, framed_node_of, framed_node, framed_as_nothing, reacting_framed) depth 14
-  operate_framed this (Define name class_name base) = search (framed_steps, framed_class, framed_as_nothing, reacting_framed, framed_define) depth 14
-  operate_framed this (Upgrade operand) = search (framed_steps, framed_node, framed_as_nothing, reacting_framed) depth 14
-  operate_framed this (Ask word operand name) = framed_ask word this operand name
-  operate_framed this (Let var operand) = search (framed_steps, framed_node) depth 14
-  operate_framed this _ = framed_give Nothing
+  operate_framed this op = framed_bind (framed_look this (λ v. resolve v op)) (λ deed. framed_kept (variable op) (perform_deed_framed deed))
 
   -- a level
   pub level_framed : (call : Call) → Framed (level again call)

@@ -1,5 +1,5 @@
 -- The lines read no log.
-use Rattle.std.proofs.Common.{◌≡◌, ℕ, ◌+◌, Bool, true, false, List, [], ◌∷◌, None}
+use Rattle.std.proofs.Common.{◌≡◌, ℕ, ◌+◌, Bool, true, false, List, [], ◌∷◌, None, Some}
 use Rattle.std.specs.Prelude.{Result, Ok, Err}
 use Rattle.ce_base.specs.declared.fault.Fault.{Fault}
 use Rattle.rule_lines.specs.Acts.{Part, On, Has, Observe, Associate, DisableShadow, DisableInternals, Said, Blank, Command, Declares}
@@ -13,12 +13,14 @@ use Rattle.ce_algorithms.specs.Steps.{Step, done}
 use Rattle.ce_algorithms.specs.State.{State, Class}
 use Rattle.reaction_queue.specs.ElementQueues.{is_empty}
 use Rattle.ce_algorithms.specs.Drain.{drain_all_backup, checkpoint}
+use Rattle.ce_algorithms.specs.Making.{make_document}
 use Rattle.ce_algorithms.specs.Model.{model}
+use Rattle.ce_algorithms.specs.Perform.{gives_node}
 use Rattle.ce_algorithms.specs.Parts.{add_class, change_open, part}
 use Rattle.ce_algorithms.specs.Session.{perform, command, part_reply, class_part, run_line, run_lines}
 use Rattle.ce_algorithms.specs.Written.{behind, behind_in}
-use Rattle.ce_algorithms.proofs.Framed.{Framed, framed_steps, framed_give, framed_done, framed_log, framed_bind, framed_seq, framed_read_page}
-use Rattle.ce_algorithms.proofs.FramedLevels.{framed_as_variable}
+use Rattle.ce_algorithms.proofs.Framed.{Framed, framed_steps, framed_give, framed_done, framed_log, framed_bind, framed_seq, framed_read_page, framed_on_page}
+use Rattle.ce_algorithms.proofs.FramedLevels.{framed_kept}
 use Rattle.ce_algorithms.proofs.FramedDrain.{framed_drain_backup, framed_operate}
 
 -- the checkpoint
@@ -38,7 +40,7 @@ framed_checkpoint = framed_bind (framed_read_page (λ p. is_empty p.queues.backu
 -- what a command performs
 pub framed_perform : (c : Cmd) → Framed (perform model c)
 framed_perform (Both op) = framed_operate None op
-framed_perform (Doc var) = search (framed_steps, framed_as_variable) depth 12
+framed_perform (Doc var) = framed_kept (Some var) (framed_on_page (gives_node make_document))
 framed_perform _ = framed_give _
 
 -- a command

@@ -1,57 +1,49 @@
 -- Each algorithm calls the others again only at a lower clock.
 use Rattle.std.proofs.Common.{◌≡◌, ℕ, suc, ◌+◌, ◌<◌, ◌≤◌, Bool, List, [], ◌∷◌, length, Option, Some, None, refl, ap, ◌∙◌, arith}
 use Rattle.ce_base.specs.declared.fault.Fault.{Fault}
-use Rattle.node_trees.specs.declared.kind.NodeKind.{NodeKind}
-use Rattle.node_trees.specs.Facts.{is_document}
 use Rattle.rule_tokens.specs.declared.callback.CallName.TheVariants.{Constructor}
 use Rattle.rule_tokens.specs.declared.operand.Operand.{Operand}
-use Rattle.rule_tokens.specs.declared.operand.Operand.TheVariants.{Doc, This, Variable}
 use Rattle.rule_lines.specs.Acts.{Act, Both, Log, Super, Return, Throw, Bump, Keep, Try, If}
-use Rattle.rule_lines.specs.declared.ask_word.AskWord.{AskWord}
-use Rattle.rule_lines.specs.declared.ask_word.AskWord.TheVariants.{Attr, Parent, Kids, State as StateWord}
 use Rattle.rule_lines.specs.declared.op.Op.{Op}
-use Rattle.rule_lines.specs.declared.op.Op.TheVariants.{Create, New, MakeText, Shadow, Append, Before, Remove, Detach, SetAttr, DelAttr, Clone, Adopt, Define, Upgrade, Ask, Let}
 use Rattle.reaction_queue.specs.declared.reaction.Reaction.{Reaction}
 use Rattle.reaction_queue.specs.declared.reaction.Reaction.TheVariants.{Upgrade as UpgradeReaction, Connected, Disconnected, Adopted, Attribute, FormAssociated, FormDisabled, FormReset, FormStateRestore}
 use Rattle.reaction_queue.specs.Queues.{waiting_at, with_waiting}
 use Rattle.ce_registry.specs.ClassFacts.{has_call}
 use Rattle.ce_registry.specs.declared.definition.Definition.{Definition}
 use Rattle.ce_registry.specs.Registry.{is_autonomous}
-use Rattle.ce_algorithms.specs.declared.event.Answer.{Answer}
+use Rattle.ce_algorithms.specs.declared.deed.Deed.{Deed}
+use Rattle.ce_algorithms.specs.declared.deed.Deed.TheVariants as deeds
+use Rattle.ce_algorithms.specs.declared.deed.Deed.TheVariants.{OnPage}
 use Rattle.ce_algorithms.specs.declared.event.Given.{Given}
-use Rattle.ce_algorithms.specs.declared.event.Given.TheVariants.{Nothing, Node, Answers}
+use Rattle.ce_algorithms.specs.declared.event.Given.TheVariants.{Nothing, Node, Answers, Ignored}
 use Rattle.ce_algorithms.specs.Steps.{Step, ◌>>◌, give, done}
-use Rattle.ce_algorithms.specs.Page.{Page, with_queues}
-use Rattle.ce_algorithms.specs.CreateLater.{first_state}
+use Rattle.ce_algorithms.specs.Page.{with_queues}
 use Rattle.ce_algorithms.specs.State.{State, Class, change_page, class_of, spend}
 use Rattle.ce_algorithms.specs.Calls.{Call, Operate, DrainRest, DrainBackup, Again}
-use Rattle.ce_algorithms.specs.Operands.{Args, no_args, node, text_of}
+use Rattle.ce_algorithms.specs.Values.{Args, no_args, text_of}
 use Rattle.ce_algorithms.specs.Body.{Flow, Next, Ended, told, returned, caught, holds, act, body, actions_of}
 use Rattle.ce_algorithms.specs.Construct.{base_alone, constructor_body, construct}
 use Rattle.ce_algorithms.specs.Upgrade.{construct_for, drop_reactions, upgrade_threw, upgrade_now, upgrade}
-use Rattle.ce_algorithms.specs.Drain.{log_call, call_back, run_calls, run_reaction, react, drain, open_queue, pop_queue, drain_popped, reacting, with_backup, drain_backup}
+use Rattle.ce_algorithms.specs.Drain.{log_call, call_back, call_defined, run_reaction, react, drain, open_queue, pop_queue, drain_popped, reacting, with_backup, drain_backup}
 use Rattle.ce_algorithms.specs.Create.{construct_fit, create_failed, upgrade_failed, create_extended, create_defined, create_found, create}
-use Rattle.ce_algorithms.specs.Perform.{node_of, document_or_page, class, as_nothing, as_variable, answers, create_named, define, ask, operate}
+use Rattle.ce_algorithms.specs.Perform.{create_named, define_element, gives_nothing, gives_node, steps, perform_deed, keep, kept, operate}
+use Rattle.ce_algorithms.specs.Deeds.{resolve, is_reacting, variable}
 use Rattle.ce_algorithms.specs.Model.{clock, level}
-use Rattle.ce_algorithms.proofs.PageSteps.{keeps_make_text, keeps_make_in_state, keeps_base_call, keeps_pop_construction, keeps_begin_upgrade, keeps_tell_form, keeps_attach_shadow, keeps_pre_insert, keeps_remove_child, keeps_detach, keeps_set_named, keeps_remove_attribute, keeps_clone, keeps_adopt_node, keeps_define_name, keeps_upgrade_all}
+use Rattle.ce_algorithms.proofs.PageSteps.{keeps_make_in_state, keeps_base_call, keeps_pop_construction, keeps_begin_upgrade, keeps_tell_form, keeps_define_name, keeps_page_steps}
 use Rattle.ce_algorithms.proofs.Low.{Lower, lower, with_waiting_load, light_state, light_definition, light_begun, light_ended, light_dropped}
-use Rattle.ce_algorithms.proofs.Tied.{Tied, Tame, tame_le, tied_steps, tied_bind, tied_seq, tied_down, tied_give, tied_done, tied_read, tied_log, tied_set_variable, tied_found, tied_page, tied_spend, tied_if, tied_catch, tied_finally}
+use Rattle.ce_algorithms.proofs.Tied.{Tied, Tame, tame_le, tied_steps, tied_bind, tied_seq, tied_down, tied_give, tied_done, tied_read, tied_log, tied_look, tied_set_variable, tied_page, tied_spend, tied_if, tied_catch, tied_finally}
 
 -- what calls nothing again
-
-tied_node : {b : ℕ} (this : Option ℕ) (o : Operand) → Tied b (node this o) (node this o)
-tied_node this Doc = tied_give 1
-tied_node this This = tied_found this _
-tied_node this (Variable v) = search (tied_steps) depth 12
 
 tied_told : {b : ℕ} (given : Given) → Tied b (told given) (told given)
 tied_told Nothing = tied_done
 tied_told (Node n) = tied_done
 tied_told (Answers a) = tied_log _
+tied_told Ignored = tied_done
 
 tied_returned : {b : ℕ} (this : Option ℕ) (o : Option Operand) → Tied b (returned this o) (returned this o)
 tied_returned this None = tied_give _
-tied_returned this (Some o) = search (tied_steps, tied_node) depth 12
+tied_returned this (Some o) = search (tied_steps) depth 12
 
 tied_caught : {b : ℕ} (this : Option ℕ) (x : Fault) → Tied b (caught this x) (caught this x)
 tied_caught this x = search (tied_steps) depth 12
@@ -88,34 +80,24 @@ tied_create_failed local d x = search (tied_steps, keeps_make_in_state Lower low
 tied_upgrade_failed : {b : ℕ} (n : ℕ) (x : Fault) → Tied b (upgrade_failed n x) (upgrade_failed n x)
 tied_upgrade_failed n x = search (tied_steps, light_state) depth 12
 
-tied_node_of : {b : ℕ} (fits : NodeKind → Bool) (this : Option ℕ) (o : Operand) → Tied b (node_of fits this o) (node_of fits this o)
-tied_node_of fits this o = search (tied_steps, tied_node) depth 12
+tied_gives_nothing : {b : ℕ} {f g : Step State (Unit {0})} → Tied b f g → Tied b (gives_nothing f) (gives_nothing g)
+tied_gives_nothing h = tied_seq h (tied_give Nothing)
 
-tied_document_or_page : {b : ℕ} (this : Option ℕ) (o : Option Operand) → Tied b (document_or_page this o) (document_or_page this o)
-tied_document_or_page this None = tied_give 1
-tied_document_or_page this (Some o) = tied_node_of is_document this o
+tied_gives_node : {b : ℕ} {f g : Step State ℕ} → Tied b f g → Tied b (gives_node f) (gives_node g)
+tied_gives_node h = tied_bind h (λ n. tied_give (Node n))
 
-tied_class : {b : ℕ} (name : List ℕ) → Tied b (class name) (class name)
-tied_class name = search (tied_steps) depth 12
+tied_keep : {b : ℕ} (var : Option (List ℕ)) (given : Given) → Tied b (keep var given) (keep var given)
+tied_keep None given = tied_done
+tied_keep (Some var) Nothing = tied_done
+tied_keep (Some var) (Node n) = tied_set_variable var n
+tied_keep (Some var) (Answers a) = tied_done
+tied_keep (Some var) Ignored = tied_done
 
-tied_as_nothing : {b : ℕ} {f g : Step State (Unit {0})} → Tied b f g → Tied b (as_nothing f) (as_nothing g)
-tied_as_nothing h = tied_seq h (tied_give Nothing)
+tied_kept : {b : ℕ} {f g : Step State Given} (var : Option (List ℕ)) → Tied b f g → Tied b (kept var f) (kept var g)
+tied_kept var h = tied_bind h (λ given. tied_seq (tied_keep var given) (tied_give given))
 
-tied_as_variable : {b : ℕ} {f g : Step State ℕ} (v : List ℕ) → Tied b f g → Tied b (as_variable v f) (as_variable v g)
-tied_as_variable v h = tied_bind h (λ n. tied_seq (tied_set_variable v n) (tied_give (Node n)))
-
-tied_answers : {b : ℕ} (of : Page → Answer) → Tied b (answers of) (answers of)
-tied_answers of = tied_read _
-
-tied_define : {b : ℕ} (name : List ℕ) (k : ℕ) (base : Option (List ℕ)) → Tied b (define name k base) (define name k base)
-tied_define name k base = search (tied_steps, keeps_define_name Lower lower) depth 12
-
-tied_ask : {b : ℕ} (w : AskWord) (this : Option ℕ) (o : Operand) (name : Option (List ℕ)) → Tied b (ask w this o name) (ask w this o name)
-tied_ask Attr this o name = search (tied_steps, tied_node_of, tied_answers) depth 12
-tied_ask Parent this o name = search (tied_steps, tied_node, tied_answers) depth 12
-tied_ask Kids this o name = search (tied_steps, tied_node, tied_answers) depth 12
-tied_ask StateWord this o name = search (tied_steps, tied_node_of, tied_answers) depth 12
-tied_ask _ this o name = tied_give Nothing
+tied_define_element : {b : ℕ} (name : List ℕ) (k : ℕ) (base : Option (List ℕ)) → Tied b (define_element name k base) (define_element name k base)
+tied_define_element name k base = search (tied_steps, keeps_define_name Lower lower) depth 12
 
 module _ (b : ℕ) (f g : Again) (below : (call : Call) → Tied b (f call) (g call)) where
   -- bodies: each action stands behind a fuel
@@ -131,7 +113,7 @@ module _ (b : ℕ) (f g : Again) (below : (call : Call) → Tied b (f call) (g c
   act_tied k args this (Try a) = tied_catch (tied_down (tied_spend (act_tied k args this a))) (tied_caught this)
   act_tied k args this (If equal left right a) =
       let h : Tied b (spend >> act f k args this a) (spend >> act g k args this a) = tied_down (tied_spend (act_tied k args this a)) in
-      tied_bind (tied_read (λ s. class_of s k)) (λ c. tied_if (holds equal (text_of c args left) (text_of c args right)) h (tied_give (Next this)))
+      tied_bind (tied_read (λ s. (class_of s k).memory)) (λ memory. tied_if (holds equal (text_of memory args left) (text_of memory args right)) h (tied_give (Next this)))
 
   body_tied : (k : ℕ) (args : Args) (this : Option ℕ) (actions : List Act) → Tied (suc b) (body f k args this actions) (body g k args this actions)
   body_tied k args this [] = tied_give this
@@ -163,13 +145,13 @@ module _ (b : ℕ) (f g : Again) (below : (call : Call) → Tied b (f call) (g c
   call_back_tied : (n k : ℕ) (r : Reaction) → Tied (suc b) (call_back f n k r) (call_back g n k r)
   call_back_tied n k r = search (tied_steps, tied_log_call, body_tied) depth 14
 
-  run_calls_tied : (n : ℕ) (d : Option Definition) (r : Reaction) → Tied (suc b) (run_calls f n d r) (run_calls g n d r)
-  run_calls_tied n None r = tied_done
-  run_calls_tied n (Some d) r = search (tied_steps, call_back_tied) depth 12
+  call_defined_tied : (n : ℕ) (r : Reaction) (d : Option Definition) → Tied (suc b) (call_defined f n r d) (call_defined g n r d)
+  call_defined_tied n r None = tied_done
+  call_defined_tied n r (Some d) = call_back_tied n d.class r
 
   run_reaction_tied : (n : ℕ) (r : Reaction) → Tied (suc b) (run_reaction f n r) (run_reaction g n r)
   run_reaction_tied n (UpgradeReaction d) = upgrade_tied n d
-  run_reaction_tied n r = search (tied_steps, run_calls_tied) depth 12
+  run_reaction_tied n r = search (tied_steps, call_defined_tied) depth 12
 
   react_tied : (n : ℕ) (w : ℕ × Reaction) → Tied (suc b) (react f n w) (react g n w)
   react_tied n w = search (tied_steps, run_reaction_tied) depth 12
@@ -224,7 +206,7 @@ module _ (b : ℕ) (f g : Again) (below : (call : Call) → Tied b (f call) (g c
   create_defined_tied local is d n x = tied_if (is_autonomous x) (tied_catch (construct_fit_tied local d x.class) (tied_create_failed local d)) (create_extended_tied local is d n)
 
   create_found_tied : (local : List ℕ) (is : Option (List ℕ)) (d : ℕ) (o : Option ℕ) → Tied (suc b) (create_found f local is d o) (create_found g local is d o)
-  create_found_tied local is d None = tied_page (keeps_make_in_state Lower lower local is d (first_state local is))
+  create_found_tied local is d None = tied_page (keeps_make_in_state Lower lower local is d _)
   create_found_tied local is d (Some x) = search (tied_steps, create_defined_tied) depth 12
 
   create_tied : (local : List ℕ) (is : Option (List ℕ)) (d : ℕ) → Tied (suc b) (create f local is d) (create g local is d)
@@ -235,24 +217,19 @@ module _ (b : ℕ) (f g : Again) (below : (call : Call) → Tied b (f call) (g c
 
   -- operations
 
+  steps_tied : (deed : Deed) → Tied (suc b) (steps f deed) (steps g deed)
+  steps_tied (deeds.Create local is document) = tied_gives_node (create_named_tied local is document)
+  steps_tied (deeds.New class) = tied_gives_node (construct_tied class)
+  steps_tied (deeds.Define name class base) = tied_gives_nothing (tied_define_element name class base)
+  steps_tied (OnPage what) = tied_page (keeps_page_steps Lower lower what)
+  steps_tied (deeds.Ask word n name) = tied_read _
+  steps_tied (deeds.Let var n) = tied_gives_nothing (tied_set_variable var n)
+
+  perform_deed_tied : (deed : Deed) → Tied (suc b) (perform_deed f deed) (perform_deed g deed)
+  perform_deed_tied deed = tied_if (is_reacting deed) (reacting_tied (steps_tied deed)) (steps_tied deed)
+
   operate_tied : (this : Option ℕ) (op : Op) → Tied (suc b) (operate f this op) (operate g this op)
-  operate_tied this (Create var name is within) = search (tied_steps, tied_document_or_page, tied_as_variable, reacting_tied, create_named_tied) depth 14
-  operate_tied this (New var name) = search (tied_steps, tied_class, tied_as_variable, construct_tied) depth 14
-  operate_tied this (MakeText var chars within) = search (tied_steps, tied_document_or_page, tied_as_variable, keeps_make_text Lower lower) depth 14
-  operate_tied this (Shadow var host) = search (tied_steps, tied_node_of, tied_as_variable, keeps_attach_shadow Lower lower) depth 14
-  operate_tied this (Append parent child) = search (tied_steps, tied_node, tied_as_nothing, reacting_tied, keeps_pre_insert Lower lower) depth 14
-  operate_tied this (Before parent child before) = search (tied_steps, tied_node, tied_as_nothing, reacting_tied, keeps_pre_insert Lower lower) depth 14
-  operate_tied this (Remove parent child) = search (tied_steps, tied_node, tied_as_nothing, reacting_tied, keeps_remove_child Lower lower) depth 14
-  operate_tied this (Detach child) = search (tied_steps, tied_node_of, tied_as_nothing, reacting_tied, keeps_detach Lower lower) depth 14
-  operate_tied this (SetAttr operand name value) = search (tied_steps, tied_node_of, tied_as_nothing, reacting_tied, keeps_set_named Lower lower) depth 14
-  operate_tied this (DelAttr operand name) = search (tied_steps, tied_node_of, tied_as_nothing, reacting_tied, keeps_remove_attribute Lower lower) depth 14
-  operate_tied this (Clone var operand deep) = search (tied_steps, tied_node, tied_as_variable, reacting_tied, keeps_clone Lower lower) depth 14
-  operate_tied this (Adopt within operand) = search (tied_steps, tied_node_of, tied_node, tied_as_nothing, reacting_tied, keeps_adopt_node Lower lower) depth 14
-  operate_tied this (Define name class_name base) = search (tied_steps, tied_class, tied_as_nothing, reacting_tied, tied_define) depth 14
-  operate_tied this (Upgrade operand) = search (tied_steps, tied_node, tied_as_nothing, reacting_tied, keeps_upgrade_all Lower lower) depth 14
-  operate_tied this (Ask word operand name) = tied_ask word this operand name
-  operate_tied this (Let var operand) = search (tied_steps, tied_node) depth 14
-  operate_tied this _ = tied_give Nothing
+  operate_tied this op = tied_bind (tied_look this (λ v. resolve v op)) (λ deed. tied_kept (variable op) (perform_deed_tied deed))
 
   -- a level calls again only at a lower clock
   pub level_tied : (call : Call) → Tied (suc b) (level f call) (level g call)

@@ -13,16 +13,18 @@ use Rattle.ce_registry.specs.declared.definition.Definition.{Definition}
 use Rattle.ce_algorithms.specs.Steps.{Step, Outcome, Goes, Throws, Spent, then_do, ◌>>=◌, ◌>>◌, give, done, throw, when, throw_if, throw_any, found, find_or, where_is, throw_where, refuse, for_each, read}
 use Rattle.ce_algorithms.specs.Page.{Page, Work, Element, spend, spend_from, read_page, change_page, with_forest, with_queues, with_element, with_state, with_definition}
 use Rattle.ce_algorithms.specs.Making.{with_new, make_node, make_element, make_text, make_document, make_shadow_root}
-use Rattle.ce_algorithms.specs.Enqueue.{noted, enqueue, enqueue_callback, enqueue_upgrade, look_up_and_enqueue, try_upgrade}
+use Rattle.ce_algorithms.specs.Enqueue.{noted, enqueue, enqueue_callback, enqueue_upgrade, enqueue_found, look_up_and_enqueue, try_upgrade}
 use Rattle.ce_algorithms.specs.FormChanges.{FormChange, tell_owner, tell_disabled, tell, tell_form_change, tell_at_turn, tell_others, tell_first_owner, tell_first, tell_form}
 use Rattle.ce_algorithms.specs.Mutation.{removed, remove, adopted, move_to, adopt, connected_now, inserted, put_in, insert, pre_insert}
-use Rattle.ce_algorithms.specs.Attributes.{changed, set_attribute, remove_there, remove_attribute}
+use Rattle.ce_algorithms.specs.Attributes.{handle_attribute_change, set_attribute, remove_there, remove_attribute}
 use Rattle.ce_algorithms.specs.Define.{with_defined, upgrade_candidates, define_name}
 use Rattle.ce_algorithms.specs.CreateLater.{make_in_state, make_later, create_later}
 use Rattle.ce_algorithms.specs.Clone.{copy_attribute, copy_node, copy_below, clone}
 use Rattle.ce_algorithms.specs.Construction.{with_stack, push_construction, pop_construction, make_custom, base_entry, base_call}
 use Rattle.ce_algorithms.specs.Upgrade.{enqueue_attribute, begin_upgrade}
-use Rattle.ce_algorithms.specs.Perform.{attach_shadow, remove_child, detach, set_named, adopt_node, upgrade_one, upgrade_all}
+use Rattle.ce_algorithms.specs.declared.deed.PageDeed.{PageDeed}
+use Rattle.ce_algorithms.specs.declared.deed.PageDeed.TheVariants as page_deeds
+use Rattle.ce_algorithms.specs.Perform as perform
 
 abbrev pub work_in : {A : Type 0} → Outcome Work A → Work
 work_in (Goes a w) = w
@@ -154,12 +156,15 @@ module _ (R : Work → Work → Type 0) (c : Closed R) where
   pub keeps_enqueue_callback : (n : ℕ) (r : Reaction) → Keeps R (enqueue_callback n r)
   keeps_enqueue_callback n r = search (page_steps) depth 12
 
-  pub keeps_enqueue_upgrade : (n : ℕ) (d : Option ℕ) → Keeps R (enqueue_upgrade n d)
-  keeps_enqueue_upgrade n None = keeps_done
-  keeps_enqueue_upgrade n (Some d) = keeps_enqueue n (Upgrade d)
+  pub keeps_enqueue_upgrade : (d n : ℕ) → Keeps R (enqueue_upgrade d n)
+  keeps_enqueue_upgrade d n = keeps_enqueue n (Upgrade d)
+
+  pub keeps_enqueue_found : (n : ℕ) (d : Option ℕ) → Keeps R (enqueue_found n d)
+  keeps_enqueue_found n None = keeps_done
+  keeps_enqueue_found n (Some d) = keeps_enqueue_upgrade d n
 
   pub keeps_look_up_and_enqueue : (n : ℕ) → Keeps R (look_up_and_enqueue n)
-  keeps_look_up_and_enqueue n = search (page_steps, keeps_enqueue_upgrade) depth 12
+  keeps_look_up_and_enqueue n = search (page_steps, keeps_enqueue_found) depth 12
 
   pub keeps_try_upgrade : (n : ℕ) → Keeps R (try_upgrade n)
   keeps_try_upgrade n = search (page_steps, keeps_look_up_and_enqueue) depth 12
@@ -231,15 +236,15 @@ module _ (R : Work → Work → Type 0) (c : Closed R) where
 
   -- attributes
 
-  pub keeps_changed : (old : Page) (n : ℕ) (name : List ℕ) (before after : Option (List ℕ)) → Keeps R (changed old n name before after)
-  keeps_changed old n name before after = search (page_steps, keeps_enqueue_callback, keeps_tell_others) depth 12
+  pub keeps_handle_attribute_change : (old : Page) (n : ℕ) (name : List ℕ) (before after : Option (List ℕ)) → Keeps R (handle_attribute_change old n name before after)
+  keeps_handle_attribute_change old n name before after = search (page_steps, keeps_enqueue_callback, keeps_tell_others) depth 12
 
   pub keeps_set_attribute : (n : ℕ) (name value : List ℕ) → Keeps R (set_attribute n name value)
-  keeps_set_attribute n name value = search (page_steps, keeps_changed) depth 12
+  keeps_set_attribute n name value = search (page_steps, keeps_handle_attribute_change) depth 12
 
   pub keeps_remove_there : (n : ℕ) (name : List ℕ) (old : Option (List ℕ)) → Keeps R (remove_there n name old)
   keeps_remove_there n name None = keeps_done
-  keeps_remove_there n name (Some value) = search (page_steps, keeps_changed) depth 12
+  keeps_remove_there n name (Some value) = search (page_steps, keeps_handle_attribute_change) depth 12
 
   pub keeps_remove_attribute : (n : ℕ) (name : List ℕ) → Keeps R (remove_attribute n name)
   keeps_remove_attribute n name = search (page_steps, keeps_remove_there) depth 12
@@ -247,7 +252,7 @@ module _ (R : Work → Work → Type 0) (c : Closed R) where
   -- definitions
 
   pub keeps_upgrade_candidates : (name : List ℕ) (base : Option (List ℕ)) (d : ℕ) → Keeps R (upgrade_candidates name base d)
-  keeps_upgrade_candidates name base d = search (page_steps) depth 12
+  keeps_upgrade_candidates name base d = search (page_steps, keeps_enqueue_upgrade d) depth 12
 
   pub keeps_define_name : (name : List ℕ) (class : ℕ) (facts : ClassFacts) (base : Option (List ℕ)) → Keeps R (define_name name class facts base)
   keeps_define_name name class facts base = search (page_steps, keeps_upgrade_candidates) depth 14
@@ -274,7 +279,7 @@ module _ (R : Work → Work → Type 0) (c : Closed R) where
 
   pub keeps_make_later : (local : List ℕ) (is : Option (List ℕ)) (d : ℕ) (o : Option ℕ) → Keeps R (make_later local is d o)
   keeps_make_later local is d None = keeps_make_in_state local is d _
-  keeps_make_later local is d (Some x) = search (page_steps, keeps_make_in_state) depth 12
+  keeps_make_later local is d (Some x) = search (page_steps, keeps_make_in_state, keeps_enqueue_upgrade) depth 12
 
   pub keeps_create_later : (local : List ℕ) (is : Option (List ℕ)) (d : ℕ) → Keeps R (create_later local is d)
   keeps_create_later local is d = search (page_steps, keeps_make_later) depth 12
@@ -323,25 +328,17 @@ module _ (R : Work → Work → Type 0) (c : Closed R) where
   pub keeps_begin_upgrade : (n d : ℕ) → Keeps R (begin_upgrade n d)
   keeps_begin_upgrade n d = search (page_steps, keeps_enqueue_attribute, keeps_enqueue_callback, keeps_push_construction) depth 16
 
-  -- operations
+  -- what an operation does on the page: each deed by the same rules
+  pub ruleset deed_steps = (page_steps, keeps_make_node, keeps_make_shadow_root, keeps_pre_insert, keeps_remove, keeps_adopt, keeps_set_attribute, keeps_remove_attribute, keeps_copy_node, keeps_copy_below, keeps_try_upgrade)
 
-  pub keeps_attach_shadow : (n : ℕ) → Keeps R (attach_shadow n)
-  keeps_attach_shadow n = search (page_steps, keeps_make_shadow_root) depth 14
-
-  pub keeps_remove_child : (parent n : ℕ) → Keeps R (remove_child parent n)
-  keeps_remove_child parent n = search (page_steps, keeps_remove) depth 12
-
-  pub keeps_detach : (n : ℕ) → Keeps R (detach n)
-  keeps_detach n = search (page_steps, keeps_remove) depth 12
-
-  pub keeps_set_named : (n : ℕ) (name value : List ℕ) → Keeps R (set_named n name value)
-  keeps_set_named n name value = search (page_steps, keeps_set_attribute) depth 12
-
-  pub keeps_adopt_node : (d n : ℕ) → Keeps R (adopt_node d n)
-  keeps_adopt_node d n = search (page_steps, keeps_adopt) depth 12
-
-  pub keeps_upgrade_one : (n : ℕ) → Keeps R (upgrade_one n)
-  keeps_upgrade_one n = search (page_steps, keeps_try_upgrade) depth 12
-
-  pub keeps_upgrade_all : (n : ℕ) → Keeps R (upgrade_all n)
-  keeps_upgrade_all n = search (page_steps, keeps_upgrade_one) depth 12
+  pub keeps_page_steps : (what : PageDeed) → Keeps R (perform.page_steps what)
+  keeps_page_steps (page_deeds.MakeText chars document) = search deed_steps depth 20
+  keeps_page_steps (page_deeds.Shadow host) = search deed_steps depth 20
+  keeps_page_steps (page_deeds.Insert parent n before) = search deed_steps depth 20
+  keeps_page_steps (page_deeds.Remove parent n) = search deed_steps depth 20
+  keeps_page_steps (page_deeds.Detach n) = search deed_steps depth 20
+  keeps_page_steps (page_deeds.SetAttr n name value) = search deed_steps depth 20
+  keeps_page_steps (page_deeds.DelAttr n name) = search deed_steps depth 20
+  keeps_page_steps (page_deeds.Clone n deep) = search deed_steps depth 20
+  keeps_page_steps (page_deeds.Adopt document n) = search deed_steps depth 20
+  keeps_page_steps (page_deeds.Upgrade n) = search deed_steps depth 20

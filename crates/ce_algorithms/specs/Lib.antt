@@ -12,7 +12,12 @@ pub mod Construction
 pub mod State
 pub mod Calls
 pub mod Text
+pub mod Fits
 pub mod Operands
+pub mod Values
+pub mod Unbuilt
+pub mod Questions
+pub mod Deeds
 pub mod Body
 pub mod Construct
 pub mod Upgrade
@@ -24,9 +29,4 @@ pub mod Parts
 pub mod Session
 pub mod Lines
 pub mod Written
-pub mod Script
 pub mod Worked
-pub mod Scripts
-pub mod Logs
-pub mod Corners
-pub mod CornerLogs

@@ -1,34 +1,37 @@
 -- A session: the lines of a script, one after another.
-use Rattle.std.specs.Prelude.{ℕ, ◌+◌, Bool, List, [], ◌∷◌, None, Result, Ok, Err}
+use Rattle.std.specs.Prelude.{ℕ, ◌+◌, Bool, List, [], ◌∷◌, Some, None, Result, Ok, Err}
 use Rattle.ce_base.specs.declared.fault.Fault.{Fault}
 use Rattle.rule_lines.specs.Acts.{Part, Said, Blank, Command, Declares}
 use Rattle.rule_lines.specs.declared.line.Cmd.{Cmd}
 use Rattle.rule_lines.specs.declared.line.Cmd.TheVariants.{Both, Doc}
 use Rattle.rule_tokens.specs.declared.refused.Bad.{Bad}
 use Rattle.ce_algorithms.specs.declared.event.Event.{Event}
-use Rattle.ce_algorithms.specs.declared.event.Event.TheVariants.{Fine, Gave, Answered, Threw, WasBad}
+use Rattle.ce_algorithms.specs.declared.event.Event.TheVariants as events
 use Rattle.ce_algorithms.specs.declared.event.Given.{Given}
-use Rattle.ce_algorithms.specs.declared.event.Given.TheVariants.{Nothing, Node, Answers}
+use Rattle.ce_algorithms.specs.declared.event.Given.TheVariants.{Nothing, Node, Answers, Ignored}
+use Rattle.ce_algorithms.specs.declared.settings.Settings.{Settings}
 use Rattle.ce_algorithms.specs.Steps.{Step, Outcome, Goes, Throws, Spent, ◌>>◌, ◌>>=◌, give, done, attempt}
 use Rattle.ce_algorithms.specs.Page.{blank_page}
+use Rattle.ce_algorithms.specs.Unbuilt.{unbuilt_given}
 use Rattle.ce_algorithms.specs.Making.{make_document}
 use Rattle.ce_algorithms.specs.State.{State, log, on_page, spend}
 use Rattle.ce_algorithms.specs.Calls.{Again}
 use Rattle.ce_algorithms.specs.Drain.{checkpoint}
-use Rattle.ce_algorithms.specs.Perform.{as_variable, operate}
+use Rattle.ce_algorithms.specs.Perform.{gives_node, kept, operate}
 use Rattle.ce_algorithms.specs.Parts.{part}
 
--- one command; at top level nothing is `this`. The others are not built yet: no line that is read says them
+-- one command; at top level nothing is `this`
 abbrev pub perform : Again → Cmd → Step State Given
 perform again (Both op) = operate again None op
-perform again (Doc var) = as_variable var (on_page make_document)
-perform again _ = give Nothing
+perform again (Doc var) = kept (Some var) (on_page (gives_node make_document))
+perform again c = give unbuilt_given
 
 abbrev pub reply : ℕ → Result Given Fault → Event
-reply line (Ok Nothing) = Fine line
-reply line (Ok (Node n)) = Gave line n
-reply line (Ok (Answers a)) = Answered line a
-reply line (Err f) = Threw line f
+reply line (Ok Nothing) = events.Fine line
+reply line (Ok (Node n)) = events.Gave line n
+reply line (Ok (Answers a)) = events.Answered line a
+reply line (Ok Ignored) = events.Ignored line
+reply line (Err f) = events.Threw line f
 
 -- one fuel, the operands and the steps, the checkpoint, the reply
 abbrev pub command : Again → ℕ → Cmd → Step State (Unit {0})
@@ -40,7 +43,7 @@ command again line c = do
 
 abbrev pub part_reply : ℕ → Result (Unit {0}) Fault → Step State (Unit {0})
 part_reply line (Ok x) = done
-part_reply line (Err f) = log (Threw line f)
+part_reply line (Err f) = log (events.Threw line f)
 
 -- a part of a class; only a refused one has a reply
 abbrev pub class_part : ℕ → Part → Step State (Unit {0})
@@ -52,7 +55,7 @@ abbrev pub run_line : Again → ℕ → Result Said Bad → Step State (Unit {0}
 run_line again line (Ok Blank) = done
 run_line again line (Ok (Command c)) = command again line c
 run_line again line (Ok (Declares p)) = class_part line p
-run_line again line (Err bad) = log (WasBad line bad)
+run_line again line (Err bad) = log (events.WasBad line bad)
 
 -- the lines from this number on, as they were read
 abbrev pub run_lines : Again → ℕ → List (Result Said Bad) → Step State (Unit {0})
@@ -61,9 +64,9 @@ run_lines again line (l ∷ ls) = do
   run_line again line l
   run_lines again (line + 1) ls
 
--- the state before the first line, where elements are upgraded or not, with so much fuel
-abbrev pub start : Bool → ℕ → State
-start upgrades fuel = record { page = blank_page upgrades; fuel = fuel; classes = []; variables = []; log = [] }
+-- the state before the first line, where elements are upgraded or not
+abbrev pub start : Bool → Settings → State
+start upgrades settings = record { page = blank_page upgrades; fuel = settings.fuel; classes = []; variables = []; log = [] }
 
 abbrev pub log_of : {A : Type 0} → Outcome State A → List Event
 log_of (Goes a s) = s.log

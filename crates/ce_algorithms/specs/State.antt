@@ -1,6 +1,7 @@
 -- The state of a session: the page and its fuel, the classes with their memories, the variables, the log.
-use Rattle.std.specs.Prelude.{ℕ, zero, suc, Bool, false, List, [], ◌∷◌, ◌++◌, map, Option, Some, None, slice_get, slice_set, bytes_eq, option_map}
+use Rattle.std.specs.Prelude.{ℕ, zero, suc, Bool, false, List, [], ◌∷◌, ◌++◌, map, Option, Some, None, Result, slice_get, slice_set, bytes_eq, option_map}
 use Rattle.std.specs.List.{find, position}
+use Rattle.ce_base.specs.declared.fault.Fault.{Fault}
 use Rattle.rule_tokens.specs.declared.callback.CallName.{CallName}
 use Rattle.rule_lines.specs.Acts.{Act}
 use Rattle.ce_registry.specs.declared.class_facts.ClassFacts.{ClassFacts}
@@ -8,17 +9,23 @@ use Rattle.ce_registry.specs.ClassFacts.{no_facts}
 use Rattle.ce_algorithms.specs.declared.event.Event.{Event}
 use Rattle.ce_algorithms.specs.declared.event.Event.TheVariants.{Enqueued, FuelLine}
 use Rattle.ce_algorithms.specs.declared.note.Note.{Note}
-use Rattle.ce_algorithms.specs.Steps.{Step, Outcome, Goes, Throws, Spent, change}
+use Rattle.ce_algorithms.specs.Steps.{Step, Outcome, Goes, Throws, Spent, change, settle}
 use Rattle.ce_algorithms.specs.Page.{Page, Work}
 
--- a class with its memory, which all its instances and callbacks share
+-- what a class remembers; all its instances and callbacks share it
+pub record Memory : Type 0 where
+  pub count : ℕ  -- the counter
+  pub kept : List ℕ  -- the kept text
+
+abbrev pub blank_memory : Memory
+blank_memory = record { count = 0; kept = [] }
+
 pub record Class : Type 0 where
   pub name : List ℕ
   pub facts : ClassFacts
   pub bodies : List (CallName × Act)  -- in the order of their lines
   pub frozen : Bool  -- a definition has it
-  pub count : ℕ  -- the counter
-  pub kept : List ℕ  -- the kept text
+  pub memory : Memory
 
 pub record State : Type 0 where
   pub page : Page
@@ -33,9 +40,13 @@ logged e s = record s { log = s.log ++ e ∷ [] }
 abbrev pub log : Event → Step State (Unit {0})
 log e = change (logged e)
 
--- one fuel, or the line `fuel` and the end of the session
+-- the session ends, and the line `fuel` is its last
+abbrev pub ended_by_fuel : {A : Type 0} → State → Outcome State A
+ended_by_fuel s = Spent (logged FuelLine s)
+
+-- one fuel, or the end of the session
 abbrev pub spend_from : ℕ → Step State (Unit {0})
-spend_from zero s = Spent (logged FuelLine s)
+spend_from zero s = ended_by_fuel s
 spend_from (suc n) s = Goes tt (record s { fuel = n })
 
 abbrev pub spend : Step State (Unit {0})
@@ -57,7 +68,7 @@ with_work w s = record s { page = record (w.page) { notes = [] }; fuel = w.fuel;
 abbrev pub with_outcome : {A : Type 0} → Outcome Work A → State → Outcome State A
 with_outcome (Goes a w) s = Goes a (with_work w s)
 with_outcome (Throws f w) s = Throws f (with_work w s)
-with_outcome (Spent w) s = Spent (logged FuelLine (with_work w s))
+with_outcome (Spent w) s = ended_by_fuel (with_work w s)
 
 abbrev pub work_of : State → Work
 work_of s = record { page = s.page; fuel = s.fuel }
@@ -90,7 +101,7 @@ class_named classes name = position (λ (k : Class). bytes_eq k.name name) class
 
 -- a class without callbacks, whose memory is blank
 abbrev pub new_class : List ℕ → Class
-new_class name = record { name = name; facts = no_facts; bodies = []; frozen = false; count = 0; kept = [] }
+new_class name = record { name = name; facts = no_facts; bodies = []; frozen = false; memory = blank_memory }
 
 abbrev pub or_new_class : Option Class → Class
 or_new_class None = new_class []
@@ -101,3 +112,21 @@ class_of s k = or_new_class (slice_get s.classes k)
 
 abbrev pub change_class : ℕ → (Class → Class) → Step State (Unit {0})
 change_class k f = change (λ s. record s { classes = slice_set s.classes k (f (class_of s k)) })
+
+-- what a class remembers is changed
+abbrev pub change_memory : ℕ → (Memory → Memory) → Step State (Unit {0})
+change_memory k f = change_class k (λ c. record c { memory = f c.memory })
+
+-- what operands are read from: the page, the classes, the variables, and which node is `this`, or none
+pub record View : Type 0 where
+  pub page : Page
+  pub classes : List Class
+  pub variables : List (List ℕ × ℕ)
+  pub this : Option ℕ
+
+abbrev pub view : Option ℕ → State → View
+view this s = record { page = s.page; classes = s.classes; variables = s.variables; this = this }
+
+-- what is found there, or the fault of looking; the state stays
+abbrev pub look : {A : Type 0} → Option ℕ → (View → Result A Fault) → Step State A
+look this find s = settle (find (view this s)) s

@@ -1,4 +1,8 @@
--- How worked scripts are run.
+-- Worked scripts, and how they are run.
+pub mod Scripts
+pub mod Logs
+pub mod Corners
+pub mod CornerLogs
 use Rattle.std.specs.Prelude.{ℕ, true, not, List, filter, Result}
 use Rattle.rule_lines.specs.Acts.{Said}
 use Rattle.rule_tokens.specs.declared.refused.Bad.{Bad}
@@ -11,7 +15,7 @@ use Rattle.ce_algorithms.specs.Text.{is_trace}
 
 -- the session of a script on a page where elements are upgraded, with so much fuel
 abbrev pub worked : ℕ → List (Result Said Bad) → Outcome State (Unit {0})
-worked fuel script = run_lines model 1 script (start true fuel)
+worked fuel script = run_lines model 1 script (start true (record { fuel = fuel }))
 
 -- its log, with ample fuel
 abbrev pub traced : List (Result Said Bad) → List Event

@@ -35,6 +35,8 @@ pub enum Given {
     Node(NodeNo),
     /// It answers what was asked.
     Answers(Answer),
+    /// It was ignored, as a user's command on a disabled control is.
+    Ignored,
 }
 
 /// What blocks a submission (HTML Standard, section "Form submission").

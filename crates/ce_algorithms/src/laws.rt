@@ -5,17 +5,21 @@ ghost use Rattle.rule_lines.specs.declared.line.Cmd.{Cmd};
 ghost use Rattle.rule_tokens.specs.declared.refused.Bad.{Bad};
 ghost use Rattle.ce_algorithms.specs.Calls.{Call};
 ghost use Rattle.ce_algorithms.specs.declared.event.Event.{Event};
-ghost use Rattle.ce_algorithms.specs.CornerLogs as corner_logs;
-ghost use Rattle.ce_algorithms.specs.Corners as corners;
-ghost use Rattle.ce_algorithms.specs.Logs as logs;
+ghost use Rattle.ce_algorithms.specs.Worked.CornerLogs as corner_logs;
+ghost use Rattle.ce_algorithms.specs.Worked.Corners as corners;
+ghost use Rattle.ce_algorithms.specs.Worked.Logs as logs;
 ghost use Rattle.ce_algorithms.specs.Model.{level, model};
-ghost use Rattle.ce_algorithms.specs.Script.{is_spent};
-ghost use Rattle.ce_algorithms.specs.Scripts as scripts;
+ghost use Rattle.ce_algorithms.specs.Steps.{is_spent};
+ghost use Rattle.ce_algorithms.specs.Worked.Scripts as scripts;
 ghost use Rattle.ce_algorithms.specs.Session.{command, run_line};
 ghost use Rattle.ce_algorithms.specs.State.{State};
 ghost use Rattle.ce_algorithms.specs.Steps.{GoesOn};
 ghost use Rattle.ce_algorithms.specs.Worked.{seen, traced, worked};
+ghost use Rattle.ce_algorithms.specs.Unbuilt.{no_node, unbuilt_answer, unbuilt_deed, unbuilt_given};
 ghost use Rattle.ce_algorithms.specs.Written.{behind, behind_in};
+
+use crate::{Answer, Deed, Given};
+use ce_base::NodeNo;
 
 /// Each algorithm calls the others as they are: the model is the fixed point of its algorithms, however
 /// many levels of them are counted.
@@ -35,6 +39,43 @@ pub fn no_step_reads_the_log()
 pub fn no_command_throws()
     ensures { (line : ℕ) (c : Cmd) (s : State) → GoesOn (command model line c s) }
 {}
+
+/// No code has the number that stands for what is not built yet.
+pub fn no_code_has_no_node(n: NodeNo)
+    ensures { n ≡ no_node → ⊥ }
+{
+    let _number = n;
+}
+
+/// No code has the deed that an operation which is not built comes to: no body can do it.
+pub fn no_code_has_the_unbuilt_deed(deed: &Deed)
+    ensures { deed.now ≡ unbuilt_deed → ⊥ }
+{
+    match deed {
+        Deed::Let { var: _, node } => no_code_has_no_node(*node),
+        _ => (),
+    }
+}
+
+/// No code has the answer that a question which is not built has.
+pub fn no_code_has_the_unbuilt_answer(answer: &Answer)
+    ensures { answer.now ≡ unbuilt_answer → ⊥ }
+{
+    match answer {
+        Answer::Node(n) => no_code_has_no_node(*n),
+        _ => (),
+    }
+}
+
+/// No code has what a command that is not built gives.
+pub fn no_code_has_the_unbuilt_given(given: &Given)
+    ensures { given.now ≡ unbuilt_given → ⊥ }
+{
+    match given {
+        Given::Node(n) => no_code_has_no_node(*n),
+        _ => (),
+    }
+}
 
 /// The model computes: the first script, with nine units of fuel, which are just enough.
 #[tactic(auto, using(crate::proofs::Rows::first_enough, crate::proofs::Rows::first_logs, crate::proofs::Rows::first_spends))]

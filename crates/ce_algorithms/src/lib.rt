@@ -5,14 +5,22 @@
 #![tactic(auto)]
 
 mod callback;
+mod deed;
 mod event;
+mod fit;
 mod laws;
 mod note;
+mod settings;
 
 pub use callback::same_call;
+pub use deed::{Deed, PageDeed};
 pub use event::{Answer, Cause, Event, Given};
+pub use fit::Fit;
 pub use laws::{
-    each_calls_the_others, no_command_throws, no_step_reads_the_log, worked_callbacks,
-    worked_corners, worked_first, worked_traces, worked_upgrades,
+    each_calls_the_others, no_code_has_no_node, no_code_has_the_unbuilt_answer,
+    no_code_has_the_unbuilt_deed, no_code_has_the_unbuilt_given, no_command_throws,
+    no_step_reads_the_log, worked_callbacks, worked_corners, worked_first, worked_traces,
+    worked_upgrades,
 };
 pub use note::Note;
+pub use settings::Settings;

@@ -1,0 +1,36 @@
+-- Questions: of which nodes each can be asked, and what it answers.
+use Rattle.std.specs.Prelude.{ℕ, List, Option, Some, None}
+use Rattle.std.specs.Str.{str_to_ascii_lowercase}
+use Rattle.node_trees.specs.Spots.{parent_at, children_at, attribute_at}
+use Rattle.rule_lines.specs.declared.ask_word.AskWord.{AskWord}
+use Rattle.rule_lines.specs.declared.ask_word.AskWord.TheVariants as words
+use Rattle.reaction_queue.specs.Queues.{or_empty}
+use Rattle.ce_algorithms.specs.declared.event.Answer.{Answer}
+use Rattle.ce_algorithms.specs.declared.event.Answer.TheVariants as answers
+use Rattle.ce_algorithms.specs.declared.fit.Fit.{Fit}
+use Rattle.ce_algorithms.specs.declared.fit.Fit.TheVariants as fit
+use Rattle.ce_algorithms.specs.Unbuilt.{unbuilt_answer}
+use Rattle.ce_algorithms.specs.Page.{Page, state_of}
+
+pub record Question : Type 0 where
+  pub asked_of : Fit  -- the node that it can be asked of
+  pub answer : Page → ℕ → Answer
+
+abbrev pub text_answer : Option (List ℕ) → Answer
+text_answer None = answers.Null
+text_answer (Some text) = answers.One text
+
+abbrev pub node_answer : Option ℕ → Answer
+node_answer None = answers.Null
+node_answer (Some n) = answers.Node n
+
+abbrev asked_of : Fit → (Page → ℕ → Answer) → Question
+asked_of what answer = record { asked_of = what; answer = answer }
+
+-- a row for each question that is built; an attribute is asked for by its name, lowercased
+abbrev pub question : AskWord → Option (List ℕ) → Question
+question words.Attr name = asked_of fit.Element (λ p n. text_answer (attribute_at p.forest n (str_to_ascii_lowercase (or_empty name))))
+question words.Parent name = asked_of fit.Any (λ p n. node_answer (parent_at p.forest n))
+question words.Kids name = asked_of fit.Any (λ p n. answers.Nodes (children_at p.forest n))
+question words.State name = asked_of fit.Element (λ p n. answers.State (state_of p n))
+question word name = asked_of fit.Any (λ p n. unbuilt_answer)

@@ -1,0 +1,21 @@
+-- What stands for the forms of the language that are not built yet, so that no body of code can do or answer it.
+use Rattle.std.specs.Prelude.{ℕ, []}
+use Rattle.ce_algorithms.specs.declared.deed.Deed.{Deed}
+use Rattle.ce_algorithms.specs.declared.deed.Deed.TheVariants.{Let}
+use Rattle.ce_algorithms.specs.declared.event.Answer.{Answer}
+use Rattle.ce_algorithms.specs.declared.event.Answer.TheVariants.{Node as NodeAnswer}
+use Rattle.ce_algorithms.specs.declared.event.Given.{Given}
+use Rattle.ce_algorithms.specs.declared.event.Given.TheVariants.{Node as NodeGiven}
+
+-- the first number that no node can have, as a node's number has 64 bits
+abbrev pub no_node : ℕ
+no_node = 18446744073709551616
+
+abbrev pub unbuilt_deed : Deed
+unbuilt_deed = Let [] no_node
+
+abbrev pub unbuilt_answer : Answer
+unbuilt_answer = NodeAnswer no_node
+
+abbrev pub unbuilt_given : Given
+unbuilt_given = NodeGiven no_node

@@ -1,0 +1,122 @@
+// Deeds: operations whose operands were read and fit.
+ghost use Rattle.std.specs.Prelude.{◌≡◌};
+ghost use Rattle.ce_algorithms.specs.Deeds.{is_reacting, is_reacting_on_page};
+
+use ce_base::{ClassNo, NodeNo, Text};
+use rule_lines::AskWord;
+
+/// What an operation comes to on the page alone: no body of a class runs before it has ended.
+#[derive(Drop)]
+pub enum PageDeed {
+    /// Makes a text node (DOM Standard, section "Interface Document", `createTextNode`).
+    MakeText {
+        chars: Text,
+        document: NodeNo,
+    },
+    /// Attaches a shadow root (section "Interface Element", "attach a shadow root").
+    Shadow {
+        host: NodeNo,
+    },
+    /// Inserts a node before a child, or at the end (section "Mutation algorithms", "pre-insert").
+    Insert {
+        parent: NodeNo,
+        node: NodeNo,
+        before: Option<NodeNo>,
+    },
+    /// Removes a child from its parent ("pre-remove").
+    Remove {
+        parent: NodeNo,
+        node: NodeNo,
+    },
+    /// Removes a node from its parent, if it has one (section "Interface ChildNode", `remove`).
+    Detach {
+        node: NodeNo,
+    },
+    /// Sets an attribute (section "Interface Element", `setAttribute`).
+    SetAttr {
+        node: NodeNo,
+        name: Text,
+        value: Text,
+    },
+    /// Removes an attribute (`removeAttribute`).
+    DelAttr {
+        node: NodeNo,
+        name: Text,
+    },
+    /// Clones a node (section "Interface Node", "clone a node").
+    Clone {
+        node: NodeNo,
+        deep: bool,
+    },
+    /// Adopts a node into a document (section "Interface Document", `adoptNode`).
+    Adopt {
+        document: NodeNo,
+        node: NodeNo,
+    },
+    /// Tries to upgrade a node's shadow-including inclusive descendants (HTML Standard, section "The
+    /// CustomElementRegistry interface", `upgrade`).
+    Upgrade {
+        node: NodeNo,
+    },
+}
+
+impl PageDeed {
+    /// Whether it pushes an element queue ([CEReactions]; HTML Standard, section "Custom element reactions").
+    pub fn is_reacting(&self) -> bool
+        ensures { result ≡ is_reacting_on_page self.now }
+    {
+        match self {
+            PageDeed::MakeText { .. } | PageDeed::Shadow { .. } => false,
+            PageDeed::Insert { .. } | PageDeed::Remove { .. } | PageDeed::Detach { .. } => true,
+            PageDeed::SetAttr { .. } | PageDeed::DelAttr { .. } => true,
+            PageDeed::Clone { .. } | PageDeed::Adopt { .. } | PageDeed::Upgrade { .. } => true,
+        }
+    }
+}
+
+/// What an operation comes to: nodes by their numbers, classes by theirs, and texts.
+#[derive(Drop)]
+pub enum Deed {
+    /// Creates an element (DOM Standard, section "Interface Document", `createElement`).
+    Create {
+        local: Text,
+        is_value: Option<Text>,
+        document: NodeNo,
+    },
+    /// Constructs a class (Web IDL, section "Invoking callback functions", "construct a callback function").
+    New {
+        class: ClassNo,
+    },
+    /// Defines a custom element (HTML Standard, section "The CustomElementRegistry interface", `define`).
+    Define {
+        name: Text,
+        class: ClassNo,
+        base: Option<Text>,
+    },
+    /// Does something on the page alone.
+    OnPage(PageDeed),
+    /// Asks something of a node; of an attribute by its name.
+    Ask {
+        word: AskWord,
+        node: NodeNo,
+        name: Option<Text>,
+    },
+    /// Sets a variable.
+    Let {
+        var: Text,
+        node: NodeNo,
+    },
+}
+
+impl Deed {
+    /// Whether it pushes an element queue ([CEReactions]; HTML Standard, section "Custom element reactions").
+    pub fn is_reacting(&self) -> bool
+        ensures { result ≡ is_reacting self.now }
+    {
+        match self {
+            Deed::Create { .. } | Deed::Define { .. } => true,
+            Deed::OnPage(what) => what.is_reacting(),
+            Deed::New { .. } | Deed::Ask { .. } | Deed::Let { .. } => false,
+        }
+    }
+}
