@@ -5,7 +5,7 @@ ghost use Rattle.rule_tokens.specs.declared.callback.CallOrUpgrade.{CallOrUpgrad
 ghost use Rattle.reaction_queue.specs.Queues.{enqueued};
 ghost use Rattle.ce_algorithms.specs.Steps.{where_is};
 ghost use Rattle.ce_algorithms.specs.Page.{definition_of, is_custom, with_queues};
-ghost use Rattle.ce_algorithms.specs.Enqueue.{has_what, is_observed, gives, noted, enqueue, enqueue_callback, try_upgrade};
+ghost use Rattle.ce_algorithms.specs.Enqueue.{has_callback, is_observed, gives_reaction, noted, enqueue, enqueue_callback, try_upgrade};
 ghost use Rattle.ce_page.specs.Callbacks.{is_callback, IsPlain};
 ghost use Rattle.ce_page.specs.Ends.{Does, NeverRefuses, work};
 ghost use Rattle.ce_page.specs.Numbers.{StaysWithin, OnlyEnqueues};
@@ -37,20 +37,20 @@ impl Page {
         ensures rest { OnlyEnqueues self.old self.new }
         ensures refused { NeverRefuses result }
     {
-        if self.gives(n, &r) {
+        if self.gives_reaction(n, &r) {
             self.enqueue(alloc, n, r, fuel)?;
         }
         Ok(())
     }
 
     /// Whether the element's definition gives a reaction. An upgrade it does not.
-    fn gives(&self, n: NodeNo, r: &Reaction) -> bool
-        ensures gives { result ≡ gives (definition_of self.now n) r.now }
+    fn gives_reaction(&self, n: NodeNo, r: &Reaction) -> bool
+        ensures gives { result ≡ gives_reaction (definition_of self.now n) r.now }
         ensures callback { result ≡ true → is_callback r.now ≡ true }
     {
         match self.definition_of(n) {
             None => false,
-            Some(d) => has_what(r.what(), d) && is_observed(d, r),
+            Some(d) => has_callback(r.what(), d) && is_observed(d, r),
         }
     }
 
@@ -135,8 +135,8 @@ impl Page {
 }
 
 /// Whether the definition has the callback. An upgrade is none.
-fn has_what(what: CallOrUpgrade, d: &Definition) -> bool
-    ensures { result ≡ has_what what d.now }
+fn has_callback(what: CallOrUpgrade, d: &Definition) -> bool
+    ensures { result ≡ has_callback what d.now }
 {
     match what {
         CallOrUpgrade::Call(name) => d.facts.calls.has(name),
