@@ -22,7 +22,7 @@ use Rattle.ce_algorithms.specs.CreateLater.{make_undefined}
 use Rattle.ce_algorithms.specs.State.{State, Class, class_of}
 use Rattle.ce_algorithms.specs.Calls.{Call, Operate, DrainRest, DrainBackup, Again}
 use Rattle.ce_algorithms.specs.Values.{Args, no_args, text_of}
-use Rattle.ce_algorithms.specs.Body.{Flow, Next, Ended, told, returned, caught, holds, act, body, actions_of}
+use Rattle.ce_algorithms.specs.Body.{Flow, Next, Ended, on_flow, told, returned, caught, holds, act, body, actions_of}
 use Rattle.ce_algorithms.specs.Construct.{base_alone, constructor_body, construct}
 use Rattle.ce_algorithms.specs.Upgrade.{construct_for, drop_reactions, upgrade_threw, upgrade_now, upgrade}
 use Rattle.ce_algorithms.specs.Drain.{log_call, call_back, call_defined, run_reaction, react, drain, open_queue, pop_queue, drain_popped, reacting, with_backup, drain_backup}
@@ -124,7 +124,7 @@ module _ (again : Again) (below : (call : Call) → Framed (again call)) where
   body_framed k args this [] = framed_give this
   body_framed k args this (a ∷ rest) = framed_seq framed_spend (framed_bind (act_framed k args this a) (go (λ t. body_framed k args t rest)))
     where
-      go : ((t : Option ℕ) → Framed (body again k args t rest)) → (flow : Flow) → Framed (elim flow as (λ _. Step State (Option ℕ)) [ Next t ↦ body again k args t rest | Ended r ↦ give r ])
+      go : ((t : Option ℕ) → Framed (body again k args t rest)) → (flow : Flow) → Framed (on_flow (λ t. body again k args t rest) flow)
       go h (Next t) = h t
       go h (Ended r) = framed_give r
 

@@ -21,7 +21,7 @@ use Rattle.ce_algorithms.specs.Page.{with_queues}
 use Rattle.ce_algorithms.specs.State.{State, Class, change_page, class_of, spend}
 use Rattle.ce_algorithms.specs.Calls.{Call, Operate, DrainRest, DrainBackup, Again}
 use Rattle.ce_algorithms.specs.Values.{Args, no_args, text_of}
-use Rattle.ce_algorithms.specs.Body.{Flow, Next, Ended, told, returned, caught, holds, act, body, actions_of}
+use Rattle.ce_algorithms.specs.Body.{Flow, Next, Ended, on_flow, told, returned, caught, holds, act, body, actions_of}
 use Rattle.ce_algorithms.specs.Construct.{base_alone, constructor_body, construct}
 use Rattle.ce_algorithms.specs.Upgrade.{construct_for, drop_reactions, upgrade_threw, upgrade_now, upgrade}
 use Rattle.ce_algorithms.specs.Drain.{log_call, call_back, call_defined, run_reaction, react, drain, open_queue, pop_queue, drain_popped, reacting, with_backup, drain_backup}
@@ -119,7 +119,7 @@ module _ (b : ℕ) (f g : Again) (below : (call : Call) → Tied b (f call) (g c
   body_tied k args this [] = tied_give this
   body_tied k args this (a ∷ rest) = tied_spend (tied_bind (act_tied k args this a) (go (λ t. body_tied k args t rest)))
     where
-      go : ((t : Option ℕ) → Tied (suc b) (body f k args t rest) (body g k args t rest)) → (flow : Flow) → Tied b (elim flow [ Next t ↦ body f k args t rest | Ended r ↦ give r ]) (elim flow [ Next t ↦ body g k args t rest | Ended r ↦ give r ])
+      go : ((t : Option ℕ) → Tied (suc b) (body f k args t rest) (body g k args t rest)) → (flow : Flow) → Tied b (on_flow (λ t. body f k args t rest) flow) (on_flow (λ t. body g k args t rest) flow)
       go h (Next t) = tied_down (h t)
       go h (Ended r) = tied_give r
 

@@ -137,11 +137,15 @@ abbrev pub keep : Option (List ℕ) → Given → Step State (Unit {0})
 keep (Some var) (Node n) = set_variable var n
 keep var given = done
 
+abbrev pub named : Option (List ℕ) → Given → Step State Given
+named var given = do
+  keep var given
+  give given
+
 abbrev pub kept : Option (List ℕ) → Step State Given → Step State Given
 kept var step = do
   given ← step
-  keep var given
-  give given
+  named var given
 
 -- one operation, where `this` is that node or none
 abbrev pub operate : Again → Option ℕ → Op → Step State Given

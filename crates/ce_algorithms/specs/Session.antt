@@ -33,13 +33,18 @@ reply line (Ok (Answers a)) = events.Answered line a
 reply line (Ok Ignored) = events.Ignored line
 reply line (Err f) = events.Threw line f
 
--- one fuel, the operands and the steps, the checkpoint, the reply
+-- the checkpoint, and the reply behind it
+abbrev pub reply_to : Again → ℕ → Result Given Fault → Step State (Unit {0})
+reply_to again line result = do
+  checkpoint again
+  log (reply line result)
+
+-- one fuel, what the command performs, its fault as an answer, the checkpoint, the reply
 abbrev pub command : Again → ℕ → Cmd → Step State (Unit {0})
 command again line c = do
   spend
   result ← attempt (perform again c)
-  checkpoint again
-  log (reply line result)
+  reply_to again line result
 
 abbrev pub part_reply : ℕ → Result (Unit {0}) Fault → Step State (Unit {0})
 part_reply line (Ok x) = done
