@@ -10,9 +10,9 @@ use Rattle.rule_tokens.specs.declared.operand.Val.{Val}
 use Rattle.ce_algorithms.specs.declared.event.Event.TheVariants.{Logged}
 use Rattle.ce_algorithms.specs.Body.{body}
 use Rattle.ce_algorithms.specs.Model.{model}
-use Rattle.ce_algorithms.specs.Operands.{Args, text_of}
+use Rattle.ce_algorithms.specs.Values.{Args, text_of}
 use Rattle.ce_algorithms.specs.Session.{log_of}
-use Rattle.ce_algorithms.specs.State.{State, Class, class_of, logged, or_new_class, spend}
+use Rattle.ce_algorithms.specs.State.{State, Class, blank_memory, class_of, logged, or_new_class, spend}
 use Rattle.ce_algorithms.specs.Steps.{Step, Outcome, Goes, then_do}
 use Rattle.ce_algorithms.specs.Text.{text}
 use Rattle.ce_algorithms.specs.Written.{Did}
@@ -26,7 +26,7 @@ use Rattle.ce_drains.proofs.HaltLaws.{comes_stopped, did_trans, part_trans}
 
 -- a `log`, and the actions behind it
 abbrev log_then : ℕ → Args → Option ℕ → List Val → List (List Val) → Step State (Option ℕ)
-log_then class args this vals rest s = body model class args this (logs_of rest) (logged (Logged (map (text_of (class_of s class) args) vals)) s)
+log_then class args this vals rest s = body model class args this (logs_of rest) (logged (Logged (map (text_of (class_of s class).memory args) vals)) s)
 
 -- the action in a place, and those behind it
 body_from : (class : ℕ) (args : Args) (this : Option ℕ) (logs : List (List Val)) (i : ℕ) (vals : List Val) (s : State) → i < length logs → vals ≡ get_or logs i vals
@@ -40,14 +40,16 @@ pub blank_stays : (class : ℕ) (s t : State) → t.classes ≡ s.classes → Is
 blank_stays class s t same blank = subst (λ (ks : List Class). IsBlank (or_new_class (slice_get ks class))) (sym same) blank
 
 -- the fuel was spent, and the action has run
-acted : (class : ℕ) (args : Args) (this : Option ℕ) (vals : List Val) (rest : List (List Val)) (s s1 s2 : State) → Goes tt s1 ≡ spend s → IsBlank (class_of s1 class) → ((k : Class) → IsBlank k → s2 ≡ logged (Logged (map (text_of k args) vals)) s1)
+acted : (class : ℕ) (args : Args) (this : Option ℕ) (vals : List Val) (rest : List (List Val)) (s s1 s2 : State) → Goes tt s1 ≡ spend s → IsBlank (class_of s1 class) → s2 ≡ logged (Logged (map (text_of blank_memory args) vals)) s1
     → then_do (spend s) (λ _. log_then class args this vals rest) ≡ body model class args this (logs_of rest) s2
 acted class args this vals rest s s1 s2 spent blank logs =
-    ap (λ o. then_do o (λ _. log_then class args this vals rest)) (sym spent) ∙ ap (λ x. body model class args this (logs_of rest) x) (sym (logs (class_of s1 class) blank))
+    ap (λ o. then_do o (λ _. log_then class args this vals rest)) (sym spent)
+    ∙ ap (λ m. body model class args this (logs_of rest) (logged (Logged (map (text_of m args) vals)) s1)) blank
+    ∙ ap (λ x. body model class args this (logs_of rest) x) (sym logs)
 
 -- one action more was written
 pub did_action : (t : Bool) (h0 h h' : Option (List ℕ)) (class : ℕ) (args : Args) (this : Option ℕ) (logs : List (List Val)) (i : ℕ) (vals : List Val) (o : Outcome State (Option ℕ)) (s s1 s2 s3 : State) → i < length logs → vals ≡ get_or logs i vals
-    → Did t h0 h o (body model class args this (logs_of (drop i logs)) s) → Goes tt s1 ≡ spend s → IsBlank (class_of s1 class) → ((k : Class) → IsBlank k → s2 ≡ logged (Logged (map (text_of k args) vals)) s1) → Did {A = Unit {0}} t h h' (Goes tt s2) (Goes tt s3)
+    → Did t h0 h o (body model class args this (logs_of (drop i logs)) s) → Goes tt s1 ≡ spend s → IsBlank (class_of s1 class) → s2 ≡ logged (Logged (map (text_of blank_memory args) vals)) s1 → Did {A = Unit {0}} t h h' (Goes tt s2) (Goes tt s3)
     → Did t h0 h' o (body model class args this (logs_of (drop (i + 1) logs)) s3)
 did_action t h0 h h' class args this logs i vals o s s1 s2 s3 within is before spent blank logged wrote =
     let rest = drop (i + 1) logs in
@@ -63,7 +65,7 @@ body_stopped stop t h0 h class args this logs i vals o s s1 within is before end
 
 -- what the action has logged was not written whole
 pub body_part : (stop : Stop) (t : Bool) (h0 h h' : Option (List ℕ)) (class : ℕ) (args : Args) (this : Option ℕ) (logs : List (List Val)) (i : ℕ) (vals : List Val) (o : Outcome State (Option ℕ)) (s s1 s2 s3 : State) → i < length logs → vals ≡ get_or logs i vals
-    → Did t h0 h o (body model class args this (logs_of (drop i logs)) s) → Goes tt s1 ≡ spend s → IsBlank (class_of s1 class) → ((k : Class) → IsBlank k → s2 ≡ logged (Logged (map (text_of k args) vals)) s1) → AppendsPart h h' (text t s2.log)
+    → Did t h0 h o (body model class args this (logs_of (drop i logs)) s) → Goes tt s1 ≡ spend s → IsBlank (class_of s1 class) → s2 ≡ logged (Logged (map (text_of blank_memory args) vals)) s1 → AppendsPart h h' (text t s2.log)
     → Wrote {A = Unit {0}} t h0 h' (λ _. this) (Err (halt_of stop)) s3 o
 body_part stop t h0 h h' class args this logs i vals o s s1 s2 s3 within is before spent blank logged wrote =
     let rest = drop (i + 1) logs in

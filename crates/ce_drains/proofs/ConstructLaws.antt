@@ -10,7 +10,7 @@ use Rattle.ce_algorithms.specs.declared.event.Event.TheVariants.{Construct}
 use Rattle.ce_algorithms.specs.Construct.{construct, base_alone}
 use Rattle.ce_algorithms.specs.Construction.{base_call, base_entry, make_custom, or_no_entries, stack_of}
 use Rattle.ce_algorithms.specs.Body.{actions_of, body}
-use Rattle.ce_algorithms.specs.Operands.{no_args}
+use Rattle.ce_algorithms.specs.Values.{no_args}
 use Rattle.ce_algorithms.specs.Model.{model}
 use Rattle.ce_algorithms.specs.Page.{Work, definition_at, or_no_definition, read_page}
 use Rattle.ce_algorithms.specs.State.{State, class_of, logged, on_page}

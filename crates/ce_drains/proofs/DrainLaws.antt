@@ -1,6 +1,6 @@
 -- What draining writes, one reaction after another.
 use Rattle.std.proofs.Common.{◌≡◌, ◌<◌, ℕ, suc, Bool, true, false, List, [], ◌∷◌, length, Option, Some, None, refl, sym, ap, ◌∙◌, subst, arith}
-use Rattle.std.specs.Prelude.{Result, Ok, Err, MatchOption, IfSome, if◌then◌else◌}
+use Rattle.std.specs.Prelude.{Result, Ok, Err, MatchOption, IfSome}
 use Rattle.rule_lines.specs.Acts.{Act}
 use Rattle.ce_base.specs.Outside.{AppendsPart}
 use Rattle.reaction_queue.specs.declared.reaction.Reaction.{Reaction}
@@ -13,14 +13,13 @@ use Rattle.ce_algorithms.specs.declared.event.Event.TheVariants.{Started, Finish
 use Rattle.ce_algorithms.specs.declared.event.Given.TheVariants.{Nothing}
 use Rattle.ce_algorithms.specs.Body.{body}
 use Rattle.ce_algorithms.specs.Calls.{DrainRest, DrainBackup}
-use Rattle.ce_algorithms.specs.Drain.{actions_for, log_call, call_back, run_calls, run_reaction, report, react, drain, drain_backup, drain_popped, with_backup}
-use Rattle.ce_algorithms.specs.Enqueue.{has_what}
+use Rattle.ce_algorithms.specs.Drain.{actions_for, log_call, call_back, call_defined, run_reaction, report, react, drain, drain_backup, drain_popped, with_backup}
 use Rattle.ce_algorithms.specs.Model.{model}
-use Rattle.ce_algorithms.specs.Operands.{Args, args_of}
+use Rattle.ce_algorithms.specs.Values.{Args, args_of}
 use Rattle.ce_algorithms.specs.Page.{Page, definition_of, with_queues}
 use Rattle.ce_algorithms.specs.Session.{log_of}
 use Rattle.ce_algorithms.specs.State.{State, class_of, log, logged, change_page}
-use Rattle.ce_algorithms.specs.Steps.{Step, Outcome, Goes, Throws, Spent, then_do, ◌>>◌, catch_in, done, for_each, give}
+use Rattle.ce_algorithms.specs.Steps.{Step, Outcome, Goes, Throws, Spent, then_do, ◌>>◌, catch_in, done, give}
 use Rattle.ce_algorithms.specs.Text.{text}
 use Rattle.ce_algorithms.specs.Written.{Did}
 use Rattle.ce_algorithms.proofs.Framed.{Framed, framed_done, framed_log, framed_seq}
@@ -34,10 +33,10 @@ use Rattle.ce_drains.specs.Halts.{Wrote, Writes}
 use Rattle.ce_drains.specs.Steps.{callee, TakesBackup, TakesReaction}
 use Rattle.ce_drains.proofs.HaltLaws.{writes_then}
 
--- a reaction's calls
+-- a reaction's callback
 
--- a callback runs the calls of the element's definition
-pub reaction_calls : (e : ℕ) (r : Reaction) (s : State) → is_callback r ≡ true → run_reaction model e r s ≡ run_calls model e (definition_of s.page e) r s
+-- a callback runs by the element's definition
+pub reaction_calls : (e : ℕ) (r : Reaction) (s : State) → is_callback r ≡ true → run_reaction model e r s ≡ call_defined model e r (definition_of s.page e) s
 reaction_calls e (Upgrade d) s h = cc
 reaction_calls e Connected s h = refl
 reaction_calls e Disconnected s h = refl
@@ -48,51 +47,38 @@ reaction_calls e (FormDisabled disabled) s h = refl
 reaction_calls e FormReset s h = refl
 reaction_calls e (FormStateRestore state why) s h = refl
 
-calls_by : ℕ → Definition → Reaction → Bool → Step State (Unit {0})
-calls_by e d r has = for_each (if has then r ∷ [] else []) (call_back model e d.class)
-
--- no callback runs
-calls_none : (e : ℕ) (d : Option Definition) (r : Reaction) (s : State) → None ≡ callee d r → run_calls model e d r s ≡ Goes tt s
-unfolding calls_by
+-- without a definition there is none
+calls_none : (e : ℕ) (d : Option Definition) (r : Reaction) (s : State) → None ≡ callee d → call_defined model e r d s ≡ Goes tt s
 calls_none e None r s h = refl
-calls_none e (Some d) r s h = go (has_what (what_of r) d) h
-  where
-    go : (has : Bool) → None ≡ (if has then Some d.class else None) → calls_by e d r has s ≡ Goes tt s
-    go true p = cc
-    go false p = refl
+calls_none e (Some d) r s h = cc
 
--- one callback runs
-calls_some : (e class : ℕ) (d : Option Definition) (r : Reaction) (s : State) → Some class ≡ callee d r → run_calls model e d r s ≡ then_do (call_back model e class r s) (λ _. done)
-unfolding calls_by
+-- it is of the definition's class
+calls_some : (e class : ℕ) (d : Option Definition) (r : Reaction) (s : State) → Some class ≡ callee d → call_defined model e r d s ≡ call_back model e class r s
 calls_some e class None r s h = cc
-calls_some e class (Some d) r s h = go (has_what (what_of r) d) h
-  where
-    go : (has : Bool) → Some class ≡ (if has then Some d.class else None) → calls_by e d r has s ≡ then_do (call_back model e class r s) (λ _. done)
-    go true p = let same : d.class ≡ class = cc in ap (λ k. then_do (call_back model e k r s) (λ _. done)) same
-    go false p = cc
+calls_some e class (Some d) r s h = let same : d.class ≡ class = cc in ap (λ k. call_back model e k r s) same
 
--- the element's definition has no such callback
-pub reaction_none : (e : ℕ) (r : Reaction) (s : State) → is_callback r ≡ true → None ≡ callee (definition_of s.page e) r → report (run_reaction model e r) s ≡ Goes tt s
+-- the element has no definition
+pub reaction_none : (e : ℕ) (r : Reaction) (s : State) → is_callback r ≡ true → None ≡ callee (definition_of s.page e) → report (run_reaction model e r) s ≡ Goes tt s
 reaction_none e r s h none = ap (λ o. catch_in o (λ f. log (Reported f))) (reaction_calls e r s h ∙ calls_none e (definition_of s.page e) r s none)
 
 -- a callback with what catches its fault
 caught : Outcome State (Unit {0}) → Outcome State (Unit {0})
-caught o = catch_in (then_do o (λ _. done)) (λ f. log (Reported f))
+caught o = catch_in o (λ f. log (Reported f))
 
-reaction_some : (e class : ℕ) (r : Reaction) (s : State) → is_callback r ≡ true → Some class ≡ callee (definition_of s.page e) r → report (run_reaction model e r) s ≡ caught (call_back model e class r s)
+reaction_some : (e class : ℕ) (r : Reaction) (s : State) → is_callback r ≡ true → Some class ≡ callee (definition_of s.page e) → report (run_reaction model e r) s ≡ caught (call_back model e class r s)
 unfolding caught
 reaction_some e class r s h some = ap (λ o. catch_in o (λ f. log (Reported f))) (reaction_calls e r s h ∙ calls_some e class (definition_of s.page e) r s some)
 
 -- it went on, or stopped
 caught_same : (r : Result (Unit {0}) Halt) (t : Bool) (h0 h1 : Option (List ℕ)) (s : State) (o : Outcome State (Unit {0})) → Writes t h0 h1 r s o → Writes t h0 h1 r s (caught o)
 unfolding caught
-caught_same (Ok a) t h0 h1 s o w = did_catch_goes (λ f. log (Reported f)) (did_more (λ _. done) w framed_done refl)
-caught_same (Err FuelSpent) t h0 h1 s o w = did_catch_spent (λ f. log (Reported f)) (did_spent (λ _. done) w)
-caught_same (Err NoMemory) t h0 h1 s o w = part_catch t h0 h1 (then_do o (λ _. done)) (λ f. log (Reported f)) (part_then t h0 h1 o (λ _. done) w (λ _. framed_done)) (λ f. framed_log (Reported f))
-caught_same (Err WriteFault) t h0 h1 s o w = part_catch t h0 h1 (then_do o (λ _. done)) (λ f. log (Reported f)) (part_then t h0 h1 o (λ _. done) w (λ _. framed_done)) (λ f. framed_log (Reported f))
+caught_same (Ok a) t h0 h1 s o w = did_catch_goes (λ f. log (Reported f)) w
+caught_same (Err FuelSpent) t h0 h1 s o w = did_catch_spent (λ f. log (Reported f)) w
+caught_same (Err NoMemory) t h0 h1 s o w = part_catch t h0 h1 o (λ f. log (Reported f)) w (λ f. framed_log (Reported f))
+caught_same (Err WriteFault) t h0 h1 s o w = part_catch t h0 h1 o (λ f. log (Reported f)) w (λ f. framed_log (Reported f))
 
 -- a reaction runs a callback
-pub reaction_runs : (h : Result (Unit {0}) Halt) (t : Bool) (h0 h1 : Option (List ℕ)) (e class : ℕ) (r : Reaction) (s s1 : State) → is_callback r ≡ true → Some class ≡ callee (definition_of s.page e) r → Writes t h0 h1 h s1 (call_back model e class r s) → Writes t h0 h1 h s1 (report (run_reaction model e r) s)
+pub reaction_runs : (h : Result (Unit {0}) Halt) (t : Bool) (h0 h1 : Option (List ℕ)) (e class : ℕ) (r : Reaction) (s s1 : State) → is_callback r ≡ true → Some class ≡ callee (definition_of s.page e) → Writes t h0 h1 h s1 (call_back model e class r s) → Writes t h0 h1 h s1 (report (run_reaction model e r) s)
 reaction_runs h t h0 h1 e class r s s1 is some w = subst (λ o. Writes t h0 h1 h s1 o) (sym (reaction_some e class r s is some)) (caught_same h t h0 h1 s1 (call_back model e class r s) w)
 
 -- a callback

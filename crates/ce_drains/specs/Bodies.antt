@@ -1,9 +1,9 @@
 -- The bodies of a class: so far each of their actions is a `log`.
-use Rattle.std.specs.Prelude.{◌≡◌, [], List, map}
+use Rattle.std.specs.Prelude.{◌≡◌, List, map}
 use Rattle.rule_tokens.specs.declared.callback.CallName.{CallName}
 use Rattle.rule_tokens.specs.declared.operand.Val.{Val}
 use Rattle.rule_lines.specs.Acts.{Act, Log}
-use Rattle.ce_algorithms.specs.State.{Class}
+use Rattle.ce_algorithms.specs.State.{Class, blank_memory}
 
 abbrev pub bodies_of : List (CallName × List Val) → List (CallName × Act)
 bodies_of bodies = map (λ (b : CallName × List Val). (b.0, Log b.1)) bodies
@@ -12,6 +12,5 @@ abbrev pub logs_of : List (List Val) → List Act
 logs_of logs = map Log logs
 
 -- no action changes a class's memory so far
-pub record IsBlank (k : Class) : Type 0 where
-  pub count : k.count ≡ 0
-  pub kept : k.kept ≡ []
+abbrev pub IsBlank : Class → Type 0
+IsBlank k = k.memory ≡ blank_memory

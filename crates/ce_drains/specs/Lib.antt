@@ -1,6 +1,6 @@
 pub mod Halts
 pub mod Bodies
 pub mod Classes
-pub mod Operands
+pub mod Taking
 pub mod Variables
 pub mod Steps

@@ -1,13 +1,11 @@
 -- Steps of the session's state that the definitions do not name.
-use Rattle.std.specs.Prelude.{◌≡◌, ◌≤◌, ◌<◌, ◌+◌, ◌^◌, ℕ, Bool, true, false, if◌then◌else◌, List, [], ◌∷◌, Option, None, Some, Result, Ok, Err, length}
+use Rattle.std.specs.Prelude.{◌≡◌, ◌≤◌, ◌<◌, ◌+◌, ◌^◌, ℕ, Bool, true, false, List, [], ◌∷◌, Option, None, Some, Result, Ok, Err, length}
 use Rattle.node_trees.specs.Nodes.{size}
 use Rattle.reaction_queue.specs.declared.reaction.Reaction.{Reaction}
-use Rattle.reaction_queue.specs.Reactions.{what_of}
 use Rattle.reaction_queue.specs.Queues.{waiting_at, with_waiting}
 use Rattle.ce_registry.specs.declared.definition.Definition.{Definition}
 use Rattle.ce_algorithms.specs.declared.event.Event.TheVariants.{FuelLine}
 use Rattle.ce_algorithms.specs.Drain.{with_backup}
-use Rattle.ce_algorithms.specs.Enqueue.{has_what}
 use Rattle.ce_algorithms.specs.Page.{Page, with_queues}
 use Rattle.ce_algorithms.specs.State.{State, with_work, work_of, logged}
 use Rattle.ce_page.specs.declared.stop.PageStop.{PageStop}
@@ -20,11 +18,11 @@ abbrev pub AreBounded : Page → ℕ → List (List ℕ × ℕ) → Type 0
 AreBounded p fuel variables = (p.queues.reactions + fuel < 2 ^ 64) × (p.queues.pushed + fuel < 2 ^ 64) × (0 < size p.forest) × (highest variables ≤ size p.forest)
 
 -- a call of the page found no fuel
-abbrev pub is_spent : {A : Type 0} → Result A PageStop → Bool
-is_spent (Ok a) = false
-is_spent (Err (Refused f)) = false
-is_spent (Err FuelSpent) = true
-is_spent (Err NoMemory) = false
+abbrev pub is_out_of_fuel : {A : Type 0} → Result A PageStop → Bool
+is_out_of_fuel (Ok a) = false
+is_out_of_fuel (Err (Refused f)) = false
+is_out_of_fuel (Err FuelSpent) = true
+is_out_of_fuel (Err NoMemory) = false
 
 -- after a call of the page: its notes go into the log, and the line `fuel` where it found none
 abbrev pub after_call : Bool → State → State
@@ -39,10 +37,10 @@ forgotten s = record s { log = [] }
 abbrev pub with_frozen : ℕ → State → State
 with_frozen k s = record s { classes = changed k frozen_class s.classes }
 
--- the class whose callback a reaction runs, if it runs one
-abbrev pub callee : Option Definition → Reaction → Option ℕ
-callee None r = None
-callee (Some d) r = if has_what (what_of r) d then Some d.class else None
+-- the class whose callback a reaction of an element runs, where the element has a definition
+abbrev pub callee : Option Definition → Option ℕ
+callee None = None
+callee (Some d) = Some d.class
 
 -- a call of the page may have made nodes; each reaction that got a number has spent fuel, and no queue was pushed or popped
 pub record GrowsWithin (old new : Page) (before now : ℕ) : Type 0 where

@@ -1,10 +1,9 @@
 // The arguments of a callback, as texts.
 ghost use Rattle.std.specs.Prelude.{◌≡◌, List, ℕ, [], map, option_map, IfOk};
 ghost use Rattle.reaction_queue.specs.Queues.{or_empty};
-ghost use Rattle.ce_algorithms.specs.Operands.{args_of, no_args, text_of};
-ghost use Rattle.ce_algorithms.specs.State.{Class as IsClass};
+ghost use Rattle.ce_algorithms.specs.Values.{args_of, no_args, text_of};
+ghost use Rattle.ce_algorithms.specs.State.{blank_memory};
 ghost use Rattle.ce_algorithms.specs.Text as text;
-ghost use Rattle.ce_drains.specs.Bodies.{IsBlank};
 
 use ce_base::{NoMemory, NodeNo, Text, Texts};
 use reaction_queue::{Mode, Reaction};
@@ -22,7 +21,7 @@ pub(crate) struct Args {
 }
 
 impl Model for Args {
-    ghost use Rattle.ce_algorithms.specs.Operands.{Args as IsArgs};
+    ghost use Rattle.ce_algorithms.specs.Values.{Args as IsArgs};
 
     ghost Value = { IsArgs };
 
@@ -80,7 +79,7 @@ impl Args {
 
     // The text that a value names, where the class's counter is 0 and its kept text is empty.
     fn text(&self, alloc: Global, v: &Val) -> Result<Text, NoMemory>
-        ensures { (k : IsClass) → IsBlank k → IfOk result (λ t. t ≡ text_of k self.now v.now) }
+        ensures { IfOk result (λ t. t ≡ text_of blank_memory self.now v.now) }
     {
         match v {
             Val::Fixed(t) => t.copy(alloc),
@@ -94,7 +93,7 @@ impl Args {
 
     /// The texts that the values name, where the class's counter is 0 and its kept text is empty.
     pub(crate) fn texts(&self, alloc: Global, vals: &Vals) -> Result<Texts, NoMemory>
-        ensures { (k : IsClass) → IsBlank k → IfOk result (λ ts. ts ≡ map (text_of k self.now) vals.now) }
+        ensures { IfOk result (λ ts. ts ≡ map (text_of blank_memory self.now) vals.now) }
     {
         let mut texts = Texts::make(alloc);
         for v in vals.as_slice() {

@@ -4,8 +4,8 @@ ghost use Rattle.ce_base.specs.Faults.{Rose};
 ghost use Rattle.ce_algorithms.specs.declared.event.Event.TheVariants.{Logged};
 ghost use Rattle.ce_algorithms.specs.Body.{body};
 ghost use Rattle.ce_algorithms.specs.Model.{model};
-ghost use Rattle.ce_algorithms.specs.Operands.{text_of};
-ghost use Rattle.ce_algorithms.specs.State.{Class as IsClass, class_of, logged};
+ghost use Rattle.ce_algorithms.specs.Values.{text_of};
+ghost use Rattle.ce_algorithms.specs.State.{blank_memory, class_of, logged};
 ghost use Rattle.ce_drains.specs.Bodies.{IsBlank};
 ghost use Rattle.ce_drains.specs.Halts.{Wrote};
 
@@ -48,7 +48,7 @@ impl State {
 
     // One `log`.
     fn act(&mut self, alloc: Global, args: &Args, vals: &Vals) -> Result<(), NoMemory>
-        ensures logged { (k : IsClass) → IsBlank k → OnOk result (self.new ≡ logged (Logged (map (text_of k args.now) vals.now)) self.old) }
+        ensures logged { OnOk result (self.new ≡ logged (Logged (map (text_of blank_memory args.now) vals.now)) self.old) }
         ensures page { OnOk result (self.new.page ≡ self.old.page) }
         ensures classes { OnOk result (self.new.classes ≡ self.old.classes) }
     {

@@ -28,19 +28,19 @@ pub(crate) struct Class {
 }
 
 impl Model for Class {
-    ghost use Rattle.std.specs.Prelude.{◌≡◌, false, []};
+    ghost use Rattle.std.specs.Prelude.{◌≡◌, false};
     ghost use Rattle.std.specs.Coded.{codes};
     ghost use Rattle.rule_lines.specs.ActCode.{act_code};
     ghost use Rattle.rule_tokens.specs.declared.callback.CallName.TheVariants.{Constructor};
     ghost use Rattle.ce_registry.specs.ClassFacts.{has_call};
-    ghost use Rattle.ce_algorithms.specs.State.{Class as IsClass};
+    ghost use Rattle.ce_algorithms.specs.State.{Class as IsClass, blank_memory};
     ghost use Rattle.ce_drains.specs.Bodies.{bodies_of};
 
     ghost Value = { IsClass };
 
     ghost coded = { Prim.hlevel (codes, act_code) };
 
-    ghost view = { λ c. record { name = c.name; facts = c.facts; bodies = bodies_of c.bodies.items; frozen = c.frozen; count = 0; kept = [] } };
+    ghost view = { λ c. record { name = c.name; facts = c.facts; bodies = bodies_of c.bodies.items; frozen = c.frozen; memory = blank_memory } };
 
     ghost invariant = { λ c. has_call Constructor c.facts.calls ≡ false };
 }

@@ -10,13 +10,13 @@ ghost use Rattle.ce_algorithms.specs.Construct.{construct};
 ghost use Rattle.ce_algorithms.specs.Construction.{base_call, is_value_of, make_custom};
 ghost use Rattle.ce_algorithms.specs.Define.{define_name};
 ghost use Rattle.ce_algorithms.specs.Model.{model};
-ghost use Rattle.ce_algorithms.specs.Perform.{define};
+ghost use Rattle.ce_algorithms.specs.Perform.{define_element};
 ghost use Rattle.ce_algorithms.specs.State.{class_of, on_page};
 ghost use Rattle.ce_page.specs.Ends.{Ends, Does, work};
 ghost use Rattle.ce_drains.specs.Steps.{GrowsWithin, with_frozen};
 
 use crate::State;
-use crate::state::is_spent;
+use crate::state::is_out_of_fuel;
 use ce_algorithms::Event;
 use ce_base::{ClassNo, CustomState, DefNo, Fault, Fuel, NoMemory, NodeNo, Text};
 use ce_page::{Page, PageStop};
@@ -26,14 +26,14 @@ use std::alloc::Global;
 impl State {
     /// Adds a definition of a class, and freezes the class (HTML Standard, section "The
     /// CustomElementRegistry interface", `define`).
-    pub fn define(
+    pub fn define_element(
         &mut self,
         alloc: Global,
         name: &Text,
         class: ClassNo,
         base: &Option<Text>,
     ) -> Result<(), PageStop>
-        ensures step { Does result self.new (define name.now class base.now self.old) }
+        ensures step { Does result self.new (define_element name.now class base.now self.old) }
         ensures depth { length self.new.page.queues.stack ≡ length self.old.page.queues.stack }
     {
         let _number = self.define_name(alloc, name, class, base)?;
@@ -57,7 +57,7 @@ impl State {
         let outcome = self
             .page
             .define_name(alloc, name, class, facts, base, &mut self.fuel);
-        self.after_call(is_spent(&outcome))?;
+        self.after_call(is_out_of_fuel(&outcome))?;
         outcome
     }
 
@@ -88,7 +88,7 @@ impl State {
         let name = self.class_name(alloc, class)?;
         self.log(Event::Construct(name))?;
         let outcome = base_call(alloc, &mut self.page, &mut self.fuel, class);
-        self.after_call(is_spent(&outcome))?;
+        self.after_call(is_out_of_fuel(&outcome))?;
         outcome
     }
 

@@ -20,7 +20,6 @@ use crate::construct::copy_of;
 use crate::{Halt, State};
 use ce_algorithms::Event;
 use ce_base::{ClassNo, NoMemory, NodeNo, QueueNo, ReactionNo, Sink};
-use ce_registry::Definition;
 use reaction_queue::{ElementQueue, Reaction};
 use rule_tokens::CallOrUpgrade;
 use std::alloc::Global;
@@ -206,7 +205,8 @@ impl State {
         Ok(())
     }
 
-    // Runs a reaction's calls: none or one. No body throws yet, so there is no fault to report.
+    // Runs a reaction's callback, where its element has a definition. No body throws yet, so there is no
+    // fault to report.
     fn run_reaction<K: Sink>(
         &mut self,
         alloc: Global,
@@ -223,7 +223,7 @@ impl State {
         ensures home { K.home sink.new ≡ K.home sink.old }
         ensures below { K.below sink.old ≤ K.below sink.new }
     {
-        match self.callee(e, r) {
+        match self.callee(e) {
             None => Ok(()),
             Some(class) => {
                 self.call_back(alloc, e, class, r, trace, sink)?;
@@ -232,13 +232,13 @@ impl State {
         }
     }
 
-    // The class whose callback a reaction runs. None exactly where it runs none.
-    fn callee(&self, e: NodeNo, r: &Reaction) -> Option<ClassNo>
-        ensures { result ≡ callee (definition_of self.now.page e) r.now }
+    // The class of an element's definition. None exactly where it has none.
+    fn callee(&self, e: NodeNo) -> Option<ClassNo>
+        ensures { result ≡ callee (definition_of self.now.page e) }
     {
         match self.page.definition_of(e) {
             None => None,
-            Some(d) => callee_of(d, r),
+            Some(d) => Some(d.class),
         }
     }
 
@@ -281,21 +281,6 @@ impl State {
                 CallOrUpgrade::Upgrade => unreachable!(),
             },
         }
-    }
-}
-
-// The class of a definition that has the callback. None exactly where it has it not.
-fn callee_of(d: &Definition, r: &Reaction) -> Option<ClassNo>
-    ensures { result ≡ callee (Some d.now) r.now }
-{
-    match r.what() {
-        CallOrUpgrade::Call(call) => {
-            if d.facts.calls.has(call) {
-                return Some(d.class);
-            }
-            None
-        }
-        CallOrUpgrade::Upgrade => None,
     }
 }
 

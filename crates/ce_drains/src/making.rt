@@ -8,7 +8,7 @@ ghost use Rattle.ce_page.specs.Ends.{Ends, work};
 ghost use Rattle.ce_drains.specs.Steps.{GrowsWithin};
 
 use crate::State;
-use crate::state::is_spent;
+use crate::state::is_out_of_fuel;
 use ce_base::{CustomState, Fuel, NodeNo, Text};
 use ce_page::{Page, PageStop};
 use std::alloc::Global;
@@ -18,9 +18,10 @@ impl State {
     pub fn make_document(&mut self, alloc: Global) -> Result<NodeNo, PageStop>
         ensures step { Ends (λ n. n) result self.new (on_page make_document self.old) }
         ensures made { IfOk result (IsNode self.new.page.forest) }
+        ensures depth { length self.new.page.queues.stack ≡ length self.old.page.queues.stack }
     {
         let outcome = make_document(alloc, &mut self.page, &mut self.fuel);
-        self.after_call(is_spent(&outcome))?;
+        self.after_call(is_out_of_fuel(&outcome))?;
         outcome
     }
 
@@ -33,9 +34,10 @@ impl State {
     ) -> Result<NodeNo, PageStop>
         ensures step { Ends (λ n. n) result self.new (on_page (make_text chars document) self.old) }
         ensures made { IfOk result (IsNode self.new.page.forest) }
+        ensures depth { length self.new.page.queues.stack ≡ length self.old.page.queues.stack }
     {
         let outcome = make_text(alloc, &mut self.page, &mut self.fuel, chars, document);
-        self.after_call(is_spent(&outcome))?;
+        self.after_call(is_out_of_fuel(&outcome))?;
         outcome
     }
 
@@ -62,7 +64,7 @@ impl State {
             document,
             state,
         );
-        self.after_call(is_spent(&outcome))?;
+        self.after_call(is_out_of_fuel(&outcome))?;
         outcome
     }
 }

@@ -3,7 +3,7 @@ ghost use Rattle.std.specs.Prelude.{◌≡◌, ◌<◌, true, length, IfOk};
 ghost use Rattle.rule_lines.specs.Acts.{part_of, act_of};
 ghost use Rattle.rule_script.specs.Built.{is_built_act, is_built_call, is_built_part};
 ghost use Rattle.ce_algorithms.specs.Parts.{part, add_class, open_class, change_facts, change_open, with_body, with_has, with_observed};
-ghost use Rattle.ce_drains.specs.Operands.{Names, Takes};
+ghost use Rattle.ce_drains.specs.Taking.{Names, Takes};
 
 use crate::State;
 use ce_base::{ClassNo, Fault, Refused, Text, Texts};

@@ -13,7 +13,7 @@ ghost use Rattle.ce_page.specs.Numbers.{StaysWithin};
 
 use crate::State;
 use crate::construct::lowercased;
-use crate::state::is_spent;
+use crate::state::is_out_of_fuel;
 use ce_base::{Fault, Fuel, NodeNo, Text};
 use ce_page::{Page, PageStop};
 use element_names::is_attr_name;
@@ -38,7 +38,7 @@ impl State {
         let outcome = self
             .page
             .insert_node(alloc, parent, node, before, &mut self.fuel);
-        self.after_call(is_spent(&outcome))?;
+        self.after_call(is_out_of_fuel(&outcome))?;
         outcome
     }
 
@@ -55,7 +55,7 @@ impl State {
         ensures depth { length self.new.page.queues.stack ≡ length self.old.page.queues.stack }
     {
         let outcome = remove_child(alloc, &mut self.page, &mut self.fuel, parent, node);
-        self.after_call(is_spent(&outcome))?;
+        self.after_call(is_out_of_fuel(&outcome))?;
         outcome
     }
 
@@ -66,7 +66,7 @@ impl State {
         ensures depth { length self.new.page.queues.stack ≡ length self.old.page.queues.stack }
     {
         let outcome = detach(alloc, &mut self.page, &mut self.fuel, node);
-        self.after_call(is_spent(&outcome))?;
+        self.after_call(is_out_of_fuel(&outcome))?;
         outcome
     }
 
@@ -85,7 +85,7 @@ impl State {
         ensures depth { length self.new.page.queues.stack ≡ length self.old.page.queues.stack }
     {
         let outcome = set_named(alloc, &mut self.page, &mut self.fuel, n, name, value);
-        self.after_call(is_spent(&outcome))?;
+        self.after_call(is_out_of_fuel(&outcome))?;
         outcome
     }
 
@@ -98,7 +98,7 @@ impl State {
         ensures depth { length self.new.page.queues.stack ≡ length self.old.page.queues.stack }
     {
         let outcome = remove_named(alloc, &mut self.page, &mut self.fuel, n, name);
-        self.after_call(is_spent(&outcome))?;
+        self.after_call(is_out_of_fuel(&outcome))?;
         outcome
     }
 }

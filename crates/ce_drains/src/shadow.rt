@@ -1,5 +1,5 @@
 // Attaching a shadow root.
-ghost use Rattle.std.specs.Prelude.{◌≡◌, ℕ, option_copied, IfOk};
+ghost use Rattle.std.specs.Prelude.{◌≡◌, ℕ, length, option_copied, IfOk};
 ghost use Rattle.node_trees.specs.declared.kind.NodeKind.TheVariants.{Element as ElementKind};
 ghost use Rattle.node_trees.specs.Nodes.{IsNode};
 ghost use Rattle.node_trees.specs.Spots.{kind_at, shadow_at};
@@ -11,7 +11,7 @@ ghost use Rattle.ce_page.specs.Ends.{Ends, work};
 ghost use Rattle.ce_drains.specs.Steps.{GrowsWithin};
 
 use crate::State;
-use crate::state::is_spent;
+use crate::state::is_out_of_fuel;
 use ce_base::{DefNo, Fault, Fuel, NodeNo};
 use ce_page::{Page, PageStop};
 use element_names::{is_custom_name, is_shadow_host};
@@ -27,9 +27,10 @@ impl State {
         requires element { kind_at self.old.page.forest n ≡ ElementKind }
         ensures step { Ends (λ n. n) result self.new (on_page (attach_shadow n) self.old) }
         ensures made { IfOk result (IsNode self.new.page.forest) }
+        ensures depth { length self.new.page.queues.stack ≡ length self.old.page.queues.stack }
     {
         let outcome = attach_shadow(alloc, &mut self.page, &mut self.fuel, n);
-        self.after_call(is_spent(&outcome))?;
+        self.after_call(is_out_of_fuel(&outcome))?;
         outcome
     }
 }

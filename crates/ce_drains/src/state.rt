@@ -6,12 +6,12 @@ ghost use Rattle.ce_algorithms.specs.State.{class_named, logged, set_variable, s
 ghost use Rattle.ce_algorithms.specs.Steps.{Goes};
 ghost use Rattle.ce_page.specs.Callbacks.{IsPlain};
 ghost use Rattle.ce_drains.specs.Halts.{Comes};
-ghost use Rattle.ce_drains.specs.Steps.{after_call, is_spent};
+ghost use Rattle.ce_drains.specs.Steps.{after_call, is_out_of_fuel};
 
 use crate::Halt;
 use crate::classes::Classes;
 use crate::variables::Variables;
-use ce_algorithms::{Event, Note};
+use ce_algorithms::{Event, Note, Settings};
 use ce_base::{ClassNo, Fuel, NoMemory, NodeNo, Text};
 use ce_page::{Page, PageStop};
 use ce_registry::Registry;
@@ -53,14 +53,13 @@ impl Model for State {
 }
 
 impl State {
-    /// The state before the first line, with so much fuel. Elements that are there already are not upgraded
-    /// yet.
-    pub fn make(alloc: Global, fuel: u32) -> Result<State, NoMemory>
-        ensures { IfOk result (λ s. s ≡ start false fuel) }
+    /// The state before the first line. Elements that are there already are not upgraded yet.
+    pub fn make(alloc: Global, settings: Settings) -> Result<State, NoMemory>
+        ensures { IfOk result (λ s. s ≡ start false settings) }
     {
         Ok(State {
             page: Page::make(alloc)?,
-            fuel: Fuel::make(fuel),
+            fuel: Fuel::make(settings.fuel),
             classes: Classes::make(alloc),
             variables: Variables::make(alloc),
             log: Vec::new(alloc),
@@ -94,7 +93,8 @@ impl State {
     /// Sets a variable to a node.
     pub fn set_variable(&mut self, var: Text, n: NodeNo) -> Result<(), NoMemory>
         requires { IsNode self.old.page.forest n }
-        ensures { OnOk result (Goes tt self.new ≡ set_variable var n self.old) }
+        ensures set { OnOk result (Goes tt self.new ≡ set_variable var n self.old) }
+        ensures page { self.new.page ≡ self.old.page }
     {
         self.variables.set(var, n)?;
         Ok(())
@@ -165,8 +165,8 @@ impl State {
 }
 
 /// Whether a call of the page found no fuel.
-pub(crate) fn is_spent<A>(outcome: &Result<A, PageStop>) -> bool
-    ensures { result ≡ is_spent outcome.now }
+pub(crate) fn is_out_of_fuel<A>(outcome: &Result<A, PageStop>) -> bool
+    ensures { result ≡ is_out_of_fuel outcome.now }
 {
     match outcome {
         Ok(_) => false,

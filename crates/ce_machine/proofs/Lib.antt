@@ -1,4 +1,5 @@
 pub mod ReactLaws
+pub mod GivenLaws
 pub mod CommandLaws
 pub mod MachineLaws
 pub mod CreateLaws

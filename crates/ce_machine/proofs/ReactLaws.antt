@@ -1,27 +1,20 @@
--- How a reacting operation ends, with its fault as an answer.
+-- How a deed that reacts ends, with its fault as an answer.
 use Rattle.std.proofs.Common.{◌≡◌, ℕ, Bool, List, Option, refl, sym, ap, ◌∙◌, subst}
 use Rattle.std.specs.Prelude.{Result, Ok, Err}
 use Rattle.ce_base.specs.declared.fault.Fault.{Fault}
-use Rattle.ce_algorithms.specs.declared.event.Given.{Given}
-use Rattle.ce_algorithms.specs.declared.event.Given.TheVariants.{Nothing, Node}
 use Rattle.ce_algorithms.specs.Drain.{drain_popped, open_queue, reacting}
 use Rattle.ce_algorithms.specs.Model.{model}
-use Rattle.ce_algorithms.specs.Perform.{as_nothing, as_variable}
-use Rattle.ce_algorithms.specs.Session.{log_of}
-use Rattle.ce_algorithms.specs.State.{State, set_variable}
-use Rattle.ce_algorithms.specs.Steps.{Step, Outcome, Goes, Throws, Spent, then_do, ◌>>◌, attempt_in, finally, finally_in, give, throw}
-use Rattle.ce_algorithms.specs.Text.{text}
+use Rattle.ce_algorithms.specs.State.{State}
+use Rattle.ce_algorithms.specs.Steps.{Step, Outcome, Goes, Throws, Spent, then_do, attempt_in, finally, finally_in, give, throw}
 use Rattle.ce_algorithms.specs.Written.{Did}
-use Rattle.ce_base.specs.Outside.{AppendsPart}
-use Rattle.ce_algorithms.proofs.Framed.{Framed, framed_give, framed_seq, framed_set_variable, framed_throw}
-use Rattle.ce_algorithms.proofs.Writing.{did_attempt, did_more, did_part_none, did_same, did_spent, part_attempt, part_none, part_then}
+use Rattle.ce_algorithms.proofs.Framed.{framed_give, framed_throw}
+use Rattle.ce_algorithms.proofs.Writing.{did_attempt, did_more, did_same, did_spent, part_attempt, part_none, part_then}
 use Rattle.ce_page.specs.Ends.{Ends}
 use Rattle.ce_page.specs.declared.stop.PageStop.{PageStop}
 use Rattle.ce_page.specs.declared.stop.PageStop.TheVariants.{Refused, FuelSpent as PageFuelSpent, NoMemory as PageNoMemory}
 use Rattle.ce_drains.specs.declared.halt.Halt.{Halt}
 use Rattle.ce_drains.specs.declared.halt.Halt.TheVariants.{FuelSpent, NoMemory, WriteFault}
 use Rattle.ce_drains.specs.Halts.{Wrote, Writes}
-use Rattle.ce_machine.specs.Given.{nothing_of, kept}
 use Rattle.ce_machine.specs.Settled.{settled}
 
 -- a step that writes nothing out, with its fault as an answer
@@ -31,7 +24,7 @@ settled_ends (Err (Refused f)) t h s o e = did_same (ap attempt_in (sym e))
 settled_ends (Err PageFuelSpent) t h s o e = did_same (ap attempt_in (sym e))
 settled_ends (Err PageNoMemory) t h s o e = part_none h _
 
--- an operation with its queue
+-- steps with their queue
 
 -- its queue was pushed
 at_steps : {A : Type 0} (q : ℕ) (s0 s1 : State) (steps : Step State A) → Goes q s1 ≡ open_queue s0 → attempt_in (finally_in (steps s1) (drain_popped model q)) ≡ attempt_in (reacting model steps s0)
@@ -84,46 +77,3 @@ react_halt {A} r x h t h0 h1 q s0 s1 s2 s3 steps is pushed ends w = subst (λ o.
 -- and the queue was drained
 pub react_done : {A : Type 0} (r : Result A PageStop) (x : Result A Fault) (t : Bool) (h0 h1 : Option (List ℕ)) (q : ℕ) (s0 s1 s2 s3 : State) (steps : Step State A) → Ok x ≡ settled r → Goes q s1 ≡ open_queue s0 → Ends (λ a. a) r s2 (steps s1) → Did t h0 h1 (drain_popped model q s2) (Goes tt s3) → Did t h0 h1 (attempt_in (reacting model steps s0)) (Goes x s3)
 react_done r x t h0 h1 q s0 s1 s2 s3 steps is pushed ends d = subst (λ o. Did t h0 h1 o (Goes x s3)) (after_steps r x q s0 s1 s2 steps is pushed ends) (attempted_done x t h0 h1 s3 (drain_popped model q s2) d)
-
--- what an operation gives
-
--- nothing
-given_nothing : (o : Outcome State (Unit {0})) → attempt_in (then_do o (λ _. give Nothing)) ≡ then_do (attempt_in o) (λ x. give (nothing_of x))
-given_nothing (Goes a s) = refl
-given_nothing (Throws f s) = refl
-given_nothing (Spent s) = refl
-
--- the node that its variable gets
-given_node : (var : List ℕ) (o : Outcome State ℕ) → attempt_in (then_do o (λ n. set_variable var n >> give (Node n))) ≡ then_do (attempt_in o) (kept var)
-given_node var (Goes n s) = refl
-given_node var (Throws f s) = refl
-given_node var (Spent s) = refl
-
-framed_kept : (var : List ℕ) (x : Result ℕ Fault) → Framed (kept var x)
-framed_kept var (Ok n) = framed_seq (framed_set_variable var n) (framed_give (Ok (Node n)))
-framed_kept var (Err f) = framed_give (Err f)
-
-then_halt : {A B : Type 0} (h : Halt) (t : Bool) (h0 h1 : Option (List ℕ)) (s : State) (o : Outcome State A) (k : A → Step State B) → ((a : A) → Framed (k a)) → Wrote {A = A} t h0 h1 (λ x. x) (Err h) s o → Wrote {A = B} t h0 h1 (λ x. x) (Err h) s (then_do o k)
-then_halt FuelSpent t h0 h1 s o k framed w = did_spent k w
-then_halt NoMemory t h0 h1 s o k framed w = part_then t h0 h1 o k w framed
-then_halt WriteFault t h0 h1 s o k framed w = part_then t h0 h1 o k w framed
-
-pub nothing_halt : (h : Halt) (t : Bool) (h0 h1 : Option (List ℕ)) (s s0 : State) (p : Outcome State Given) (steps : Step State (Unit {0})) → p ≡ as_nothing (reacting model steps) s0 → Wrote {A = Result (Unit {0}) Fault} t h0 h1 (λ x. x) (Err h) s (attempt_in (reacting model steps s0)) → Wrote {A = Result Given Fault} t h0 h1 (λ x. x) (Err h) s (attempt_in p)
-nothing_halt h t h0 h1 s s0 p steps is w =
-    subst (λ o. Wrote {A = Result Given Fault} t h0 h1 (λ x. x) (Err h) s o) (sym (ap attempt_in is ∙ given_nothing (reacting model steps s0))) (then_halt h t h0 h1 s (attempt_in (reacting model steps s0)) (λ x. give (nothing_of x)) (λ x. framed_give (nothing_of x)) w)
-
-pub nothing_done : (x : Result (Unit {0}) Fault) (t : Bool) (h0 h1 : Option (List ℕ)) (s s0 : State) (p : Outcome State Given) (steps : Step State (Unit {0})) → p ≡ as_nothing (reacting model steps) s0 → Did t h0 h1 (attempt_in (reacting model steps s0)) (Goes x s) → Did t h0 h1 (attempt_in p) (Goes (nothing_of x) s)
-nothing_done x t h0 h1 s s0 p steps is d =
-    subst (λ o. Did t h0 h1 o (Goes (nothing_of x) s)) (sym (ap attempt_in is ∙ given_nothing (reacting model steps s0))) (did_more (λ x. give (nothing_of x)) d (framed_give (nothing_of x)) refl)
-
-pub node_halt : {A : Type 0} (h : Halt) (t : Bool) (h0 h1 : Option (List ℕ)) (s s0 : State) (a : A) (operands : Outcome State A) (var : List ℕ) (steps : A → Step State ℕ) → Goes a s0 ≡ operands → Wrote {A = Result ℕ Fault} t h0 h1 (λ x. x) (Err h) s (attempt_in (reacting model (steps a) s0)) → Wrote {A = Result Given Fault} t h0 h1 (λ x. x) (Err h) s (attempt_in (then_do operands (λ a. as_variable var (reacting model (steps a)))))
-node_halt h t h0 h1 s s0 a operands var steps is w =
-    subst (λ o. Wrote {A = Result Given Fault} t h0 h1 (λ x. x) (Err h) s o) (sym (given_node var (reacting model (steps a) s0)) ∙ ap (λ o. attempt_in (then_do o (λ a. as_variable var (reacting model (steps a))))) is) (then_halt h t h0 h1 s (attempt_in (reacting model (steps a) s0)) (kept var) (framed_kept var) w)
-
-pub node_unset : {A : Type 0} (x : Result ℕ Fault) (t : Bool) (h0 h1 : Option (List ℕ)) (s s0 : State) (a : A) (operands : Outcome State A) (var : List ℕ) (steps : A → Step State ℕ) → Goes a s0 ≡ operands → Did t h0 h1 (attempt_in (reacting model (steps a) s0)) (Goes x s) → AppendsPart h0 h1 (text t (log_of (attempt_in (then_do operands (λ a. as_variable var (reacting model (steps a)))))))
-node_unset x t h0 h1 s s0 a operands var steps is d =
-    subst (λ o. AppendsPart h0 h1 (text t (log_of o))) (sym (given_node var (reacting model (steps a) s0)) ∙ ap (λ o. attempt_in (then_do o (λ a. as_variable var (reacting model (steps a))))) is) (did_part_none (kept var) d (framed_kept var x))
-
-pub node_done : {A : Type 0} (x : Result ℕ Fault) (given : Result Given Fault) (t : Bool) (h0 h1 : Option (List ℕ)) (s s' s0 : State) (a : A) (operands : Outcome State A) (var : List ℕ) (steps : A → Step State ℕ) → Goes a s0 ≡ operands → Did t h0 h1 (attempt_in (reacting model (steps a) s0)) (Goes x s) → Goes given s' ≡ kept var x s → Did t h0 h1 (attempt_in (then_do operands (λ a. as_variable var (reacting model (steps a))))) (Goes given s')
-node_done x given t h0 h1 s s' s0 a operands var steps is d e =
-    subst (λ o. Did t h0 h1 o (Goes given s')) (sym (given_node var (reacting model (steps a) s0)) ∙ ap (λ o. attempt_in (then_do o (λ a. as_variable var (reacting model (steps a))))) is) (did_more (kept var) d (framed_kept var x) (sym e))

@@ -1,5 +1,5 @@
 pub mod Ended
-pub mod Steps
-pub mod Settled
-pub mod Reacting
 pub mod Given
+pub mod Ready
+pub mod Resolved
+pub mod Settled

@@ -42,13 +42,13 @@ pub(crate) fn run_command<K: Sink>(
     state: &mut State,
     alloc: Global,
     line: u64,
-    c: Cmd,
+    c: &Cmd,
     trace: bool,
     sink: &mut K,
 ) -> Result<End, Stop>
-    requires { is_built_command c ≡ true }
-    ensures ran { IfOk result (λ end. Did trace (K.held sink.old) (K.held sink.new) (command model line c state.old) (outcome_of end state.new)) }
-    ensures part { OnErr result (AppendsPart (K.held sink.old) (K.held sink.new) (text trace (log_of (command model line c state.old)))) }
+    requires { is_built_command c.now ≡ true }
+    ensures ran { IfOk result (λ end. Did trace (K.held sink.old) (K.held sink.new) (command model line c.now state.old) (outcome_of end state.new)) }
+    ensures part { OnErr result (AppendsPart (K.held sink.old) (K.held sink.new) (text trace (log_of (command model line c.now state.old)))) }
     ensures later { K.failed sink.old ≤ K.failed sink.new }
     ensures cause { IsErrOf result Stop.WriteFault → Rose (K.failed sink.old) (K.failed sink.new) }
     ensures home { K.home sink.new ≡ K.home sink.old }
@@ -66,12 +66,12 @@ fn reply_to_command<K: Sink>(
     state: &mut State,
     alloc: Global,
     line: u64,
-    c: Cmd,
+    c: &Cmd,
     trace: bool,
     sink: &mut K,
 ) -> Result<(), Halt>
-    requires { is_built_command c ≡ true }
-    ensures ran { Writes trace (K.held sink.old) (K.held sink.new) result state.new (command model line c state.old) }
+    requires { is_built_command c.now ≡ true }
+    ensures ran { Writes trace (K.held sink.old) (K.held sink.new) result state.new (command model line c.now state.old) }
     ensures later { K.failed sink.old ≤ K.failed sink.new }
     ensures cause { IsErrOf result Halt.WriteFault → Rose (K.failed sink.old) (K.failed sink.new) }
     ensures home { K.home sink.new ≡ K.home sink.old }
@@ -79,9 +79,13 @@ fn reply_to_command<K: Sink>(
 {
     state.spend()?;
     let outcome = perform(state, alloc, c, trace, sink)?;
-    state.checkpoint(alloc, trace, sink)?;
-    state.log(reply(line, outcome))?;
-    Ok(())
+    match state.checkpoint(alloc, trace, sink) {
+        Err(halt) => Err(halt),
+        Ok(()) => {
+            state.log(reply(line, outcome))?;
+            Ok(())
+        }
+    }
 }
 
 // The reply to a command that gave something, or threw.
@@ -101,5 +105,6 @@ fn reply_with(line: u64, given: Given) -> Event
         Given::Nothing => Event::Fine(line),
         Given::Node(n) => Event::Gave(line, n),
         Given::Answers(a) => Event::Answered(line, a),
+        Given::Ignored => Event::Ignored(line),
     }
 }

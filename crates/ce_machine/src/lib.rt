@@ -3,15 +3,16 @@
 
 mod command;
 mod create;
+mod deeds;
 mod end;
+mod fits;
 mod machine;
-mod making;
 mod operands;
 mod operate;
 mod questions;
 mod react;
 mod resolve;
-mod steps;
+mod writing;
 
 pub use end::End;
 pub use machine::Machine;

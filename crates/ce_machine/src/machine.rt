@@ -12,8 +12,8 @@ ghost use Rattle.ce_algorithms.specs.Written.{Did};
 ghost use Rattle.ce_machine.specs.Ended.{outcome_of};
 
 use crate::End;
-use crate::command::{reply_to_part, run_command};
-use ce_algorithms::Event;
+use crate::writing::{write_command, write_part, write_refused};
+use ce_algorithms::Settings;
 use ce_base::{NoMemory, Sink, Stop};
 use ce_drains::State;
 use rule_lines::{ClassPart, Cmd};
@@ -46,10 +46,10 @@ impl Model for Machine {
 impl Machine {
     /// The machine before the first line, with so much fuel.
     pub fn make(alloc: Global, fuel: u32) -> Result<Machine, NoMemory>
-        ensures { IfOk result (λ m. m ≡ start false fuel) }
+        ensures { IfOk result (λ m. m ≡ start false (record { fuel = fuel })) }
     {
         Ok(Machine {
-            state: State::make(alloc, fuel)?,
+            state: State::make(alloc, Settings { fuel })?,
         })
     }
 
@@ -73,9 +73,10 @@ impl Machine {
     {
         let Machine { state } = self;
         let mut state = state;
-        reply_to_part(&mut state, alloc, line, p)?;
-        state.flush(alloc, trace, sink)?;
-        Ok(Machine { state })
+        match write_part(&mut state, alloc, line, p, trace, sink) {
+            Err(stop) => Err(stop),
+            Ok(()) => Ok(Machine { state }),
+        }
     }
 
     /// Replies to a line that was refused.
@@ -97,9 +98,10 @@ impl Machine {
     {
         let Machine { state } = self;
         let mut state = state;
-        state.log(Event::WasBad(line, bad))?;
-        state.flush(alloc, trace, sink)?;
-        Ok(Machine { state })
+        match write_refused(&mut state, alloc, line, bad, trace, sink) {
+            Err(stop) => Err(stop),
+            Ok(()) => Ok(Machine { state }),
+        }
     }
 
     /// Runs a command, and writes what comes of it.
@@ -122,8 +124,9 @@ impl Machine {
     {
         let Machine { state } = self;
         let mut state = state;
-        let end = run_command(&mut state, alloc, line, c, trace, sink)?;
-        state.flush(alloc, trace, sink)?;
-        Ok((Machine { state }, end))
+        match write_command(&mut state, alloc, line, &c, trace, sink) {
+            Err(stop) => Err(stop),
+            Ok(end) => Ok((Machine { state }, end)),
+        }
     }
 }

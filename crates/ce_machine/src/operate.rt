@@ -1,154 +1,150 @@
-// The operations at top level.
-ghost use Rattle.std.specs.Prelude.{◌≡◌, ◌≤◌, ◌+◌, ◌<◌, ◌^◌, None, true, IfOk, IsErrOf};
+// The operations at top level: resolved, done in a queue where they react, their variable set.
+ghost use Rattle.std.specs.Prelude.{◌≡◌, ◌≤◌, ◌+◌, ◌<◌, ◌^◌, ℕ, Bool, List, Option, option_copied, true, IfOk, IfSome, IsErrOf};
 ghost use Rattle.ce_base.specs.Faults.{Rose};
 ghost use Rattle.node_trees.specs.Nodes.{IsNode};
-ghost use Rattle.rule_lines.specs.declared.op.Op.TheVariants as ops;
+ghost use Rattle.rule_lines.specs.declared.line.Cmd.TheVariants as commands;
 ghost use Rattle.rule_script.specs.Built.{is_built_command, is_built_op};
+ghost use Rattle.ce_algorithms.specs.declared.event.Given.TheVariants as given;
+ghost use Rattle.ce_algorithms.specs.Deeds.{variable};
 ghost use Rattle.ce_algorithms.specs.Making.{make_document};
 ghost use Rattle.ce_algorithms.specs.Model.{model};
-ghost use Rattle.ce_algorithms.specs.Perform.{as_variable, operate};
+ghost use Rattle.ce_algorithms.specs.Perform.{gives_node, keep, operate};
 ghost use Rattle.ce_algorithms.specs.Session.{perform};
 ghost use Rattle.ce_algorithms.specs.State.{on_page};
 ghost use Rattle.ce_algorithms.specs.Steps.{Goes, attempt_in};
 ghost use Rattle.ce_page.specs.Ends.{Ends};
 ghost use Rattle.ce_drains.specs.Halts.{Wrote};
-ghost use Rattle.ce_machine.specs.Given.{kept};
+ghost use Rattle.ce_machine.specs.Given.{IsThere, kept_as};
 
-use crate::making::{operate_let, operate_shadow, operate_text};
-use crate::operands::document_or_page;
-use crate::questions::operate_ask;
-use crate::react::{operate_reacting, react_create, settled};
+use crate::deeds::gives_node;
+use crate::react::{perform_deed, settled};
+use crate::resolve::resolve;
 use ce_algorithms::Given;
-use ce_base::{Fault, NoMemory, NodeNo, Sink, Text};
+use ce_base::{Fault, NoMemory, NodeNo, Refused, Sink, Text};
 use ce_drains::{Halt, State};
 use ce_page::PageStop;
 use rule_lines::{Cmd, Op};
-use rule_tokens::Operand;
 use std::alloc::Global;
 
 /// Performs a command, its fault as an answer.
 pub(crate) fn perform<K: Sink>(
     state: &mut State,
     alloc: Global,
-    c: Cmd,
+    c: &Cmd,
     trace: bool,
     sink: &mut K,
 ) -> Result<Result<Given, Fault>, Halt>
-    requires built { is_built_command c ≡ true }
+    requires built { is_built_command c.now ≡ true }
     requires room { state.old.page.queues.pushed + state.old.fuel + 1 < 2 ^ 64 }
-    ensures ran { Wrote trace (K.held sink.old) (K.held sink.new) (λ r. r) result state.new (attempt_in (perform model c state.old)) }
+    ensures ran { Wrote trace (K.held sink.old) (K.held sink.new) (λ r. r) result state.new (attempt_in (perform model c.now state.old)) }
     ensures later { K.failed sink.old ≤ K.failed sink.new }
     ensures cause { IsErrOf result Halt.WriteFault → Rose (K.failed sink.old) (K.failed sink.new) }
     ensures home { K.home sink.new ≡ K.home sink.old }
     ensures below { K.below sink.old ≤ K.below sink.new }
 {
     match c {
-        Cmd::Both(op) => operate(state, alloc, op, trace, sink),
-        Cmd::Doc { var } => {
-            let given = operate_doc(state, alloc, var);
-            settled(given)
-        }
+        Cmd::Both(op) => operate(state, alloc, None, op, trace, sink),
+        Cmd::Doc { var } => make_document(state, alloc, var),
         _ => unreachable!(),
     }
 }
 
-/// Performs an operation, its fault as an answer.
+// Makes an inert document, and sets a variable to it.
+fn make_document(state: &mut State, alloc: Global, var: &Text) -> Result<Result<Given, Fault>, Halt>
+    ensures { (trace : Bool) (held : Option (List ℕ)) → Wrote trace held held (λ r. r) result state.new (attempt_in (perform model (commands.Doc var.now) state.old)) }
+{
+    let made = document(state, alloc);
+    let outcome = settled(made)?;
+    let given = keep(state, alloc, Some(var), outcome)?;
+    Ok(given)
+}
+
+fn document(state: &mut State, alloc: Global) -> Result<Given, PageStop>
+    ensures step { Ends (λ g. g) result state.new (on_page (gives_node make_document) state.old) }
+    ensures there { IfOk result (IsThere state.new.page.forest) }
+{
+    gives_node(state.make_document(alloc))
+}
+
+/// Performs an operation, where `this` is that node or none, its fault as an answer.
 fn operate<K: Sink>(
     state: &mut State,
     alloc: Global,
-    op: Op,
+    this: Option<NodeNo>,
+    op: &Op,
     trace: bool,
     sink: &mut K,
 ) -> Result<Result<Given, Fault>, Halt>
-    requires built { is_built_op op ≡ true }
+    requires built { is_built_op op.now ≡ true }
+    requires there { IfSome this (IsNode state.old.page.forest) }
     requires room { state.old.page.queues.pushed + state.old.fuel + 1 < 2 ^ 64 }
-    ensures ran { Wrote trace (K.held sink.old) (K.held sink.new) (λ r. r) result state.new (attempt_in (operate model None op state.old)) }
+    ensures ran { Wrote trace (K.held sink.old) (K.held sink.new) (λ r. r) result state.new (attempt_in (operate model this op.now state.old)) }
     ensures later { K.failed sink.old ≤ K.failed sink.new }
     ensures cause { IsErrOf result Halt.WriteFault → Rose (K.failed sink.old) (K.failed sink.new) }
     ensures home { K.home sink.new ≡ K.home sink.old }
     ensures below { K.below sink.old ≤ K.below sink.new }
 {
-    match op {
-        Op::Create {
-            var,
-            local,
-            is_value: _,
-            document,
-        } => operate_create(state, alloc, var, &local, &document, trace, sink),
-        Op::MakeText {
-            var,
-            chars,
-            document,
-        } => {
-            let given = operate_text(state, alloc, var, chars, &document);
-            settled(given)
-        }
-        Op::Shadow { var, host } => {
-            let given = operate_shadow(state, alloc, var, &host);
-            settled(given)
-        }
-        Op::Ask { word, node, name } => {
-            let given = operate_ask(state, alloc, word, &node, &name);
-            settled(given)
-        }
-        Op::Let { var, node } => {
-            let given = operate_let(state, var, &node);
-            settled(given)
-        }
-        op => operate_reacting(state, alloc, op, trace, sink),
-    }
-}
-
-// Creates an element, and sets a variable to it when its queue was drained.
-fn operate_create<K: Sink>(
-    state: &mut State,
-    alloc: Global,
-    var: Text,
-    local: &Text,
-    document: &Option<Operand>,
-    trace: bool,
-    sink: &mut K,
-) -> Result<Result<Given, Fault>, Halt>
-    requires { state.old.page.queues.pushed + state.old.fuel + 1 < 2 ^ 64 }
-    ensures ran { Wrote trace (K.held sink.old) (K.held sink.new) (λ r. r) result state.new (attempt_in (operate model None (ops.Create var local.now None document.now) state.old)) }
-    ensures later { K.failed sink.old ≤ K.failed sink.new }
-    ensures cause { IsErrOf result Halt.WriteFault → Rose (K.failed sink.old) (K.failed sink.new) }
-    ensures home { K.home sink.new ≡ K.home sink.old }
-    ensures below { K.below sink.old ≤ K.below sink.new }
-{
-    match document_or_page(state, document) {
-        Err(f) => Ok(Err(f)),
-        Ok(d) => {
-            let outcome = react_create(state, alloc, local, d, trace, sink)?;
-            let given = keep(state, var, outcome)?;
+    match resolve(state, alloc, this, op) {
+        Err(Refused::Fault(f)) => Ok(Err(f)),
+        Err(Refused::NoMemory) => Err(Halt::NoMemory),
+        Ok(deed) => {
+            let outcome = perform_deed(state, alloc, deed, trace, sink)?;
+            let given = keep(state, alloc, variable(op), outcome)?;
             Ok(given)
         }
     }
 }
 
-// Sets the variable to the node that was made. Where the operation threw, the variable stays.
+// The variable of an operation that gives a node. None for the others.
+fn variable(op: &Op) -> Option<&Text>
+    ensures { option_copied result ≡ variable op.now }
+{
+    match op {
+        Op::Create { var, .. } => Some(var),
+        Op::New { var, .. } => Some(var),
+        Op::MakeText { var, .. } => Some(var),
+        Op::Shadow { var, .. } => Some(var),
+        Op::Clone { var, .. } => Some(var),
+        _ => None,
+    }
+}
+
+// Sets the variable to the node that was given. Where the operation threw, the variable stays.
 fn keep(
     state: &mut State,
-    var: Text,
-    outcome: Result<NodeNo, Fault>,
+    alloc: Global,
+    var: Option<&Text>,
+    outcome: Result<Given, Fault>,
 ) -> Result<Result<Given, Fault>, NoMemory>
-    requires { IfOk outcome (IsNode state.old.page.forest) }
-    ensures { IfOk result (λ given. Goes given state.new ≡ kept var outcome state.old) }
+    requires { IfOk outcome (IsThere state.old.page.forest) }
+    ensures { IfOk result (λ r. Goes r state.new ≡ kept_as (option_copied var.entry) outcome state.old) }
 {
     match outcome {
-        Ok(n) => {
-            state.set_variable(var, n)?;
+        Ok(Given::Node(n)) => {
+            keep_node(state, alloc, var, n)?;
             Ok(Ok(Given::Node(n)))
         }
+        Ok(Given::Nothing) => Ok(Ok(Given::Nothing)),
+        Ok(Given::Answers(a)) => Ok(Ok(Given::Answers(a))),
+        Ok(Given::Ignored) => Ok(Ok(Given::Ignored)),
         Err(f) => Ok(Err(f)),
     }
 }
 
-// Makes an inert document, and sets a variable to it.
-fn operate_doc(state: &mut State, alloc: Global, var: Text) -> Result<Given, PageStop>
-    ensures { Ends (λ g. g) result state.new (as_variable var (on_page make_document) state.old) }
+fn keep_node(
+    state: &mut State,
+    alloc: Global,
+    var: Option<&Text>,
+    n: NodeNo,
+) -> Result<(), NoMemory>
+    requires { IsNode state.old.page.forest n }
+    ensures { IfOk result (λ r. Goes tt state.new ≡ keep (option_copied var.entry) (given.Node n) state.old) }
 {
-    let n = state.make_document(alloc)?;
-    state.set_variable(var, n)?;
-    Ok(Given::Node(n))
+    match var {
+        None => Ok(()),
+        Some(var) => {
+            let var = var.copy(alloc)?;
+            state.set_variable(var, n)
+        }
+    }
 }

@@ -1,61 +1,45 @@
 // Questions about nodes.
-ghost use Rattle.std.specs.Prelude.{◌≡◌, ℕ, List, Option, None, true, IfOk};
+ghost use Rattle.std.specs.Prelude.{◌≡◌, ℕ, List, Option, true, IfOk};
 ghost use Rattle.std.specs.Str.{str_to_ascii_lowercase};
-ghost use Rattle.node_trees.specs.Spots.{attribute_at};
 ghost use Rattle.node_trees.specs.Nodes.{IsNode};
+ghost use Rattle.node_trees.specs.Spots.{attribute_at, parent_at};
 ghost use Rattle.reaction_queue.specs.Queues.{or_empty};
-ghost use Rattle.rule_lines.specs.declared.ask_word.AskWord.TheVariants as words;
 ghost use Rattle.rule_script.specs.Built.{is_built_word};
-ghost use Rattle.ce_algorithms.specs.Perform.{ask, text_answer};
-ghost use Rattle.ce_page.specs.Ends.{Ends};
+ghost use Rattle.ce_algorithms.specs.Questions.{node_answer, question, text_answer};
 
-use crate::operands::{element, node};
-use ce_algorithms::{Answer, Given};
+use ce_algorithms::{Answer, Fit};
 use ce_base::{NoMemory, NodeNo, Text};
 use ce_drains::State;
-use ce_page::PageStop;
 use rule_lines::AskWord;
-use rule_tokens::Operand;
 use std::alloc::Global;
 
-/// Asks something of a node.
-pub(crate) fn operate_ask(
-    state: &State,
-    alloc: Global,
-    word: AskWord,
-    operand: &Operand,
-    name: &Option<Text>,
-) -> Result<Given, PageStop>
-    requires { is_built_word word ≡ true }
-    ensures { Ends (λ g. g) result state.now (ask word None operand.now name.now state.now) }
+/// Of which nodes a question can be asked.
+pub(crate) fn asked_of(word: AskWord) -> Fit
+    ensures { (name : Option (List ℕ)) → result ≡ (question word name).asked_of }
 {
     match word {
-        AskWord::Attr => ask_attr(state, alloc, operand, name),
-        AskWord::Parent => ask_parent(state, operand),
-        AskWord::Kids => ask_kids(state, alloc, operand),
-        _ => unreachable!(),
+        AskWord::Attr | AskWord::State => Fit::Element,
+        _ => Fit::Any,
     }
 }
 
-fn ask_attr(
+/// What a question answers.
+pub(crate) fn answer(
     state: &State,
     alloc: Global,
-    operand: &Operand,
+    word: AskWord,
+    n: NodeNo,
     name: &Option<Text>,
-) -> Result<Given, PageStop>
-    ensures { Ends (λ g. g) result state.now (ask words.Attr None operand.now name.now state.now) }
+) -> Result<Answer, NoMemory>
+    requires node { IsNode state.now.page.forest n }
+    requires built { is_built_word word ≡ true }
+    ensures { IfOk result (λ a. a ≡ (question word name.now).answer state.now.page n) }
 {
-    let n = element(state, operand)?;
-    let value = attribute(state, alloc, n, name)?;
-    Ok(Given::Answers(value))
-}
-
-fn text_of(name: &Option<Text>) -> &str
-    ensures { result.now ≡ or_empty name.now }
-{
-    match name {
-        None => "",
-        Some(name) => name.as_str(),
+    match word {
+        AskWord::Attr => attribute(state, alloc, n, name),
+        AskWord::Parent => Ok(parent(state, n)),
+        AskWord::Kids => Ok(Answer::Nodes(state.tree().children(alloc, n)?)),
+        _ => unreachable!(),
     }
 }
 
@@ -69,27 +53,28 @@ fn attribute(
     requires { IsNode state.now.page.forest n }
     ensures { IfOk result (λ a. a ≡ text_answer (attribute_at state.now.page.forest n (str_to_ascii_lowercase (or_empty name.now)))) }
 {
-    let lower = text_of(name).to_ascii_lowercase(alloc)?;
+    let lower = text_or_empty(name).to_ascii_lowercase(alloc)?;
     match state.tree().attr(n, lower.as_str()) {
         None => Ok(Answer::Null),
         Some(value) => Ok(Answer::One(Text::of(alloc, value)?)),
     }
 }
 
-fn ask_parent(state: &State, operand: &Operand) -> Result<Given, PageStop>
-    ensures { (name : Option (List ℕ)) → Ends (λ g. g) result state.now (ask words.Parent None operand.now name state.now) }
+fn text_or_empty(name: &Option<Text>) -> &str
+    ensures { result.now ≡ or_empty name.now }
 {
-    let n = node(state, operand)?;
-    match state.tree().parent(n) {
-        None => Ok(Given::Answers(Answer::Null)),
-        Some(parent) => Ok(Given::Answers(Answer::Node(parent))),
+    match name {
+        None => "",
+        Some(name) => name.as_str(),
     }
 }
 
-fn ask_kids(state: &State, alloc: Global, operand: &Operand) -> Result<Given, PageStop>
-    ensures { (name : Option (List ℕ)) → Ends (λ g. g) result state.now (ask words.Kids None operand.now name state.now) }
+fn parent(state: &State, n: NodeNo) -> Answer
+    requires { IsNode state.now.page.forest n }
+    ensures { result ≡ node_answer (parent_at state.now.page.forest n) }
 {
-    let n = node(state, operand)?;
-    let kids = state.tree().children(alloc, n)?;
-    Ok(Given::Answers(Answer::Nodes(kids)))
+    match state.tree().parent(n) {
+        None => Answer::Null,
+        Some(parent) => Answer::Node(parent),
+    }
 }

@@ -1,131 +1,136 @@
-// The operands of the reacting operations that give nothing, all read before a queue is pushed.
-ghost use Rattle.std.specs.Prelude.{◌≡◌, true, IfOk};
-ghost use Rattle.rule_lines.specs.declared.op.Op.TheVariants as ops;
-ghost use Rattle.ce_machine.specs.Reacting.{is_reacting};
-ghost use Rattle.ce_machine.specs.Steps.{AreOn, Resolves};
+// What an operation comes to: its operands, all read before a queue is pushed.
+ghost use Rattle.std.specs.Prelude.{◌≡◌, true, IfOk, IfSome};
+ghost use Rattle.node_trees.specs.Nodes.{IsNode};
+ghost use Rattle.rule_script.specs.Built.{is_built_op};
+ghost use Rattle.ce_algorithms.specs.Deeds.{resolve};
+ghost use Rattle.ce_algorithms.specs.State.{view};
+ghost use Rattle.ce_machine.specs.Ready.{IsReady};
+ghost use Rattle.ce_machine.specs.Resolved.{Resolves};
 
-use crate::operands::{class, detachable, element, fixed_text, node};
-use crate::steps::Steps;
-use ce_base::{Refused, Text};
+use crate::operands::{class, copy_of, document_or_page, element, fixed_text, node, node_that};
+use crate::questions::asked_of;
+use ce_algorithms::{Deed, Fit, PageDeed};
+use ce_base::{NodeNo, Refused};
 use ce_drains::State;
 use rule_lines::Op;
-use rule_tokens::{Operand, Val};
 use std::alloc::Global;
 
-/// The steps of a reacting operation, or the first fault of its operands.
-pub(crate) fn resolve(state: &State, alloc: Global, op: Op) -> Result<Steps, Refused>
-    requires { is_reacting op ≡ true }
-    ensures steps { Resolves result op state.now }
-    ensures made { IfOk result (AreOn state.now.page.forest) }
-{
-    match op {
-        Op::Append { parent, node } => resolve_append(state, &parent, &node),
-        Op::Before {
-            parent,
-            node,
-            before,
-        } => resolve_before(state, &parent, &node, &before),
-        Op::Remove { parent, node } => resolve_remove(state, &parent, &node),
-        Op::Detach { node } => resolve_detach(state, &node),
-        Op::SetAttr { node, name, value } => resolve_set_attr(state, alloc, &node, name, &value),
-        Op::DelAttr { node, name } => resolve_del_attr(state, &node, name),
-        Op::Define { name, class, base } => resolve_define(state, name, &class, base),
-        _ => unreachable!(),
-    }
-}
-
-fn resolve_append(state: &State, parent: &Operand, child: &Operand) -> Result<Steps, Refused>
-    ensures steps { Resolves result (ops.Append parent.now child.now) state.now }
-    ensures made { IfOk result (AreOn state.now.page.forest) }
-{
-    let parent = node(state, parent)?;
-    let child = node(state, child)?;
-    Ok(Steps::Insert {
-        parent,
-        node: child,
-        before: None,
-    })
-}
-
-fn resolve_before(
-    state: &State,
-    parent: &Operand,
-    child: &Operand,
-    before: &Operand,
-) -> Result<Steps, Refused>
-    ensures steps { Resolves result (ops.Before parent.now child.now before.now) state.now }
-    ensures made { IfOk result (AreOn state.now.page.forest) }
-{
-    let parent = node(state, parent)?;
-    let child = node(state, child)?;
-    let before = node(state, before)?;
-    Ok(Steps::Insert {
-        parent,
-        node: child,
-        before: Some(before),
-    })
-}
-
-fn resolve_remove(state: &State, parent: &Operand, child: &Operand) -> Result<Steps, Refused>
-    ensures steps { Resolves result (ops.Remove parent.now child.now) state.now }
-    ensures made { IfOk result (AreOn state.now.page.forest) }
-{
-    let parent = node(state, parent)?;
-    let child = node(state, child)?;
-    Ok(Steps::Remove {
-        parent,
-        node: child,
-    })
-}
-
-fn resolve_detach(state: &State, child: &Operand) -> Result<Steps, Refused>
-    ensures steps { Resolves result (ops.Detach child.now) state.now }
-    ensures made { IfOk result (AreOn state.now.page.forest) }
-{
-    let child = detachable(state, child)?;
-    Ok(Steps::Detach(child))
-}
-
-fn resolve_set_attr(
+/// The deed of an operation, or the first fault of its operands, from the left. Nothing is done yet.
+pub(crate) fn resolve(
     state: &State,
     alloc: Global,
-    operand: &Operand,
-    name: Text,
-    value: &Val,
-) -> Result<Steps, Refused>
-    ensures steps { Resolves result (ops.SetAttr operand.now name value.now) state.now }
-    ensures made { IfOk result (AreOn state.now.page.forest) }
+    this: Option<NodeNo>,
+    op: &Op,
+) -> Result<Deed, Refused>
+    requires built { is_built_op op.now ≡ true }
+    requires there { IfSome this (IsNode state.now.page.forest) }
+    ensures deed { Resolves result (resolve (view this state.now) op.now) }
+    ensures ready { IfOk result (IsReady state.now.page.forest) }
 {
-    let n = element(state, operand)?;
-    let value = fixed_text(alloc, value)?;
-    Ok(Steps::SetAttr {
-        node: n,
-        name,
-        value,
-    })
-}
-
-fn resolve_del_attr(state: &State, operand: &Operand, name: Text) -> Result<Steps, Refused>
-    ensures steps { Resolves result (ops.DelAttr operand.now name) state.now }
-    ensures made { IfOk result (AreOn state.now.page.forest) }
-{
-    let n = element(state, operand)?;
-    Ok(Steps::DelAttr { node: n, name })
-}
-
-fn resolve_define(
-    state: &State,
-    name: Text,
-    class_name: &Text,
-    base: Option<Text>,
-) -> Result<Steps, Refused>
-    ensures steps { Resolves result (ops.Define name class_name.now base) state.now }
-    ensures made { IfOk result (AreOn state.now.page.forest) }
-{
-    let k = class(state, class_name.as_str())?;
-    Ok(Steps::Define {
-        name,
-        class: k,
-        base,
-    })
+    match op {
+        Op::Create {
+            var: _,
+            local,
+            is_value: _,
+            document,
+        } => {
+            let document = document_or_page(state, this, document)?;
+            let local = local.copy(alloc)?;
+            Ok(Deed::Create {
+                local,
+                is_value: None,
+                document,
+            })
+        }
+        Op::MakeText {
+            var: _,
+            chars,
+            document,
+        } => {
+            let document = document_or_page(state, this, document)?;
+            let chars = chars.copy(alloc)?;
+            Ok(Deed::OnPage(PageDeed::MakeText { chars, document }))
+        }
+        Op::Shadow { var: _, host } => {
+            let host = element(state, this, host)?;
+            Ok(Deed::OnPage(PageDeed::Shadow { host }))
+        }
+        Op::Append {
+            parent,
+            node: child,
+        } => {
+            let parent = node(state, this, parent)?;
+            let child = node(state, this, child)?;
+            Ok(Deed::OnPage(PageDeed::Insert {
+                parent,
+                node: child,
+                before: None,
+            }))
+        }
+        Op::Before {
+            parent,
+            node: child,
+            before,
+        } => {
+            let parent = node(state, this, parent)?;
+            let child = node(state, this, child)?;
+            let before = node(state, this, before)?;
+            Ok(Deed::OnPage(PageDeed::Insert {
+                parent,
+                node: child,
+                before: Some(before),
+            }))
+        }
+        Op::Remove {
+            parent,
+            node: child,
+        } => {
+            let parent = node(state, this, parent)?;
+            let child = node(state, this, child)?;
+            Ok(Deed::OnPage(PageDeed::Remove {
+                parent,
+                node: child,
+            }))
+        }
+        Op::Detach { node } => {
+            let node = node_that(Fit::ElementOrText, state, this, node)?;
+            Ok(Deed::OnPage(PageDeed::Detach { node }))
+        }
+        Op::SetAttr { node, name, value } => {
+            let node = element(state, this, node)?;
+            let name = name.copy(alloc)?;
+            let value = fixed_text(alloc, value)?;
+            Ok(Deed::OnPage(PageDeed::SetAttr { node, name, value }))
+        }
+        Op::DelAttr { node, name } => {
+            let node = element(state, this, node)?;
+            let name = name.copy(alloc)?;
+            Ok(Deed::OnPage(PageDeed::DelAttr { node, name }))
+        }
+        Op::Define {
+            name,
+            class: class_name,
+            base,
+        } => {
+            let class = class(state, class_name.as_str())?;
+            let name = name.copy(alloc)?;
+            let base = copy_of(alloc, base)?;
+            Ok(Deed::Define { name, class, base })
+        }
+        Op::Ask { word, node, name } => {
+            let node = node_that(asked_of(*word), state, this, node)?;
+            let name = copy_of(alloc, name)?;
+            Ok(Deed::Ask {
+                word: *word,
+                node,
+                name,
+            })
+        }
+        Op::Let { var, node: operand } => {
+            let node = node(state, this, operand)?;
+            let var = var.copy(alloc)?;
+            Ok(Deed::Let { var, node })
+        }
+        _ => unreachable!(),
+    }
 }
