@@ -5,7 +5,7 @@ use Rattle.node_trees.specs.Facts.{Facts, with_value, is_document}
 use Rattle.node_trees.specs.declared.kind.NodeKind.{NodeKind}
 use Rattle.node_trees.specs.Trees.{Trees, with_facts, with_document, with_attribute}
 use Rattle.node_trees.specs.Nodes.{IsNode, IsTidy}
-use Rattle.node_trees.specs.Paths.{shadow_root_at, connected, or_number}
+use Rattle.node_trees.specs.Paths.{shadow_including_root_at, connected, or_number}
 use Rattle.node_trees.specs.Spots.{Spot, spot, spot_at, or_no_spot, facts_at, kind_at, parent_at, host_at, children_at, document_at, first_of}
 use Rattle.node_arena.proofs.AtNode.{node_spot}
 use Rattle.node_arena.proofs.Changed.{path-with, changed, spot-with-other, spot-with-here}
@@ -46,12 +46,12 @@ module _ (n : ℕ) (c : Facts → Facts) (f : Trees) where
       let st = node_spot f n tidy node in
       ap (λ o. (or_no_spot o).facts) (spot-with-here n c None None f) ∙ ap (λ o. (or_no_spot (changed c o)).facts) st.is ∙ sym (ap (λ o. c (or_no_spot o).facts) st.is)
 
-  pub shadow_root_at-with : (i : ℕ) → shadow_root_at (with_facts n c f) i ≡ shadow_root_at f i
-  shadow_root_at-with i = ap (λ v. or_number (first_of v) i) (path-with n c i f)
+  pub shadow_including_root_at-with : (i : ℕ) → shadow_including_root_at (with_facts n c f) i ≡ shadow_including_root_at f i
+  shadow_including_root_at-with i = ap (λ v. or_number (first_of v) i) (path-with n c i f)
 
   pub connected-with : ((x : Facts) → (c x).kind ≡ x.kind) → (i : ℕ) → connected (with_facts n c f) i ≡ connected f i
   connected-with keeps i =
-      ap (λ v. is_document (kind_at (with_facts n c f) v)) (shadow_root_at-with i) ∙ ap is_document (kind_at-with keeps (shadow_root_at f i))
+      ap (λ v. is_document (kind_at (with_facts n c f) v)) (shadow_including_root_at-with i) ∙ ap is_document (kind_at-with keeps (shadow_including_root_at f i))
 
 -- the node document set, and an attribute set
 

@@ -5,7 +5,7 @@ use Rattle.std.proofs.lemmas.Bool.{cases_eq}
 use Rattle.node_trees.specs.Facts.{Facts, is_document}
 use Rattle.node_trees.specs.Trees.{Trees, none, tree, tree_of, cut, graft}
 use Rattle.node_trees.specs.Nodes.{times, IsNode, IsTidy}
-use Rattle.node_trees.specs.Paths.{path, under, or_number, shadow_root_at, connected}
+use Rattle.node_trees.specs.Paths.{path, under, or_number, shadow_including_root_at, connected}
 use Rattle.node_trees.specs.Spots.{kind_at, first_of}
 use Rattle.node_arena.proofs.Sums.{tidy-apart}
 use Rattle.node_arena.proofs.Inside.{found}
@@ -40,33 +40,33 @@ module _ (f : Trees) (n : ℕ) (tidy : IsTidy f) (node : IsNode f n) where
       let is = it.tree_is in
       rw is (first-tree n it.facts it.shadow it.children i (rw is at low))
 
-  pub shadow_root_at-cut-outside : (i : ℕ) → times i (tree_of n f) ≡ 0 → shadow_root_at (cut f n) i ≡ shadow_root_at f i
-  shadow_root_at-cut-outside i z = ap (λ v. or_number (first_of v) i) (path-cut-outside f n tidy node i z)
+  pub shadow_including_root_at-cut-outside : (i : ℕ) → times i (tree_of n f) ≡ 0 → shadow_including_root_at (cut f n) i ≡ shadow_including_root_at f i
+  shadow_including_root_at-cut-outside i z = ap (λ v. or_number (first_of v) i) (path-cut-outside f n tidy node i z)
 
-  pub shadow_root_at-cut-inside : (i : ℕ) → 0 < times i (tree_of n f) → shadow_root_at (cut f n) i ≡ n
-  shadow_root_at-cut-inside i low = ap (λ v. or_number (first_of v) i) (path-cut-inside f n tidy node i low) ∙ first-inside i low
+  pub shadow_including_root_at-cut-inside : (i : ℕ) → 0 < times i (tree_of n f) → shadow_including_root_at (cut f n) i ≡ n
+  shadow_including_root_at-cut-inside i low = ap (λ v. or_number (first_of v) i) (path-cut-inside f n tidy node i low) ∙ first-inside i low
 
   pub connected-cut-outside : (i : ℕ) → times i (tree_of n f) ≡ 0 → connected (cut f n) i ≡ connected f i
   connected-cut-outside i z =
-      ap (λ v. is_document (kind_at (cut f n) v)) (shadow_root_at-cut-outside i z) ∙ ap is_document (kind_at-cut f n tidy node (shadow_root_at f i))
+      ap (λ v. is_document (kind_at (cut f n) v)) (shadow_including_root_at-cut-outside i z) ∙ ap is_document (kind_at-cut f n tidy node (shadow_including_root_at f i))
 
   pub connected-cut-inside : (i : ℕ) → 0 < times i (tree_of n f) → connected (cut f n) i ≡ is_document (kind_at f n)
   connected-cut-inside i low =
-      ap (λ v. is_document (kind_at (cut f n) v)) (shadow_root_at-cut-inside i low) ∙ ap is_document (kind_at-cut f n tidy node n)
+      ap (λ v. is_document (kind_at (cut f n) v)) (shadow_including_root_at-cut-inside i low) ∙ ap is_document (kind_at-cut f n tidy node n)
 
 module _ (f : Trees) (p n : ℕ) (b : Option ℕ) (tidy : IsTidy f) (node_p : IsNode f p) (node : IsNode f n) (outside : times p (tree_of n f) ≡ 0) where
-  pub shadow_root_at-graft-outside : (i : ℕ) → times i (tree_of n f) ≡ 0 → shadow_root_at (graft f p n b) i ≡ shadow_root_at f i
-  shadow_root_at-graft-outside i z = ap (λ v. or_number (first_of v) i) (path-graft-outside f p n b tidy node_p node outside i z)
+  pub shadow_including_root_at-graft-outside : (i : ℕ) → times i (tree_of n f) ≡ 0 → shadow_including_root_at (graft f p n b) i ≡ shadow_including_root_at f i
+  shadow_including_root_at-graft-outside i z = ap (λ v. or_number (first_of v) i) (path-graft-outside f p n b tidy node_p node outside i z)
 
-  pub shadow_root_at-graft-inside : (i : ℕ) → 0 < times i (tree_of n f) → shadow_root_at (graft f p n b) i ≡ shadow_root_at f p
-  shadow_root_at-graft-inside i low =
+  pub shadow_including_root_at-graft-inside : (i : ℕ) → 0 < times i (tree_of n f) → shadow_including_root_at (graft f p n b) i ≡ shadow_including_root_at f p
+  shadow_including_root_at-graft-inside i low =
       ap (λ v. or_number (first_of v) i) (path-graft-inside f p n b tidy node_p node outside i low)
       ∙ first-append (path p f) (path i (tree_of n f)) i p (path-long p f (node_stands f p tidy node_p))
 
   pub connected-graft-outside : (i : ℕ) → times i (tree_of n f) ≡ 0 → connected (graft f p n b) i ≡ connected f i
   connected-graft-outside i z =
-      ap (λ v. is_document (kind_at (graft f p n b) v)) (shadow_root_at-graft-outside i z) ∙ ap is_document (kind_at-graft f p n b tidy node_p node outside (shadow_root_at f i))
+      ap (λ v. is_document (kind_at (graft f p n b) v)) (shadow_including_root_at-graft-outside i z) ∙ ap is_document (kind_at-graft f p n b tidy node_p node outside (shadow_including_root_at f i))
 
   pub connected-graft-inside : (i : ℕ) → 0 < times i (tree_of n f) → connected (graft f p n b) i ≡ connected f p
   connected-graft-inside i low =
-      ap (λ v. is_document (kind_at (graft f p n b) v)) (shadow_root_at-graft-inside i low) ∙ ap is_document (kind_at-graft f p n b tidy node_p node outside (shadow_root_at f p))
+      ap (λ v. is_document (kind_at (graft f p n b) v)) (shadow_including_root_at-graft-inside i low) ∙ ap is_document (kind_at-graft f p n b tidy node_p node outside (shadow_including_root_at f p))

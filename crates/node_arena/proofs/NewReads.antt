@@ -4,7 +4,7 @@ use Rattle.std.proofs.lemmas.Bool.Decides.{nat_tests}
 use Rattle.node_trees.specs.Facts.{Facts, is_document}
 use Rattle.node_trees.specs.Trees.{Trees, none, tree, single, with_node}
 use Rattle.node_trees.specs.Nodes.{times, IsNode, IsTidy}
-use Rattle.node_trees.specs.Paths.{path, is_among, under, or_number, shadow_root_at, connected}
+use Rattle.node_trees.specs.Paths.{path, is_among, under, or_number, shadow_including_root_at, connected}
 use Rattle.node_trees.specs.Spots.{Spot, spot_of, spot_in, or_spot, spot, spot_at, or_no_spot, facts_at, kind_at, document_at, first_of}
 use Rattle.node_arena.proofs.Next.{is_among-append}
 use Rattle.node_arena.proofs.Pieces.{or_spot-none, spot-absent, path-long}
@@ -26,9 +26,9 @@ first-among : (xs : List ℕ) (i : ℕ) → 0 < length xs → is_among (or_numbe
 first-among [] i pos = absurd (omega arith)
 first-among (x ∷ xs) i pos = grind (arith, nat_tests)
 
-pub shadow_root_at-node : (f : Trees) (i : ℕ) → IsTidy f → IsNode f i → IsNode f (shadow_root_at f i)
-shadow_root_at-node f i tidy node =
-    tidy.only (shadow_root_at f i) (path-stands (shadow_root_at f i) i f (first-among (path i f) i (path-long i f (node_stands f i tidy node))))
+pub shadow_including_root_at-node : (f : Trees) (i : ℕ) → IsTidy f → IsNode f i → IsNode f (shadow_including_root_at f i)
+shadow_including_root_at-node f i tidy node =
+    tidy.only (shadow_including_root_at f i) (path-stands (shadow_including_root_at f i) i f (first-among (path i f) i (path-long i f (node_stands f i tidy node))))
 
 -- ---- the new node and the others
 
@@ -65,7 +65,7 @@ module _ (n : ℕ) (x : Facts) (f : Trees) where
 
   pub connected-new-other : (i : ℕ) → IsTidy f → IsNode f i → times n f ≡ 0 → connected (with_node n x f) i ≡ connected f i
   connected-new-other i tidy node z =
-      let root = shadow_root_at-node f i tidy node in
+      let root = shadow_including_root_at-node f i tidy node in
       let apart : i ≢ n = λ e. absurd (omega (arith, node_stands f i tidy node, ap (λ v. times v f) e)) in
-      let root_apart : shadow_root_at f i ≢ n = λ e. absurd (omega (arith, node_stands f (shadow_root_at f i) tidy root, ap (λ v. times v f) e)) in
-      ap (λ v. is_document (kind_at (with_node n x f) (or_number (first_of v) i))) (path-new-other i apart) ∙ ap is_document (kind_at-new-other (shadow_root_at f i) root_apart)
+      let root_apart : shadow_including_root_at f i ≢ n = λ e. absurd (omega (arith, node_stands f (shadow_including_root_at f i) tidy root, ap (λ v. times v f) e)) in
+      ap (λ v. is_document (kind_at (with_node n x f) (or_number (first_of v) i))) (path-new-other i apart) ∙ ap is_document (kind_at-new-other (shadow_including_root_at f i) root_apart)

@@ -7,7 +7,7 @@ use Rattle.std.proofs.lemmas.Bool.Decides.{nat_tests}
 use Rattle.node_trees.specs.Facts.{is_document}
 use Rattle.node_trees.specs.Trees.{Trees}
 use Rattle.node_trees.specs.Nodes.{IsNode, IsTidy}
-use Rattle.node_trees.specs.Paths.{path, is_among, or_number, has_parent, root_at, shadow_root_at, connected}
+use Rattle.node_trees.specs.Paths.{path, is_among, or_number, has_parent, root_at, shadow_including_root_at, connected}
 use Rattle.node_trees.specs.Spots.{kind_at, parent_at, host_at, first_of}
 use Rattle.node_arena.proofs.Pieces.{path-long}
 use Rattle.node_arena.proofs.AtNode.{node_stands, parent_at-is, node_spot}
@@ -107,24 +107,24 @@ first-push [] n k pos = absurd (omega arith)
 first-push (x ∷ xs) n k pos = refl
 
 module _ (f : Trees) (n : ℕ) (tidy : IsTidy f) (node : IsNode f n) where
-  pub shadow_root_at-here : parent_at f n ≡ None → host_at f n ≡ None → shadow_root_at f n ≡ n
-  shadow_root_at-here up over = ap (λ v. or_number (first_of v) n) (path-root f n tidy node up over)
+  pub shadow_including_root_at-here : parent_at f n ≡ None → host_at f n ≡ None → shadow_including_root_at f n ≡ n
+  shadow_including_root_at-here up over = ap (λ v. or_number (first_of v) n) (path-root f n tidy node up over)
 
-  above_root : (q : ℕ) → IsAbove f q n → shadow_root_at f n ≡ shadow_root_at f q
+  above_root : (q : ℕ) → IsAbove f q n → shadow_including_root_at f n ≡ shadow_including_root_at f q
   above_root q a =
       ap (λ v. or_number (first_of v) n) a.path_is ∙ first-push (path q f) n q (path-long q f (node_stands f q tidy a.is_node))
 
-  pub shadow_root_at-parent : (p : ℕ) → parent_at f n ≡ Some p → shadow_root_at f n ≡ shadow_root_at f p
-  shadow_root_at-parent p up = above_root p (parent-above f n p tidy node up)
+  pub shadow_including_root_at-parent : (p : ℕ) → parent_at f n ≡ Some p → shadow_including_root_at f n ≡ shadow_including_root_at f p
+  shadow_including_root_at-parent p up = above_root p (parent-above f n p tidy node up)
 
-  pub shadow_root_at-host : (q : ℕ) → host_at f n ≡ Some q → shadow_root_at f n ≡ shadow_root_at f q
-  shadow_root_at-host q over = above_root q (host-above f n q tidy node over)
+  pub shadow_including_root_at-host : (q : ℕ) → host_at f n ≡ Some q → shadow_including_root_at f n ≡ shadow_including_root_at f q
+  shadow_including_root_at-host q over = above_root q (host-above f n q tidy node over)
 
   pub connected-here : parent_at f n ≡ None → host_at f n ≡ None → connected f n ≡ is_document (kind_at f n)
-  connected-here up over = ap (λ v. is_document (kind_at f v)) (shadow_root_at-here up over)
+  connected-here up over = ap (λ v. is_document (kind_at f v)) (shadow_including_root_at-here up over)
 
   pub connected-parent : (p : ℕ) → parent_at f n ≡ Some p → connected f n ≡ connected f p
-  connected-parent p up = ap (λ v. is_document (kind_at f v)) (shadow_root_at-parent p up)
+  connected-parent p up = ap (λ v. is_document (kind_at f v)) (shadow_including_root_at-parent p up)
 
   pub connected-host : (q : ℕ) → host_at f n ≡ Some q → connected f n ≡ connected f q
-  connected-host q over = ap (λ v. is_document (kind_at f v)) (shadow_root_at-host q over)
+  connected-host q over = ap (λ v. is_document (kind_at f v)) (shadow_including_root_at-host q over)

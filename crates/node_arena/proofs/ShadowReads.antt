@@ -5,13 +5,13 @@ use Rattle.std.proofs.lemmas.Bool.{cases_eq}
 use Rattle.node_trees.specs.Facts.{Facts, is_document}
 use Rattle.node_trees.specs.Trees.{Trees, none, tree, roots, join, single, with_shadow}
 use Rattle.node_trees.specs.Nodes.{times, IsNode, IsTidy}
-use Rattle.node_trees.specs.Paths.{path, or_number, shadow_root_at, connected}
+use Rattle.node_trees.specs.Paths.{path, or_number, shadow_including_root_at, connected}
 use Rattle.node_trees.specs.Spots.{Spot, spot_of, spot_in, or_spot, spot, spot_at, or_no_spot, facts_at, kind_at, document_at, parent_at, children_at, first_of}
 use Rattle.node_arena.proofs.Sums.{IsApart, tidy-apart, apart-shadow, apart-children, apart-rest, here, in_shadow, in_children, in_rest, stands_where, weight-shadow, times-join, one_at}
 use Rattle.node_arena.proofs.Pieces.{or_spot-none, spot-absent, path-long, path-here, path-shadow, path-children, path-rest}
 use Rattle.node_arena.proofs.CutSpots.{spot-join, path-join-left, path-join-right}
 use Rattle.node_arena.proofs.Connected.{first-append}
-use Rattle.node_arena.proofs.NewReads.{shadow_root_at-node}
+use Rattle.node_arena.proofs.NewReads.{shadow_including_root_at-node}
 use Rattle.node_arena.proofs.AtNode.{node_stands}
 
 pub roots-join : (f g : Trees) → roots (join f g) ≡ roots f ++ roots g
@@ -165,11 +165,11 @@ module _ (f : Trees) (q n : ℕ) (x : Facts) (tidy : IsTidy f) (node : IsNode f 
   pub connected-attached-other : (i : ℕ) → IsNode f i → connected (with_shadow q (single n x) f) i ≡ connected f i
   connected-attached-other i node_i =
       ap (λ v. is_document (kind_at (with_shadow q (single n x) f) (or_number (first_of v) i))) (path-shadow-out i q (single n x) f (single-absent i (apart-new i node_i)))
-      ∙ ap is_document (kind_at-attached-other (shadow_root_at f i) (apart-new (shadow_root_at f i) (shadow_root_at-node f i tidy node_i)))
+      ∙ ap is_document (kind_at-attached-other (shadow_including_root_at f i) (apart-new (shadow_including_root_at f i) (shadow_including_root_at-node f i tidy node_i)))
 
   pub connected-attached-here : connected (with_shadow q (single n x) f) n ≡ connected f q
   connected-attached-here =
       let path_is = path-shadow-in n q (single n x) f (tidy-apart f tidy) (node_stands f q tidy node) new (grind (arith, nat_tests)) in
-      let root_is : shadow_root_at (with_shadow q (single n x) f) n ≡ shadow_root_at f q = ap (λ v. or_number (first_of v) n) path_is ∙ first-append (path q f) (path n (single n x)) n q (path-long q f (node_stands f q tidy node)) in
+      let root_is : shadow_including_root_at (with_shadow q (single n x) f) n ≡ shadow_including_root_at f q = ap (λ v. or_number (first_of v) n) path_is ∙ first-append (path q f) (path n (single n x)) n q (path-long q f (node_stands f q tidy node)) in
       ap (λ v. is_document (kind_at (with_shadow q (single n x) f) v)) root_is
-      ∙ ap is_document (kind_at-attached-other (shadow_root_at f q) (apart-new (shadow_root_at f q) (shadow_root_at-node f q tidy node)))
+      ∙ ap is_document (kind_at-attached-other (shadow_including_root_at f q) (apart-new (shadow_including_root_at f q) (shadow_including_root_at-node f q tidy node)))

@@ -75,8 +75,8 @@ number_of [] = 0
 number_of (o ∷ os) = o.number
 
 -- the number of the current element queue, and 0 for the backup element queue
-abbrev pub current : Queues → ℕ
-current q = number_of q.stack
+abbrev pub current_number : Queues → ℕ
+current_number q = number_of q.stack
 
 -- the stack
 
