@@ -10,7 +10,8 @@ abbrev pub under : ℕ → List ℕ → List ℕ
 under m [] = []
 under m (y ∷ ys) = m ∷ y ∷ ys
 
--- the nodes from a root down to n, where a shadow tree hangs below its host: the host-including inclusive ancestors (DOM Standard, section "Interface DocumentFragment", "host-including inclusive ancestor")
+-- the nodes from a root down to n, where a shadow tree hangs below its host: the host-including inclusive ancestors
+-- (DOM Standard, section "Interface DocumentFragment", "host-including inclusive ancestor")
 abbrev pub path : ℕ → Trees → List ℕ
 path n none = []
 path n (tree m x shadow children rest) =
