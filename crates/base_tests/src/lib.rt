@@ -12,4 +12,6 @@ mod queues;
 #[cfg(test)]
 mod registry;
 #[cfg(test)]
+mod rows;
+#[cfg(test)]
 mod tokens;
