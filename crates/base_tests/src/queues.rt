@@ -235,16 +235,25 @@ fn take(rt: &impl Abort, alloc: Global, trial: &mut Trial, row: &str) -> Result<
     Ok(())
 }
 
-// Takes the steps of a session, at most a hundred, with queues that are new.
-fn follow(rt: &impl Abort, alloc: Global, session: &str) -> Result<(), Fail> {
-    let mut trial = Trial::make(alloc);
+// Takes the steps of a session, at most a hundred.
+fn take_all(rt: &impl Abort, alloc: Global, trial: &mut Trial, session: &str) -> Result<(), Fail>
+    requires reactions { trial.old.queues.reactions ≡ 0 }
+    requires pushed { trial.old.queues.pushed ≡ 0 }
+    requires depth { trial.old.depth ≡ 0 }
+{
     let mut taken: u64 = 0;
     for row in session.lines() {
         assert!(rt; taken < 100);
-        take(rt, alloc, &mut trial, row)?;
+        take(rt, alloc, trial, row)?;
         taken += 1;
     }
     Ok(())
+}
+
+// Takes the steps with queues that are new.
+fn follow(rt: &impl Abort, alloc: Global, session: &str) -> Result<(), Fail> {
+    let mut trial = Trial::make(alloc);
+    take_all(rt, alloc, &mut trial, session)
 }
 
 #[test]
@@ -282,17 +291,36 @@ fn see_next(rt: &impl Abort, alloc: Global, queues: &mut Queues, want: &str) -> 
     Ok(())
 }
 
+fn enqueue_attribute(alloc: Global, queues: &mut Queues) -> Result<(), Fail>
+    requires { queues.old.reactions ≡ 0 }
+    ensures { queues.new.reactions ≤ 1 }
+{
+    let k = Text::of(alloc, "k")?;
+    queues.enqueue(alloc, NodeNo(2), Reaction::Attribute(k, None, None))?;
+    Ok(())
+}
+
+fn enqueue_two(alloc: Global, queues: &mut Queues) -> Result<(), Fail>
+    requires { queues.old.reactions ≡ 0 }
+{
+    enqueue_attribute(alloc, queues)?;
+    queues.enqueue(alloc, NodeNo(2), Reaction::Upgrade(DefNo(0)))?;
+    Ok(())
+}
+
+fn see_all(rt: &impl Abort, alloc: Global, queues: &mut Queues) -> Result<(), Fail> {
+    for want in TAKEN.lines() {
+        see_next(rt, alloc, queues, want)?;
+    }
+    Ok(())
+}
+
 #[test]
 fn a_reaction_is_taken_as_it_was_enqueued(rt: HostRuntime) -> Result<(), Fail> {
     let alloc = rt.alloc();
     let mut queues = Queues::make(alloc);
-    let k = Text::of(alloc, "k")?;
-    queues.enqueue(alloc, NodeNo(2), Reaction::Attribute(k, None, None))?;
-    queues.enqueue(alloc, NodeNo(2), Reaction::Upgrade(DefNo(0)))?;
-    for want in TAKEN.lines() {
-        see_next(&rt, alloc, &mut queues, want)?;
-    }
-    Ok(())
+    enqueue_two(alloc, &mut queues)?;
+    see_all(&rt, alloc, &mut queues)
 }
 
 const TAKEN: &str = r#"Some((ReactionNo(1), Attribute(Text { inner: "k" }, None, None)))
