@@ -1,35 +1,38 @@
-// Sessions with a tree: remarks, and steps behind "> ", each with what it gives.
+// Sessions with a tree.
 mod sessions;
 mod steps;
 
+use crate::rows::{same, sides};
 use node_arena::Tree;
 use sessions::*;
 use std::alloc::Global;
-use std::fmt::Write;
 use std::process::Abort;
 use std::test::Fail;
 use steps::step;
 
-// Takes the steps of a session: its rows as they come out.
-fn run(rt: &impl Abort, alloc: Global, tree: &mut Tree, session: &str) -> Result<String, Fail> {
-    let mut out = String::new(alloc);
+// Takes the steps of a session; the other rows are remarks.
+fn follow(rt: &impl Abort, alloc: Global, tree: &mut Tree, session: &str) -> Result<(), Fail> {
     for row in session.lines() {
-        if let Some(words) = row.strip_prefix("> ") {
-            let given = step(rt, alloc, tree, words)?;
-            writeln!(out, "> {words}\n{given}")?;
-        } else if row.starts_with("# ") {
-            writeln!(out, "{row}")?;
+        if !row.starts_with('#') {
+            take(rt, alloc, tree, row)?;
         }
     }
-    Ok(out)
+    Ok(())
 }
 
-// Compares a session with what its steps give, behind the nodes that each of them has.
+fn take(rt: &impl Abort, alloc: Global, tree: &mut Tree, row: &str) -> Result<(), Fail> {
+    let (words, want) = sides(row);
+    let mut out = String::new(alloc);
+    step(rt, alloc, tree, words, &mut out)?;
+    same(rt, out.as_str(), want, words);
+    Ok(())
+}
+
+// A session behind the nodes that each of them has.
 fn compare(rt: &impl Abort, alloc: Global, session: &str) -> Result<(), Fail> {
     let mut tree = Tree::make(alloc)?;
-    assert_eq!(rt; run(rt, alloc, &mut tree, SIX)?.as_str(), SIX);
-    assert_eq!(rt; run(rt, alloc, &mut tree, session)?.as_str(), session);
-    Ok(())
+    follow(rt, alloc, &mut tree, SIX)?;
+    follow(rt, alloc, &mut tree, session)
 }
 
 #[test]

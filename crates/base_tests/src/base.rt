@@ -1,6 +1,11 @@
+// Texts, lists, fuel, sources and sinks. A row is what is read or written, and what comes of it.
+use crate::rows::{same, sides};
 use ce_base::*;
+use std::alloc::Global;
+use std::fmt::Write as _;
 use std::io;
 use std::io::{Read, Write};
+use std::process::Abort;
 use std::test::Fail;
 
 // A sink that passes one byte of each piece on.
@@ -52,179 +57,264 @@ impl Write for Full {
     }
 }
 
-#[test]
-fn texts_are_kept(rt: HostRuntime) -> Result<(), Fail> {
-    let alloc = rt.alloc();
+fn told(text: Option<&Text>) -> &str {
+    match text {
+        Some(text) => text.as_str(),
+        None => "none",
+    }
+}
+
+fn two_texts(alloc: Global) -> Result<Texts, Fail> {
     let text = Text::of(alloc, "déjà")?;
     let mut texts = Texts::make(alloc);
     texts.push(alloc, text.copy(alloc)?)?;
     texts.push(alloc, Text::of(alloc, "")?)?;
-    let copy = texts.copy(alloc)?;
-    for (place, want) in [(0, Some("déjà")), (1, Some("")), (2, None)] {
-        assert_eq!(rt; copy.get(place).map(|t| t.as_str()), want);
-    }
-    assert_eq!(rt; (text.as_str(), texts.len(), copy.len()), ("déjà", 2, 2));
+    Ok(texts)
+}
+
+#[test]
+fn texts_are_kept(rt: HostRuntime) -> Result<(), Fail> {
+    let copy = two_texts(rt.alloc())?.copy(rt.alloc())?;
+    same(&rt, told(copy.get(0)), "déjà", "0");
+    same(&rt, told(copy.get(1)), "", "1");
+    same(&rt, told(copy.get(2)), "none", "2");
+    assert!(rt; copy.len() == 2);
     Ok(())
+}
+
+fn two_nodes(alloc: Global) -> Result<Nodes, Fail> {
+    let mut nodes = Nodes::make(alloc);
+    nodes.push(alloc, NodeNo(7))?;
+    nodes.push(alloc, NodeNo(1))?;
+    Ok(nodes)
 }
 
 #[test]
 fn nodes_are_kept(rt: HostRuntime) -> Result<(), Fail> {
-    let alloc = rt.alloc();
-    let mut nodes = Nodes::make(alloc);
-    nodes.push(alloc, NodeNo(7))?;
-    nodes.push(alloc, NodeNo(1))?;
-    let copy = nodes.copy(alloc)?;
-    for (place, want) in [(0, Some(NodeNo(7))), (1, Some(NodeNo(1))), (2, None)] {
-        assert_eq!(rt; copy.get(place), want);
-    }
-    assert_eq!(rt; (nodes.len(), copy.len()), (2, 2));
+    let copy = two_nodes(rt.alloc())?.copy(rt.alloc())?;
+    assert!(rt; copy.get(0) == Some(NodeNo(7)));
+    assert!(rt; copy.get(1) == Some(NodeNo(1)));
+    assert!(rt; copy.get(2).is_none() && copy.len() == 2);
     Ok(())
+}
+
+fn one_entry(alloc: Global) -> Result<Entries, Fail> {
+    let name = Text::of(alloc, "city")?;
+    let value = Text::of(alloc, "Lyon")?;
+    let mut entries = Entries::make(alloc);
+    entries.push(alloc, Entry { name, value })?;
+    Ok(entries)
 }
 
 #[test]
 fn entries_are_kept(rt: HostRuntime) -> Result<(), Fail> {
-    let alloc = rt.alloc();
-    let entry = Entry {
-        name: Text::of(alloc, "city")?,
-        value: Text::of(alloc, "Lyon")?,
-    };
-    let mut entries = Entries::make(alloc);
-    entries.push(alloc, entry)?;
-    let copy = entries.copy(alloc)?;
-    for (place, name, value) in [(0, Some("city"), Some("Lyon")), (1, None, None)] {
-        let found = copy.get(place);
-        assert_eq!(rt; found.map(|e| e.name.as_str()), name);
-        assert_eq!(rt; found.map(|e| e.value.as_str()), value);
-    }
-    assert_eq!(rt; (entries.len(), copy.len()), (1, 1));
+    let copy = one_entry(rt.alloc())?.copy(rt.alloc())?;
+    same(&rt, told(copy.get(0).map(|e| &e.name)), "city", "the name");
+    same(
+        &rt,
+        told(copy.get(0).map(|e| &e.value)),
+        "Lyon",
+        "the value",
+    );
+    assert!(rt; copy.get(1).is_none() && copy.len() == 1);
     Ok(())
 }
 
 #[test]
 fn fuel_is_spent_to_the_end(rt: HostRuntime) {
     let mut fuel = Fuel::make(2);
-    for want in [(true, 1), (true, 0), (false, 0), (false, 0)] {
-        assert_eq!(rt; (fuel.spend(), fuel.left()), want);
+    assert!(rt; fuel.spend() && fuel.left() == 1);
+    assert!(rt; fuel.spend() && fuel.left() == 0);
+    assert!(rt; !fuel.spend() && fuel.left() == 0);
+    assert!(rt; !fuel.spend() && fuel.left() == 0);
+}
+
+fn end_word(end: Result<(), Stop>) -> &'static str {
+    match end {
+        Ok(()) => "ok",
+        Err(Stop::WriteFault) => "fault",
+        Err(Stop::NoMemory) => "no memory",
     }
 }
+
+fn put_word(put: Put) -> &'static str {
+    match put {
+        Put::Took(_) => "ok",
+        Put::Failed => "fault",
+        Put::NoMemory => "no memory",
+    }
+}
+
+// How a write ended, how many faults there were, and the bytes that there are then.
+fn tell(end: &str, faults: u64, bytes: &[u8], out: &mut String) -> Result<(), Fail> {
+    write!(out, "{end} {faults} ")?;
+    for byte in bytes {
+        out.push(*byte as char)?;
+    }
+    Ok(())
+}
+
+fn write_row(rt: &impl Abort, alloc: Global, sink: &mut MemSink, row: &str) -> Result<(), Fail> {
+    let (piece, want) = sides(row);
+    let end = end_word(write_all(sink, piece.as_bytes()));
+    let mut out = String::new(alloc);
+    tell(end, sink.faults(), sink.bytes(), &mut out)?;
+    same(rt, out.as_str(), want, piece);
+    Ok(())
+}
+
+const WRITES: &str = "ab => ok 0 ab
+cd => fault 1 ab
+ef => ok 1 abef";
 
 #[test]
 fn a_write_fails_and_the_next_goes_on(rt: HostRuntime) -> Result<(), Fail> {
-    let mut sink = MemSink::make(rt.alloc(), vec![in rt.alloc(); 2]?);
-    for (piece, want, faults, bytes) in [
-        ("ab", Ok(()), 0, "ab"),
-        ("cd", Err(Stop::WriteFault), 1, "ab"),
-        ("ef", Ok(()), 1, "abef"),
-    ] {
-        assert_eq!(rt;
-            (write_all(&mut sink, piece.as_bytes()), sink.faults()),
-            (want, faults)
-        );
-        assert_eq!(rt; sink.bytes(), bytes.as_bytes());
+    let fails = vec![in rt.alloc(); 2]?;
+    let mut sink = MemSink::make(rt.alloc(), fails);
+    for row in WRITES.lines() {
+        write_row(&rt, rt.alloc(), &mut sink, row)?;
     }
     Ok(())
 }
 
+fn drip_row(rt: &impl Abort, alloc: Global, drip: &mut Drip, row: &str) -> Result<(), Fail> {
+    let (piece, want) = sides(row);
+    let end = end_word(write_all(drip, piece.as_bytes()));
+    let mut out = String::new(alloc);
+    tell(end, drip.faults(), drip.inner.bytes(), &mut out)?;
+    same(rt, out.as_str(), want, piece);
+    Ok(())
+}
+
+const FRONTS: &str = "abc => ok 0 abc
+defgh => fault 1 abcde
+ij => ok 1 abcdeij";
+
 #[test]
 fn a_write_that_fails_in_the_middle_leaves_a_front(rt: HostRuntime) -> Result<(), Fail> {
-    let mut drip = Drip {
-        inner: MemSink::make(rt.alloc(), vec![in rt.alloc(); 6]?),
-    };
-    for (piece, want, bytes) in [
-        ("abc", Ok(()), "abc"),
-        ("defgh", Err(Stop::WriteFault), "abcde"),
-        ("ij", Ok(()), "abcdeij"),
-    ] {
-        assert_eq!(rt; write_all(&mut drip, piece.as_bytes()), want);
-        assert_eq!(rt; drip.inner.bytes(), bytes.as_bytes());
+    let fails = vec![in rt.alloc(); 6]?;
+    let inner = MemSink::make(rt.alloc(), fails);
+    let mut drip = Drip { inner };
+    for row in FRONTS.lines() {
+        drip_row(&rt, rt.alloc(), &mut drip, row)?;
     }
     Ok(())
+}
+
+// Writes all of a piece by a sink over a sink, and says how that ended and how many faults there were.
+fn gather(sink: &mut MemSink, pending: &mut Pending, piece: &[u8]) -> (&'static str, u64) {
+    let mut out = Gathering::make(sink, pending);
+    let end = write_all(&mut out, piece);
+    (end_word(end), out.faults())
+}
+
+fn pass_on(sink: &mut MemSink, pending: &mut Pending) -> (&'static str, u64) {
+    let mut out = Gathering::make(sink, pending);
+    let end = out.pass_on();
+    (end_word(end), out.faults())
 }
 
 #[test]
 fn a_sink_over_a_sink_passes_on_what_is_too_much(rt: HostRuntime) -> Result<(), Fail> {
     let alloc = rt.alloc();
-    let mut sink = MemSink::make(alloc, vec![in alloc; 2]?);
-    let mut pending = Pending::make(alloc);
-    let mut out = Gathering::make(&mut sink, &mut pending);
     let full = vec![in alloc; b'a'; 65_536]?;
-    assert_eq!(rt; write_all(&mut out, &full), Ok(()));
-    assert_eq!(rt; (write_all(&mut out, b"bc"), out.faults()), (Ok(()), 0));
-    assert_eq!(rt; (out.pass_on(), out.faults()), (Err(Stop::WriteFault), 1));
-    assert_eq!(rt; pending.as_slice(), &b"bc"[..]);
-    assert_eq!(rt; sink.bytes() == full.as_slice(), true);
-    let mut out = Gathering::make(&mut sink, &mut pending);
-    assert_eq!(rt; out.pass_on(), Ok(()));
-    assert_eq!(rt; (sink.bytes().len(), pending.as_slice().len()), (65_538, 0));
+    let fails = vec![in alloc; 2]?;
+    let mut sink = MemSink::make(alloc, fails);
+    let mut pending = Pending::make(alloc);
+    assert!(rt; gather(&mut sink, &mut pending, &full) == ("ok", 0));
+    assert!(rt; gather(&mut sink, &mut pending, b"bc") == ("ok", 0));
+    assert!(rt; pass_on(&mut sink, &mut pending) == ("fault", 1));
+    assert!(rt; pending.as_slice() == b"bc".as_slice() && sink.bytes() == full.as_slice());
+    assert!(rt; pass_on(&mut sink, &mut pending) == ("ok", 1));
+    assert!(rt; sink.bytes().len() == 65_538 && pending.as_slice().is_empty());
     Ok(())
 }
+
+// What a read gave, how many faults there were, and the bytes of the buffer then.
+fn read_row<S: Source>(
+    rt: &impl Abort,
+    alloc: Global,
+    source: &mut S,
+    buf: &mut [u8],
+    want: &str,
+) -> Result<(), Fail> {
+    let got = source.read(buf);
+    let mut out = String::new(alloc);
+    write!(out, "{got:?} ")?;
+    tell("faults", source.faults(), buf, &mut out)?;
+    same(rt, out.as_str(), want, "a read");
+    Ok(())
+}
+
+// Reads into a buffer of four bytes.
+fn read_rows<S: Source>(
+    rt: &impl Abort,
+    alloc: Global,
+    source: &mut S,
+    rows: &str,
+) -> Result<(), Fail> {
+    let mut buf = *b"....";
+    for want in rows.lines() {
+        read_row(rt, alloc, source, &mut buf, want)?;
+    }
+    Ok(())
+}
+
+const PIECES: &str = "Bytes(2) faults 0 ab..
+Bytes(2) faults 0 cd..
+Bytes(1) faults 0 ed..
+End faults 0 ed..";
 
 #[test]
 fn a_source_gives_its_bytes_in_pieces(rt: HostRuntime) -> Result<(), Fail> {
-    let mut source = SureSource::make(b"abcde".to_vec(rt.alloc())?, 2);
-    let mut buf = *b"....";
-    for (got, bytes) in [
-        (Got::Bytes(2), "ab.."),
-        (Got::Bytes(2), "cd.."),
-        (Got::Bytes(1), "ed.."),
-        (Got::End, "ed.."),
-    ] {
-        assert_eq!(rt; source.read(&mut buf), got);
-        assert_eq!(rt; &buf[..], bytes.as_bytes());
-    }
-    Ok(())
+    let content = b"abcde".to_vec(rt.alloc())?;
+    let mut source = SureSource::make(content, 2);
+    read_rows(&rt, rt.alloc(), &mut source, PIECES)
 }
+
+const FAILED_READS: &str = "Bytes(2) faults 0 ab..
+Failed faults 1 ab..
+Bytes(1) faults 1 cb..
+Failed faults 2 cb..
+End faults 2 cb..";
 
 #[test]
 fn a_source_fails_at_the_listed_calls(rt: HostRuntime) -> Result<(), Fail> {
-    let alloc = rt.alloc();
-    let mut source = MemSource::make(b"abc".to_vec(alloc)?, 2, vec![in alloc; 2, 4]?);
-    let mut buf = *b"....";
-    for (got, faults, bytes) in [
-        (Got::Bytes(2), 0, "ab.."),
-        (Got::Failed, 1, "ab.."),
-        (Got::Bytes(1), 1, "cb.."),
-        (Got::Failed, 2, "cb.."),
-        (Got::End, 2, "cb.."),
-    ] {
-        assert_eq!(rt; (source.read(&mut buf), source.faults()), (got, faults));
-        assert_eq!(rt; &buf[..], bytes.as_bytes());
-    }
-    Ok(())
+    let content = b"abc".to_vec(rt.alloc())?;
+    let fails = vec![in rt.alloc(); 2, 4]?;
+    let mut source = MemSource::make(content, 2, fails);
+    read_rows(&rt, rt.alloc(), &mut source, FAILED_READS)
+}
+
+const READS: &str = "Bytes(4) faults 0 abcd
+Bytes(1) faults 0 ebcd
+Bytes(0) faults 0 ebcd";
+
+const BROKEN_READS: &str = "Failed faults 1 ....
+Failed faults 2 ....";
+
+#[test]
+fn errors_of_a_reader_are_counted(rt: HostRuntime) -> Result<(), Fail> {
+    let mut source = StdSource::make(&b"abcde"[..]);
+    read_rows(&rt, rt.alloc(), &mut source, READS)?;
+    let mut broken = StdSource::make(Broken);
+    read_rows(&rt, rt.alloc(), &mut broken, BROKEN_READS)
 }
 
 #[test]
-fn errors_of_a_reader_are_counted(rt: HostRuntime) {
-    let mut buf = *b"....";
-    let mut source = StdSource::make(&b"abcde"[..]);
-    for (got, bytes) in [
-        (Got::Bytes(4), "abcd"),
-        (Got::Bytes(1), "ebcd"),
-        (Got::Bytes(0), "ebcd"),
-    ] {
-        assert_eq!(rt; (source.read(&mut buf), source.faults()), (got, 0));
-        assert_eq!(rt; &buf[..], bytes.as_bytes());
-    }
-    let mut broken = StdSource::make(Broken);
-    for faults in [1, 2] {
-        assert_eq!(rt;
-            (broken.read(&mut buf), broken.faults()),
-            (Got::Failed, faults)
-        );
-    }
+fn a_writer_is_written_to(rt: HostRuntime) {
+    let mut written = Vec::new(rt.alloc());
+    let mut sink = StdSink::make(&mut written);
+    same(&rt, end_word(write_all(&mut sink, b"abc")), "ok", "abc");
+    assert!(rt; sink.faults() == 0);
+    assert!(rt; written.as_slice() == b"abc".as_slice());
 }
 
 #[test]
 fn a_write_that_takes_no_byte_is_counted(rt: HostRuntime) {
-    let mut written = Vec::new(rt.alloc());
-    let mut sink = StdSink::make(&mut written);
-    assert_eq!(rt; (write_all(&mut sink, b"abc"), sink.faults()), (Ok(()), 0));
-    assert_eq!(rt; written.as_slice(), &b"abc"[..]);
     let mut full = StdSink::make(Full);
-    for (piece, want) in [("", (Ok(()), 0)), ("a", (Err(Stop::WriteFault), 1))] {
-        assert_eq!(rt;
-            (write_all(&mut full, piece.as_bytes()), full.faults()),
-            want
-        );
-    }
+    same(&rt, put_word(full.write(b"")), "ok", "no byte");
+    assert!(rt; full.faults() == 0);
+    same(&rt, end_word(write_all(&mut full, b"a")), "fault", "a");
+    assert!(rt; full.faults() == 1);
 }

@@ -1,4 +1,5 @@
-//! Tests of the crates below the page, a module a crate.
+//! Tests of the crates below the page, a module a crate; `operands` is the second one of rule_tokens, and `rows` has
+//! what they share.
 #![tactic(auto)]
 
 #[cfg(test)]
@@ -8,8 +9,12 @@ mod base;
 #[cfg(test)]
 mod names;
 #[cfg(test)]
+mod operands;
+#[cfg(test)]
 mod queues;
 #[cfg(test)]
 mod registry;
+#[cfg(test)]
+mod rows;
 #[cfg(test)]
 mod tokens;

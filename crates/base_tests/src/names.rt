@@ -1,5 +1,7 @@
+// Names that pass a test, and names that don't.
 use element_names::*;
 use std::alloc::Global;
+use std::process::Abort;
 use std::test::Fail;
 
 // Each end of a range of the table.
@@ -17,15 +19,45 @@ fn is_allowed(alloc: Global, c: char) -> Result<bool, Fail> {
     Ok(is_custom_name(name.as_str()))
 }
 
-#[test]
-fn the_table_ends_where_it_says(rt: HostRuntime) -> Result<(), Fail> {
-    for c in NAME_CHARS.chars() {
-        assert!(rt; is_allowed(rt.alloc(), c)?, "at {c:?}");
-    }
-    for c in OTHER_CHARS.chars() {
-        assert!(rt; !is_allowed(rt.alloc(), c)?, "at {c:?}");
+fn allow(rt: &impl Abort, alloc: Global, chars: &str, want: bool) -> Result<(), Fail> {
+    for c in chars.chars() {
+        let allowed = is_allowed(alloc, c)?;
+        assert!(rt; allowed == want, "at {c:?}");
     }
     Ok(())
+}
+
+#[test]
+fn the_table_ends_where_it_says(rt: HostRuntime) -> Result<(), Fail> {
+    allow(&rt, rt.alloc(), NAME_CHARS, true)?;
+    allow(&rt, rt.alloc(), OTHER_CHARS, false)
+}
+
+// What a name may be the name of.
+#[derive(Clone, Copy)]
+enum Kind {
+    Custom,
+    Local,
+    Attribute,
+    ShadowHost,
+    KnownElement,
+}
+
+fn passes(kind: Kind, name: &str) -> bool {
+    match kind {
+        Kind::Custom => is_custom_name(name),
+        Kind::Local => is_local_name(name),
+        Kind::Attribute => is_attr_name(name),
+        Kind::ShadowHost => is_shadow_host(name),
+        Kind::KnownElement => is_known_html(name),
+    }
+}
+
+// Tests names that have commas between them.
+fn test(rt: &impl Abort, kind: Kind, names: &str, want: bool) {
+    for name in names.split(',') {
+        assert!(rt; passes(kind, name) == want, "at {name:?}");
+    }
 }
 
 const CUSTOM_NAMES: &str = "x-,a-b,z9._-,x--é\u{10000},font-face-x,font-fac";
@@ -35,12 +67,8 @@ const NO_CUSTOM_NAMES: &str =
 
 #[test]
 fn custom_names(rt: HostRuntime) {
-    for s in CUSTOM_NAMES.split(',') {
-        assert!(rt; is_custom_name(s), "at {s:?}");
-    }
-    for s in NO_CUSTOM_NAMES.split(',') {
-        assert!(rt; !is_custom_name(s), "at {s:?}");
-    }
+    test(&rt, Kind::Custom, CUSTOM_NAMES, true);
+    test(&rt, Kind::Custom, NO_CUSTOM_NAMES, false);
 }
 
 const LOCAL_NAMES: &str = "a,Z,A1,aé,a=<\",a\u{B}\u{A0}";
@@ -49,12 +77,8 @@ const NO_LOCAL_NAMES: &str = ",1a,é,-a, a,a b,a\t,a\n,a\u{C},a\r,a\0,a/,a>";
 
 #[test]
 fn local_names(rt: HostRuntime) {
-    for s in LOCAL_NAMES.split(',') {
-        assert!(rt; is_local_name(s), "at {s:?}");
-    }
-    for s in NO_LOCAL_NAMES.split(',') {
-        assert!(rt; !is_local_name(s), "at {s:?}");
-    }
+    test(&rt, Kind::Local, LOCAL_NAMES, true);
+    test(&rt, Kind::Local, NO_LOCAL_NAMES, false);
 }
 
 const ATTR_NAMES: &str = "a,1,é,<\"',\u{B}\u{A0}";
@@ -63,12 +87,8 @@ const NO_ATTR_NAMES: &str = ",=,a=b,a b,a\t,a\n,a\u{C},a\r,a\0,a/,a>";
 
 #[test]
 fn attr_names(rt: HostRuntime) {
-    for s in ATTR_NAMES.split(',') {
-        assert!(rt; is_attr_name(s), "at {s:?}");
-    }
-    for s in NO_ATTR_NAMES.split(',') {
-        assert!(rt; !is_attr_name(s), "at {s:?}");
-    }
+    test(&rt, Kind::Attribute, ATTR_NAMES, true);
+    test(&rt, Kind::Attribute, NO_ATTR_NAMES, false);
 }
 
 const SHADOW_HOSTS: &str =
@@ -78,12 +98,8 @@ const NO_SHADOW_HOSTS: &str = ",h0,h7,html,form,input,DIV,div ,spans,font-face,X
 
 #[test]
 fn shadow_hosts(rt: HostRuntime) {
-    for s in SHADOW_HOSTS.split(',') {
-        assert!(rt; is_shadow_host(s), "at {s:?}");
-    }
-    for s in NO_SHADOW_HOSTS.split(',') {
-        assert!(rt; !is_shadow_host(s), "at {s:?}");
-    }
+    test(&rt, Kind::ShadowHost, SHADOW_HOSTS, true);
+    test(&rt, Kind::ShadowHost, NO_SHADOW_HOSTS, false);
 }
 
 const KNOWN: &str = "a,h1,h6,blockquote,xmp";
@@ -92,10 +108,6 @@ const UNKNOWN: &str = ",h7,A,blink,x-a,slots";
 
 #[test]
 fn known_elements(rt: HostRuntime) {
-    for s in KNOWN.split(',') {
-        assert!(rt; is_known_html(s), "at {s:?}");
-    }
-    for s in UNKNOWN.split(',') {
-        assert!(rt; !is_known_html(s), "at {s:?}");
-    }
+    test(&rt, Kind::KnownElement, KNOWN, true);
+    test(&rt, Kind::KnownElement, UNKNOWN, false);
 }

@@ -1,27 +1,32 @@
-// Tables: a row is a call of the registry in words, and what it gives. `-` stands for no text.
+// Sessions with a registry: calls in words, and what they give. `-` stands for no text, `none` for no definition.
+use crate::rows::{number, same, sides, word, word_or_none};
 use ce_base::{ClassNo, DefNo, Fault, Refused, Text};
 use ce_registry::*;
 use rule_tokens::CallName;
 use std::alloc::Global;
+use std::fmt::Write;
 use std::process::Abort;
 use std::test::Fail;
 
-// NAME CLASS EXTENDS => what comes of the definition.
-const DEFINITIONS: &str = "font-face 0 - => SyntaxError
-X-a 0 - => SyntaxError
-xa 0 - => SyntaxError
-a- 0 - => ok
-a- 1 - => NotSupportedError
-x-É 0 - => NotSupportedError
-x-É 1 - => ok
-x-p 2 x-q => NotSupportedError
-x-p 2 blink => NotSupportedError
-x-p 2 '' => NotSupportedError
-xp 2 blink => SyntaxError
-x-p 2 p => ok";
+// define NAME CLASS EXTENDS
+const DEFINITIONS: &str = "define font-face 0 - => SyntaxError
+define X-a 0 - => SyntaxError
+define xa 0 - => SyntaxError
+define a- 0 - => ok
+define a- 1 - => NotSupportedError
+define x-É 0 - => NotSupportedError
+define x-É 1 - => ok
+define x-p 2 x-q => NotSupportedError
+define x-p 2 blink => NotSupportedError
+define x-p 2 '' => NotSupportedError
+define xp 2 blink => SyntaxError
+define x-p 2 p => ok";
 
-// DOCUMENT LOCAL IS => the definition.
-const LOOKUPS: &str = "page x-a - => 0
+// page LOCAL IS, other LOCAL IS: the definition for an element of the page's document, or of another; name
+// NAME, class CLASS: the definition; local NUMBER: the local name of the definition.
+const LOOKUPS: &str = "define x-a 5 - => ok
+define x-p 7 p => ok
+page x-a - => 0
 page x-a x-p => 0
 page p x-p => 1
 page p - => none
@@ -29,22 +34,15 @@ page p x-a => none
 page x-p - => none
 page div x-p => none
 other x-a - => none
-other p x-p => none";
+other p x-p => none
+name x-p => 1
+name p => none
+class 7 => 1
+class 6 => none
+local 1 => p
+local 2 => none";
 
-// A word of a row; the empty one past its end.
-fn word(row: &str, i: usize) -> &str {
-    row.split_whitespace().nth(i).unwrap_or("")
-}
-
-fn word_or_none(row: &str, i: usize) -> Option<&str> {
-    match word(row, i) {
-        "-" => None,
-        "''" => Some(""),
-        other => Some(other),
-    }
-}
-
-fn fault_word(refused: &Refused) -> &'static str {
+fn fault_word(refused: Refused) -> &'static str {
     match refused {
         Refused::Fault(Fault::SyntaxError) => "SyntaxError",
         Refused::Fault(Fault::NotSupportedError) => "NotSupportedError",
@@ -53,94 +51,115 @@ fn fault_word(refused: &Refused) -> &'static str {
     }
 }
 
-// Defines what a row names, and says what came of it.
-fn define(alloc: Global, registry: &mut Registry, row: &str) -> Result<&'static str, Fail> {
-    let base = match word_or_none(row, 2) {
-        None => None,
-        Some(local) => Some(Text::of(alloc, local)?),
-    };
-    let name = Text::of(alloc, word(row, 0))?;
-    let class = ClassNo(word(row, 1).parse::<u64>()?);
-    match registry.define(alloc, name, class, ClassFacts::make(alloc), base) {
-        Ok(_) => Ok("ok"),
-        Err(refused) => Ok(fault_word(&refused)),
+fn base(alloc: Global, step: &str) -> Result<Option<Text>, Fail> {
+    match word_or_none(step, 3) {
+        None => Ok(None),
+        Some(local) => Ok(Some(Text::of(alloc, local)?)),
     }
+}
+
+// Defines what a step names, and says what came of it.
+fn define(alloc: Global, registry: &mut Registry, step: &str) -> Result<&'static str, Fail> {
+    let name = Text::of(alloc, word(step, 1))?;
+    let class = ClassNo(number(step, 2));
+    let extends = base(alloc, step)?;
+    match registry.define(alloc, name, class, ClassFacts::make(alloc), extends) {
+        Ok(_) => Ok("ok"),
+        Err(refused) => Ok(fault_word(refused)),
+    }
+}
+
+fn find(registry: &Registry, step: &str) -> Option<DefNo> {
+    match word(step, 0) {
+        "page" => registry.lookup(true, word(step, 1), word_or_none(step, 2)),
+        "other" => registry.lookup(false, word(step, 1), word_or_none(step, 2)),
+        "name" => registry.get(word(step, 1)),
+        _ => registry.by_class(ClassNo(number(step, 1))),
+    }
+}
+
+// The local name of a definition that `at` finds, as `definition` gives it.
+fn local(registry: &Registry, d: DefNo) -> &str {
+    match registry.at(d) {
+        None => "none",
+        Some(_) => registry.definition(d).local.as_str(),
+    }
+}
+
+fn step(alloc: Global, registry: &mut Registry, step: &str, out: &mut String) -> Result<(), Fail> {
+    match word(step, 0) {
+        "define" => out.push_str(define(alloc, registry, step)?)?,
+        "local" => out.push_str(local(registry, DefNo(number(step, 1))))?,
+        _ => match find(registry, step) {
+            None => out.push_str("none")?,
+            Some(d) => write!(out, "{}", d.0)?,
+        },
+    }
+    Ok(())
+}
+
+fn take(rt: &impl Abort, alloc: Global, registry: &mut Registry, row: &str) -> Result<(), Fail> {
+    let (words, want) = sides(row);
+    let mut out = String::new(alloc);
+    step(alloc, registry, words, &mut out)?;
+    same(rt, out.as_str(), want, words);
+    Ok(())
+}
+
+// Takes the steps of a session with a registry that is new.
+fn follow(rt: &impl Abort, alloc: Global, session: &str) -> Result<(), Fail> {
+    let mut registry = Registry::make(alloc);
+    for row in session.lines() {
+        take(rt, alloc, &mut registry, row)?;
+    }
+    Ok(())
 }
 
 #[test]
 fn definitions_are_added_or_refused(rt: HostRuntime) -> Result<(), Fail> {
-    let alloc = rt.alloc();
-    let mut registry = Registry::make(alloc);
-    for row in DEFINITIONS.lines() {
-        let (call, end) = row.split_once(" => ").ok_or("a row")?;
-        assert_eq!(rt; define(alloc, &mut registry, call)?, end, "at {call}");
-    }
-    Ok(())
-}
-
-// A registry that defines x-a for class 5, and x-p for class 7, which extends p.
-fn two_definitions(alloc: Global) -> Result<Registry, Fail> {
-    let mut registry = Registry::make(alloc);
-    define(alloc, &mut registry, "x-a 5 -")?;
-    define(alloc, &mut registry, "x-p 7 p")?;
-    Ok(registry)
-}
-
-// Compares a definition with its number in words.
-fn compare(rt: &impl Abort, found: Option<DefNo>, wanted: &str) {
-    match found {
-        None => assert_eq!(rt; wanted, "none"),
-        Some(d) => assert!(rt; wanted.parse::<u64>() == Ok(d.0), "{wanted}"),
-    }
+    follow(&rt, rt.alloc(), DEFINITIONS)
 }
 
 #[test]
 fn definitions_are_looked_up(rt: HostRuntime) -> Result<(), Fail> {
-    let registry = two_definitions(rt.alloc())?;
-    for row in LOOKUPS.lines() {
-        let (call, wanted) = row.split_once(" => ").ok_or("a row")?;
-        let in_page = word(call, 0) == "page";
-        let found = registry.lookup(in_page, word(call, 1), word_or_none(call, 2));
-        compare(&rt, found, wanted);
-    }
+    follow(&rt, rt.alloc(), LOOKUPS)
+}
+
+// What facts say, and two of the calls.
+fn tell_facts(facts: &ClassFacts, out: &mut String) -> Result<(), Fail> {
+    let adopted = facts.calls.has(CallName::Adopted);
+    let attribute = facts.calls.has(CallName::Attribute);
+    write!(out, "{adopted} {attribute}")?;
+    write!(out, " {:?}", facts.observed.get(0).map(|t| t.as_str()))?;
+    let (associated, no_shadow, no_internals) = (
+        facts.associated,
+        facts.no_shadow,
+        facts.no_internals,
+    );
+    write!(out, " {associated} {no_shadow} {no_internals}")?;
     Ok(())
 }
 
-#[test]
-fn definitions_are_found_by_name_and_class(rt: HostRuntime) -> Result<(), Fail> {
-    let registry = two_definitions(rt.alloc())?;
-    compare(&rt, registry.get("x-p"), "1");
-    compare(&rt, registry.get("p"), "none");
-    compare(&rt, registry.by_class(ClassNo(7)), "1");
-    compare(&rt, registry.by_class(ClassNo(6)), "none");
-    Ok(())
-}
-
-#[test]
-fn a_definition_is_read_by_its_number(rt: HostRuntime) -> Result<(), Fail> {
-    let registry = two_definitions(rt.alloc())?;
-    let d = registry.get("x-p").ok_or("a definition")?;
-    assert_eq!(rt; registry.definition(d).local.as_str(), "p");
-    assert!(rt; registry.at(d).is_some());
-    assert!(rt; registry.at(DefNo(2)).is_none());
-    Ok(())
+fn some_facts(alloc: Global) -> Result<ClassFacts, Fail> {
+    let k = Text::of(alloc, "k")?;
+    let mut facts = ClassFacts::make(alloc);
+    facts.calls.add(CallName::Adopted);
+    facts.observed.push(alloc, k)?;
+    facts.no_shadow = true;
+    Ok(facts)
 }
 
 #[test]
 fn facts_are_copied(rt: HostRuntime) -> Result<(), Fail> {
     let alloc = rt.alloc();
-    let mut facts = ClassFacts::make(alloc);
-    facts.calls.add(CallName::Adopted);
-    facts.observed.push(alloc, Text::of(alloc, "k")?)?;
-    facts.no_shadow = true;
-    let copy = facts.copy(alloc)?;
-    assert!(rt; copy.calls.has(CallName::Adopted) && !copy.calls.has(CallName::Attribute));
-    assert!(rt;
-        copy.observed
-            .get(0)
-            .map(|t| t.as_str() == "k")
-            .unwrap_or(false)
+    let copy = some_facts(alloc)?.copy(alloc)?;
+    let mut out = String::new(alloc);
+    tell_facts(&copy, &mut out)?;
+    same(
+        &rt,
+        out.as_str(),
+        "true false Some(\"k\") false true false",
+        "the copy",
     );
-    assert!(rt; !copy.associated && copy.no_shadow && !copy.no_internals);
     Ok(())
 }

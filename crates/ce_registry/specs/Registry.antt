@@ -20,7 +20,8 @@ abbrev pub may_extend : Option (List ℕ) → Bool
 may_extend None = true
 may_extend (Some base) = not (custom_name base) && known_html base
 
--- why a definition is refused, the first that holds: the name is no custom element's; a definition has the name; a definition has the class; what it extends can't be extended (`define`)
+-- why a definition is refused, the first that holds: the name is no custom element's; a definition has the name; a
+-- definition has the class; what it extends can't be extended (`define`)
 abbrev pub may_define : List Definition → List ℕ → ℕ → Option (List ℕ) → Option Fault
 may_define ds name class base =
     if not (custom_name name) then Some SyntaxError
@@ -51,7 +52,9 @@ abbrev pub or_else : Option ℕ → Option ℕ → Option ℕ
 or_else None o = o
 or_else (Some n) o = Some n
 
--- Look up a custom element definition: none where the document is not the page's; else the one whose name and local name both are the local name; else the one whose name is the `is` value and whose local name is the local name (HTML Standard, section "Core concepts")
+-- Look up a custom element definition: none where the document is not the page's; else the one whose name and local
+-- name both are the local name; else the one whose name is the `is` value and whose local name is the local name (HTML
+-- Standard, section "Core concepts")
 abbrev pub lookup : List Definition → Bool → List ℕ → Option (List ℕ) → Option ℕ
 lookup ds false local is = None
 lookup ds true local is = or_else (by_names ds local local) (by_is_value ds is local)

@@ -49,28 +49,7 @@ module _ (f : Trees) (n q : ℕ) (tidy : IsTidy f) (node : IsNode f n) where
         | a_host p e o a ↦ absurd cc
       ]
 
-  pub host-above : host_at f n ≡ Some q → IsAbove f q n
-  host-above up =
-      let st = node_spot f n tidy node in
-      let at = host_at-is f n st.row st.is in
-      elim (row_above f n st.row tidy node st.is) [
-        | nothing e o z ↦ absurd cc
-        | a_parent p e o a ↦ absurd cc
-        | a_host p e o a ↦ let same : p ≡ q = cc in subst (λ v. IsAbove f v n) same a
-      ]
-
 module _ (f : Trees) (n : ℕ) (tidy : IsTidy f) (node : IsNode f n) where
-  pub path-root : parent_at f n ≡ None → host_at f n ≡ None → path n f ≡ n ∷ []
-  path-root up over =
-      let st = node_spot f n tidy node in
-      let at = parent_at-is f n st.row st.is in
-      let at_host = host_at-is f n st.row st.is in
-      elim (row_above f n st.row tidy node st.is) [
-        | nothing e o z ↦ z
-        | a_parent p e o a ↦ absurd cc
-        | a_host p e o a ↦ absurd cc
-      ]
-
   -- a node has a parent or a host, never both
   pub parent-no_host : (p : ℕ) → parent_at f n ≡ Some p → host_at f n ≡ None
   parent-no_host p up =

@@ -10,7 +10,7 @@ use Rattle.node_trees.specs.Spots.{Spot, spot_of, parent_at, facts_at, kind_at, 
 use Rattle.node_trees.specs.Insertion.{may_insert}
 use Rattle.node_trees.specs.Nodes.{times, size, surplus_at, IsNode}
 use Rattle.node_arena.specs.Rows.{row_at, IsForest, Grafted, Severed, Attached, Changed}
-use Rattle.node_arena.specs.Nodes.{rows, row, facts_of, IsLoose}
+use Rattle.node_arena.specs.NodeRows.{rows, row, facts_of, IsLoose}
 use Rattle.node_arena.specs.Seen.{Forest}
 use Rattle.node_arena.specs.declared.node.Node.{Node}
 use Rattle.node_arena.proofs.NewReads.{spot-new-here}

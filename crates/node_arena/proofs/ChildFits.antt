@@ -2,15 +2,13 @@
 use Rattle.std.proofs.Common.{◌≡◌, ℕ, Bool, true, false, ◌<◌, Option, Some, None, refl, ap, sym, ◌∙◌, subst, arith}
 use Rattle.node_trees.specs.declared.kind.NodeKind.{NodeKind}
 use Rattle.node_trees.specs.declared.kind.NodeKind.TheVariants.{Document, Element, TextNode, ShadowRoot}
-use Rattle.node_trees.specs.Facts.{Facts, is_document, is_shadow_root}
-use Rattle.node_trees.specs.Trees.{Trees, none, tree, tree_of, cut}
+use Rattle.node_trees.specs.Facts.{Facts, is_shadow_root}
+use Rattle.node_trees.specs.Trees.{Trees, none, tree}
 use Rattle.node_trees.specs.Nodes.{times, Place, AtTop, InShadow, AsChild, fits, unless, misfits, IsNode, IsTidy}
-use Rattle.node_trees.specs.Paths.{connected}
 use Rattle.node_trees.specs.Spots.{Spot, spot_of, spot_in, kind_at, parent_at}
 use Rattle.node_arena.proofs.Sums.{IsApart, tidy-apart, apart-shadow, apart-children, apart-rest, here, in_shadow, in_children, in_rest, stands_where}
 use Rattle.node_arena.proofs.Pieces.{spot-here, spot-shadow, spot-children, spot-rest}
 use Rattle.node_arena.proofs.AtNode.{node_stands, node_spot, parent_at-is, facts_at-is}
-use Rattle.node_arena.proofs.Connected.{connected-cut-inside}
 
 -- whether a node is a root of the list, a shadow tree's root or a child
 pub data Stance (p h : Option ℕ) (at : Place) (row : Spot) : Type 0 where
@@ -58,13 +56,3 @@ child-no_root Document h = refl
 child-no_root Element h = refl
 child-no_root TextNode h = refl
 child-no_root ShadowRoot h = absurd cc
-
-pub child-no_document : (k : NodeKind) → fits AsChild k ≡ true → is_document k ≡ false
-child-no_document Document h = absurd cc
-child-no_document Element h = refl
-child-no_document TextNode h = refl
-child-no_document ShadowRoot h = refl
-
--- taken out, a child and all below it are not connected
-pub connected-cut-child : (f : Trees) (n q i : ℕ) → IsTidy f → IsNode f n → parent_at f n ≡ Some q → 0 < times i (tree_of n f) → connected (cut f n) i ≡ false
-connected-cut-child f n q i tidy node up low = connected-cut-inside f n tidy node i low ∙ child-no_document (kind_at f n) (child-fits f n q tidy node up)

@@ -6,11 +6,11 @@ use Rattle.node_trees.specs.Facts.{Facts}
 use Rattle.node_trees.specs.Trees.{Trees, none, tree, tree_of, without, cut}
 use Rattle.node_trees.specs.Nodes.{times, IsNode, IsTidy}
 use Rattle.node_trees.specs.Paths.{path}
-use Rattle.node_trees.specs.Spots.{Spot, spot_in, spot, spot_at, or_no_spot, facts_at, kind_at, document_at, parent_at, host_at, children_at}
+use Rattle.node_trees.specs.Spots.{Spot, spot_in, spot, spot_at, or_no_spot, facts_at, kind_at, parent_at, children_at}
 use Rattle.node_arena.proofs.Sums.{tidy-apart, times-without}
 use Rattle.node_arena.proofs.Inside.{Found, found}
 use Rattle.node_arena.proofs.Lists.{lacking, spot_lacking}
-use Rattle.node_arena.proofs.CutSpots.{spot-place-in, spot-place-out, path-place-in, path-place-out, spot-without, path-without}
+use Rattle.node_arena.proofs.CutSpots.{spot-place-in, spot-place-out, path-place-out, spot-without, path-without}
 use Rattle.node_arena.proofs.AtNode.{node_stands}
 
 -- a spot among the roots of the forest
@@ -58,9 +58,6 @@ module _ (f : Trees) (n : ℕ) (tidy : IsTidy f) (node : IsNode f n) where
   pub path-cut-outside : (i : ℕ) → times i (tree_of n f) ≡ 0 → path i (cut f n) ≡ path i f
   path-cut-outside i z = path-place-out i n (tree_of n f) (without n f) z ∙ path-without i n f (tidy-apart f tidy) z
 
-  pub path-cut-inside : (i : ℕ) → 0 < times i (tree_of n f) → path i (cut f n) ≡ path i (tree_of n f)
-  path-cut-inside i low = path-place-in i n (tree_of n f) (without n f) (not-left i low)
-
 pub lacking-read : (A : Type 0) (g : Spot → A) (n : ℕ) → ((s : Spot) (ns ms : List ℕ) → g (record s { shadow = ns; children = ms }) ≡ g s) → (o : Option Spot) → g (or_no_spot (spot_lacking n o)) ≡ g (or_no_spot o)
 lacking-read A g n keeps None = refl
 lacking-read A g n keeps (Some s) = keeps s (lacking n s.shadow) (lacking n s.children)
@@ -80,14 +77,8 @@ module _ (f : Trees) (n : ℕ) (tidy : IsTidy f) (node : IsNode f n) where
   pub parent_at-cut : (i : ℕ) → i ≢ n → parent_at (cut f n) i ≡ parent_at f i
   parent_at-cut = read-other (Option ℕ) (λ s. s.parent) (λ s ns ms. refl)
 
-  pub host_at-cut : (i : ℕ) → i ≢ n → host_at (cut f n) i ≡ host_at f i
-  host_at-cut = read-other (Option ℕ) (λ s. s.host) (λ s ns ms. refl)
-
   pub parent_at-cut-here : parent_at (cut f n) n ≡ None
   parent_at-cut-here = ap (λ o. (or_no_spot o).parent) (spot-cut-here f n tidy node ∙ ap spot_at_top (found None None n f (tidy-apart f tidy) (node_stands f n tidy node)).spot_is)
-
-  pub host_at-cut-here : host_at (cut f n) n ≡ None
-  host_at-cut-here = ap (λ o. (or_no_spot o).host) (spot-cut-here f n tidy node ∙ ap spot_at_top (found None None n f (tidy-apart f tidy) (node_stands f n tidy node)).spot_is)
 
   -- the facts of each stay
   pub facts_at-cut : (i : ℕ) → facts_at (cut f n) i ≡ facts_at f i
@@ -100,9 +91,6 @@ module _ (f : Trees) (n : ℕ) (tidy : IsTidy f) (node : IsNode f n) where
   pub kind_at-cut : (i : ℕ) → kind_at (cut f n) i ≡ kind_at f i
   kind_at-cut i = ap (λ (x : Facts). x.kind) (facts_at-cut i)
 
-  pub document_at-cut : (i : ℕ) → document_at (cut f n) i ≡ document_at f i
-  document_at-cut i = ap (λ (x : Facts). x.document) (facts_at-cut i)
-
   -- the children of a node that is not in the tree of n lose n
   pub children_at-cut-outside : (i : ℕ) → times i (tree_of n f) ≡ 0 → children_at (cut f n) i ≡ lacking n (children_at f i)
   children_at-cut-outside i z = ap (λ o. (or_no_spot o).children) (spot-cut-outside f n tidy node i z) ∙ lacking-children (spot f i)
@@ -110,11 +98,3 @@ module _ (f : Trees) (n : ℕ) (tidy : IsTidy f) (node : IsNode f n) where
       lacking-children : (o : Option Spot) → (or_no_spot (spot_lacking n o)).children ≡ lacking n (or_no_spot o).children
       lacking-children None = refl
       lacking-children (Some s) = refl
-
-  -- and of one that is in it stay
-  pub children_at-cut-inside : (i : ℕ) → 0 < times i (tree_of n f) → children_at (cut f n) i ≡ children_at f i
-  children_at-cut-inside i low = elim (cases_eq i n) [
-    | inl e ↦ subst (λ v. children_at (cut f n) v ≡ children_at f v) (sym e)
-        (ap (λ o. (or_no_spot o).children) (spot-cut-here f n tidy node) ∙ top-read (List ℕ) (λ s. s.children) (λ s p h. refl) (spot f n))
-    | inr ne ↦ ap (λ o. (or_no_spot o).children) (spot-cut-below f n tidy node i ne low)
-  ]

@@ -28,10 +28,6 @@ spot-join p h i (tree m x s k r) g =
       or_spot-assoc (spot_in (Some m) None i k) (spot_in p h i r) (spot_in p h i g),
     )
 
-pub path-join-left : (i : ℕ) (f g : Trees) → times i g ≡ 0 → path i (join f g) ≡ path i f
-path-join-left i none g z = path-absent i g z
-path-join-left i (tree m x s k r) g z = grind (arith, nat_tests, path-join-left i r g z)
-
 pub path-join-right : (i : ℕ) (f g : Trees) → times i f ≡ 0 → path i (join f g) ≡ path i g
 path-join-right i none g z = refl
 path-join-right i (tree m x s k r) g z =
@@ -56,19 +52,6 @@ pub spot-place-out : (p h : Option ℕ) (i n : ℕ) (t g : Trees) → times i t 
 spot-place-out p h i n t none z = spot-absent p h i t z
 spot-place-out p h i n t (tree m x s k r) z =
     grind (arith, nat_tests, spot-join p h i t (tree m x s k r), spot-absent p h i t z, spot-place-out p h i n t r z)
-
-pub path-place-in : (i n : ℕ) (t g : Trees) → times i g ≡ 0 → path i (place n t g) ≡ path i t
-path-place-in i n t none z = refl
-path-place-in i n t (tree m x s k r) z =
-    grind (
-      arith,
-      nat_tests,
-      path-join-left i t (tree m x s k r) z,
-      path-place-in i n t r (omega arith),
-      path-absent i s (omega arith),
-      path-absent i k (omega arith),
-      path-absent i (tree m x s k r) z,
-    )
 
 pub path-place-out : (i n : ℕ) (t g : Trees) → times i t ≡ 0 → path i (place n t g) ≡ path i g
 path-place-out i n t none z = path-absent i t z

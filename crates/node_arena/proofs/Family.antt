@@ -111,12 +111,6 @@ module _ (f : Trees) (q : ℕ) (tidy : IsTidy f) (node : IsNode f q) where
       let u = child-stands None None q c f st.row (tidy-apart f tidy) (node_stands f q tidy node) st.is (sym (ap (is_among c) (children_at-is f q st.row st.is)) ∙ among) in
       parent_at-is f c u.row u.spot_is ∙ u.parent_is
 
-  pub child-node : (c : ℕ) → is_among c (children_at f q) ≡ true → IsNode f c
-  child-node c among =
-      let st = node_spot f q tidy node in
-      let u = child-stands None None q c f st.row (tidy-apart f tidy) (node_stands f q tidy node) st.is (sym (ap (is_among c) (children_at-is f q st.row st.is)) ∙ among) in
-      tidy.only c u.inside
-
   pub children_at-apart : AreApart (children_at f q)
   children_at-apart =
       let st = node_spot f q tidy node in

@@ -74,15 +74,6 @@ module _ (f : Trees) (root : ℕ) (tidy : IsTidy f) (is : IsNode f root) where
 
   -- the steps of the walk
 
-  pub after-child : (n d : ℕ) → is_among n (tree_order_of f root) ≡ true → first_child_at f n ≡ Some d → after n (tree_order_of f root) ≡ Some d
-  after-child n d among first = after-is n among ∙ ap (λ v. or_else v (beyond_in f root n)) first
-
-  pub after-leaf : (n : ℕ) → is_among n (tree_order_of f root) ≡ true → first_child_at f n ≡ None → after n (tree_order_of f root) ≡ beyond_in f root n
-  after-leaf n among first = after-is n among ∙ ap (λ v. or_else v (beyond_in f root n)) first
-
-  pub beyond-sibling : (n d : ℕ) → n ≢ root → is_among n (tree_order_of f root) ≡ true → next_sibling_at f n ≡ Some d → beyond_in f root n ≡ Some d
-  beyond-sibling n d ne among next = let b = beyond-is n ne among in b.beyond_is ∙ ap (λ v. or_else v (beyond_in f root b.parent)) next
-
   pub beyond-parent : (n p : ℕ) → n ≢ root → is_among n (tree_order_of f root) ≡ true → next_sibling_at f n ≡ None → parent_at f n ≡ Some p → beyond_in f root n ≡ beyond_in f root p
   beyond-parent n p ne among next up =
       let b = beyond-is n ne among in

@@ -21,7 +21,6 @@ pub mod CutReads
 pub mod AllowedCut
 pub mod PutSpots
 pub mod GraftReads
-pub mod Connected
 pub mod ConnectedBelow
 pub mod Sizes
 pub mod NewReads

@@ -10,7 +10,7 @@ use Rattle.node_trees.specs.Trees.{none}
 use Rattle.node_trees.specs.Spots.{Spot, spot_of}
 use Rattle.node_arena.specs.Numbers.{insert_number, remove_number}
 use Rattle.node_arena.specs.Rows.{row_at, Grafted, Severed, Attached, Changed}
-use Rattle.node_arena.specs.Nodes.{rows, row, facts_of, IsRootOf}
+use Rattle.node_arena.specs.NodeRows.{rows, row, facts_of, IsRootOf}
 use Rattle.node_arena.specs.declared.node.Node.{Node}
 use Rattle.node_arena.proofs.GetLemmas.{slice_get-set_same, slice_get-set_other, slice_get-append_front, slice_get-append_end, slice_get-append_other}
 
@@ -99,9 +99,6 @@ module _ (nodes : List Node) (n i : ℕ) (u d : Node) (is : row u ≡ record (ro
       let facts : facts_of u ≡ record (facts_of (get_or nodes i d)) { attributes = g (get_or nodes i d).attributes } =
       ap (λ (v : Spot). v.facts) is ∙ ap (λ v. record (facts_of (get_or nodes i d)) { attributes = v }) new in
       changed nodes n i (λ x. record x { attributes = g x.attributes }) u d e at (is ∙ ap (λ v. record (row (get_or nodes i d)) { facts = v }) (sym (ap (λ (v : Spot). v.facts) is))) facts
-
-  pub attributes_same : i < length nodes → u.attributes ≡ (get_or nodes i d).attributes → rows (set nodes i u) ≡ rows nodes
-  attributes_same lt old = map-set_same row nodes i u d (is ∙ ap (λ v. record (row (get_or nodes i d)) { facts = record (facts_of (get_or nodes i d)) { attributes = v } }) old)
 
 -- the facts that a row has
 pub facts_read : (nodes : List Node) (n i : ℕ) (d : Node) (it : Spot) → i ≡ n - 1 → (0 < n) × (n ≤ length nodes) → row_at (rows nodes) n ≡ Some it → facts_of (get_or nodes i d) ≡ it.facts

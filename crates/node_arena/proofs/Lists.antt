@@ -3,17 +3,12 @@ use Rattle.std.proofs.Common.{◌≡◌, ℕ, Bool, false, List, [], ◌∷◌, 
 use Rattle.std.specs.List.{list_any}
 use Rattle.std.proofs.lemmas.Bool.Decides.{nat_tests}
 use Rattle.node_trees.specs.Trees.{Trees, none, tree, roots, without}
-use Rattle.node_trees.specs.Paths.{is_among}
 use Rattle.node_trees.specs.Spots.{Spot}
 pub use Rattle.node_arena.specs.Numbers.{remove_number as lacking}
 
 pub roots-without : (n : ℕ) (f : Trees) → roots (without n f) ≡ lacking n (roots f)
 roots-without n none = refl
 roots-without n (tree m x s k r) = grind (arith, nat_tests, roots-without n r)
-
-pub lacking-absent : (n : ℕ) (ms : List ℕ) → is_among n ms ≡ false → lacking n ms ≡ ms
-lacking-absent n [] h = refl
-lacking-absent n (m ∷ ms) h = grind (arith, nat_tests, lacking-absent n ms)
 
 -- a test that none passes, none of fewer passes
 pub any-lacking : (p : ℕ → Bool) (n : ℕ) (ms : List ℕ) → list_any p ms ≡ false → list_any p (lacking n ms) ≡ false

@@ -8,7 +8,7 @@ use Rattle.node_trees.specs.Spots.{Spot, spot}
 use Rattle.node_trees.specs.Orders.{order}
 use Rattle.node_trees.specs.Nodes.{IsNode, IsNodeOrNone, IsTidy}
 use Rattle.node_arena.specs.Rows.{row_at, IsForest}
-use Rattle.node_arena.specs.Nodes.{rows, row}
+use Rattle.node_arena.specs.NodeRows.{rows, row}
 use Rattle.node_arena.specs.Walks.{AreNodes, IsUp, orders, above, parent_or}
 use Rattle.node_arena.specs.declared.node.Node.{Node}
 use Rattle.node_arena.proofs.OrderLemmas.{order_step, links_are}

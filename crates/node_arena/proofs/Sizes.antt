@@ -3,10 +3,9 @@ use Rattle.std.proofs.Common.{◌≡◌, ℕ, ◌+◌, Option, arith, inl, inr}
 use Rattle.std.proofs.lemmas.Bool.Decides.{nat_tests}
 use Rattle.std.proofs.lemmas.Bool.{cases_lt}
 use Rattle.node_trees.specs.Facts.{Facts}
-use Rattle.node_trees.specs.Trees.{Trees, tree_of, without, cut, graft, with_node, single, with_shadow, with_document}
+use Rattle.node_trees.specs.Trees.{Trees, tree_of, without, cut, graft, with_node, single, with_shadow}
 use Rattle.node_trees.specs.Nodes.{weight, times, size, IsNode, IsTidy}
 use Rattle.node_arena.proofs.Sums.{tidy-apart, times-without, weight-join, weight-without, weight-place, weight-put, weight-shadow}
-use Rattle.node_arena.proofs.Changed.{size-with}
 
 module _ (w : ℕ → Facts → ℕ) where
   pub weight-cut : (f : Trees) (n : ℕ) → IsTidy f → weight w (cut f n) ≡ weight w f
@@ -38,20 +37,6 @@ size-with_node = weight-with_node (λ m x. 1)
 
 pub size-with_shadow : (h n : ℕ) (x : Facts) (f : Trees) → IsTidy f → IsNode f h → size (with_shadow h (single n x) f) ≡ size f + 1
 size-with_shadow h n x f tidy node = omega (arith, weight-with_shadow (λ m x. 1) h (single n x) f (tidy.once h node))
-
-pub size-with_document : (n d : ℕ) (f : Trees) → size (with_document n d f) ≡ size f
-size-with_document n d = size-with n (λ x. record x { document = d })
-
--- what was a node is one
-pub node-still : (f g : Trees) (n : ℕ) → size g ≡ size f → IsNode f n → IsNode g n
-node-still f g n same node = record { low = node.low; high = omega (arith, node.high) }
-
-pub node-more : (f g : Trees) (n : ℕ) → size g ≡ size f + 1 → IsNode f n → IsNode g n
-node-more f g n more node = record { low = node.low; high = omega (arith, node.high) }
-
--- and the new number is
-pub node-new : (f g : Trees) → size g ≡ size f + 1 → IsNode g (size f + 1)
-node-new f g more = record { low = omega arith; high = omega arith }
 
 -- which no node had
 pub new-absent : (f : Trees) → IsTidy f → times (size f + 1) f ≡ 0

@@ -87,14 +87,5 @@ one_at n m x = if m == n then 1 else 0
 pub times-join : (n : ℕ) (f g : Trees) → times n (join f g) ≡ times n f + times n g
 times-join n = weight-join (one_at n)
 
-pub times-place : (i n : ℕ) (t f : Trees) → times i (place n t f) ≡ times i t + times i f
-times-place i = weight-place (one_at i)
-
 pub times-without : (i n : ℕ) (f : Trees) → times n f ≤ 1 → times i (tree_of n f) + times i (without n f) ≡ times i f
 times-without i = weight-without (one_at i)
-
-pub times-before : (i : ℕ) (b : Option ℕ) (t f : Trees) → times i (before b t f) ≡ times i t + times i f
-times-before i = weight-before (one_at i)
-
-pub times-put : (i p : ℕ) (b : Option ℕ) (t f : Trees) → times p f ≤ 1 → times i (put p b t f) ≡ cond (eqb (times p f) 0) 0 (times i t) + times i f
-times-put i = weight-put (one_at i)

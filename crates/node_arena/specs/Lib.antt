@@ -2,6 +2,6 @@ pub mod Numbers
 pub mod Rows
 pub mod OneForest
 pub mod Seen
-pub mod Nodes
+pub mod NodeRows
 pub mod Walks
 pub mod Attributes

@@ -6,7 +6,7 @@ ghost use Rattle.node_trees.specs.Trees.{with_attribute, without_attribute, with
 ghost use Rattle.node_trees.specs.Spots.{parent_at, Spot, facts_at, kind_at, attribute_at};
 ghost use Rattle.node_trees.specs.Nodes.{size, IsNode};
 ghost use Rattle.node_trees.specs.Insertion.{may_insert};
-ghost use Rattle.node_arena.specs.Nodes.{rows, row};
+ghost use Rattle.node_arena.specs.NodeRows.{rows, row};
 ghost use Rattle.node_arena.specs.Rows.{row_at, Changed};
 
 use crate::Tree;

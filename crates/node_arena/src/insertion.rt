@@ -5,7 +5,7 @@ ghost use Rattle.node_trees.specs.Trees.{graft};
 ghost use Rattle.node_trees.specs.Spots.{parent_at};
 ghost use Rattle.node_trees.specs.Insertion.{may_insert, has_element_child};
 ghost use Rattle.node_trees.specs.Nodes.{size, IsNode, IsNodeOrNone};
-ghost use Rattle.node_arena.specs.Nodes.{rows};
+ghost use Rattle.node_arena.specs.NodeRows.{rows};
 ghost use Rattle.node_arena.specs.Rows.{Grafted};
 
 use crate::Tree;

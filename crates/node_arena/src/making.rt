@@ -5,7 +5,7 @@ ghost use Rattle.node_trees.specs.Facts.{blank, new_element, new_text, is_shadow
 ghost use Rattle.node_trees.specs.Trees.{single, with_node, with_shadow};
 ghost use Rattle.node_trees.specs.Spots.{kind_at, document_at, parent_at, shadow_at};
 ghost use Rattle.node_trees.specs.Nodes.{size, surplus_at, IsNode};
-ghost use Rattle.node_arena.specs.Nodes.{facts_of, rows, IsLoose, IsRootOf};
+ghost use Rattle.node_arena.specs.NodeRows.{facts_of, rows, IsLoose, IsRootOf};
 ghost use Rattle.node_arena.specs.Rows.{Attached};
 
 use crate::Tree;

@@ -1,7 +1,7 @@
 // A node as the arena keeps it.
 ghost use Rattle.std.specs.Prelude.{◌≡◌};
 ghost use Rattle.node_trees.specs.Facts.{blank};
-ghost use Rattle.node_arena.specs.Nodes.{facts_of, IsLoose};
+ghost use Rattle.node_arena.specs.NodeRows.{facts_of, IsLoose};
 
 use crate::attributes::Attributes;
 use ce_base::{NodeNo, Text};

@@ -3,7 +3,7 @@ ghost use Rattle.std.specs.Prelude.{◌≡◌, ◌++◌, reverse, OnOk, IfOk, Al
 ghost use Rattle.node_trees.specs.Orders.{order_of};
 ghost use Rattle.node_trees.specs.Paths.{connected};
 ghost use Rattle.node_trees.specs.Nodes.{IsNode};
-ghost use Rattle.node_arena.specs.Nodes.{row};
+ghost use Rattle.node_arena.specs.NodeRows.{row};
 
 use crate::Tree;
 use crate::node::Node;

@@ -5,7 +5,7 @@ ghost use Rattle.node_trees.specs.Trees.{tree_of};
 ghost use Rattle.node_trees.specs.Spots.{spot, facts_at, kind_at, attribute_at, document_at, parent_at, host_at, shadow_at, children_at, first_child_at, next_sibling_at};
 ghost use Rattle.node_trees.specs.Orders.{order};
 ghost use Rattle.node_trees.specs.Nodes.{size, HasOwnParts, IsNode, IsNodeOrNone, IsTidy};
-ghost use Rattle.node_arena.specs.Nodes.{row, text_in};
+ghost use Rattle.node_arena.specs.NodeRows.{row, text_in};
 ghost use Rattle.node_arena.specs.Walks.{above, orders, AreNodes, IsUp};
 
 use crate::Tree;

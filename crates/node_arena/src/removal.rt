@@ -4,7 +4,7 @@ ghost use Rattle.node_trees.specs.Trees.{cut};
 ghost use Rattle.node_trees.specs.Spots.{next_sibling_at, parent_at};
 ghost use Rattle.node_trees.specs.Insertion.{may_insert};
 ghost use Rattle.node_trees.specs.Nodes.{size, IsNode};
-ghost use Rattle.node_arena.specs.Nodes.{rows};
+ghost use Rattle.node_arena.specs.NodeRows.{rows};
 ghost use Rattle.node_arena.specs.Rows.{Severed};
 
 use crate::Tree;

@@ -1,7 +1,7 @@
 // The tree.
 ghost use Rattle.node_arena.specs.Seen.{Forest};
 ghost use Rattle.node_arena.specs.Seen.{Forest-prop};
-ghost use Rattle.node_arena.specs.Nodes.{rows};
+ghost use Rattle.node_arena.specs.NodeRows.{rows};
 
 use crate::node::Node;
 use std::marker::Model;
@@ -23,7 +23,7 @@ impl Model for Tree {
     ghost coded = { trees_code };
 
     ghost use Rattle.node_arena.specs.Seen.{seen};
-    ghost use Rattle.node_arena.specs.Nodes.{rows};
+    ghost use Rattle.node_arena.specs.NodeRows.{rows};
 
     ghost view = { λ t. seen (rows t.nodes.items) t.forest };
 }

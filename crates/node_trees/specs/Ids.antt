@@ -16,6 +16,7 @@ is_id id (Some value) = bytes_eq value id
 abbrev pub has_id : List ℕ → Facts → Bool
 has_id id x = is_element x.kind && is_id id (value_in x.attributes (codes "id"))
 
--- of n and what is below it in its tree, the first element in tree order whose ID this is (DOM Standard, section "Mixin NonElementParentNode", `getElementById`)
+-- of n and what is below it in its tree, the first element in tree order whose ID this is (DOM Standard, section
+-- "Mixin NonElementParentNode", `getElementById`)
 abbrev pub first_with_id : Trees → ℕ → List ℕ → Option ℕ
 first_with_id forest n id = find (λ m. has_id id (facts_at forest m)) (tree_order_of forest n)

@@ -17,7 +17,9 @@ is_child_or_none forest p (Some b) = is_number (parent_at forest b) p
 abbrev pub has_element_child : Trees → ℕ → Bool
 has_element_child forest n = list_any (λ c. is_element (kind_at forest c)) (children_at forest n)
 
--- The fault of the first test that holds, or none: whether the node n may be put among the children of p, before b or at the end (DOM Standard, section "Mutation algorithms", "ensure pre-insert validity"). A document takes one element child: it refuses another, and its own too.
+-- The fault of the first test that holds, or none: whether the node n may be put among the children of p, before b or
+-- at the end (DOM Standard, section "Mutation algorithms", "ensure pre-insert validity"). A document takes one element
+-- child: it refuses another, and its own too.
 abbrev pub may_insert : Trees → ℕ → ℕ → Option ℕ → Option Fault
 may_insert forest p n b =
     if is_text (kind_at forest p) then Some HierarchyRequestError

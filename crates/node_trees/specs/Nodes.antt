@@ -76,7 +76,8 @@ surplus_at x =
 abbrev pub surplus : Trees → ℕ
 surplus f = weight (λ m x. surplus_at x) f
 
--- each number from 1 to the size is that of one node, and no other number is; the trees stand in the order of their roots' numbers; each node stands where its kind does, and has no part that its kind lacks
+-- each number from 1 to the size is that of one node, and no other number is; the trees stand in the order of their
+-- roots' numbers; each node stands where its kind does, and has no part that its kind lacks
 pub record IsTidy (forest : Trees) : Type 0 where
   pub once : (n : ℕ) → IsNode forest n → times n forest ≡ 1
   pub only : (n : ℕ) → 0 < times n forest → IsNode forest n

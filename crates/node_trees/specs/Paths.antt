@@ -10,7 +10,8 @@ abbrev pub under : ℕ → List ℕ → List ℕ
 under m [] = []
 under m (y ∷ ys) = m ∷ y ∷ ys
 
--- the nodes from a root down to n, where a shadow tree hangs below its host: the host-including inclusive ancestors (DOM Standard, section "Interface DocumentFragment", "host-including inclusive ancestor")
+-- the nodes from a root down to n, where a shadow tree hangs below its host: the host-including inclusive ancestors
+-- (DOM Standard, section "Interface DocumentFragment", "host-including inclusive ancestor")
 abbrev pub path : ℕ → Trees → List ℕ
 path n none = []
 path n (tree m x shadow children rest) =
@@ -33,9 +34,9 @@ abbrev pub root_at : Trees → ℕ → ℕ
 root_at forest n = or_number (find (λ m. not (has_parent forest m)) (reverse (path n forest))) n
 
 -- the root of n's tree, from each shadow root on the root of its host's (DOM Standard, section "Shadow tree", "shadow-including root")
-abbrev pub shadow_root_at : Trees → ℕ → ℕ
-shadow_root_at forest n = or_number (first_of (path n forest)) n
+abbrev pub shadow_including_root_at : Trees → ℕ → ℕ
+shadow_including_root_at forest n = or_number (first_of (path n forest)) n
 
 -- whether that root is a document (DOM Standard, section "Interface Node", "connected")
 abbrev pub connected : Trees → ℕ → Bool
-connected forest n = is_document (kind_at forest (shadow_root_at forest n))
+connected forest n = is_document (kind_at forest (shadow_including_root_at forest n))

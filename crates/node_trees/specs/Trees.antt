@@ -1,8 +1,10 @@
--- Node trees as nested lists (DOM Standard, sections "Trees", "Node tree", "Shadow tree"), and the forest of all nodes that were made: a list of trees, in the order of their roots' numbers.
+-- Node trees as nested lists (DOM Standard, sections "Trees", "Node tree", "Shadow tree"), and the forest of all nodes
+-- that were made: a list of trees, in the order of their roots' numbers.
 use Rattle.std.specs.Prelude.{ℕ, Bool, false, ◌==◌, nat_lt, if◌then◌else◌, List, [], ◌∷◌, Option, None, Some}
 use Rattle.node_trees.specs.Facts.{Facts, with_value, without_value}
 
--- A list of trees. It is empty, or begins with a tree: the number and the facts of its root, the root's shadow tree in a list of at most one, the trees of its children. The other trees of the list follow.
+-- A list of trees. It is empty, or begins with a tree: the number and the facts of its root, the root's shadow tree in
+-- a list of at most one, the trees of its children. The other trees of the list follow.
 pub data Trees : Type 0 where
   none : Trees
   tree : (number : ℕ) → (facts : Facts) → (shadow children rest : Trees) → Trees

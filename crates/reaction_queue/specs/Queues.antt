@@ -8,7 +8,9 @@ pub record Open : Type 0 where
   pub elements : List ℕ
 
 pub record Queues : Type 0 where
-  pub waiting : List (List (ℕ × Reaction))  -- each node's reaction queue, that of node 1 first: the reactions with their numbers, the oldest first. Past the end nothing waits, and the last list is not empty
+  -- each node's reaction queue, that of node 1 first: the reactions with their numbers, the oldest first. Past the end
+  -- nothing waits, and the last list is not empty
+  pub waiting : List (List (ℕ × Reaction))
   pub stack : List Open  -- the stack of element queues, the current one first
   pub backup : List ℕ  -- the backup element queue
   pub reactions : ℕ  -- the number that a reaction got last
@@ -62,7 +64,8 @@ abbrev pub appended_to : List Open → ℕ → Queues → Queues
 appended_to [] n q = record q { backup = q.backup ++ n ∷ [] }
 appended_to (o ∷ os) n q = record q { stack = record o { elements = o.elements ++ n ∷ [] } ∷ os }
 
--- the element comes last in the current element queue, or in the backup element queue where the stack is empty ("enqueue an element on the appropriate element queue")
+-- the element comes last in the current element queue, or in the backup element queue where the stack is empty
+-- ("enqueue an element on the appropriate element queue")
 abbrev pub appended : ℕ → Queues → Queues
 appended n q = appended_to q.stack n q
 
@@ -75,8 +78,8 @@ number_of [] = 0
 number_of (o ∷ os) = o.number
 
 -- the number of the current element queue, and 0 for the backup element queue
-abbrev pub current : Queues → ℕ
-current q = number_of q.stack
+abbrev pub current_number : Queues → ℕ
+current_number q = number_of q.stack
 
 -- the stack
 

@@ -1,6 +1,6 @@
 // The reaction queues, the stack of element queues, and the backup element queue.
 ghost use Rattle.std.specs.Prelude.{◌≡◌, ◌+◌, ◌<◌, ◌^◌, ◌++◌, ◌∷◌, [], length, not, MatchOption, IfOk, IfSome, IfNone, OnOk, OnErr};
-ghost use Rattle.reaction_queue.specs.Queues.{no_queues, begun, ended, current, current_elements, waiting_at, with_waiting, counted, with_reaction, appended, enqueued};
+ghost use Rattle.reaction_queue.specs.Queues.{no_queues, begun, ended, current_number, current_elements, waiting_at, with_waiting, counted, with_reaction, appended, enqueued};
 ghost use Rattle.reaction_queue.specs.ElementQueues.{is_empty};
 ghost use Rattle.reaction_queue.specs.Changes.{SameNumbers, DropsFirst};
 
@@ -92,7 +92,7 @@ impl Queues {
     ) -> Result<(ReactionNo, QueueNo), NoMemory>
         requires { self.old.reactions + 1 < 2 ^ 64 }
         ensures number { IfOk result (λ got. got.0 ≡ self.old.reactions + 1) }
-        ensures queue { IfOk result (λ got. got.1 ≡ current self.old) }
+        ensures queue { IfOk result (λ got. got.1 ≡ current_number self.old) }
         ensures queues { OnOk result (self.new ≡ enqueued node r self.old) }
         ensures err { OnErr result (self.new.waiting ≡ self.old.waiting) }
         ensures reactions { self.new.reactions ≡ self.old.reactions + 1 }
@@ -118,7 +118,7 @@ impl Queues {
     /// Appends an element to the current element queue, or to the backup element queue, and gives the
     /// queue's number.
     fn append(&mut self, node: NodeNo) -> Result<QueueNo, NoMemory>
-        ensures number { IfOk result (λ q. q ≡ current self.old) }
+        ensures number { IfOk result (λ q. q ≡ current_number self.old) }
         ensures queues { OnOk result (self.new ≡ appended node self.old) }
         ensures waiting { self.new.waiting ≡ self.old.waiting }
         ensures numbers { SameNumbers self.old self.new }

@@ -1,31 +1,16 @@
-// The steps of a session.
+// The steps of a session. Each writes what it gives.
 ghost use Rattle.std.specs.Prelude.{◌≡◌};
 ghost use Rattle.node_trees.specs.declared.kind.NodeKind.TheVariants.{Element as ElementKind};
 ghost use Rattle.node_trees.specs.Nodes.{IsNode, IsNodeOrNone};
 ghost use Rattle.node_trees.specs.Spots.{kind_at};
 
+use crate::rows::{number, word};
 use ce_base::{Fault, NodeNo, Nodes, Text};
 use node_arena::*;
 use std::alloc::Global;
 use std::fmt::Write;
 use std::process::Abort;
 use std::test::Fail;
-
-// A word of a step: `''` is the empty one, and so is what stands past its end.
-fn word(step: &str, i: usize) -> &str {
-    match step.split_whitespace().nth(i) {
-        None => "",
-        Some("''") => "",
-        Some(word) => word,
-    }
-}
-
-fn number(step: &str, i: usize) -> u64 {
-    match word(step, i).parse::<u64>() {
-        Ok(n) => n,
-        Err(_) => 0,
-    }
-}
 
 // The node that a word names.
 fn node(rt: &impl Abort, tree: &Tree, step: &str, i: usize) -> NodeNo
@@ -54,6 +39,13 @@ fn node_or_none(rt: &impl Abort, tree: &Tree, step: &str, i: usize) -> Option<No
     Some(node(rt, tree, step, i))
 }
 
+fn first_document(rt: &impl Abort, tree: &Tree) -> NodeNo
+    ensures { IsNode tree.now result }
+{
+    assert!(rt; tree.count() >= 1);
+    NodeNo(1)
+}
+
 // The number of a node, or 0.
 fn number_of(n: Option<NodeNo>) -> u64 {
     match n {
@@ -62,42 +54,51 @@ fn number_of(n: Option<NodeNo>) -> u64 {
     }
 }
 
-fn told(alloc: Global, n: u64) -> Result<String, Fail> {
-    Ok(format!(in alloc; "{n}")?)
+fn tell(n: u64, out: &mut String) -> Result<(), Fail> {
+    write!(out, "{n}")?;
+    Ok(())
 }
 
-fn done(alloc: Global) -> Result<String, Fail> {
-    Ok(String::from_str(alloc, "ok")?)
+fn tell_next(n: u64, out: &mut String) -> Result<(), Fail> {
+    write!(out, " {n}")?;
+    Ok(())
+}
+
+fn tell_text(text: Option<&str>, out: &mut String) -> Result<(), Fail> {
+    write!(out, "{text:?}")?;
+    Ok(())
+}
+
+fn tell_done(out: &mut String) -> Result<(), Fail> {
+    out.push_str("ok")?;
+    Ok(())
 }
 
 // What was there before an attribute was set or taken away.
-fn was(alloc: Global, old: Option<Text>) -> Result<String, Fail> {
-    match old {
-        None => Ok(String::from_str(alloc, "None")?),
-        Some(text) => Ok(format!(in alloc; "Some({:?})", text.as_str())?),
-    }
+fn tell_old(old: Option<Text>, out: &mut String) -> Result<(), Fail> {
+    tell_text(old.as_ref().map(|t| t.as_str()), out)
 }
 
 // element LOCAL DOCUMENT
-fn make_element(alloc: Global, tree: &mut Tree, step: &str) -> Result<String, Fail> {
+fn make_element(alloc: Global, tree: &mut Tree, step: &str) -> Result<NodeNo, Fail> {
     let local = Text::of(alloc, word(step, 1))?;
     let n = tree.make_element(alloc, local, None, NodeNo(number(step, 2)))?;
-    told(alloc, n.0)
+    Ok(n)
 }
 
 // built-in LOCAL DOCUMENT IS
-fn make_built_in(alloc: Global, tree: &mut Tree, step: &str) -> Result<String, Fail> {
+fn make_built_in(alloc: Global, tree: &mut Tree, step: &str) -> Result<NodeNo, Fail> {
     let local = Text::of(alloc, word(step, 1))?;
     let is_value = Text::of(alloc, word(step, 3))?;
     let n = tree.make_element(alloc, local, Some(is_value), NodeNo(number(step, 2)))?;
-    told(alloc, n.0)
+    Ok(n)
 }
 
 // text CHARS
-fn make_text(alloc: Global, tree: &mut Tree, step: &str) -> Result<String, Fail> {
+fn make_text(alloc: Global, tree: &mut Tree, step: &str) -> Result<NodeNo, Fail> {
     let chars = Text::of(alloc, word(step, 1))?;
     let n = tree.make_text(alloc, chars, NodeNo(1))?;
-    told(alloc, n.0)
+    Ok(n)
 }
 
 // root HOST
@@ -106,25 +107,33 @@ fn attach_root(
     alloc: Global,
     tree: &mut Tree,
     step: &str,
-) -> Result<String, Fail> {
+) -> Result<NodeNo, Fail> {
     let host = element(rt, tree, step);
     assert!(rt; tree.shadow(host).is_none());
     let n = tree.attach_root(alloc, host)?;
-    told(alloc, n.0)
+    Ok(n)
 }
 
-// A step that makes a node: the node.
-fn make(rt: &impl Abort, alloc: Global, tree: &mut Tree, step: &str) -> Result<String, Fail> {
+fn made(rt: &impl Abort, alloc: Global, tree: &mut Tree, step: &str) -> Result<NodeNo, Fail> {
     match word(step, 0) {
         "element" => make_element(alloc, tree, step),
         "built-in" => make_built_in(alloc, tree, step),
         "text" => make_text(alloc, tree, step),
         "root" => attach_root(rt, alloc, tree, step),
-        _ => {
-            let n = tree.make_document(alloc)?;
-            told(alloc, n.0)
-        }
+        _ => Ok(tree.make_document(alloc)?),
     }
+}
+
+// A step that makes a node: the node.
+fn make(
+    rt: &impl Abort,
+    alloc: Global,
+    tree: &mut Tree,
+    step: &str,
+    out: &mut String,
+) -> Result<(), Fail> {
+    let n = made(rt, alloc, tree, step)?;
+    tell(n.0, out)
 }
 
 fn refusal(fault: Fault) -> &'static str {
@@ -163,149 +172,152 @@ fn put_node(
     Ok("moved")
 }
 
-fn listed(alloc: Global, nodes: &Nodes) -> Result<String, Fail> {
-    let mut out = String::new(alloc);
+fn tell_all(nodes: &Nodes, out: &mut String) -> Result<(), Fail> {
     for i in 0..nodes.len() {
-        write!(out, " {}", number_of(nodes.get(i)))?;
+        if i > 0 {
+            out.push(' ')?;
+        }
+        tell(number_of(nodes.get(i)), out)?;
     }
-    Ok(out)
+    Ok(())
 }
 
-fn order(alloc: Global, tree: &Tree, n: NodeNo) -> Result<String, Fail>
+fn order(alloc: Global, tree: &Tree, n: NodeNo, out: &mut String) -> Result<(), Fail>
     requires { IsNode tree.now n }
 {
-    listed(alloc, &tree.shadow_order(alloc, n)?)
+    tell_all(&tree.shadow_order(alloc, n)?, out)
 }
 
-fn first_document(rt: &impl Abort, tree: &Tree) -> NodeNo
-    ensures { IsNode tree.now result }
+fn children(alloc: Global, tree: &Tree, n: NodeNo, out: &mut String) -> Result<(), Fail>
+    requires { IsNode tree.now n }
 {
-    assert!(rt; tree.count() >= 1);
-    NodeNo(1)
+    tell_all(&tree.children(alloc, n)?, out)
 }
 
 // put PARENT NODE BEFORE
-fn put(rt: &impl Abort, alloc: Global, tree: &mut Tree, step: &str) -> Result<String, Fail> {
+fn put(
+    rt: &impl Abort,
+    alloc: Global,
+    tree: &mut Tree,
+    step: &str,
+    out: &mut String,
+) -> Result<(), Fail> {
     let answer = put_node(rt, alloc, tree, step)?;
-    let page = order(alloc, tree, first_document(rt, tree))?;
-    Ok(format!(in alloc; "{answer}{page}")?)
+    write!(out, "{answer} ")?;
+    order(alloc, tree, first_document(rt, tree), out)
 }
 
 // remove NODE
-fn remove(rt: &impl Abort, alloc: Global, tree: &mut Tree, step: &str) -> Result<String, Fail> {
+fn remove(rt: &impl Abort, tree: &mut Tree, step: &str) {
     let n = node(rt, tree, step, 1);
     assert!(rt; tree.parent(n).is_some());
     tree.remove(n);
-    done(alloc)
 }
 
 // own NODE DOCUMENT
-fn own(rt: &impl Abort, alloc: Global, tree: &mut Tree, step: &str) -> Result<String, Fail> {
+fn own(rt: &impl Abort, tree: &mut Tree, step: &str) {
     let n = node(rt, tree, step, 1);
     tree.set_document(n, NodeNo(number(step, 2)));
-    done(alloc)
 }
 
 // set NODE NAME VALUE
-fn set(rt: &impl Abort, alloc: Global, tree: &mut Tree, step: &str) -> Result<String, Fail> {
+fn set(
+    rt: &impl Abort,
+    alloc: Global,
+    tree: &mut Tree,
+    step: &str,
+    out: &mut String,
+) -> Result<(), Fail> {
     let n = element(rt, tree, step);
     let name = Text::of(alloc, word(step, 2))?;
     let value = Text::of(alloc, word(step, 3))?;
     let old = tree.set_attr(alloc, n, name, value)?;
-    was(alloc, old)
+    tell_old(old, out)
 }
 
 // unset NODE NAME
-fn unset(rt: &impl Abort, alloc: Global, tree: &mut Tree, step: &str) -> Result<String, Fail> {
+fn unset(rt: &impl Abort, tree: &mut Tree, step: &str, out: &mut String) -> Result<(), Fail> {
     let n = element(rt, tree, step);
     let old = tree.del_attr(n, word(step, 2));
-    was(alloc, old)
+    tell_old(old, out)
 }
 
 // A step that changes what is there.
-fn change(rt: &impl Abort, alloc: Global, tree: &mut Tree, step: &str) -> Result<String, Fail> {
+fn change(
+    rt: &impl Abort,
+    alloc: Global,
+    tree: &mut Tree,
+    step: &str,
+    out: &mut String,
+) -> Result<(), Fail> {
     match word(step, 0) {
-        "put" => put(rt, alloc, tree, step),
-        "remove" => remove(rt, alloc, tree, step),
-        "own" => own(rt, alloc, tree, step),
-        "set" => set(rt, alloc, tree, step),
-        _ => unset(rt, alloc, tree, step),
+        "put" => put(rt, alloc, tree, step, out),
+        "set" => set(rt, alloc, tree, step, out),
+        "unset" => unset(rt, tree, step, out),
+        "remove" => {
+            remove(rt, tree, step);
+            tell_done(out)
+        }
+        _ => {
+            own(rt, tree, step);
+            tell_done(out)
+        }
     }
 }
 
-// The kind, the local name, the `is` value, the characters.
-fn parts(alloc: Global, tree: &Tree, n: NodeNo) -> Result<String, Fail>
+// The kind, the local name, the `is` value, the characters; the node document, the host, the shadow root.
+fn describe(tree: &Tree, n: NodeNo, out: &mut String) -> Result<(), Fail>
     requires { IsNode tree.now n }
 {
-    let kind = tree.kind(n);
-    let local = tree.local(n);
-    let is_value = tree.is_value(n);
-    let chars = tree.chars(n);
-    Ok(format!(in alloc; "{kind:?} {local:?} {is_value:?} {chars:?}")?)
-}
-
-// Behind its parts the node document, the host, the shadow root.
-fn describe(rt: &impl Abort, alloc: Global, tree: &Tree, step: &str) -> Result<String, Fail> {
-    let n = node(rt, tree, step, 1);
-    let mut out = parts(alloc, tree, n)?;
-    let document = tree.document(n).0;
-    let host = number_of(tree.host(n));
-    let shadow = number_of(tree.shadow(n));
-    write!(out, " {document} {host} {shadow}")?;
-    Ok(out)
+    write!(out, "{:?} {:?} ", tree.kind(n), tree.local(n))?;
+    write!(out, "{:?} {:?}", tree.is_value(n), tree.chars(n))?;
+    tell_next(tree.document(n).0, out)?;
+    tell_next(number_of(tree.host(n)), out)?;
+    tell_next(number_of(tree.shadow(n)), out)
 }
 
 // The root, the parent, the first child, the next sibling, and whether the node is connected.
-fn around(rt: &impl Abort, alloc: Global, tree: &Tree, step: &str) -> Result<String, Fail> {
-    let n = node(rt, tree, step, 1);
-    let root = tree.root(n).0;
-    let parent = number_of(tree.parent(n));
-    let child = number_of(tree.first_child(n));
-    let next = number_of(tree.next_sibling(n));
-    let connected = tree.is_connected(n);
-    Ok(format!(in alloc; "{root} {parent} {child} {next} {connected}")?)
+fn around(tree: &Tree, n: NodeNo, out: &mut String) -> Result<(), Fail>
+    requires { IsNode tree.now n }
+{
+    tell(tree.root(n).0, out)?;
+    tell_next(number_of(tree.parent(n)), out)?;
+    tell_next(number_of(tree.first_child(n)), out)?;
+    tell_next(number_of(tree.next_sibling(n)), out)?;
+    write!(out, " {}", tree.is_connected(n))?;
+    Ok(())
 }
 
 // How many attributes there are, and each of them.
-fn attributes(rt: &impl Abort, alloc: Global, tree: &Tree, step: &str) -> Result<String, Fail> {
-    let n = node(rt, tree, step, 1);
+fn attributes(tree: &Tree, n: NodeNo, out: &mut String) -> Result<(), Fail>
+    requires { IsNode tree.now n }
+{
     let count = tree.attr_count(n);
-    let mut out = format!(in alloc; "{count}")?;
+    write!(out, "{count}")?;
     for i in 0..count {
         let (name, value) = tree.attr_at(n, i);
         write!(out, " {name}={value:?}")?;
     }
-    Ok(out)
-}
-
-fn attribute(rt: &impl Abort, alloc: Global, tree: &Tree, step: &str) -> Result<String, Fail> {
-    let n = node(rt, tree, step, 1);
-    let value = tree.attr(n, word(step, 2));
-    Ok(format!(in alloc; "{value:?}")?)
-}
-
-// first NODE ID
-fn first(rt: &impl Abort, alloc: Global, tree: &Tree, step: &str) -> Result<String, Fail> {
-    let from = node(rt, tree, step, 1);
-    told(alloc, number_of(tree.first_with_id(from, word(step, 2))))
-}
-
-fn children(rt: &impl Abort, alloc: Global, tree: &Tree, step: &str) -> Result<String, Fail> {
-    let n = node(rt, tree, step, 1);
-    listed(alloc, &tree.children(alloc, n)?)
+    Ok(())
 }
 
 // A step that reads.
-fn read(rt: &impl Abort, alloc: Global, tree: &Tree, step: &str) -> Result<String, Fail> {
+fn read(
+    rt: &impl Abort,
+    alloc: Global,
+    tree: &Tree,
+    step: &str,
+    out: &mut String,
+) -> Result<(), Fail> {
+    let n = node(rt, tree, step, 1);
     match word(step, 0) {
-        "count" => told(alloc, tree.count()),
-        "node" => describe(rt, alloc, tree, step),
-        "around" => around(rt, alloc, tree, step),
-        "attributes" => attributes(rt, alloc, tree, step),
-        "attribute" => attribute(rt, alloc, tree, step),
-        "first" => first(rt, alloc, tree, step),
-        "children" => children(rt, alloc, tree, step),
-        _ => order(alloc, tree, node(rt, tree, step, 1)),
+        "node" => describe(tree, n, out),
+        "around" => around(tree, n, out),
+        "attributes" => attributes(tree, n, out),
+        "attribute" => tell_text(tree.attr(n, word(step, 2)), out),
+        "first" => tell(number_of(tree.first_with_id(n, word(step, 2))), out),
+        "children" => children(alloc, tree, n, out),
+        _ => order(alloc, tree, n, out),
     }
 }
 
@@ -315,10 +327,12 @@ pub(super) fn step(
     alloc: Global,
     tree: &mut Tree,
     step: &str,
-) -> Result<String, Fail> {
+    out: &mut String,
+) -> Result<(), Fail> {
     match word(step, 0) {
-        "element" | "built-in" | "text" | "root" | "document" => make(rt, alloc, tree, step),
-        "put" | "remove" | "own" | "set" | "unset" => change(rt, alloc, tree, step),
-        _ => read(rt, alloc, tree, step),
+        "element" | "built-in" | "text" | "root" | "document" => make(rt, alloc, tree, step, out),
+        "put" | "remove" | "own" | "set" | "unset" => change(rt, alloc, tree, step, out),
+        "count" => tell(tree.count(), out),
+        _ => read(rt, alloc, tree, step, out),
     }
 }

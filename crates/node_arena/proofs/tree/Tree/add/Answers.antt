@@ -1,7 +1,7 @@
 use Rattle.std.proofs.Common.{◌∙◌, arith}
 use Rattle.std.proofs.lemmas.List.{length-map}
 use Rattle.std.proofs.lemmas.Result.{err_from_is_err_and}
-use Rattle.node_arena.specs.Nodes.{row, facts_of}
+use Rattle.node_arena.specs.NodeRows.{row, facts_of}
 use Rattle.node_arena.specs.Seen.{seen_fact, seen_is, seen_size}
 use Rattle.node_arena.proofs.CallLemmas.{pushed, pushed_or_not, new_free}
 use Rattle.node_arena.proofs.tree.Tree.add.Goals as goal

@@ -6,7 +6,7 @@ use Rattle.node_trees.specs.Trees.{single, with_shadow}
 use Rattle.node_trees.specs.Spots.{document_at}
 use Rattle.node_trees.specs.Nodes.{size, surplus_at}
 use Rattle.node_arena.specs.Rows.{IsForest}
-use Rattle.node_arena.specs.Nodes.{facts_of, rows}
+use Rattle.node_arena.specs.NodeRows.{facts_of, rows}
 use Rattle.node_arena.specs.Seen.{seen_fact, seen_is, seen_size}
 use Rattle.node_arena.proofs.CallLemmas.{attached_forest, attached_or_not, counts}
 use Rattle.node_arena.proofs.ReadLemmas.{in_range}

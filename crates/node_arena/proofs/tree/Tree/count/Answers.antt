@@ -1,7 +1,7 @@
 use Rattle.std.proofs.Common.{arith}
 use Rattle.std.proofs.lemmas.List.{length-map}
 use Rattle.node_arena.specs.Seen.{seen_fact}
-use Rattle.node_arena.specs.Nodes.{row}
+use Rattle.node_arena.specs.NodeRows.{row}
 use Rattle.node_arena.proofs.tree.Tree.count.Goals as goal
 
 pub returns-clause-count : goal.returns-clause-count

@@ -1,5 +1,5 @@
 use Rattle.std.proofs.Common.{◌++◌}
-use Rattle.node_arena.specs.Nodes.{row}
+use Rattle.node_arena.specs.NodeRows.{row}
 use Rattle.node_arena.specs.Walks.{AreNodes}
 use Rattle.node_arena.proofs.WalkLemmas.{child_node}
 use Rattle.node_arena.proofs.tree.Tree.has_element_child.Goals as goal

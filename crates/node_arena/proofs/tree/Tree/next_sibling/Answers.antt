@@ -1,6 +1,6 @@
 use Rattle.std.proofs.Common.{sym, subst}
 use Rattle.node_trees.specs.Nodes.{IsNodeOrNone}
-use Rattle.node_arena.specs.Nodes.{row}
+use Rattle.node_arena.specs.NodeRows.{row}
 use Rattle.node_arena.proofs.WalkLemmas.{after_node}
 use Rattle.node_arena.proofs.tree.Tree.next_sibling.Goals as goal
 

@@ -1,0 +1,40 @@
+// Rows of sessions and tables: a step in words, and what it gives.
+use std::process::Abort;
+
+// The two sides of a row.
+pub(crate) fn sides(row: &str) -> (&str, &str) {
+    match row.split_once(" => ") {
+        Some(sides) => sides,
+        None => (row, "a row of one side"),
+    }
+}
+
+// A word of a step: `''` is the empty one, and so is what stands past its end.
+pub(crate) fn word(step: &str, i: usize) -> &str {
+    match step.split_whitespace().nth(i) {
+        None => "",
+        Some("''") => "",
+        Some(word) => word,
+    }
+}
+
+// The same, where `-` stands for none.
+pub(crate) fn word_or_none(step: &str, i: usize) -> Option<&str> {
+    match word(step, i) {
+        "-" => None,
+        word => Some(word),
+    }
+}
+
+// A word that is a number, or 0.
+pub(crate) fn number(step: &str, i: usize) -> u64 {
+    match word(step, i).parse::<u64>() {
+        Ok(n) => n,
+        Err(_) => 0,
+    }
+}
+
+// Compares what a step gave with what is wanted.
+pub(crate) fn same(rt: &impl Abort, given: &str, want: &str, step: &str) {
+    assert_eq!(rt; given, want, "at {step}");
+}
