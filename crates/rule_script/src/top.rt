@@ -5,7 +5,7 @@ ghost use Rattle.rule_lines.specs.Acts.{line_of};
 ghost use Rattle.rule_reader.specs.declared.form.Leaf.TheVariants as leaves;
 ghost use Rattle.rule_script.specs.Place.{placed_within};
 
-use crate::operands::{has_body_operand, is_this};
+use crate::body_operands::{has_body_operand, is_this};
 use rule_lines::{ClassPart, Cmd, Line};
 use rule_reader::Leaf;
 use rule_tokens::{Bad, LineRefused, Operand, Val};
