@@ -4,18 +4,18 @@ use Rattle.std.specs.List.{list_any}
 use Rattle.std.specs.Str.{bytes_eq}
 use Rattle.std.proofs.lemmas.Slice.Eq.{bytes_eq-Decides}
 use Rattle.rule_tokens.specs.declared.token.Token.{Token}
-use Rattle.rule_tokens.specs.Operands.{is_word}
+use Rattle.rule_tokens.specs.OperandForms.{is_word}
 use Rattle.rule_grammar.proofs.OwnLaws.{FlagsAgain, own}
-use Rattle.rule_grammar.specs.declared.got.Kind.{Kind}
-use Rattle.rule_grammar.specs.declared.got.Got.{Got}
-use Rattle.rule_grammar.specs.declared.got.Got.TheVariants as gots
+use Rattle.rule_grammar.specs.declared.read_as.Kind.{Kind}
+use Rattle.rule_grammar.specs.declared.read_as.ReadAs.{ReadAs}
+use Rattle.rule_grammar.specs.declared.read_as.ReadAs.TheVariants as read_as
 use Rattle.rule_grammar.specs.declared.keyword.Keyword.{Keyword}
 use Rattle.rule_grammar.specs.declared.word.Word.{Word}
-use Rattle.rule_grammar.specs.Canon.{bare, tokens_of, keyed, all_tokens, keys_tokens, is_got_word, canon, canon_row, canon_within, canon_tokens}
+use Rattle.rule_grammar.specs.Canon.{bare, tokens_of, keyed, all_tokens, keys_tokens, is_read_as_word, canon, canon_row, canon_within, canon_tokens}
 use Rattle.rule_grammar.specs.Grammar.{Key, Wants, End, One, Pick, Keys, Maybe, Many, Pairs, Inner, Rows, LastRow, Row}
 use Rattle.rule_grammar.specs.Rows.{forms}
 use Rattle.rule_grammar.specs.Whole.{either}
-use Rattle.rule_grammar.specs.Words.{keyword, spelling}
+use Rattle.rule_grammar.specs.FixedWords.{keyword, spelling}
 use Rattle.rule_grammar.specs.Spells.{Spelling, SpellNothing, SpellOne, SpellMarked, SpellBehind, SpellKeys, SpellMaybe, SpellMany, SpellPairs, Spell, SpellRow, SpellWithin, Spelled}
 
 -- ---- words
@@ -43,7 +43,7 @@ passed false X Y is two = two
 
 -- ---- an operand
 
-one_again : FlagsAgain → (kind : Kind) (Rest : Spelling) (ts us : List Token) (g : Got) (gs : List Got) → SpellOne kind Rest ts (g ∷ gs) → ((ts : List Token) → Rest ts gs → Rest us gs) → SpellOne kind Rest (tokens_of g ++ us) (g ∷ gs)
+one_again : FlagsAgain → (kind : Kind) (Rest : Spelling) (ts us : List Token) (g : ReadAs) (gs : List ReadAs) → SpellOne kind Rest ts (g ∷ gs) → ((ts : List Token) → Rest ts gs → Rest us gs) → SpellOne kind Rest (tokens_of g ++ us) (g ∷ gs)
 one_again again kind Rest [] us g gs spelled rest = absurd spelled
 one_again again kind Rest (t ∷ ts) us g gs spelled rest = let o = own again kind t g spelled.0 in rw (o.alone) (o.said, rest ts spelled.1)
 
@@ -67,17 +67,17 @@ abbrev keys_apart : List Key → Bool
 keys_apart [] = true
 keys_apart (key ∷ keys) = not (named (keyword key.word) keys) && keys_apart keys
 
-keyed_first : (word : Keyword) (g : Got) → (keyed word g ≡ []) ⊎ ((ts : List Token) × (keyed word g ≡ bare (keyword word) ∷ ts))
-keyed_first word (gots.Variable v) = inr (_, refl)
-keyed_first word (gots.Node place) = inr (_, refl)
-keyed_first word (gots.Class name) = inr (_, refl)
-keyed_first word (gots.Chars text) = inr (_, refl)
-keyed_first word (gots.Value val) = inr (_, refl)
-keyed_first word (gots.Flags raised) = inr (_, refl)
-keyed_first word (gots.Callback call) = inr (_, refl)
-keyed_first word (gots.Word read) = inr (_, refl)
-keyed_first word gots.There = inr (_, refl)
-keyed_first word gots.NotThere = inl refl
+keyed_first : (word : Keyword) (g : ReadAs) → (keyed word g ≡ []) ⊎ ((ts : List Token) × (keyed word g ≡ bare (keyword word) ∷ ts))
+keyed_first word (read_as.Variable v) = inr (_, refl)
+keyed_first word (read_as.Node place) = inr (_, refl)
+keyed_first word (read_as.Class name) = inr (_, refl)
+keyed_first word (read_as.Chars text) = inr (_, refl)
+keyed_first word (read_as.Value val) = inr (_, refl)
+keyed_first word (read_as.Flags raised) = inr (_, refl)
+keyed_first word (read_as.Callback call) = inr (_, refl)
+keyed_first word (read_as.Word read) = inr (_, refl)
+keyed_first word read_as.There = inr (_, refl)
+keyed_first word read_as.NotThere = inl refl
 
 none_of : (a b : Bool) → (a || b) ≡ false → (a ≡ false) × (b ≡ false)
 none_of true b e = absurd cc
@@ -91,7 +91,7 @@ not_it : (a : Bool) → not a ≡ true → a ≡ false
 not_it true e = absurd cc
 not_it false e = refl
 
-not_next : (word : List ℕ) (keys : List Key) (gs : List Got) → named word keys ≡ false → begins word (keys_tokens keys gs) ≡ false
+not_next : (word : List ℕ) (keys : List Key) (gs : List ReadAs) → named word keys ≡ false → begins word (keys_tokens keys gs) ≡ false
 not_next word [] gs e = refl
 not_next word (key ∷ keys) [] e = refl
 not_next word (key ∷ keys) (g ∷ gs) e = let both = none_of _ _ e in by both.0 (not_next word keys gs both.1) (keyed_first key.word g)
@@ -100,19 +100,19 @@ not_next word (key ∷ keys) (g ∷ gs) e = let both = none_of _ _ e in by both.
     by first others (inl is) = rw is others
     by first others (inr (ts, is)) = rw is first
 
-key_skipped : (key : Key) (keys : List Key) (us : List Token) (gs : List Got) → begins (keyword key.word) us ≡ false → SpellKeys keys us gs → SpellKeys (key ∷ keys) us (gots.NotThere ∷ gs)
+key_skipped : (key : Key) (keys : List Key) (us : List Token) (gs : List ReadAs) → begins (keyword key.word) us ≡ false → SpellKeys keys us gs → SpellKeys (key ∷ keys) us (read_as.NotThere ∷ gs)
 key_skipped key keys [] gs e spelled = (refl, spelled)
 key_skipped key keys (u ∷ us) gs e spelled = passed (is_word (keyword key.word) u) _ _ e (refl, spelled)
 
-key_taken : FlagsAgain → (key : Key) (keys : List Key) (operand : Option Kind) → key.operand ≡ operand → (ts : List Token) (g : Got) (gs : List Got) → SpellBehind operand (SpellKeys keys) ts (g ∷ gs)
+key_taken : FlagsAgain → (key : Key) (keys : List Key) (operand : Option Kind) → key.operand ≡ operand → (ts : List Token) (g : ReadAs) (gs : List ReadAs) → SpellBehind operand (SpellKeys keys) ts (g ∷ gs)
     → ((ts : List Token) → SpellKeys keys ts gs → SpellKeys keys (keys_tokens keys gs) gs) → SpellKeys (key ∷ keys) (keys_tokens (key ∷ keys) (g ∷ gs)) (g ∷ gs)
-key_taken again key keys None is ts g gs spelled rest = subst (λ (x : Got). SpellKeys (key ∷ keys) (keys_tokens (key ∷ keys) (x ∷ gs)) (x ∷ gs)) spelled.0
-    (taken (is_word (keyword key.word) (bare (keyword key.word))) _ _ (word_again (keyword key.word)) (subst (λ (o : Option Kind). SpellBehind o (SpellKeys keys) (keys_tokens keys gs) (gots.There ∷ gs)) (sym is) (refl, rest ts spelled.1)))
+key_taken again key keys None is ts g gs spelled rest = subst (λ (x : ReadAs). SpellKeys (key ∷ keys) (keys_tokens (key ∷ keys) (x ∷ gs)) (x ∷ gs)) spelled.0
+    (taken (is_word (keyword key.word) (bare (keyword key.word))) _ _ (word_again (keyword key.word)) (subst (λ (o : Option Kind). SpellBehind o (SpellKeys keys) (keys_tokens keys gs) (read_as.There ∷ gs)) (sym is) (refl, rest ts spelled.1)))
 key_taken again key keys (Some kind) is [] g gs spelled rest = absurd spelled
 key_taken again key keys (Some kind) is (t ∷ ts) g gs spelled rest = let o = own again kind t g spelled.0 in rw (o.behind key.word)
     (taken (is_word (keyword key.word) (bare (keyword key.word))) _ _ (word_again (keyword key.word)) (subst (λ (k : Option Kind). SpellBehind k (SpellKeys keys) (o.token ∷ keys_tokens keys gs) (g ∷ gs)) (sym is) (o.said, rest ts spelled.1)))
 
-none_again : (ts : List Token) (gs : List Got) → SpellNothing ts gs → SpellNothing [] gs
+none_again : (ts : List Token) (gs : List ReadAs) → SpellNothing ts gs → SpellNothing [] gs
 none_again [] gs spelled = spelled
 none_again (t ∷ ts) gs spelled = absurd spelled
 
@@ -120,28 +120,28 @@ behind_none : (operand : Option Kind) (Rest : Spelling) (ts : List Token) → Sp
 behind_none None Rest ts spelled = spelled
 behind_none (Some kind) Rest ts spelled = one_none kind Rest ts spelled
 
-nothing_again : (ts : List Token) (gs : List Got) → SpellNothing ts gs → SpellNothing (all_tokens gs) gs
+nothing_again : (ts : List Token) (gs : List ReadAs) → SpellNothing ts gs → SpellNothing (all_tokens gs) gs
 nothing_again [] [] spelled = tt
 nothing_again [] (g ∷ gs) spelled = absurd spelled
 nothing_again (t ∷ ts) gs spelled = absurd spelled
 
-key_again : FlagsAgain → (key : Key) (keys : List Key) → named (keyword key.word) keys ≡ false → (ts : List Token) (g : Got) (gs : List Got) → ((ts : List Token) → SpellKeys keys ts gs → SpellKeys keys (keys_tokens keys gs) gs)
+key_again : FlagsAgain → (key : Key) (keys : List Key) → named (keyword key.word) keys ≡ false → (ts : List Token) (g : ReadAs) (gs : List ReadAs) → ((ts : List Token) → SpellKeys keys ts gs → SpellKeys keys (keys_tokens keys gs) gs)
     → SpellKeys (key ∷ keys) ts (g ∷ gs) → SpellKeys (key ∷ keys) (keys_tokens (key ∷ keys) (g ∷ gs)) (g ∷ gs)
 key_again again key keys other ts g gs rest spelled = at ts spelled
   where
-    skip : (ts : List Token) → (gots.NotThere ≡ g) × SpellKeys keys ts gs → SpellKeys (key ∷ keys) (keys_tokens (key ∷ keys) (g ∷ gs)) (g ∷ gs)
-    skip ts spelled = subst (λ (x : Got). SpellKeys (key ∷ keys) (keys_tokens (key ∷ keys) (x ∷ gs)) (x ∷ gs)) spelled.0
+    skip : (ts : List Token) → (read_as.NotThere ≡ g) × SpellKeys keys ts gs → SpellKeys (key ∷ keys) (keys_tokens (key ∷ keys) (g ∷ gs)) (g ∷ gs)
+    skip ts spelled = subst (λ (x : ReadAs). SpellKeys (key ∷ keys) (keys_tokens (key ∷ keys) (x ∷ gs)) (x ∷ gs)) spelled.0
         (key_skipped key keys (keys_tokens keys gs) gs (not_next (keyword key.word) keys gs other) (rest ts spelled.1))
 
     at : (ts : List Token) → SpellKeys (key ∷ keys) ts (g ∷ gs) → SpellKeys (key ∷ keys) (keys_tokens (key ∷ keys) (g ∷ gs)) (g ∷ gs)
     at [] spelled = skip [] spelled
     at (t ∷ ts) spelled = by (is_word (keyword key.word) t) spelled
       where
-        by : (b : Bool) → either b (SpellBehind key.operand (SpellKeys keys) ts (g ∷ gs)) (SpellMarked gots.NotThere (SpellKeys keys) (t ∷ ts) (g ∷ gs)) → SpellKeys (key ∷ keys) (keys_tokens (key ∷ keys) (g ∷ gs)) (g ∷ gs)
+        by : (b : Bool) → either b (SpellBehind key.operand (SpellKeys keys) ts (g ∷ gs)) (SpellMarked read_as.NotThere (SpellKeys keys) (t ∷ ts) (g ∷ gs)) → SpellKeys (key ∷ keys) (keys_tokens (key ∷ keys) (g ∷ gs)) (g ∷ gs)
         by true spelled = key_taken again key keys key.operand refl ts g gs spelled rest
         by false spelled = skip (t ∷ ts) spelled
 
-keys_again : FlagsAgain → (keys : List Key) → keys_apart keys ≡ true → (ts : List Token) (gs : List Got) → SpellKeys keys ts gs → SpellKeys keys (keys_tokens keys gs) gs
+keys_again : FlagsAgain → (keys : List Key) → keys_apart keys ≡ true → (ts : List Token) (gs : List ReadAs) → SpellKeys keys ts gs → SpellKeys keys (keys_tokens keys gs) gs
 keys_again again [] apart ts gs spelled = none_again ts gs spelled
 keys_again again (key ∷ keys) apart ts [] spelled = absurd (none ts spelled)
   where
@@ -158,17 +158,17 @@ keys_again again (key ∷ keys) apart ts (g ∷ gs) spelled =
 
 -- ---- one operand, many, and pairs
 
-maybe_again : FlagsAgain → (kind : Kind) (ts : List Token) (gs : List Got) → SpellMaybe kind ts gs → SpellMaybe kind (all_tokens gs) gs
+maybe_again : FlagsAgain → (kind : Kind) (ts : List Token) (gs : List ReadAs) → SpellMaybe kind ts gs → SpellMaybe kind (all_tokens gs) gs
 maybe_again again kind [] [] spelled = absurd spelled
 maybe_again again kind (t ∷ ts) [] spelled = absurd spelled
-maybe_again again kind [] (g ∷ gs) spelled = subst (λ (x : Got). SpellMaybe kind (tokens_of x ++ all_tokens gs) (x ∷ gs)) spelled.0 (none gs spelled.1)
+maybe_again again kind [] (g ∷ gs) spelled = subst (λ (x : ReadAs). SpellMaybe kind (tokens_of x ++ all_tokens gs) (x ∷ gs)) spelled.0 (none gs spelled.1)
   where
-    none : (gs : List Got) → SpellNothing [] gs → SpellMaybe kind (all_tokens gs) (gots.NotThere ∷ gs)
+    none : (gs : List ReadAs) → SpellNothing [] gs → SpellMaybe kind (all_tokens gs) (read_as.NotThere ∷ gs)
     none [] more = (refl, tt)
     none (h ∷ gs) more = absurd more
 maybe_again again kind (t ∷ ts) (g ∷ gs) spelled = let o = own again kind t g spelled.0 in rw o.alone (o.said, nothing_again ts gs spelled.1)
 
-many_again : FlagsAgain → (n : ℕ) (kind : Kind) (ts : List Token) (gs : List Got) → SpellMany n kind ts gs → SpellMany n kind (all_tokens gs) gs
+many_again : FlagsAgain → (n : ℕ) (kind : Kind) (ts : List Token) (gs : List ReadAs) → SpellMany n kind ts gs → SpellMany n kind (all_tokens gs) gs
 many_again again n kind [] [] spelled = many_none n
   where
     many_none : (n : ℕ) → SpellMany n kind [] []
@@ -180,7 +180,7 @@ many_again again zero kind (t ∷ ts) gs spelled = absurd spelled
 many_again again (suc n) kind (t ∷ ts) [] spelled = absurd spelled
 many_again again (suc n) kind (t ∷ ts) (g ∷ gs) spelled = let o = own again kind t g spelled.0 in rw o.alone (o.said, many_again again n kind ts gs spelled.1)
 
-pairs_again : FlagsAgain → (n : ℕ) (kind : Kind) (ts : List Token) (gs : List Got) → SpellPairs n kind ts gs → SpellPairs n kind (all_tokens gs) gs
+pairs_again : FlagsAgain → (n : ℕ) (kind : Kind) (ts : List Token) (gs : List ReadAs) → SpellPairs n kind ts gs → SpellPairs n kind (all_tokens gs) gs
 pairs_again again zero kind [] [] spelled = tt
 pairs_again again (suc n) kind [] [] spelled = tt
 pairs_again again zero kind [] (g ∷ gs) spelled = absurd spelled
@@ -213,19 +213,19 @@ abbrev mutual
   rows_apart (Row word wants rows) = apart wants && rows_apart rows
 
 -- an action of so much at most is spelled by its canonical tokens
-abbrev SpelledAgain : ℕ → Spelling → (List Got → List Token) → Type 0
-SpelledAgain n Action action = (ts : List Token) (gs : List Got) → length gs ≤ n → Action ts gs → Action (action gs) gs
+abbrev SpelledAgain : ℕ → Spelling → (List ReadAs → List Token) → Type 0
+SpelledAgain n Action action = (ts : List Token) (gs : List ReadAs) → length gs ≤ n → Action ts gs → Action (action gs) gs
 
 -- a row is spelled behind the word that it was spelled behind
-record RowAgain (Action : Spelling) (action : List Got → List Token) (rows : Rows) (t : Token) (g : Got) (gs : List Got) : Type 0 where
+record RowAgain (Action : Spelling) (action : List ReadAs → List Token) (rows : Rows) (t : Token) (g : ReadAs) (gs : List ReadAs) : Type 0 where
   pub word : Word
-  pub got : g ≡ gots.Word word
+  pub got : g ≡ read_as.Word word
   pub spelling_is : t ≡ bare (spelling word)
   pub others : List Token
   pub tokens : canon_row action rows g gs ≡ t ∷ others
   pub spelled : SpellRow Action rows t others (g ∷ gs)
 
-other_word : (word read : Word) (t : Token) → t ≡ bare (spelling read) → is_word (spelling word) t ≡ false → is_got_word word (gots.Word read) ≡ false
+other_word : (word read : Word) (t : Token) → t ≡ bare (spelling read) → is_word (spelling word) t ≡ false → is_read_as_word word (read_as.Word read) ≡ false
 other_word word read t is e = subst (λ (u : Token). is_word (spelling word) u ≡ false) is e
 
 either_none : (b : Bool) (X Y : Type 0) → (X → ⊥) → (Y → ⊥) → either b X Y → ⊥
@@ -236,11 +236,11 @@ row_none : (Action : Spelling) (rows : Rows) (t : Token) (ts : List Token) → S
 row_none Action (LastRow word wants) t ts spelled = either_none (is_word (spelling word) t) _ _ (λ x. x) (λ x. x) spelled
 row_none Action (Row word wants rows) t ts spelled = either_none (is_word (spelling word) t) _ _ (λ x. x) (λ x. row_none Action rows t ts x) spelled
 
-fewer : (g : Got) (gs : List Got) (n : ℕ) → length (g ∷ gs) ≤ n → length gs ≤ n
+fewer : (g : ReadAs) (gs : List ReadAs) (n : ℕ) → length (g ∷ gs) ≤ n → length gs ≤ n
 fewer g gs n small = omega (arith, small)
 
 mutual
-  wants_again : FlagsAgain → (Action : Spelling) (action : List Got → List Token) (n : ℕ) → SpelledAgain n Action action → (wants : Wants) → apart wants ≡ true → (ts : List Token) (gs : List Got) → length gs ≤ n → Spell Action wants ts gs → Spell Action wants (canon action wants gs) gs
+  wants_again : FlagsAgain → (Action : Spelling) (action : List ReadAs → List Token) (n : ℕ) → SpelledAgain n Action action → (wants : Wants) → apart wants ≡ true → (ts : List Token) (gs : List ReadAs) → length gs ≤ n → Spell Action wants ts gs → Spell Action wants (canon action wants gs) gs
   wants_again again Action action n is End ok ts gs small spelled = nothing_again ts gs spelled
   wants_again again Action action n is (One kind more) ok ts [] small spelled = absurd (one_none kind (Spell Action more) ts spelled)
   wants_again again Action action n is (One kind more) ok ts (g ∷ gs) small spelled = one_again again kind (Spell Action more) ts (canon action more gs) g gs spelled
@@ -255,10 +255,10 @@ mutual
   wants_again again Action action n is (Pairs k kind) ok ts gs small spelled = pairs_again again k kind ts gs spelled
   wants_again again Action action n is Inner ok ts gs small spelled = is ts gs small spelled
 
-  row_again : FlagsAgain → (Action : Spelling) (action : List Got → List Token) (n : ℕ) → SpelledAgain n Action action → (rows : Rows) → rows_apart rows ≡ true → (t : Token) (ts : List Token) (g : Got) (gs : List Got) → length gs ≤ n → SpellRow Action rows t ts (g ∷ gs) → RowAgain Action action rows t g gs
+  row_again : FlagsAgain → (Action : Spelling) (action : List ReadAs → List Token) (n : ℕ) → SpelledAgain n Action action → (rows : Rows) → rows_apart rows ≡ true → (t : Token) (ts : List Token) (g : ReadAs) (gs : List ReadAs) → length gs ≤ n → SpellRow Action rows t ts (g ∷ gs) → RowAgain Action action rows t g gs
   row_again again Action action n is (LastRow word wants) ok t ts g gs small spelled = by (is_word (spelling word) t) refl (λ rest. wants_again again Action action n is wants ok ts gs small rest) spelled
     where
-      by : (b : Bool) → is_word (spelling word) t ≡ b → (Spell Action wants ts gs → Spell Action wants (canon action wants gs) gs) → either b (SpellMarked (gots.Word word) (Spell Action wants) ts (g ∷ gs)) ⊥ → RowAgain Action action (LastRow word wants) t g gs
+      by : (b : Bool) → is_word (spelling word) t ≡ b → (Spell Action wants ts gs → Spell Action wants (canon action wants gs) gs) → either b (SpellMarked (read_as.Word word) (Spell Action wants) ts (g ∷ gs)) ⊥ → RowAgain Action action (LastRow word wants) t g gs
       by true is_it more spelled = record {
         word = word;
         got = sym spelled.0;
@@ -272,7 +272,7 @@ mutual
       let both = both_of (apart wants) (rows_apart rows) ok in
       by (is_word (spelling word) t) refl (λ rest. wants_again again Action action n is wants both.0 ts gs small rest) (λ rest. row_again again Action action n is rows both.1 t ts g gs small rest) spelled
     where
-      by : (b : Bool) → is_word (spelling word) t ≡ b → (Spell Action wants ts gs → Spell Action wants (canon action wants gs) gs) → (SpellRow Action rows t ts (g ∷ gs) → RowAgain Action action rows t g gs) → either b (SpellMarked (gots.Word word) (Spell Action wants) ts (g ∷ gs)) (SpellRow Action rows t ts (g ∷ gs)) → RowAgain Action action (Row word wants rows) t g gs
+      by : (b : Bool) → is_word (spelling word) t ≡ b → (Spell Action wants ts gs → Spell Action wants (canon action wants gs) gs) → (SpellRow Action rows t ts (g ∷ gs) → RowAgain Action action rows t g gs) → either b (SpellMarked (read_as.Word word) (Spell Action wants) ts (g ∷ gs)) (SpellRow Action rows t ts (g ∷ gs)) → RowAgain Action action (Row word wants rows) t g gs
       by true is_it more others spelled = record {
         word = word;
         got = sym spelled.0;
@@ -287,14 +287,14 @@ mutual
         spelling_is = r.spelling_is;
         others = r.others;
         tokens = subst (λ (b : Bool). cond b (tokens_of g ++ canon action wants gs) (canon_row action rows g gs) ≡ t ∷ r.others)
-            (sym (subst (λ (x : Got). is_got_word word x ≡ false) (sym r.got) (other_word word r.word t r.spelling_is is_it))) r.tokens;
+            (sym (subst (λ (x : ReadAs). is_read_as_word word x ≡ false) (sym r.got) (other_word word r.word t r.spelling_is is_it))) r.tokens;
         spelled = passed (is_word (spelling word) t) _ _ is_it r.spelled;
       }
 
 forms_apart : rows_apart forms ≡ true
 forms_apart = refl
 
-within_again : FlagsAgain → (depth n : ℕ) (ts : List Token) (gs : List Got) → length gs ≤ n → SpellWithin depth ts gs → SpellWithin depth (canon_within n gs) gs
+within_again : FlagsAgain → (depth n : ℕ) (ts : List Token) (gs : List ReadAs) → length gs ≤ n → SpellWithin depth ts gs → SpellWithin depth (canon_within n gs) gs
 within_again again zero n ts gs small spelled = absurd spelled
 within_again again (suc depth) n [] gs small spelled = absurd spelled
 within_again again (suc depth) n (t ∷ ts) [] small spelled = absurd (row_none (SpellWithin depth) forms t ts spelled)
@@ -302,5 +302,5 @@ within_again again (suc depth) zero (t ∷ ts) (g ∷ gs) small spelled = absurd
 within_again again (suc depth) (suc n) (t ∷ ts) (g ∷ gs) small spelled =
     let r = row_again again (SpellWithin depth) (canon_within n) n (λ us hs few inner. within_again again depth n us hs few inner) forms forms_apart t ts g gs (omega (arith, small)) spelled in rw r.tokens r.spelled
 
-pub spelled_again : FlagsAgain → (ts : List Token) (gs : List Got) → Spelled ts gs → Spelled (canon_tokens gs) gs
+pub spelled_again : FlagsAgain → (ts : List Token) (gs : List ReadAs) → Spelled ts gs → Spelled (canon_tokens gs) gs
 spelled_again again ts gs (depth, spelled) = (depth, within_again again depth (length gs) ts gs (omega arith) spelled)

@@ -2,8 +2,8 @@
 use Rattle.std.proofs.Common.{◌<◌, ℕ, zero, suc, length, arith, Bool, true, false, List, [], ◌∷◌, Ok, Err, inl}
 use Rattle.std.specs.Prelude.{codes}
 use Rattle.rule_tokens.specs.declared.token.Token.{Token}
-use Rattle.rule_tokens.specs.Operands.{is_word}
-use Rattle.rule_grammar.specs.Words.{spelling}
+use Rattle.rule_tokens.specs.OperandForms.{is_word}
+use Rattle.rule_grammar.specs.FixedWords.{spelling}
 use Rattle.rule_grammar.specs.Grammar.{Wants, End, One, Pick, Keys, Maybe, Many, Pairs, Inner, Rows, LastRow, Row}
 use Rattle.rule_tokens.specs.declared.refused.Bad.TheVariants.{Long, Utf8, Quote, Escape, Word as BadWord, Arity, Place, Later}
 use Rattle.rule_grammar.specs.Laws.{IsAnswer, FormsAreRead}
@@ -94,7 +94,7 @@ says_within (suc n) (t ∷ ts) small = rows_say IsForm (read_within n) n (record
     (record { behind = record { less = form_less t; more = form_more t }; begins = form_begins; part = no_form })
 
 answer : (ts : List Token) (r : Reads) → Says IsForm ts r → IsAnswer ts r
-answer ts (Ok gots) says = says
+answer ts (Ok read_as) says = says
 answer ts (Err Long) says = absurd says
 answer ts (Err Utf8) says = absurd says
 answer ts (Err Quote) says = absurd says

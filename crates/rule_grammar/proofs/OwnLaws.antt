@@ -11,15 +11,15 @@ use Rattle.rule_tokens.specs.declared.token.Token.{Token}
 use Rattle.rule_tokens.specs.Callbacks.{call_named, call_word}
 use Rattle.rule_tokens.specs.Flags.{flags}
 use Rattle.rule_tokens.specs.FlagsText.{flags_text}
-use Rattle.rule_tokens.specs.Operands.{is_variable, is_class, is_word, variable_in, variable, node, class_name, text, value, call_name}
-use Rattle.rule_grammar.specs.declared.got.Kind.{Kind}
-use Rattle.rule_grammar.specs.declared.got.Kind.TheVariants as kinds
-use Rattle.rule_grammar.specs.declared.got.Got.{Got}
-use Rattle.rule_grammar.specs.declared.got.Got.TheVariants as gots
+use Rattle.rule_tokens.specs.OperandForms.{is_variable, is_class, is_word, variable_in, variable, node, class_name, text, value, call_name}
+use Rattle.rule_grammar.specs.declared.read_as.Kind.{Kind}
+use Rattle.rule_grammar.specs.declared.read_as.Kind.TheVariants as kinds
+use Rattle.rule_grammar.specs.declared.read_as.ReadAs.{ReadAs}
+use Rattle.rule_grammar.specs.declared.read_as.ReadAs.TheVariants as read_as
 use Rattle.rule_grammar.specs.declared.keyword.Keyword.{Keyword}
 use Rattle.rule_grammar.specs.Canon.{bare, quoted, tokens_of, keyed}
 use Rattle.rule_grammar.specs.Grammar.{said_as}
-use Rattle.rule_grammar.specs.Words.{keyword}
+use Rattle.rule_grammar.specs.FixedWords.{keyword}
 
 -- flags that a token names are named by their canonical text
 abbrev pub FlagsAgain : Type 0
@@ -28,7 +28,7 @@ FlagsAgain = (t : Token) (raised : List Bool) → flags t ≡ Some raised → fl
 -- ---- an operand by its own token
 
 -- the operand has a token of its own, which says it
-pub record Own (kind : Kind) (g : Got) : Type 0 where
+pub record Own (kind : Kind) (g : ReadAs) : Type 0 where
   pub token : Token
   pub alone : tokens_of g ≡ token ∷ []
   pub behind : (word : Keyword) → keyed word g ≡ bare (keyword word) ∷ token ∷ []
@@ -37,7 +37,7 @@ pub record Own (kind : Kind) (g : Got) : Type 0 where
 none_some : {A : Type 0} (x : A) → None ≡ Some x → ⊥
 none_some x e = absurd cc
 
-pub mapped : {A : Type 0} (f : A → Got) (o : Option A) (g : Got) → option_map f o ≡ Some g → (a : A) × ((o ≡ Some a) × (f a ≡ g))
+pub mapped : {A : Type 0} (f : A → ReadAs) (o : Option A) (g : ReadAs) → option_map f o ≡ Some g → (a : A) × ((o ≡ Some a) × (f a ≡ g))
 mapped f None g e = absurd cc
 mapped f (Some a) g e = (a, (refl, cc))
 
@@ -57,13 +57,10 @@ variable_has_by false bs v e = variable_in_has bs v e
 pub variable_has : (t : Token) (v : List ℕ) → variable t ≡ Some v → is_variable v ≡ true
 variable_has t v e = variable_has_by t.quoted t.text v e
 
-variable_again : (v : List ℕ) → is_variable v ≡ true → variable (bare (36 ∷ v)) ≡ Some v
-variable_again v is = rw is refl
-
-own_variable : (v : List ℕ) → is_variable v ≡ true → Own kinds.Variable (gots.Variable v)
+own_variable : (v : List ℕ) → is_variable v ≡ true → Own kinds.Variable (read_as.Variable v)
 own_variable v is = record { token = bare (36 ∷ v); alone = refl; behind = λ word. refl; said = rw is refl }
 
-own_node : (place : Operand) → ((v : List ℕ) → place ≡ operands.Variable v → is_variable v ≡ true) → Own kinds.Node (gots.Node place)
+own_node : (place : Operand) → ((v : List ℕ) → place ≡ operands.Variable v → is_variable v ≡ true) → Own kinds.Node (read_as.Node place)
 own_node operands.Doc is = record { token = bare _; alone = refl; behind = λ word. refl; said = refl }
 own_node operands.This is = record { token = bare _; alone = refl; behind = λ word. refl; said = refl }
 own_node (operands.Variable v) is = record { token = bare (36 ∷ v); alone = refl; behind = λ word. refl; said = rw (is v refl) refl }
@@ -89,10 +86,10 @@ class_has t name e = at (t.quoted) (is_class t.text) refl e
     at false true is read = let same : t.text ≡ name = cc in subst (λ (x : List ℕ). is_class x ≡ true) same is
     at false false is read = absurd cc
 
-own_class : (name : List ℕ) → is_class name ≡ true → Own kinds.Class (gots.Class name)
+own_class : (name : List ℕ) → is_class name ≡ true → Own kinds.Class (read_as.Class name)
 own_class name is = record { token = bare name; alone = refl; behind = λ word. refl; said = rw is refl }
 
-own_value : (val : Val) → Own kinds.Value (gots.Value val)
+own_value : (val : Val) → Own kinds.Value (read_as.Value val)
 own_value (values.Fixed text) = record { token = quoted text; alone = refl; behind = λ word. refl; said = refl }
 own_value values.Count = record { token = bare _; alone = refl; behind = λ word. refl; said = refl }
 own_value values.Kept = record { token = bare _; alone = refl; behind = λ word. refl; said = refl }
@@ -111,17 +108,17 @@ call_again calls.FormDisabled = refl
 call_again calls.FormReset = refl
 call_again calls.FormStateRestore = refl
 
-own_callback : (call : CallName) → Own kinds.Callback (gots.Callback call)
+own_callback : (call : CallName) → Own kinds.Callback (read_as.Callback call)
 own_callback call = record { token = bare (call_word call); alone = refl; behind = λ word. refl; said = rw (call_again call) refl }
 
-own_flags : FlagsAgain → (t : Token) (raised : List Bool) → flags t ≡ Some raised → Own kinds.Flags (gots.Flags (record { 0 = raised }))
+own_flags : FlagsAgain → (t : Token) (raised : List Bool) → flags t ≡ Some raised → Own kinds.Flags (read_as.Flags (record { 0 = raised }))
 own_flags again t raised e = record { token = bare (flags_text raised); alone = refl; behind = λ word. refl; said = rw (again t raised e) refl }
 
-pub own : FlagsAgain → (kind : Kind) (t : Token) (g : Got) → said_as kind t ≡ Some g → Own kind g
-own again kinds.Variable t g e = let m = mapped gots.Variable (variable t) g e in subst (Own kinds.Variable) m.1.1 (own_variable m.0 (variable_has t m.0 m.1.0))
-own again kinds.Node t g e = let m = mapped gots.Node (node t) g e in subst (Own kinds.Node) m.1.1 (own_node m.0 (node_has t m.0 m.1.0))
-own again kinds.Class t g e = let m = mapped gots.Class (class_name t) g e in subst (Own kinds.Class) m.1.1 (own_class m.0 (class_has t m.0 m.1.0))
-own again kinds.Chars t g e = let m = mapped gots.Chars (text t) g e in subst (Own kinds.Chars) m.1.1 (record { token = quoted m.0; alone = refl; behind = λ word. refl; said = refl })
-own again kinds.Value t g e = let m = mapped gots.Value (value t) g e in subst (Own kinds.Value) m.1.1 (own_value m.0)
-own again kinds.Flags t g e = let m = mapped (λ (raised : List Bool). gots.Flags (record { 0 = raised })) (flags t) g e in subst (Own kinds.Flags) m.1.1 (own_flags again t m.0 m.1.0)
-own again kinds.Callback t g e = let m = mapped gots.Callback (call_name t) g e in subst (Own kinds.Callback) m.1.1 (own_callback m.0)
+pub own : FlagsAgain → (kind : Kind) (t : Token) (g : ReadAs) → said_as kind t ≡ Some g → Own kind g
+own again kinds.Variable t g e = let m = mapped read_as.Variable (variable t) g e in subst (Own kinds.Variable) m.1.1 (own_variable m.0 (variable_has t m.0 m.1.0))
+own again kinds.Node t g e = let m = mapped read_as.Node (node t) g e in subst (Own kinds.Node) m.1.1 (own_node m.0 (node_has t m.0 m.1.0))
+own again kinds.Class t g e = let m = mapped read_as.Class (class_name t) g e in subst (Own kinds.Class) m.1.1 (own_class m.0 (class_has t m.0 m.1.0))
+own again kinds.Chars t g e = let m = mapped read_as.Chars (text t) g e in subst (Own kinds.Chars) m.1.1 (record { token = quoted m.0; alone = refl; behind = λ word. refl; said = refl })
+own again kinds.Value t g e = let m = mapped read_as.Value (value t) g e in subst (Own kinds.Value) m.1.1 (own_value m.0)
+own again kinds.Flags t g e = let m = mapped (λ (raised : List Bool). read_as.Flags (record { 0 = raised })) (flags t) g e in subst (Own kinds.Flags) m.1.1 (own_flags again t m.0 m.1.0)
+own again kinds.Callback t g e = let m = mapped read_as.Callback (call_name t) g e in subst (Own kinds.Callback) m.1.1 (own_callback m.0)

@@ -5,21 +5,21 @@ use Rattle.std.proofs.lemmas.Slice.Eq.{bytes_eq-Decides}
 use Rattle.rule_tokens.specs.declared.refused.Bad.TheVariants.{Long, Utf8, Quote, Escape, Word as BadWord, Arity, Place, Later}
 use Rattle.rule_tokens.specs.declared.token.Token.{Token}
 use Rattle.rule_tokens.specs.Gives.{with_front}
-use Rattle.rule_tokens.specs.Operands.{is_word}
-use Rattle.rule_grammar.specs.declared.got.Kind.{Kind}
-use Rattle.rule_grammar.specs.declared.got.Kind.TheVariants as kinds
-use Rattle.rule_grammar.specs.declared.got.Got.{Got}
-use Rattle.rule_grammar.specs.declared.got.Got.TheVariants as gots
+use Rattle.rule_tokens.specs.OperandForms.{is_word}
+use Rattle.rule_grammar.specs.declared.read_as.Kind.{Kind}
+use Rattle.rule_grammar.specs.declared.read_as.Kind.TheVariants as kinds
+use Rattle.rule_grammar.specs.declared.read_as.ReadAs.{ReadAs}
+use Rattle.rule_grammar.specs.declared.read_as.ReadAs.TheVariants as read_as
 use Rattle.rule_grammar.specs.declared.keyword.Keyword.{Keyword}
 use Rattle.rule_grammar.specs.declared.keyword.Keyword.TheVariants as keywords
 use Rattle.rule_grammar.specs.declared.word.Word.{Word}
-use Rattle.rule_grammar.specs.Words.{keyword, spelling}
+use Rattle.rule_grammar.specs.FixedWords.{keyword, spelling}
 use Rattle.rule_grammar.specs.Grammar.{said_as, Key, Wants, End, One, Pick, Keys, Maybe, Many, Pairs, Inner, Rows, LastRow, Row}
-use Rattle.rule_grammar.specs.Read.{Reads, then_got, behind_key, read_keys, read_maybe, read_many, read_pairs, read, read_row}
+use Rattle.rule_grammar.specs.Read.{Reads, then_read_as, behind_key, read_keys, read_maybe, read_many, read_pairs, read, read_row}
 use Rattle.rule_grammar.specs.Whole.{Fits, BehindKey, either, WholeKeys, WholeMaybe, WholeMany, WholePairs, Whole, WholeRow, Begins, is_keyword, WantsOperand, HasWrongWord, HasOneOver, HasWrongNumber}
 
 abbrev pub Says : (List Token → Type 0) → List Token → Reads → Type 0
-Says L ts (Ok gots) = L ts
+Says L ts (Ok read_as) = L ts
 Says L ts (Err Long) = ⊥
 Says L ts (Err Utf8) = ⊥
 Says L ts (Err Quote) = ⊥
@@ -77,7 +77,7 @@ number_more L M t behind ts (inr w) = inr (record {
 })
 
 says_behind : (L M : List Token → Type 0) (t : Token) → Behind L M t → (ts : List Token) (r : Reads) → Says M ts r → Says L (t ∷ ts) r
-says_behind L M t behind ts (Ok gots) says = behind.more ts says
+says_behind L M t behind ts (Ok read_as) says = behind.more ts says
 says_behind L M t behind ts (Err Long) says = says
 says_behind L M t behind ts (Err Utf8) says = says
 says_behind L M t behind ts (Err Quote) says = says
@@ -88,8 +88,8 @@ says_behind L M t behind ts (Err Place) says = says
 says_behind L M t behind ts (Err Later) says = says
 
 -- with more operands in front the case is the same
-says_front : (L : List Token → Type 0) (ts : List Token) (front : List Got) (r : Reads) → Says L ts r → Says L ts (with_front front r)
-says_front L ts front (Ok gots) says = says
+says_front : (L : List Token → Type 0) (ts : List Token) (front : List ReadAs) (r : Reads) → Says L ts r → Says L ts (with_front front r)
+says_front L ts front (Ok read_as) says = says
 says_front L ts front (Err Long) says = says
 says_front L ts front (Err Utf8) says = says
 says_front L ts front (Err Quote) says = says
@@ -99,7 +99,7 @@ says_front L ts front (Err Arity) says = says
 says_front L ts front (Err Place) says = says
 says_front L ts front (Err Later) says = says
 
-says_more : (L M : List Token → Type 0) (t : Token) → Behind L M t → (g : Got) (ts : List Token) (r : Reads) → Says M ts r → Says L (t ∷ ts) (with_front (g ∷ []) r)
+says_more : (L M : List Token → Type 0) (t : Token) → Behind L M t → (g : ReadAs) (ts : List Token) (r : Reads) → Says M ts r → Says L (t ∷ ts) (with_front (g ∷ []) r)
 says_more L M t behind g ts r says = says_front L (t ∷ ts) (g ∷ []) r (says_behind L M t behind ts r says)
 
 -- ---- at the first token
@@ -111,13 +111,13 @@ over_first : (L : List Token → Type 0) (t : Token) (ts : List Token) → L [] 
 over_first L t ts whole wants unfit = inr (record { before = []; token = t; rest = ts; tokens_are = refl; whole = whole; wants = wants; unfit = unfit })
 
 -- an operand that fits, and what is behind it; or one that does not fit
-says_got : (L M : List Token → Type 0) (kind : Kind) (t : Token) (ts : List Token) (r : Reads) (o : Option Got) → said_as kind t ≡ o
-    → (Fits kind t → Behind L M t) → Begins L [] → WantsOperand L [] → (Begins L (t ∷ []) → Fits kind t) → Says M ts r → Says L (t ∷ ts) (then_got o r)
-says_got L M kind t ts r None is behind begins wants fits says = wrong_first L t ts begins wants (λ b. let fit = fits b in none_some fit.0 (sym is ∙ fit.1))
+says_read_as : (L M : List Token → Type 0) (kind : Kind) (t : Token) (ts : List Token) (r : Reads) (o : Option ReadAs) → said_as kind t ≡ o
+    → (Fits kind t → Behind L M t) → Begins L [] → WantsOperand L [] → (Begins L (t ∷ []) → Fits kind t) → Says M ts r → Says L (t ∷ ts) (then_read_as o r)
+says_read_as L M kind t ts r None is behind begins wants fits says = wrong_first L t ts begins wants (λ b. let fit = fits b in none_some fit.0 (sym is ∙ fit.1))
   where
-    none_some : (g : Got) → None ≡ Some g → ⊥
+    none_some : (g : ReadAs) → None ≡ Some g → ⊥
     none_some g e = absurd cc
-says_got L M kind t ts r (Some g) is behind begins wants fits says = says_more L M t (behind (g, is)) g ts r says
+says_read_as L M kind t ts r (Some g) is behind begins wants fits says = says_more L M t (behind (g, is)) g ts r says
 
 -- ---- tokens that fit
 
@@ -246,8 +246,8 @@ also_number L M t also ts (inr w) = inr (go w.before w.tokens_are w.whole w.want
         let first : x ≡ t = (cc) in
         record { before = x ∷ before; token = w.token; rest = w.rest; tokens_are = is; whole = also.more x first before whole; wants = λ b. wants (also_wants_less L M t also x first before b); unfit = λ b. unfit (also_less L M t also x first (before ++ w.token ∷ []) b) }
 
-says_also : (L M : List Token → Type 0) (t : Token) → AlsoAt L M t → (g : Got) (ts : List Token) (r : Reads) → Says M (t ∷ ts) r → Says L (t ∷ ts) (with_front (g ∷ []) r)
-says_also L M t also g ts (Ok gots) says = also.more t refl ts says
+says_also : (L M : List Token → Type 0) (t : Token) → AlsoAt L M t → (g : ReadAs) (ts : List Token) (r : Reads) → Says M (t ∷ ts) r → Says L (t ∷ ts) (with_front (g ∷ []) r)
+says_also L M t also g ts (Ok read_as) says = also.more t refl ts says
 says_also L M t also g ts (Err Long) says = says
 says_also L M t also g ts (Err Utf8) says = says
 says_also L M t also g ts (Err Quote) says = says
@@ -260,13 +260,13 @@ says_also L M t also g ts (Err Later) says = says
 -- ---- the keyword is there, or it is not
 
 behind_says : (operand : Option Kind) (keys : List Key) (ts : List Token) → ((us : List Token) → Says (WholeKeys keys) us (read_keys keys us)) → Says (BehindKey operand (WholeKeys keys)) ts (behind_key operand (read_keys keys) ts)
-behind_says None keys ts says = says_front (WholeKeys keys) ts (gots.There ∷ []) (read_keys keys ts) (says ts)
+behind_says None keys ts says = says_front (WholeKeys keys) ts (read_as.There ∷ []) (read_keys keys ts) (says ts)
 behind_says (Some kind) keys [] says = inl ((sample kind ∷ [], (sample_fits kind, keys_none keys)), λ whole. whole)
-behind_says (Some kind) keys (t ∷ ts) says = says_got (BehindKey (Some kind) (WholeKeys keys)) (WholeKeys keys) kind t ts (read_keys keys ts) (said_as kind t) refl
+behind_says (Some kind) keys (t ∷ ts) says = says_read_as (BehindKey (Some kind) (WholeKeys keys)) (WholeKeys keys) kind t ts (read_keys keys ts) (said_as kind t) refl
     (λ fit. record { less = λ us whole. whole.1; more = λ us whole. (fit, whole) }) (sample kind ∷ [], (sample_fits kind, keys_none keys)) (inl (λ whole. whole)) (λ begins. begins.1.0) (says ts)
 
 keys_say_by : (b : Bool) (key : Key) (keys : List Key) (t : Token) (ts : List Token) → is_word (keyword key.word) t ≡ b → ((us : List Token) → Says (WholeKeys keys) us (read_keys keys us))
-    → Says (WholeKeys (key ∷ keys)) (t ∷ ts) (cond b (behind_key key.operand (read_keys keys) ts) (with_front (gots.NotThere ∷ []) (read_keys keys (t ∷ ts))))
+    → Says (WholeKeys (key ∷ keys)) (t ∷ ts) (cond b (behind_key key.operand (read_keys keys) ts) (with_front (read_as.NotThere ∷ []) (read_keys keys (t ∷ ts))))
 keys_say_by true key keys t ts is says = says_behind (WholeKeys (key ∷ keys)) (BehindKey key.operand (WholeKeys keys)) t (record {
   less = λ us whole. first_of (is_word (keyword key.word) t) (BehindKey key.operand (WholeKeys keys) us) (WholeKeys keys (t ∷ us)) is whole;
   more = λ us whole. to_first (is_word (keyword key.word) t) (BehindKey key.operand (WholeKeys keys) us) (WholeKeys keys (t ∷ us)) is whole;
@@ -277,7 +277,7 @@ keys_say_by false key keys t ts is says = says_also (WholeKeys (key ∷ keys)) (
   none = tt;
   wants = keys_want_none (key ∷ keys);
   other = keys_want_none keys;
-}) gots.NotThere ts (read_keys keys (t ∷ ts)) (says (t ∷ ts))
+}) read_as.NotThere ts (read_keys keys (t ∷ ts)) (says (t ∷ ts))
 
 keys_say : (keys : List Key) (ts : List Token) → Says (WholeKeys keys) ts (read_keys keys ts)
 keys_say [] [] = tt
@@ -307,14 +307,14 @@ maybe_fits : (kind : Kind) (t : Token) (us : List Token) → WholeMaybe kind (t 
 maybe_fits kind t [] whole = whole
 maybe_fits kind t (u ∷ us) whole = absurd whole
 
-maybe_got : (kind : Kind) (t : Token) (ts : List Token) (r : Reads) → Says (WholeKeys []) ts r → Says (WholeMaybe kind) (t ∷ ts) (then_got (said_as kind t) r)
-maybe_got kind t ts r says = says_got (WholeMaybe kind) (WholeKeys []) kind t ts r (said_as kind t) refl
+maybe_read_as : (kind : Kind) (t : Token) (ts : List Token) (r : Reads) → Says (WholeKeys []) ts r → Says (WholeMaybe kind) (t ∷ ts) (then_read_as (said_as kind t) r)
+maybe_read_as kind t ts r says = says_read_as (WholeMaybe kind) (WholeKeys []) kind t ts r (said_as kind t) refl
     (λ fit. record { less = maybe_less kind t; more = maybe_more kind t fit }) ([], tt) (may_begin (WholeMaybe kind) kind ([], sample_fits kind)) (λ begins. maybe_fits kind t begins.0 begins.1) says
 
 maybe_says : (kind : Kind) (ts : List Token) → Says (WholeMaybe kind) ts (read_maybe kind ts)
 maybe_says kind [] = tt
-maybe_says kind (t ∷ []) = maybe_got kind t [] (Ok []) tt
-maybe_says kind (t ∷ u ∷ ts) = maybe_got kind t (u ∷ ts) (Err Arity) (keys_say [] (u ∷ ts))
+maybe_says kind (t ∷ []) = maybe_read_as kind t [] (Ok []) tt
+maybe_says kind (t ∷ u ∷ ts) = maybe_read_as kind t (u ∷ ts) (Err Arity) (keys_say [] (u ∷ ts))
 
 many_say : (n : ℕ) (kind : Kind) (ts : List Token) → Says (WholeMany n kind) ts (read_many n kind ts)
 many_say zero kind [] = tt
@@ -324,7 +324,7 @@ many_say zero kind (t ∷ ts) = over_first (WholeMany zero kind) t ts tt wants (
     wants : WantsOperand (WholeMany zero kind) [] → ⊥
     wants (inl part) = part tt
     wants (inr (u, (plain, begins))) = begins.1
-many_say (suc n) kind (t ∷ ts) = says_got (WholeMany (suc n) kind) (WholeMany n kind) kind t ts (read_many n kind ts) (said_as kind t) refl
+many_say (suc n) kind (t ∷ ts) = says_read_as (WholeMany (suc n) kind) (WholeMany n kind) kind t ts (read_many n kind ts) (said_as kind t) refl
     (λ fit. record { less = λ us whole. whole.1; more = λ us whole. (fit, whole) }) ([], tt) (may_begin (WholeMany (suc n) kind) kind ([], (sample_fits kind, many_none n kind))) (λ begins. begins.1.0) (many_say n kind ts)
 
 pairs_none : (n : ℕ) (kind : Kind) → WholePairs n kind []
@@ -348,8 +348,8 @@ pair_fits : (n : ℕ) (kind : Kind) (t : Token) (us : List Token) → WholePairs
 pair_fits n kind t [] whole = absurd whole
 pair_fits n kind t (u ∷ us) whole = whole.0.0
 
-pair_got : (n : ℕ) (kind : Kind) (t : Token) (ts : List Token) (r : Reads) → Says (Second n kind) ts r → Says (WholePairs (suc n) kind) (t ∷ ts) (then_got (said_as kind t) r)
-pair_got n kind t ts r says = says_got (WholePairs (suc n) kind) (Second n kind) kind t ts r (said_as kind t) refl
+pair_read_as : (n : ℕ) (kind : Kind) (t : Token) (ts : List Token) (r : Reads) → Says (Second n kind) ts r → Says (WholePairs (suc n) kind) (t ∷ ts) (then_read_as (said_as kind t) r)
+pair_read_as n kind t ts r says = says_read_as (WholePairs (suc n) kind) (Second n kind) kind t ts r (said_as kind t) refl
     (λ fit. record { less = pair_less n kind t; more = pair_more n kind t fit }) ([], tt)
     (may_begin (WholePairs (suc n) kind) kind (sample kind ∷ [], ((sample_fits kind, sample_fits kind), pairs_none n kind))) (λ begins. pair_fits n kind t begins.0 begins.1) says
 
@@ -361,9 +361,9 @@ pairs_say zero kind (t ∷ ts) = over_first (WholePairs zero kind) t ts tt wants
     wants : WantsOperand (WholePairs zero kind) [] → ⊥
     wants (inl part) = part tt
     wants (inr (u, (plain, begins))) = begins.1
-pairs_say (suc n) kind (t ∷ []) = pair_got n kind t [] (Err Arity) (inl ((sample kind ∷ [], (sample_fits kind, pairs_none n kind)), λ whole. whole))
-pairs_say (suc n) kind (t ∷ u ∷ ts) = pair_got n kind t (u ∷ ts) (then_got (said_as kind u) (read_pairs n kind ts))
-    (says_got (Second n kind) (WholePairs n kind) kind u ts (read_pairs n kind ts) (said_as kind u) refl
+pairs_say (suc n) kind (t ∷ []) = pair_read_as n kind t [] (Err Arity) (inl ((sample kind ∷ [], (sample_fits kind, pairs_none n kind)), λ whole. whole))
+pairs_say (suc n) kind (t ∷ u ∷ ts) = pair_read_as n kind t (u ∷ ts) (then_read_as (said_as kind u) (read_pairs n kind ts))
+    (says_read_as (Second n kind) (WholePairs n kind) kind u ts (read_pairs n kind ts) (said_as kind u) refl
     (λ fit. record { less = λ us whole. whole.1; more = λ us whole. (fit, whole) }) (sample kind ∷ [], (sample_fits kind, pairs_none n kind)) (inl (λ whole. whole)) (λ begins. begins.1.0) (pairs_say n kind ts))
 
 -- ---- what is wanted can be had
@@ -413,21 +413,21 @@ end_says Action (t ∷ ts) action = over_first (Whole Action End) t ts tt wants 
     wants (inr (u, (plain, begins))) = begins.1
 
 last_row_by : (b : Bool) (Action L : List Token → Type 0) (action : List Token → Reads) (word : Word) (wants : Wants) (t : Token) (ts : List Token) → is_word (spelling word) t ≡ b → Picks Action L (LastRow word wants) t
-    → Says (Whole Action wants) ts (read action wants ts) → Says L (t ∷ ts) (cond b (with_front (gots.Word word ∷ []) (read action wants ts)) (Err BadWord))
+    → Says (Whole Action wants) ts (read action wants ts) → Says L (t ∷ ts) (cond b (with_front (read_as.Word word ∷ []) (read action wants ts)) (Err BadWord))
 last_row_by true Action L action word wants t ts is picks says = says_more L (Whole Action wants) t (record {
   less = λ us whole. first_of (is_word (spelling word) t) (Whole Action wants us) ⊥ is (picks.behind.less us whole);
   more = λ us whole. picks.behind.more us (to_first (is_word (spelling word) t) (Whole Action wants us) ⊥ is whole);
-}) (gots.Word word) ts (read action wants ts) says
+}) (read_as.Word word) ts (read action wants ts) says
 last_row_by false Action L action word wants t ts is picks says =
     wrong_first L t ts picks.begins (inl picks.part) (λ begins. second_of (is_word (spelling word) t) (Whole Action wants begins.0) ⊥ is (picks.behind.less begins.0 begins.1))
 
 row_by : (b : Bool) (Action L : List Token → Type 0) (action : List Token → Reads) (word : Word) (wants : Wants) (rows : Rows) (t : Token) (ts : List Token) → is_word (spelling word) t ≡ b → Picks Action L (Row word wants rows) t
     → Says (Whole Action wants) ts (read action wants ts) → (Picks Action L rows t → Says L (t ∷ ts) (read_row action rows t ts))
-    → Says L (t ∷ ts) (cond b (with_front (gots.Word word ∷ []) (read action wants ts)) (read_row action rows t ts))
+    → Says L (t ∷ ts) (cond b (with_front (read_as.Word word ∷ []) (read action wants ts)) (read_row action rows t ts))
 row_by true Action L action word wants rows t ts is picks says others = says_more L (Whole Action wants) t (record {
   less = λ us whole. first_of (is_word (spelling word) t) (Whole Action wants us) (WholeRow Action rows t us) is (picks.behind.less us whole);
   more = λ us whole. picks.behind.more us (to_first (is_word (spelling word) t) (Whole Action wants us) (WholeRow Action rows t us) is whole);
-}) (gots.Word word) ts (read action wants ts) says
+}) (read_as.Word word) ts (read action wants ts) says
 row_by false Action L action word wants rows t ts is picks says others = others (record {
   behind = record {
     less = λ us whole. second_of (is_word (spelling word) t) (Whole Action wants us) (WholeRow Action rows t us) is (picks.behind.less us whole);
@@ -450,7 +450,7 @@ mutual
   wants_say : (Action : List Token → Type 0) (action : List Token → Reads) (n : ℕ) → IsActionOf Action action n → (wants : Wants) (ts : List Token) → length ts < n → Says (Whole Action wants) ts (read action wants ts)
   wants_say Action action n is End ts small = end_says Action ts action
   wants_say Action action n is (One kind more) [] small = inl (one_begins Action is.some is.is_action kind more, λ whole. whole)
-  wants_say Action action n is (One kind more) (t ∷ ts) small = says_got (Whole Action (One kind more)) (Whole Action more) kind t ts (read action more ts) (said_as kind t) refl
+  wants_say Action action n is (One kind more) (t ∷ ts) small = says_read_as (Whole Action (One kind more)) (Whole Action more) kind t ts (read action more ts) (said_as kind t) refl
       (λ fit. record { less = λ us whole. whole.1; more = λ us whole. (fit, whole) }) (one_begins Action is.some is.is_action kind more) (inl (λ whole. whole)) (λ begins. begins.1.0) (wants_say Action action n is more ts (fewer t ts n small))
   wants_say Action action n is (Pick rows) [] small = inl (pick_begins Action is.some is.is_action rows, λ whole. whole)
   wants_say Action action n is (Pick rows) (t ∷ ts) small = rows_say Action action n is rows (Whole Action (Pick rows)) t ts (fewer t ts n small) (record {

@@ -2,24 +2,24 @@
 use Rattle.std.specs.Prelude.{ℕ, List, Option}
 use Rattle.std.specs.Option.{option_map}
 use Rattle.rule_tokens.specs.declared.token.Token.{Token}
-use Rattle.rule_tokens.specs.Operands.{variable, node, class_name, text, value, call_name}
+use Rattle.rule_tokens.specs.OperandForms.{variable, node, class_name, text, value, call_name}
 use Rattle.rule_tokens.specs.Flags.{flags}
-use Rattle.rule_grammar.specs.declared.got.Kind.{Kind}
-use Rattle.rule_grammar.specs.declared.got.Kind.TheVariants as kinds
-use Rattle.rule_grammar.specs.declared.got.Got.{Got}
-use Rattle.rule_grammar.specs.declared.got.Got.TheVariants as gots
+use Rattle.rule_grammar.specs.declared.read_as.Kind.{Kind}
+use Rattle.rule_grammar.specs.declared.read_as.Kind.TheVariants as kinds
+use Rattle.rule_grammar.specs.declared.read_as.ReadAs.{ReadAs}
+use Rattle.rule_grammar.specs.declared.read_as.ReadAs.TheVariants as read_as
 use Rattle.rule_grammar.specs.declared.keyword.Keyword.{Keyword}
 use Rattle.rule_grammar.specs.declared.word.Word.{Word}
 
 -- what the token says as an operand of this form
-abbrev pub said_as : Kind → Token → Option Got
-said_as kinds.Variable t = option_map gots.Variable (variable t)
-said_as kinds.Node t = option_map gots.Node (node t)
-said_as kinds.Class t = option_map gots.Class (class_name t)
-said_as kinds.Chars t = option_map gots.Chars (text t)
-said_as kinds.Value t = option_map gots.Value (value t)
-said_as kinds.Flags t = option_map (λ raised. gots.Flags (record { 0 = raised })) (flags t)
-said_as kinds.Callback t = option_map gots.Callback (call_name t)
+abbrev pub said_as : Kind → Token → Option ReadAs
+said_as kinds.Variable t = option_map read_as.Variable (variable t)
+said_as kinds.Node t = option_map read_as.Node (node t)
+said_as kinds.Class t = option_map read_as.Class (class_name t)
+said_as kinds.Chars t = option_map read_as.Chars (text t)
+said_as kinds.Value t = option_map read_as.Value (value t)
+said_as kinds.Flags t = option_map (λ raised. read_as.Flags (record { 0 = raised })) (flags t)
+said_as kinds.Callback t = option_map read_as.Callback (call_name t)
 
 -- an optional part: its keyword, and the operand behind it, if it has one
 pub record Key : Type 0 where

@@ -5,14 +5,14 @@ use Rattle.rule_grammar.specs.Clean.{AreTexts}
 use Rattle.rule_tokens.specs.declared.refused.Bad.TheVariants.{Word, Arity}
 use Rattle.rule_tokens.specs.declared.token.Token.{Token}
 use Rattle.rule_tokens.specs.Spaced.{AreClean, IsLine}
-use Rattle.rule_grammar.specs.declared.got.Got.{Got}
+use Rattle.rule_grammar.specs.declared.read_as.ReadAs.{ReadAs}
 use Rattle.rule_grammar.specs.Read.{Reads, read_tokens}
 use Rattle.rule_grammar.specs.Spells.{Spelled}
 use Rattle.rule_grammar.specs.Whole.{IsForm, HasWrongWord, HasWrongNumber}
 
 -- what is read is a form; what is refused has a wrong word, or a wrong number of operands
 abbrev pub IsAnswer : List Token → Reads → Type 0
-IsAnswer ts (Ok gots) = IsForm ts
+IsAnswer ts (Ok read_as) = IsForm ts
 IsAnswer ts (Err Word) = HasWrongWord IsForm ts
 IsAnswer ts (Err Arity) = HasWrongNumber IsForm ts
 IsAnswer ts (Err _) = ⊥
@@ -23,7 +23,7 @@ FormsAreRead = (ts : List Token) → IsAnswer ts (read_tokens ts)
 
 -- what is read is what the tokens spell, and only that
 abbrev pub SpelledIsRead : Type 0
-SpelledIsRead = (ts : List Token) (gots : List Got) → Spelled ts gots ↔ (read_tokens ts ≡ Ok gots)
+SpelledIsRead = (ts : List Token) (read_as : List ReadAs) → Spelled ts read_as ↔ (read_tokens ts ≡ Ok read_as)
 
 -- these tokens are a form or have one of the two faults, and no two of these
 pub record OneFault (ts : List Token) : Type 0 where
@@ -36,8 +36,8 @@ FaultsAreApart = (ts : List Token) → OneFault ts
 
 -- what tokens spell is spelled by its canonical tokens too
 abbrev pub CanonicalIsSpelled : Type 0
-CanonicalIsSpelled = (ts : List Token) (gots : List Got) → Spelled ts gots → Spelled (canon_tokens gots) gots
+CanonicalIsSpelled = (ts : List Token) (read_as : List ReadAs) → Spelled ts read_as → Spelled (canon_tokens read_as) read_as
 
 -- the canonical tokens of what is spelled can be written as a line and read again, where the quoted ones say texts
 abbrev pub CanonicalIsClean : Type 0
-CanonicalIsClean = (ts : List Token) (gots : List Got) → Spelled ts gots → AreTexts (canon_tokens gots) → AreClean (canon_tokens gots) × IsLine (canon_tokens gots)
+CanonicalIsClean = (ts : List Token) (read_as : List ReadAs) → Spelled ts read_as → AreTexts (canon_tokens read_as) → AreClean (canon_tokens read_as) × IsLine (canon_tokens read_as)

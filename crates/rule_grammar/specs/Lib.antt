@@ -6,5 +6,5 @@ pub mod Read
 pub mod Rows
 pub mod Spells
 pub mod Whole
-pub mod Words
+pub mod FixedWords
 pub mod Worked

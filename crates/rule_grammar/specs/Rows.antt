@@ -1,7 +1,7 @@
 -- The table of forms, one row a form.
 use Rattle.std.specs.Prelude.{[], ◌∷◌, Some, None}
-use Rattle.rule_grammar.specs.declared.got.Kind.{Kind}
-use Rattle.rule_grammar.specs.declared.got.Kind.TheVariants as kinds
+use Rattle.rule_grammar.specs.declared.read_as.Kind.{Kind}
+use Rattle.rule_grammar.specs.declared.read_as.Kind.TheVariants as kinds
 use Rattle.rule_grammar.specs.declared.keyword.Keyword.{Keyword}
 use Rattle.rule_grammar.specs.declared.keyword.Keyword.TheVariants as keywords
 use Rattle.rule_grammar.specs.declared.word.Word.TheVariants as words

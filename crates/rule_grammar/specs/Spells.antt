@@ -2,18 +2,18 @@
 -- what is read.
 use Rattle.std.specs.Prelude.{◌≡◌, ℕ, zero, suc, List, [], ◌∷◌, Option, Some, None}
 use Rattle.rule_tokens.specs.declared.token.Token.{Token}
-use Rattle.rule_tokens.specs.Operands.{is_word}
+use Rattle.rule_tokens.specs.OperandForms.{is_word}
 use Rattle.rule_grammar.specs.Rows.{forms}
-use Rattle.rule_grammar.specs.declared.got.Kind.{Kind}
-use Rattle.rule_grammar.specs.declared.got.Got.{Got}
-use Rattle.rule_grammar.specs.declared.got.Got.TheVariants as gots
-use Rattle.rule_grammar.specs.Words.{keyword, spelling}
+use Rattle.rule_grammar.specs.declared.read_as.Kind.{Kind}
+use Rattle.rule_grammar.specs.declared.read_as.ReadAs.{ReadAs}
+use Rattle.rule_grammar.specs.declared.read_as.ReadAs.TheVariants as read_as
+use Rattle.rule_grammar.specs.FixedWords.{keyword, spelling}
 use Rattle.rule_grammar.specs.Grammar.{said_as, Key, Wants, End, One, Pick, Keys, Maybe, Many, Pairs, Inner, Rows, LastRow, Row}
 use Rattle.rule_grammar.specs.Whole.{either}
 
 -- the tokens spell what is read
 abbrev pub Spelling : Type 1
-Spelling = List Token → List Got → Type 0
+Spelling = List Token → List ReadAs → Type 0
 
 -- no token, and nothing is read
 abbrev pub SpellNothing : Spelling
@@ -28,24 +28,24 @@ SpellOne kind Rest (t ∷ ts) [] = ⊥
 SpellOne kind Rest (t ∷ ts) (g ∷ gs) = (said_as kind t ≡ Some g) × Rest ts gs
 
 -- this is read first, at no token, and the tokens spell the rest
-abbrev pub SpellMarked : Got → Spelling → Spelling
+abbrev pub SpellMarked : ReadAs → Spelling → Spelling
 SpellMarked mark Rest ts [] = ⊥
 SpellMarked mark Rest ts (g ∷ gs) = (mark ≡ g) × Rest ts gs
 
 -- what stands behind a keyword: its operand, if it has one, and then the rest
 abbrev pub SpellBehind : Option Kind → Spelling → Spelling
-SpellBehind None Rest ts gs = SpellMarked gots.There Rest ts gs
+SpellBehind None Rest ts gs = SpellMarked read_as.There Rest ts gs
 SpellBehind (Some kind) Rest ts gs = SpellOne kind Rest ts gs
 
 -- optional parts in their order; one whose keyword does not stand next is not there
 abbrev pub SpellKeys : List Key → Spelling
 SpellKeys [] ts gs = SpellNothing ts gs
-SpellKeys (key ∷ keys) [] gs = SpellMarked gots.NotThere (SpellKeys keys) [] gs
-SpellKeys (key ∷ keys) (t ∷ ts) gs = either (is_word (keyword key.word) t) (SpellBehind key.operand (SpellKeys keys) ts gs) (SpellMarked gots.NotThere (SpellKeys keys) (t ∷ ts) gs)
+SpellKeys (key ∷ keys) [] gs = SpellMarked read_as.NotThere (SpellKeys keys) [] gs
+SpellKeys (key ∷ keys) (t ∷ ts) gs = either (is_word (keyword key.word) t) (SpellBehind key.operand (SpellKeys keys) ts gs) (SpellMarked read_as.NotThere (SpellKeys keys) (t ∷ ts) gs)
 
 -- one operand or none
 abbrev pub SpellMaybe : Kind → Spelling
-SpellMaybe kind [] gs = SpellMarked gots.NotThere SpellNothing [] gs
+SpellMaybe kind [] gs = SpellMarked read_as.NotThere SpellNothing [] gs
 SpellMaybe kind (t ∷ ts) gs = SpellOne kind SpellNothing (t ∷ ts) gs
 
 -- so many operands at most
@@ -74,8 +74,8 @@ abbrev mutual
   Spell Action Inner ts gs = Action ts gs
 
   pub SpellRow : Spelling → Rows → Token → Spelling
-  SpellRow Action (LastRow word wants) t ts gs = either (is_word (spelling word) t) (SpellMarked (gots.Word word) (Spell Action wants) ts gs) ⊥
-  SpellRow Action (Row word wants rows) t ts gs = either (is_word (spelling word) t) (SpellMarked (gots.Word word) (Spell Action wants) ts gs) (SpellRow Action rows t ts gs)
+  SpellRow Action (LastRow word wants) t ts gs = either (is_word (spelling word) t) (SpellMarked (read_as.Word word) (Spell Action wants) ts gs) ⊥
+  SpellRow Action (Row word wants rows) t ts gs = either (is_word (spelling word) t) (SpellMarked (read_as.Word word) (Spell Action wants) ts gs) (SpellRow Action rows t ts gs)
 
 -- the tokens are a form and spell this, in which actions stand in actions up to so deep
 abbrev pub SpellWithin : ℕ → Spelling

@@ -2,17 +2,17 @@
 use Rattle.std.specs.Prelude.{◌≡◌, ℕ, zero, suc, Bool, true, false, List, [], ◌∷◌, ◌++◌, Option, Some, None, ◌⊎◌}
 use Rattle.std.specs.List.{list_any}
 use Rattle.rule_tokens.specs.declared.token.Token.{Token}
-use Rattle.rule_tokens.specs.Operands.{is_word}
+use Rattle.rule_tokens.specs.OperandForms.{is_word}
 use Rattle.rule_grammar.specs.Rows.{forms}
-use Rattle.rule_grammar.specs.declared.got.Kind.{Kind}
-use Rattle.rule_grammar.specs.declared.got.Got.{Got}
+use Rattle.rule_grammar.specs.declared.read_as.Kind.{Kind}
+use Rattle.rule_grammar.specs.declared.read_as.ReadAs.{ReadAs}
 use Rattle.rule_grammar.specs.declared.keyword.Keyword.TheVariants as keywords
-use Rattle.rule_grammar.specs.Words.{keyword, spelling}
+use Rattle.rule_grammar.specs.FixedWords.{keyword, spelling}
 use Rattle.rule_grammar.specs.Grammar.{said_as, Key, Wants, End, One, Pick, Keys, Maybe, Many, Pairs, Inner, Rows, LastRow, Row}
 
 -- the token has the form of the operand
 abbrev pub Fits : Kind → Token → Type 0
-Fits kind t = (got : Got) × (said_as kind t ≡ Some got)
+Fits kind t = (got : ReadAs) × (said_as kind t ≡ Some got)
 
 -- what stands behind a keyword: its operand, if it has one, and then the rest
 abbrev pub BehindKey : Option Kind → (List Token → Type 0) → List Token → Type 0

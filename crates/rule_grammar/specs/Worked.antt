@@ -12,7 +12,7 @@ quoted text = record { quoted = true; text = text }
 
 -- it is a form
 abbrev IsRead : Reads → Type 0
-IsRead (Ok gots) = Unit {0}
+IsRead (Ok read_as) = Unit {0}
 IsRead (Err b) = ⊥
 
 abbrev create : List Token → List Token

@@ -1,9 +1,9 @@
 // The keywords of optional parts.
 ghost use Rattle.std.specs.Prelude.{◌≡◌};
-ghost use Rattle.rule_grammar.specs.Words.{keyword};
+ghost use Rattle.rule_grammar.specs.FixedWords.{keyword};
 
 /// The keyword of an optional part.
-#[derive(Clone, Copy, Debug, PartialEq, Eq)]
+#[derive(Clone, Copy)]
 pub enum Keyword {
     /// `is`
     Is,

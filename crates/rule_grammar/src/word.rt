@@ -1,9 +1,9 @@
 // The fixed words of the language.
 ghost use Rattle.std.specs.Prelude.{◌≡◌};
-ghost use Rattle.rule_grammar.specs.Words.{spelling};
+ghost use Rattle.rule_grammar.specs.FixedWords.{spelling};
 
 /// A fixed word: the first word of a form, or one that is wanted behind it.
-#[derive(Clone, Copy, Debug, PartialEq, Eq)]
+#[derive(Clone, Copy)]
 pub enum Word {
     /// `on`
     On,

@@ -1,15 +1,16 @@
 // Actions of a body.
 ghost use Rattle.std.specs.Prelude.{◌≡◌, IfOk};
 ghost use Rattle.rule_lines.specs.Acts.{act_of};
+ghost use Rattle.rule_lines.specs.Acts as acts;
 
-use crate::op::copy_operand;
+use crate::op_copy::maybe_node;
 use crate::{Op, Vals};
 use ce_base::NoMemory;
 use rule_tokens::{Operand, Val};
 use std::alloc::Global;
 
 /// An action of a body. A contract sees it as an act, which has no boxes.
-#[derive(Debug, Drop)]
+#[derive(Drop)]
 pub enum Action {
     /// An operation.
     Both(Op),
@@ -37,6 +38,38 @@ pub enum Action {
     },
 }
 
+fn two_values(alloc: Global, left: &Val, right: &Val) -> Result<(Val, Val), NoMemory>
+    ensures left { IfOk result (λ x. x.0 ≡ left.now) }
+    ensures right { IfOk result (λ x. x.1 ≡ right.now) }
+{
+    Ok((left.copy(alloc)?, right.copy(alloc)?))
+}
+
+fn boxed(alloc: Global, action: Action) -> Result<Box<Action>, NoMemory>
+    ensures { IfOk result (λ x. x.value ≡ action) }
+{
+    Ok(Box::new(alloc, action)?)
+}
+
+fn compared(
+    alloc: Global,
+    equal: bool,
+    left: &Val,
+    right: &Val,
+    then: Action,
+) -> Result<Action, NoMemory>
+    ensures { IfOk result (λ x. act_of x ≡ acts.If equal left.now right.now (act_of then)) }
+{
+    let then = boxed(alloc, then)?;
+    let (left, right) = two_values(alloc, left, right)?;
+    Ok(Action::If {
+        equal,
+        left,
+        right,
+        then,
+    })
+}
+
 impl Action {
     /// A second action that does the same.
     pub fn copy(&self, alloc: Global) -> Result<Action, NoMemory>
@@ -46,30 +79,17 @@ impl Action {
             Action::Both(op) => Ok(Action::Both(op.copy(alloc)?)),
             Action::Log(vals) => Ok(Action::Log(vals.copy(alloc)?)),
             Action::Super => Ok(Action::Super),
-            Action::Return(node) => Ok(Action::Return(copy_operand(alloc, node)?)),
+            Action::Return(node) => Ok(Action::Return(maybe_node(alloc, node)?)),
             Action::Throw(value) => Ok(Action::Throw(value.copy(alloc)?)),
             Action::Bump => Ok(Action::Bump),
             Action::Keep(value) => Ok(Action::Keep(value.copy(alloc)?)),
-            Action::Try(inner) => {
-                let inner = inner.copy(alloc)?;
-                Ok(Action::Try(Box::new(alloc, inner)?))
-            }
+            Action::Try(inner) => Ok(Action::Try(boxed(alloc, inner.copy(alloc)?)?)),
             Action::If {
                 equal,
                 left,
                 right,
                 then,
-            } => {
-                let left = left.copy(alloc)?;
-                let right = right.copy(alloc)?;
-                let then = then.copy(alloc)?;
-                Ok(Action::If {
-                    equal: *equal,
-                    left,
-                    right,
-                    then: Box::new(alloc, then)?,
-                })
-            }
+            } => compared(alloc, *equal, left, right, then.copy(alloc)?),
         }
     }
 }

@@ -5,6 +5,7 @@ mod action;
 mod ask_word;
 mod line;
 mod op;
+mod op_copy;
 mod vals;
 
 pub use action::Action;

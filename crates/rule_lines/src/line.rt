@@ -4,7 +4,7 @@ use ce_base::{Text, Texts};
 use rule_tokens::{CallName, Operand};
 
 /// A line of a script, as it was read.
-#[derive(Debug, Drop)]
+#[derive(Drop)]
 pub enum Line {
     /// Spaces alone, nothing, or a comment.
     Blank,
@@ -15,7 +15,7 @@ pub enum Line {
 }
 
 /// A command: what may stand at top level.
-#[derive(Debug, Drop)]
+#[derive(Drop)]
 pub enum Cmd {
     /// An operation.
     Both(Op),
@@ -38,7 +38,7 @@ pub enum Cmd {
 }
 
 /// A part of a class.
-#[derive(Debug, Drop)]
+#[derive(Drop)]
 pub enum ClassPart {
     /// `class name`: a class without callbacks.
     Class(Text),

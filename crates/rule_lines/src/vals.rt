@@ -7,7 +7,7 @@ use std::alloc::Global;
 use std::marker::Model;
 
 /// A list of values.
-#[derive(Debug, Drop)]
+#[derive(Drop)]
 pub struct Vals {
     items: Vec<Val>,
 }

@@ -11,8 +11,8 @@ use Rattle.rule_tokens.specs.declared.operand.Val.TheVariants.{Count}
 use Rattle.rule_lines.specs.declared.ask_word.AskWord.{AskWord}
 use Rattle.rule_lines.specs.declared.ask_word.AskWord.TheVariants as asks
 use Rattle.rule_lines.specs.declared.op.Op.TheVariants as ops
-use Rattle.rule_grammar.specs.declared.got.Got.{Got}
-use Rattle.rule_grammar.specs.declared.got.Got.TheVariants as gots
+use Rattle.rule_grammar.specs.declared.read_as.ReadAs.{ReadAs}
+use Rattle.rule_grammar.specs.declared.read_as.ReadAs.TheVariants as read_as
 use Rattle.rule_grammar.specs.declared.word.Word.{Word}
 use Rattle.rule_grammar.specs.declared.word.Word.TheVariants as words
 use Rattle.rule_reader.specs.declared.form.Leaf.{Leaf}
@@ -20,77 +20,77 @@ use Rattle.rule_reader.specs.declared.form.Leaf.TheVariants as leaves
 use Rattle.rule_reader.specs.declared.form.Wrap.{Wrap}
 use Rattle.rule_reader.specs.declared.form.Wrap.TheVariants as wraps
 use Rattle.rule_reader.specs.declared.pieces.Form.{Form}
-use Rattle.rule_reader.specs.Gots.{pairs, named, ask_as, leaf_gots, wraps_gots}
+use Rattle.rule_reader.specs.AsRead.{pairs, named, ask_as, leaf_as_read, wraps_as_read}
 use Rattle.rule_reader.specs.Laws.{OperandsTellForms}
 use Rattle.rule_reader.specs.Pieces.{form}
 
 -- ---- one operand had back; another kind of operand gives something of the wanted kind
 
-abbrev variable_in : Got → List ℕ
-variable_in (gots.Variable x) = x
+abbrev variable_in : ReadAs → List ℕ
+variable_in (read_as.Variable x) = x
 variable_in _ = []
 
-abbrev node_in : Got → Operand
-node_in (gots.Node x) = x
+abbrev node_in : ReadAs → Operand
+node_in (read_as.Node x) = x
 node_in _ = Doc
 
-abbrev class_in : Got → List ℕ
-class_in (gots.Class x) = x
+abbrev class_in : ReadAs → List ℕ
+class_in (read_as.Class x) = x
 class_in _ = []
 
-abbrev chars_in : Got → List ℕ
-chars_in (gots.Chars x) = x
+abbrev chars_in : ReadAs → List ℕ
+chars_in (read_as.Chars x) = x
 chars_in _ = []
 
-abbrev value_in : Got → Val
-value_in (gots.Value x) = x
+abbrev value_in : ReadAs → Val
+value_in (read_as.Value x) = x
 value_in _ = Count
 
-abbrev flags_in : Flags → Got → Flags
-flags_in other (gots.Flags x) = x
+abbrev flags_in : Flags → ReadAs → Flags
+flags_in other (read_as.Flags x) = x
 flags_in other _ = other
 
-abbrev callback_in : Got → CallName
-callback_in (gots.Callback x) = x
+abbrev callback_in : ReadAs → CallName
+callback_in (read_as.Callback x) = x
 callback_in _ = Constructor
 
-abbrev word_in : Got → Word
-word_in (gots.Word x) = x
+abbrev word_in : ReadAs → Word
+word_in (read_as.Word x) = x
 word_in _ = words.Colon
 
-abbrev maybe_chars : Got → Option (List ℕ)
-maybe_chars (gots.Chars x) = Some x
+abbrev maybe_chars : ReadAs → Option (List ℕ)
+maybe_chars (read_as.Chars x) = Some x
 maybe_chars _ = None
 
-abbrev maybe_node : Got → Option Operand
-maybe_node (gots.Node x) = Some x
+abbrev maybe_node : ReadAs → Option Operand
+maybe_node (read_as.Node x) = Some x
 maybe_node _ = None
 
-abbrev maybe_value : Got → Option Val
-maybe_value (gots.Value x) = Some x
+abbrev maybe_value : ReadAs → Option Val
+maybe_value (read_as.Value x) = Some x
 maybe_value _ = None
 
-abbrev marked_in : Got → Bool
-marked_in gots.There = true
+abbrev marked_in : ReadAs → Bool
+marked_in read_as.There = true
 marked_in _ = false
 
 -- ---- operands by their places
 
-abbrev at0 : List Got → Got
-at0 [] = gots.NotThere
+abbrev at0 : List ReadAs → ReadAs
+at0 [] = read_as.NotThere
 at0 (g ∷ gs) = g
 
-abbrev rest : List Got → List Got
+abbrev rest : List ReadAs → List ReadAs
 rest [] = []
 rest (g ∷ gs) = gs
 
-abbrev at1 : List Got → Got
+abbrev at1 : List ReadAs → ReadAs
 at1 gs = at0 (rest gs)
 
-abbrev at2 : List Got → Got
+abbrev at2 : List ReadAs → ReadAs
 at2 gs = at1 (rest gs)
 
-abbrev at3 : List Got → Got
+abbrev at3 : List ReadAs → ReadAs
 at3 gs = at2 (rest gs)
 
 -- ---- words
@@ -121,27 +121,27 @@ asked_in _ = asks.States
 
 -- ---- lists of operands
 
-abbrev entries_in : List Got → List Entry
+abbrev entries_in : List ReadAs → List Entry
 entries_in [] = []
 entries_in (g ∷ []) = []
 entries_in (g ∷ h ∷ gs) = record { name = chars_in g; value = chars_in h } ∷ entries_in gs
 
-abbrev named_in : List Got → Option (List ℕ)
+abbrev named_in : List ReadAs → Option (List ℕ)
 named_in [] = None
 named_in (g ∷ gs) = Some (chars_in g)
 
 -- ---- forms, of the operands behind the first word
 
-abbrev state_in : Word → List Got → Leaf
+abbrev state_in : Word → List ReadAs → Leaf
 state_in words.Add gs = leaves.Both (ops.StateAdd (node_in (at0 gs)) (chars_in (at2 gs)))
 state_in words.Delete gs = leaves.Both (ops.StateDelete (node_in (at0 gs)) (chars_in (at2 gs)))
 state_in _ gs = leaves.Both (ops.StateClear (node_in (at0 gs)))
 
-abbrev disable_in : Word → List Got → Leaf
+abbrev disable_in : Word → List ReadAs → Leaf
 disable_in words.Shadow gs = leaves.DisableShadow (class_in (at0 gs))
 disable_in _ gs = leaves.DisableInternals (class_in (at0 gs))
 
-abbrev user_in : Word → List Got → Leaf
+abbrev user_in : Word → List ReadAs → Leaf
 user_in words.Edit gs = leaves.UserEdit (node_in (at1 gs)) (value_in (at2 gs))
 user_in words.Check gs = leaves.UserCheck (node_in (at1 gs)) (is_on (word_in (at2 gs)))
 user_in words.Choose gs = leaves.UserChoose (node_in (at1 gs)) (is_on (word_in (at2 gs)))
@@ -150,7 +150,7 @@ user_in words.Restore gs = leaves.UserRestore (node_in (at1 gs)) (value_in (at2 
 user_in words.Autofill gs = leaves.UserAutofill (node_in (at1 gs)) (value_in (at2 gs))
 user_in _ gs = leaves.UserPress (node_in (at1 gs))
 
-abbrev leaf_in : Flags → Word → List Got → Leaf
+abbrev leaf_in : Flags → Word → List ReadAs → Leaf
 leaf_in other words.Create gs = leaves.Both (ops.Create (variable_in (at0 gs)) (chars_in (at1 gs)) (maybe_chars (at2 gs)) (maybe_node (at3 gs)))
 leaf_in other words.New gs = leaves.Both (ops.New (variable_in (at0 gs)) (class_in (at1 gs)))
 leaf_in other words.Text gs = leaves.Both (ops.MakeText (variable_in (at0 gs)) (chars_in (at1 gs)) (maybe_node (at2 gs)))
@@ -199,7 +199,7 @@ abbrev around_form : Wrap → Form → Form
 around_form w f = form (w ∷ f.wraps) f.leaf
 
 -- the form, of which there are so many pieces at most
-abbrev form_in : Flags → ℕ → List Got → Form
+abbrev form_in : Flags → ℕ → List ReadAs → Form
 form_in other zero gs = form [] leaves.Super
 form_in other (suc n) gs = elim (word_in (at0 gs)) [
   | words.On ↦ around_form (wraps.On (class_in (at1 gs)) (callback_in (at2 gs))) (form_in other n (rest (rest (rest (rest gs)))))
@@ -210,11 +210,11 @@ form_in other (suc n) gs = elim (word_in (at0 gs)) [
 
 -- ---- each is had back
 
-values_back : (vals : List Val) → map value_in (map gots.Value vals) ≡ vals
+values_back : (vals : List Val) → map value_in (map read_as.Value vals) ≡ vals
 values_back [] = refl
 values_back (v ∷ vals) = ap (λ (vs : List Val). v ∷ vs) (values_back vals)
 
-names_back : (names : List (List ℕ)) → map chars_in (map gots.Chars names) ≡ names
+names_back : (names : List (List ℕ)) → map chars_in (map read_as.Chars names) ≡ names
 names_back [] = refl
 names_back (n ∷ names) = ap (λ (ns : List (List ℕ)). n ∷ ns) (names_back names)
 
@@ -242,7 +242,7 @@ named_back : (name : Option (List ℕ)) → named_in (named name) ≡ name
 named_back None = refl
 named_back (Some name) = refl
 
-alone : (other : Flags) (n : ℕ) (leaf : Leaf) → form_in other (suc n) (leaf_gots leaf) ≡ form [] leaf
+alone : (other : Flags) (n : ℕ) (leaf : Leaf) → form_in other (suc n) (leaf_as_read leaf) ≡ form [] leaf
 alone other n (leaves.Both (ops.Create var local None None)) = refl
 alone other n (leaves.Both (ops.Create var local None (Some document))) = refl
 alone other n (leaves.Both (ops.Create var local (Some is_value) None)) = refl
@@ -311,7 +311,7 @@ alone other n (leaves.DisableInternals class) = refl
 fewer : (w : Wrap) (ws : List Wrap) (n : ℕ) → length (w ∷ ws) < suc n → length ws < n
 fewer w ws n small = omega (arith, small)
 
-back : (other : Flags) (n : ℕ) (ws : List Wrap) (leaf : Leaf) → length ws < n → form_in other n (wraps_gots ws (leaf_gots leaf)) ≡ form ws leaf
+back : (other : Flags) (n : ℕ) (ws : List Wrap) (leaf : Leaf) → length ws < n → form_in other n (wraps_as_read ws (leaf_as_read leaf)) ≡ form ws leaf
 back other zero ws leaf small = absurd (omega (arith, small))
 back other (suc n) [] leaf small = alone other n leaf
 back other (suc n) (wraps.On class call ∷ ws) leaf small = ap (around_form (wraps.On class call)) (back other n ws leaf (fewer (wraps.On class call) ws n small))

@@ -1,3 +1,4 @@
+pub mod FirstWords
 pub mod Joins
 pub mod Pairs
 pub mod Same

@@ -5,10 +5,10 @@ use Rattle.rule_tokens.specs.declared.refused.Bad.TheVariants as bad
 use Rattle.rule_tokens.specs.declared.operand.Val.{Val}
 use Rattle.rule_tokens.specs.declared.token.Token.{Token}
 use Rattle.rule_tokens.specs.Gives.{◌>>=◌}
-use Rattle.rule_tokens.specs.Operands.{is_word, class_name, value, call_name}
+use Rattle.rule_tokens.specs.OperandForms.{is_word, class_name, value, call_name}
 use Rattle.rule_grammar.specs.declared.word.Word.{Word}
 use Rattle.rule_grammar.specs.declared.word.Word.TheVariants as words
-use Rattle.rule_grammar.specs.Words.{spelling}
+use Rattle.rule_grammar.specs.FixedWords.{spelling}
 use Rattle.rule_reader.specs.declared.form.Wrap.{Wrap}
 use Rattle.rule_reader.specs.declared.form.Wrap.TheVariants as wraps
 use Rattle.rule_reader.specs.Takes.{take_one, behind}

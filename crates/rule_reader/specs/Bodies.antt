@@ -3,7 +3,7 @@ use Rattle.std.specs.Prelude.{List, Result, Ok}
 use Rattle.rule_tokens.specs.declared.refused.Bad.{Bad}
 use Rattle.rule_tokens.specs.declared.token.Token.{Token}
 use Rattle.rule_tokens.specs.Gives.{◌>>=◌}
-use Rattle.rule_tokens.specs.Operands.{node, value}
+use Rattle.rule_tokens.specs.OperandForms.{node, value}
 use Rattle.rule_reader.specs.declared.form.Leaf.{Leaf}
 use Rattle.rule_reader.specs.declared.form.Leaf.TheVariants as leaves
 use Rattle.rule_reader.specs.Takes.{next, take_one, maybe, up_to, ended}

@@ -6,11 +6,11 @@ use Rattle.rule_tokens.specs.declared.token.Token.{Token}
 use Rattle.rule_tokens.specs.declared.operand.Operand.{Operand}
 use Rattle.rule_tokens.specs.Flags.{flags}
 use Rattle.rule_tokens.specs.Gives.{◌>>=◌}
-use Rattle.rule_tokens.specs.Operands.{is_word, node, text, value}
+use Rattle.rule_tokens.specs.OperandForms.{is_word, node, text, value}
 use Rattle.rule_lines.specs.declared.op.Op.TheVariants as ops
 use Rattle.rule_grammar.specs.declared.keyword.Keyword.TheVariants as keywords
 use Rattle.rule_grammar.specs.declared.word.Word.TheVariants as words
-use Rattle.rule_grammar.specs.Words.{spelling}
+use Rattle.rule_grammar.specs.FixedWords.{spelling}
 use Rattle.rule_reader.specs.declared.form.Leaf.{Leaf}
 use Rattle.rule_reader.specs.declared.form.Leaf.TheVariants as leaves
 use Rattle.rule_reader.specs.Takes.{next, take_one, optional, entries_up_to, ended}

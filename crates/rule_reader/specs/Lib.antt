@@ -5,7 +5,7 @@ pub mod Classes
 pub mod Controls
 pub mod CustomElements
 pub mod First
-pub mod Gots
+pub mod AsRead
 pub mod Internals
 pub mod Laws
 pub mod Leaves

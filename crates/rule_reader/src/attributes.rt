@@ -3,7 +3,7 @@ ghost use Rattle.rule_tokens.specs.Gives.{Gives};
 ghost use Rattle.rule_reader.specs.Attributes.{del_attr_of, set_attr_of};
 
 use crate::Leaf;
-use crate::operands::{ended, node_at, text_at, value_at};
+use crate::takes::{ended, node_at, text_at, value_at};
 use rule_lines::Op;
 use rule_tokens::{LineRefused, Token};
 use std::alloc::Global;

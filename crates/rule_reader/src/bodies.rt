@@ -3,7 +3,7 @@ ghost use Rattle.rule_tokens.specs.Gives.{Gives};
 ghost use Rattle.rule_reader.specs.Bodies.{base_call_of, bump_of, keep_of, log_of, return_form_of, throw_of};
 
 use crate::Leaf;
-use crate::operands::{ended, maybe_node, next, value_at, values};
+use crate::takes::{ended, maybe_node, next, value_at, values};
 use rule_tokens::{LineRefused, Token};
 use std::alloc::Global;
 

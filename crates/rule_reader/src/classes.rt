@@ -3,7 +3,7 @@ ghost use Rattle.rule_tokens.specs.Gives.{Gives};
 ghost use Rattle.rule_reader.specs.Classes.{associate_of, class_of, disable_of, disabled_of, has_of, observe_of};
 
 use crate::Leaf;
-use crate::operands::{call_at, class_at, ended, next, texts};
+use crate::takes::{call_at, class_at, ended, next, texts};
 use ce_base::Text;
 use rule_grammar::Word;
 use rule_tokens::{Bad, LineRefused, Token, is_word};

@@ -4,7 +4,7 @@ ghost use Rattle.rule_reader.specs.Controls.{ask_of, check_of, choose_of, reques
 ghost use Rattle.rule_reader.specs.Takes.{take_one};
 
 use crate::Leaf;
-use crate::operands::{ended, maybe_node, next, node_at, on_off_at, text_at, value_at};
+use crate::takes::{ended, maybe_node, next, node_at, on_off_at, text_at, value_at};
 use ce_base::Text;
 use rule_lines::{AskWord, Op};
 use rule_tokens::{Bad, LineRefused, Token};

@@ -3,7 +3,7 @@ ghost use Rattle.rule_tokens.specs.Gives.{Gives};
 ghost use Rattle.rule_reader.specs.CustomElements.{define_of, upgrade_of};
 
 use crate::Leaf;
-use crate::operands::{class_at, ended, node_at, optional_text, text_at};
+use crate::takes::{class_at, ended, node_at, optional_text, text_at};
 use rule_grammar::Keyword;
 use rule_lines::Op;
 use rule_tokens::{LineRefused, Token};

@@ -1,12 +1,11 @@
-// The first words of forms.
+// The first words of forms, in four parts, since a match of so many texts is long.
 ghost use Rattle.std.specs.Prelude.{◌≡◌};
-ghost use Rattle.rule_reader.specs.First.{first_named};
+ghost use Rattle.rule_reader.specs.First.{body_words, class_words, control_words, first_named, page_words, word_in};
 
 use rule_grammar::Word;
 
-/// The form's first word with this text.
-pub(crate) fn first_named(text: &str) -> Option<Word>
-    ensures { result ≡ first_named text.now }
+fn page_word(text: &str) -> Option<Word>
+    ensures { result ≡ word_in page_words text.now }
 {
     match text {
         "create" => Some(Word::Create),
@@ -23,6 +22,14 @@ pub(crate) fn first_named(text: &str) -> Option<Word>
         "adopt" => Some(Word::Adopt),
         "define" => Some(Word::Define),
         "upgrade" => Some(Word::Upgrade),
+        _ => None,
+    }
+}
+
+fn control_word(text: &str) -> Option<Word>
+    ensures { result ≡ word_in control_words text.now }
+{
+    match text {
         "reset" => Some(Word::Reset),
         "internals" => Some(Word::Internals),
         "formvalue" => Some(Word::FormValue),
@@ -38,6 +45,14 @@ pub(crate) fn first_named(text: &str) -> Option<Word>
         "request" => Some(Word::Request),
         "ask" => Some(Word::Ask),
         "let" => Some(Word::Let),
+        _ => None,
+    }
+}
+
+fn body_word(text: &str) -> Option<Word>
+    ensures { result ≡ word_in body_words text.now }
+{
+    match text {
         "log" => Some(Word::Log),
         "super" => Some(Word::Super),
         "return" => Some(Word::Return),
@@ -46,6 +61,14 @@ pub(crate) fn first_named(text: &str) -> Option<Word>
         "keep" => Some(Word::Keep),
         "try" => Some(Word::Try),
         "if" => Some(Word::If),
+        _ => None,
+    }
+}
+
+fn class_word(text: &str) -> Option<Word>
+    ensures { result ≡ word_in class_words text.now }
+{
+    match text {
         "class" => Some(Word::Class),
         "on" => Some(Word::On),
         "has" => Some(Word::Has),
@@ -56,4 +79,14 @@ pub(crate) fn first_named(text: &str) -> Option<Word>
         "user" => Some(Word::User),
         _ => None,
     }
+}
+
+/// The form's first word with this text.
+pub(crate) fn first_named(text: &str) -> Option<Word>
+    ensures { result ≡ first_named text.now }
+{
+    page_word(text)
+        .or(control_word(text))
+        .or(body_word(text))
+        .or(class_word(text))
 }

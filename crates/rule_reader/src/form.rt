@@ -4,7 +4,7 @@ use rule_lines::{Op, Vals};
 use rule_tokens::{CallName, Operand, Val};
 
 /// A form up to the action after it.
-#[derive(Debug, Drop)]
+#[derive(Drop)]
 pub enum Wrap {
     /// `on class call : action`
     On { class: Text, call: CallName },
@@ -15,7 +15,7 @@ pub enum Wrap {
 }
 
 /// A form without an action after it.
-#[derive(Debug, Drop)]
+#[derive(Drop)]
 pub enum Leaf {
     /// An operation.
     Both(Op),

@@ -3,7 +3,7 @@ ghost use Rattle.rule_tokens.specs.Gives.{Gives};
 ghost use Rattle.rule_reader.specs.Internals.{custom_of, form_list_of, form_null_of, form_value_of, internals_of, state_add_of, state_change_of, state_clear_of, state_delete_of, state_of, validity_of};
 
 use crate::Leaf;
-use crate::operands::{ended, entries, flags_at, next, node_at, optional_value, text_at, value_at};
+use crate::takes::{ended, entries, flags_at, next, node_at, optional_value, text_at, value_at};
 use rule_grammar::{Keyword, Word};
 use rule_lines::Op;
 use rule_tokens::{Bad, LineRefused, Operand, Token, is_word};

@@ -12,8 +12,8 @@ mod form;
 mod internals;
 mod laws;
 mod leaves;
-mod operands;
 mod pieces;
+mod takes;
 mod tree;
 mod users;
 

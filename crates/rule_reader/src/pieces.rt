@@ -7,7 +7,7 @@ ghost use Rattle.rule_reader.specs.Pieces.{form_of, piece_at};
 use crate::around::{is_wrap, wrap_of};
 use crate::first::first_named;
 use crate::leaves::leaf_of;
-use crate::operands::next;
+use crate::takes::next;
 use crate::{Leaf, Wrap};
 use ce_base::NoMemory;
 use rule_grammar::Word;
@@ -16,7 +16,7 @@ use std::alloc::Global;
 use std::marker::Model;
 
 /// What stands around an action, from the outside in.
-#[derive(Debug, Drop)]
+#[derive(Drop)]
 pub struct Wraps {
     items: Vec<Wrap>,
 }
@@ -57,7 +57,7 @@ impl Wraps {
 }
 
 /// What a line says: a form without an action, and what stands around it.
-#[derive(Debug, Drop)]
+#[derive(Drop)]
 pub struct Form {
     /// What stands around the form, from the outside in.
     pub wraps: Wraps,
@@ -66,7 +66,7 @@ pub struct Form {
 }
 
 /// One piece of a line.
-#[derive(Debug, Drop)]
+#[derive(Drop)]
 pub(crate) enum Piece {
     /// What stands around the action behind it.
     Around(Wrap),

@@ -3,7 +3,7 @@ ghost use Rattle.rule_tokens.specs.Gives.{Gives};
 ghost use Rattle.rule_reader.specs.Tree.{adopt_of, append_of, before_of, clone_of, create_of, detach_of, doc_of, let_variable_of, make_text_of, new_of, remove_of, shadow_of};
 
 use crate::Leaf;
-use crate::operands::{
+use crate::takes::{
     class_at, ended, marked, node_at, optional_node, optional_text, text_at, variable_at,
 };
 use rule_grammar::Keyword;

@@ -3,7 +3,7 @@ ghost use Rattle.rule_tokens.specs.Gives.{Gives};
 ghost use Rattle.rule_reader.specs.Users.{autofill_of, check_of, choose_of, deed_of, edit_of, press_of, reset_of, restore_of, user_of};
 
 use crate::Leaf;
-use crate::operands::{ended, next, node_at, on_off_at, value_at};
+use crate::takes::{ended, next, node_at, on_off_at, value_at};
 use rule_grammar::Word;
 use rule_tokens::{Bad, LineRefused, Token, is_word};
 use std::alloc::Global;

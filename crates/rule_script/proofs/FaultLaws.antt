@@ -13,7 +13,7 @@ use Rattle.rule_grammar.specs.Laws.{IsAnswer}
 use Rattle.rule_grammar.specs.Read.{Reads, read_tokens}
 use Rattle.rule_grammar.specs.Whole.{IsForm, HasWrongWord, HasWrongNumber}
 use Rattle.rule_reader.specs.declared.pieces.Form.{Form}
-use Rattle.rule_reader.specs.Gots.{form_gots}
+use Rattle.rule_reader.specs.AsRead.{form_as_read}
 use Rattle.rule_reader.specs.Pieces.{form_of}
 use Rattle.rule_script.specs.Built.{is_built}
 use Rattle.rule_script.specs.Cases.{HasTokens, IsMisplaced, WrongWord, Case, grammar_order, RefusedFor}
@@ -85,7 +85,7 @@ module _ (below : Below) (limit : ℕ) (bytes : List ℕ) (ts : List Token) (to 
 
   -- the tokens are a form
   is_form : (f : Form) → form_of ts ≡ Ok f → IsForm ts
-  is_form f is = let same : read_tokens ts ≡ Ok (form_gots f) = below.table ts ∙ ap (λ (r : Result Form Bad). r >>= λ g. Ok (form_gots g)) is in subst (IsAnswer ts) same (below.forms ts)
+  is_form f is = let same : read_tokens ts ≡ Ok (form_as_read f) = below.table ts ∙ ap (λ (r : Result Form Bad). r >>= λ g. Ok (form_as_read g)) is in subst (IsAnswer ts) same (below.forms ts)
 
   misplaced : (f : Form) (b : Bad) → form_of ts ≡ Ok f → placed f ≡ Err b → FirstOf (Case limit bytes) grammar_order b
   misplaced f b is wrong = at (is_barred f) (said_of f) refl refl wrong
@@ -100,7 +100,7 @@ module _ (below : Below) (limit : ℕ) (bytes : List ℕ) (ts : List Token) (to 
     where
       at : (r : Result Form Bad) → form_of ts ≡ r → (r >>= placed) ≡ Err b → FirstOf (Case limit bytes) grammar_order b
       at (Ok f) is wrong = misplaced f b is wrong
-      at (Err c) is wrong = let same : c ≡ b = cc in no_form b (below.table ts ∙ (ap (λ (r : Result Form Bad). r >>= λ g. Ok (form_gots g)) is ∙ ap (λ (x : Bad). failed x) same))
+      at (Err c) is wrong = let same : c ≡ b = cc in no_form b (below.table ts ∙ (ap (λ (r : Result Form Bad). r >>= λ g. Ok (form_as_read g)) is ∙ ap (λ (x : Bad). failed x) same))
         where
           failed : Bad → Reads
           failed x = Err x

@@ -2,11 +2,11 @@
 use Rattle.std.proofs.Common.{◌≡◌, ℕ, Bool, true, false, ◌||◌, cond, List, [], ◌∷◌, map, Option, Some, None, refl}
 use Rattle.std.specs.List.{list_any}
 use Rattle.ce_base.specs.declared.entries.Entry.{Entry}
-use Rattle.rule_grammar.specs.declared.got.Got.TheVariants as gots
-use Rattle.rule_reader.specs.Gots.{part, mark, pairs, named}
+use Rattle.rule_grammar.specs.declared.read_as.ReadAs.TheVariants as read_as
+use Rattle.rule_reader.specs.AsRead.{part, mark, pairs, named}
 use Rattle.rule_script.specs.Place.{names_body}
 
-pub chars_name_nothing : (o : Option (List ℕ)) → names_body (part gots.Chars o) ≡ false
+pub chars_name_nothing : (o : Option (List ℕ)) → names_body (part read_as.Chars o) ≡ false
 chars_name_nothing None = refl
 chars_name_nothing (Some t) = refl
 
@@ -18,7 +18,7 @@ pub pairs_name_nothing : (entries : List Entry) → list_any names_body (pairs e
 pairs_name_nothing [] = refl
 pairs_name_nothing (e ∷ entries) = pairs_name_nothing entries
 
-pub texts_name_nothing : (texts : List (List ℕ)) → list_any names_body (map gots.Chars texts) ≡ false
+pub texts_name_nothing : (texts : List (List ℕ)) → list_any names_body (map read_as.Chars texts) ≡ false
 texts_name_nothing [] = refl
 texts_name_nothing (t ∷ texts) = texts_name_nothing texts
 

@@ -10,7 +10,7 @@ use Rattle.rule_lines.specs.Acts.{Said, Blank}
 use Rattle.rule_grammar.specs.Read.{Reads}
 use Rattle.rule_grammar.specs.Spells.{Spelled}
 use Rattle.rule_reader.specs.declared.pieces.Form.{Form}
-use Rattle.rule_reader.specs.Gots.{form_gots}
+use Rattle.rule_reader.specs.AsRead.{form_as_read}
 use Rattle.rule_reader.specs.Pieces.{form_of}
 use Rattle.rule_script.specs.Place.{said_of, is_barred, or_place, placed}
 use Rattle.rule_script.specs.Reading.{said_by, grammar_reading}
@@ -39,18 +39,18 @@ placed_again f x free said = rw (free, said) refl
 -- ---- the form of tokens
 
 abbrev reads_as : Form → Reads
-reads_as f = Ok (form_gots f)
+reads_as f = Ok (form_as_read f)
 
 -- what is read of the form is what its tokens spell
-pub form_spelled : Below → (ts : List Token) (f : Form) → form_of ts ≡ Ok f → Spelled ts (form_gots f)
-form_spelled below ts f is = (below.spelled ts (form_gots f)).1 (below.table ts ∙ ap (λ (r : Result Form Bad). r >>= λ g. reads_as g) is)
+pub form_spelled : Below → (ts : List Token) (f : Form) → form_of ts ≡ Ok f → Spelled ts (form_as_read f)
+form_spelled below ts f is = (below.spelled ts (form_as_read f)).1 (below.table ts ∙ ap (λ (r : Result Form Bad). r >>= λ g. reads_as g) is)
 
 -- tokens that spell a form are read as it
-pub spelled_form : Below → (ts : List Token) (f : Form) → Spelled ts (form_gots f) → form_of ts ≡ Ok f
-spelled_form below ts f spelled = at (form_of ts) (sym (below.table ts) ∙ (below.spelled ts (form_gots f)).0 spelled)
+pub spelled_form : Below → (ts : List Token) (f : Form) → Spelled ts (form_as_read f) → form_of ts ≡ Ok f
+spelled_form below ts f spelled = at (form_of ts) (sym (below.table ts) ∙ (below.spelled ts (form_as_read f)).0 spelled)
   where
-    at : (r : Result Form Bad) → (r >>= λ g. reads_as g) ≡ Ok (form_gots f) → r ≡ Ok f
-    at (Ok g) e = let same : form_gots g ≡ form_gots f = cc in ap Ok (below.tell g f same)
+    at : (r : Result Form Bad) → (r >>= λ g. reads_as g) ≡ Ok (form_as_read f) → r ≡ Ok f
+    at (Ok g) e = let same : form_as_read g ≡ form_as_read f = cc in ap Ok (below.tell g f same)
     at (Err b) e = absurd cc
 
 -- ---- a line

@@ -19,7 +19,7 @@ use Rattle.rule_reader.specs.declared.form.Leaf.TheVariants as leaves
 use Rattle.rule_reader.specs.declared.form.Wrap.{Wrap}
 use Rattle.rule_reader.specs.declared.form.Wrap.TheVariants as wraps
 use Rattle.rule_reader.specs.declared.pieces.Form.{Form}
-use Rattle.rule_reader.specs.Gots.{form_gots}
+use Rattle.rule_reader.specs.AsRead.{form_as_read}
 use Rattle.rule_script.specs.Below.{BelowWriting}
 use Rattle.rule_script.specs.Canonical.{CanBeSpelled, IsCanonical, SpellsWithin, ReadsWithin, ReadsBuilt}
 use Rattle.rule_script.specs.Place.{declared, nested, said_at_top, said_in_body, said_of, said_of_body, said_within}
@@ -115,7 +115,7 @@ said_as_form f x e = tokens_within f.wraps f.leaf x e
 
 -- ---- the canonical line
 
-canonical : BelowWriting → (f : Form) (x : Said) → said_of f ≡ Some x → said_tokens x ≡ canon_tokens (form_gots f)
+canonical : BelowWriting → (f : Form) (x : Said) → said_of f ≡ Some x → said_tokens x ≡ canon_tokens (form_as_read f)
 canonical below f x e = said_as_form f x e ∙ below.forms f
 
 pub is_canonical : BelowWriting → (x : Said) (text : List ℕ) → text ≡ as_line (said_tokens x) → IsCanonical x text
@@ -130,16 +130,16 @@ nothing_reads limit utf8 = rw (le-ltb limit zero (omega arith), is_utf8-from_IsU
 
 form_spells : BelowWriting → (ts : List Token) (x : Said) → SpellsForm ts x → (text : List ℕ) → text ≡ as_line (said_tokens x) → IsUtf8 text → AreTexts (said_tokens x) → SpellsWithin x text
 form_spells below ts x s text is utf8 texts limit short =
-    let tokens = canon_tokens (form_gots s.form) in
+    let tokens = canon_tokens (form_as_read s.form) in
     let same : said_tokens x ≡ tokens = canonical below s.form x s.says in
     let line : text ≡ as_line tokens = is ∙ ap as_line same in
-    let clean = below.clean ts (form_gots s.form) s.spelled (subst AreTexts same texts) in
+    let clean = below.clean ts (form_as_read s.form) s.spelled (subst AreTexts same texts) in
     let reads : tokens_of limit text ≡ Ok (Some tokens) =
     ap (tokens_of limit) line ∙ below.written limit tokens clean.0 clean.1 (subst IsUtf8 line utf8) (subst (λ (l : List ℕ). length l ≤ limit) line short) in
     record {
       tokens = Some tokens;
       laid_out = subst (IsAnswer limit text) reads (below.read.answered limit text);
-      spelled = record { form = s.form; spelled = below.canonical ts (form_gots s.form) s.spelled; free = s.free; says = s.says };
+      spelled = record { form = s.form; spelled = below.canonical ts (form_as_read s.form) s.spelled; free = s.free; says = s.says };
     }
 
 blank_spells : BelowWriting → (x : Said) → x ≡ Blank → (text : List ℕ) → text ≡ as_line (said_tokens x) → IsUtf8 text → SpellsWithin x text

@@ -5,7 +5,7 @@ use Rattle.rule_tokens.specs.Spaced.{as_line}
 use Rattle.rule_lines.specs.Acts.{Said, Blank}
 use Rattle.rule_grammar.specs.Canon.{canon_tokens}
 use Rattle.rule_reader.specs.declared.pieces.Form.{Form}
-use Rattle.rule_reader.specs.Gots.{form_gots}
+use Rattle.rule_reader.specs.AsRead.{form_as_read}
 use Rattle.rule_script.specs.Built.{is_built}
 use Rattle.rule_script.specs.Place.{said_of}
 use Rattle.rule_script.specs.Reading.{grammar_reading, longest, reading}
@@ -17,7 +17,7 @@ CanBeSpelled x = (tokens : Option (List Token)) × SpellsBy tokens x
 
 -- the canonical tokens of the form, with one space between them
 abbrev pub canonical_line : Form → List ℕ
-canonical_line f = as_line (canon_tokens (form_gots f))
+canonical_line f = as_line (canon_tokens (form_as_read f))
 
 -- the text is the canonical line of what says this; a blank line's is empty
 abbrev pub IsCanonical : Said → List ℕ → Type 0

@@ -9,7 +9,7 @@ use Rattle.rule_lines.specs.Acts.{Said}
 use Rattle.rule_grammar.specs.Spells.{Spelled}
 use Rattle.rule_grammar.specs.Whole.{IsForm, HasWrongWord, HasWrongNumber}
 use Rattle.rule_reader.specs.declared.pieces.Form.{Form}
-use Rattle.rule_reader.specs.Gots.{form_gots}
+use Rattle.rule_reader.specs.AsRead.{form_as_read}
 use Rattle.rule_script.specs.Built.{is_built}
 use Rattle.rule_script.specs.Place.{said_of, is_barred}
 use Rattle.rule_script.specs.Spells.{Spells}
@@ -21,7 +21,7 @@ HasTokens bytes AreSo = (ts : List Token) × (SaysLine (chars bytes) (Some ts) �
 -- the tokens are a form, which says nothing where it stands, or is barred there
 pub record IsMisplaced (ts : List Token) : Type 0 where
   pub form : Form
-  pub spelled : Spelled ts (form_gots form)
+  pub spelled : Spelled ts (form_as_read form)
   pub wrong : (said_of form ≡ None) ⊎ (is_barred form ≡ true)
 
 -- a control character or a bare backslash stands in the line; or the first word is none of the table, or a token does

@@ -13,14 +13,14 @@ use Rattle.rule_tokens.specs.declared.refused.Bad.TheVariants as bad
 use Rattle.rule_lines.specs.declared.line.Cmd.TheVariants as commands
 use Rattle.rule_lines.specs.Acts.{Act, Said, Command, Declares}
 use Rattle.rule_lines.specs.Acts as acts
-use Rattle.rule_grammar.specs.declared.got.Got.{Got}
-use Rattle.rule_grammar.specs.declared.got.Got.TheVariants as gots
+use Rattle.rule_grammar.specs.declared.read_as.ReadAs.{ReadAs}
+use Rattle.rule_grammar.specs.declared.read_as.ReadAs.TheVariants as read_as
 use Rattle.rule_reader.specs.declared.form.Leaf.{Leaf}
 use Rattle.rule_reader.specs.declared.form.Leaf.TheVariants as leaves
 use Rattle.rule_reader.specs.declared.form.Wrap.{Wrap}
 use Rattle.rule_reader.specs.declared.form.Wrap.TheVariants as wraps
 use Rattle.rule_reader.specs.declared.pieces.Form.{Form}
-use Rattle.rule_reader.specs.Gots.{leaf_gots}
+use Rattle.rule_reader.specs.AsRead.{leaf_as_read}
 
 -- ---- what a form says
 
@@ -90,14 +90,14 @@ is_of_body (values.Fixed text) = false
 is_of_body _ = true
 
 -- `this`, or a value with @
-abbrev pub names_body : Got → Bool
-names_body (gots.Node target) = is_this target
-names_body (gots.Value val) = is_of_body val
+abbrev pub names_body : ReadAs → Bool
+names_body (read_as.Node target) = is_this target
+names_body (read_as.Value val) = is_of_body val
 names_body _ = false
 
 -- some operand is `this` or a value with @
 abbrev pub has_body_operand : Leaf → Bool
-has_body_operand leaf = list_any names_body (leaf_gots leaf)
+has_body_operand leaf = list_any names_body (leaf_as_read leaf)
 
 abbrev pub is_base_call : Leaf → Bool
 is_base_call leaves.Super = true

@@ -5,14 +5,14 @@ use Rattle.rule_tokens.specs.Cases.{ReadsTo}
 use Rattle.rule_lines.specs.Acts.{Said, Blank}
 use Rattle.rule_grammar.specs.Spells.{Spelled}
 use Rattle.rule_reader.specs.declared.pieces.Form.{Form}
-use Rattle.rule_reader.specs.Gots.{form_gots}
+use Rattle.rule_reader.specs.AsRead.{form_as_read}
 use Rattle.rule_script.specs.Built.{is_built}
 use Rattle.rule_script.specs.Place.{said_of, is_barred}
 
 -- the tokens are a form of the table, the form may stand where it stands, and says this
 pub record SpellsForm (ts : List Token) (x : Said) : Type 0 where
   pub form : Form
-  pub spelled : Spelled ts (form_gots form)
+  pub spelled : Spelled ts (form_as_read form)
   pub free : is_barred form ≡ false
   pub says : said_of form ≡ Some x
 

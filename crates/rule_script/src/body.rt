@@ -128,16 +128,35 @@ pub(crate) fn nest(alloc: Global, inner: &[Wrap], action: Action) -> Result<Acti
     }
 }
 
+// Lets the action go, since memory is refused.
+fn without_memory(action: Action) -> LineRefused
+    ensures { result ≡ LineRefused.NoMemory }
+{
+    drop(action);
+    LineRefused::NoMemory
+}
+
+// Lets the action go, since it may not stand there.
+fn misplaced(action: Action) -> LineRefused
+    ensures { result ≡ LineRefused.Bad Bad.Place }
+{
+    drop(action);
+    LineRefused::Bad(Bad::Place)
+}
+
 /// The part of a class that gives the action to a body.
 pub(crate) fn declared(alloc: Global, outer: &Wrap, action: Action) -> Result<Line, LineRefused>
     ensures { GivesSeen line_of result (or_place (declared outer.now (act_of action))) }
 {
     match outer {
-        Wrap::On { class, call } => Ok(Line::Part(ClassPart::On {
-            class: class.copy(alloc)?,
-            call: *call,
-            action,
-        })),
-        Wrap::Try | Wrap::If { .. } => Err(LineRefused::Bad(Bad::Place)),
+        Wrap::On { class, call } => match class.copy(alloc) {
+            Ok(class) => Ok(Line::Part(ClassPart::On {
+                class,
+                call: *call,
+                action,
+            })),
+            Err(_) => Err(without_memory(action)),
+        },
+        Wrap::Try | Wrap::If { .. } => Err(misplaced(action)),
     }
 }

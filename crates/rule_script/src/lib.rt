@@ -2,21 +2,14 @@
 #![tactic(auto)]
 
 mod body;
+mod body_operands;
 mod built;
-mod operands;
 mod place;
 mod reading;
 mod top;
 mod writing;
 
-pub use reading::read_line;
+pub use reading::{grammar_line, read_line};
 pub use rule_lines::{Action, AskWord, ClassPart, Cmd, Line, Op, Vals};
 pub use rule_tokens::{Bad, CallName, CallOrUpgrade, LineRefused, Operand, Val};
 pub use writing::write_line;
-
-#[cfg(test)]
-mod line_tests;
-#[cfg(test)]
-mod tests;
-#[cfg(test)]
-mod write_tests;

@@ -45,7 +45,7 @@ fn said(alloc: Global, limit: usize, bytes: &[u8]) -> Result<Line, LineRefused>
 }
 
 /// Reads a line of at most so many bytes by the whole grammar, also what is not built yet.
-pub(crate) fn grammar_line(alloc: Global, limit: usize, bytes: &[u8]) -> Result<Line, LineRefused>
+pub fn grammar_line(alloc: Global, limit: usize, bytes: &[u8]) -> Result<Line, LineRefused>
     // What is read is spelled so.
     ensures found { IfOk result (λ x. Spells limit bytes.now (line_of x)) }
 

@@ -7,7 +7,7 @@ pub mod FlagsText
 pub mod Gives
 pub mod Laws
 pub mod Layout
-pub mod Operands
+pub mod OperandForms
 pub mod Quoted
 pub mod Signs
 pub mod Spaced

@@ -6,7 +6,7 @@ use std::alloc::Global;
 use std::marker::Model;
 
 /// A list of characters. A contract sees it as the list of their code points.
-#[derive(Debug, Drop)]
+#[derive(Drop)]
 pub struct Chars {
     items: Vec<char>,
 }

@@ -1,7 +1,7 @@
 // Cuts a line at its spaces, and knows what stands between quotes.
-ghost use Rattle.std.specs.Prelude.{◌≡◌, ℕ, List};
+ghost use Rattle.std.specs.Prelude.{◌≡◌, ℕ, List, []};
 ghost use Rattle.rule_tokens.specs.Cut.{cut, CutStep};
-ghost use Rattle.rule_tokens.specs.Gives.{GivesSeen};
+ghost use Rattle.rule_tokens.specs.Gives.{GivesSeen, with_front};
 ghost use Rattle.rule_tokens.specs.declared.cutting.Within.TheVariants.{Gap};
 
 use crate::chars::Chars;
@@ -9,7 +9,7 @@ use crate::{Bad, LineRefused};
 use std::alloc::Global;
 
 /// A token as it stands in the line, without its quotes.
-#[derive(Debug, Drop)]
+#[derive(Drop)]
 pub struct Raw {
     /// It stands in quotes.
     pub quoted: bool,
@@ -18,7 +18,7 @@ pub struct Raw {
 }
 
 /// Within what a character stands, with what came of its token before it.
-#[derive(Debug, Drop)]
+#[derive(Drop)]
 pub enum Within {
     /// Between tokens.
     Gap,
@@ -89,16 +89,11 @@ fn step(alloc: Global, done: &mut Vec<Raw>, within: Within, c: char) -> Result<W
     }
 }
 
-/// The tokens of a line as they stand in it, from left to right.
+// The last token, where the line ends within it.
 #[tactic(auto, unfolding(crate::specs::Cut::cut))]
-pub(crate) fn cut(alloc: Global, line: &[char]) -> Result<Vec<Raw>, LineRefused>
-    ensures { GivesSeen (λ raws. raws.items) result (cut line.now Gap) }
+fn closed(mut done: Vec<Raw>, within: Within) -> Result<Vec<Raw>, LineRefused>
+    ensures { GivesSeen (λ raws. raws.items) result (with_front done.items (cut [] within)) }
 {
-    let mut done = Vec::new(alloc);
-    let mut within = Within::Gap;
-    for c in line {
-        within = step(alloc, &mut done, within, *c)?;
-    }
     match within {
         Within::Gap => Ok(done),
         Within::Closed => Ok(done),
@@ -112,4 +107,17 @@ pub(crate) fn cut(alloc: Global, line: &[char]) -> Result<Vec<Raw>, LineRefused>
         Within::Quoted(_) => Err(LineRefused::Bad(Bad::Quote)),
         Within::Protected(_) => Err(LineRefused::Bad(Bad::Quote)),
     }
+}
+
+/// The tokens of a line as they stand in it, from left to right.
+#[tactic(auto, unfolding(crate::specs::Cut::cut))]
+pub(crate) fn cut(alloc: Global, line: &[char]) -> Result<Vec<Raw>, LineRefused>
+    ensures { GivesSeen (λ raws. raws.items) result (cut line.now Gap) }
+{
+    let mut done = Vec::new(alloc);
+    let mut within = Within::Gap;
+    for c in line {
+        within = step(alloc, &mut done, within, *c)?;
+    }
+    closed(done, within)
 }

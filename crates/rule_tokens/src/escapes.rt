@@ -9,7 +9,7 @@ use crate::{Bad, LineRefused};
 use std::alloc::Global;
 
 /// Where in an escape a character stands.
-#[derive(Debug, Drop)]
+#[derive(Drop)]
 pub enum InEscape {
     /// In none.
     Outside,

@@ -3,17 +3,17 @@ use Rattle.std.proofs.Common.{◌≡◌, ◌≤◌, ◌<◌, ℕ, zero, suc, len
 use Rattle.rule_lines.specs.declared.ask_word.AskWord.TheVariants as asks
 use Rattle.rule_lines.specs.declared.op.Op.TheVariants as ops
 use Rattle.rule_tokens.specs.declared.token.Token.{Token}
-use Rattle.rule_grammar.specs.declared.got.Got.{Got}
+use Rattle.rule_grammar.specs.declared.read_as.ReadAs.{ReadAs}
 use Rattle.rule_grammar.specs.Canon.{canon_within}
 use Rattle.rule_reader.specs.declared.form.Leaf.{Leaf}
 use Rattle.rule_reader.specs.declared.form.Leaf.TheVariants as leaves
 use Rattle.rule_reader.specs.declared.form.Wrap.{Wrap}
 use Rattle.rule_reader.specs.declared.form.Wrap.TheVariants as wraps
-use Rattle.rule_reader.specs.Gots.{leaf_gots, wrap_gots, wraps_gots, form_gots}
+use Rattle.rule_reader.specs.AsRead.{leaf_as_read, wrap_as_read, wraps_as_read, form_as_read}
 use Rattle.rule_writer.specs.Canon.{leaf_tokens, wrap_tokens, wraps_tokens}
 use Rattle.rule_writer.specs.Laws.{FormsAreCanonical}
 
-leaf_canon : (n : ℕ) (leaf : Leaf) → canon_within (suc n) (leaf_gots leaf) ≡ leaf_tokens leaf
+leaf_canon : (n : ℕ) (leaf : Leaf) → canon_within (suc n) (leaf_as_read leaf) ≡ leaf_tokens leaf
 leaf_canon n (leaves.Both (ops.Create var local is_value document)) = refl
 leaf_canon n (leaves.Both (ops.New var class)) = refl
 leaf_canon n (leaves.Both (ops.MakeText var chars document)) = refl
@@ -86,29 +86,29 @@ leaf_canon n (leaves.Observe class (name ∷ names)) = refl
 leaf_canon n (leaves.DisableShadow class) = refl
 leaf_canon n (leaves.DisableInternals class) = refl
 
-wrap_canon : (n : ℕ) (w : Wrap) (gs : List Got) → canon_within (suc n) (wrap_gots w ++ gs) ≡ wrap_tokens w ++ canon_within n gs
+wrap_canon : (n : ℕ) (w : Wrap) (gs : List ReadAs) → canon_within (suc n) (wrap_as_read w ++ gs) ≡ wrap_tokens w ++ canon_within n gs
 wrap_canon n (wraps.On class call) gs = refl
 wrap_canon n wraps.Try gs = refl
 wrap_canon n (wraps.If true left right) gs = refl
 wrap_canon n (wraps.If false left right) gs = refl
 
 -- an action is shorter than what stands around it with it
-wrap_long : (w : Wrap) (gs : List Got) → length gs < length (wrap_gots w ++ gs)
+wrap_long : (w : Wrap) (gs : List ReadAs) → length gs < length (wrap_as_read w ++ gs)
 wrap_long (wraps.On class call) gs = omega arith
 wrap_long wraps.Try gs = omega arith
 wrap_long (wraps.If equal left right) gs = omega arith
 
 -- what holds within one more holds within the length
-long_enough : (gs : List Got) (ts : List Token) → ((n : ℕ) → canon_within (suc n) gs ≡ ts) → (n : ℕ) → length gs ≤ n → canon_within n gs ≡ ts
+long_enough : (gs : List ReadAs) (ts : List Token) → ((n : ℕ) → canon_within (suc n) gs ≡ ts) → (n : ℕ) → length gs ≤ n → canon_within n gs ≡ ts
 long_enough [] ts same zero small = same zero
 long_enough (g ∷ gs) ts same zero small = absurd (omega (arith, small))
 long_enough gs ts same (suc n) small = same n
 
-wraps_canon : (ws : List Wrap) (leaf : Leaf) (n : ℕ) → length (wraps_gots ws (leaf_gots leaf)) ≤ n → canon_within n (wraps_gots ws (leaf_gots leaf)) ≡ wraps_tokens ws (leaf_tokens leaf)
-wraps_canon [] leaf n small = long_enough (leaf_gots leaf) (leaf_tokens leaf) (λ m. leaf_canon m leaf) n small
-wraps_canon (w ∷ ws) leaf zero small = absurd (omega (arith, small, wrap_long w (wraps_gots ws (leaf_gots leaf))))
+wraps_canon : (ws : List Wrap) (leaf : Leaf) (n : ℕ) → length (wraps_as_read ws (leaf_as_read leaf)) ≤ n → canon_within n (wraps_as_read ws (leaf_as_read leaf)) ≡ wraps_tokens ws (leaf_tokens leaf)
+wraps_canon [] leaf n small = long_enough (leaf_as_read leaf) (leaf_tokens leaf) (λ m. leaf_canon m leaf) n small
+wraps_canon (w ∷ ws) leaf zero small = absurd (omega (arith, small, wrap_long w (wraps_as_read ws (leaf_as_read leaf))))
 wraps_canon (w ∷ ws) leaf (suc n) small =
-    wrap_canon n w (wraps_gots ws (leaf_gots leaf)) ∙ ap (λ (ts : List Token). wrap_tokens w ++ ts) (wraps_canon ws leaf n (omega (arith, small, wrap_long w (wraps_gots ws (leaf_gots leaf)))))
+    wrap_canon n w (wraps_as_read ws (leaf_as_read leaf)) ∙ ap (λ (ts : List Token). wrap_tokens w ++ ts) (wraps_canon ws leaf n (omega (arith, small, wrap_long w (wraps_as_read ws (leaf_as_read leaf)))))
 
 pub forms_canonical : FormsAreCanonical
-forms_canonical f = sym (wraps_canon f.wraps f.leaf (length (form_gots f)) (omega arith))
+forms_canonical f = sym (wraps_canon f.wraps f.leaf (length (form_as_read f)) (omega arith))

@@ -8,7 +8,7 @@ use Rattle.rule_lines.specs.declared.line.Cmd.{Cmd}
 use Rattle.rule_lines.specs.declared.line.Cmd.TheVariants as commands
 use Rattle.rule_lines.specs.declared.op.Op.TheVariants as ops
 use Rattle.rule_grammar.specs.Canon.{all_tokens, keyed}
-use Rattle.rule_grammar.specs.declared.got.Got.TheVariants as gots
+use Rattle.rule_grammar.specs.declared.read_as.ReadAs.TheVariants as read_as
 use Rattle.rule_grammar.specs.declared.keyword.Keyword.TheVariants as keywords
 use Rattle.rule_grammar.specs.declared.word.Word.TheVariants as words
 use Rattle.rule_reader.specs.declared.form.Leaf.{Leaf}
@@ -16,21 +16,21 @@ use Rattle.rule_reader.specs.declared.form.Leaf.TheVariants as leaves
 use Rattle.rule_reader.specs.declared.form.Wrap.{Wrap}
 use Rattle.rule_reader.specs.declared.form.Wrap.TheVariants as wraps
 use Rattle.rule_reader.specs.declared.pieces.Form.{Form}
-use Rattle.rule_reader.specs.Gots.{mark, part, leaf_gots, wrap_gots}
+use Rattle.rule_reader.specs.AsRead.{mark, part, leaf_as_read, wrap_as_read}
 
 -- of a form without an action: those with keywords, and all others, each of whose operands has a token
 abbrev pub leaf_tokens : Leaf → List Token
 leaf_tokens (leaves.Both (ops.Create var local is_value document)) =
-    all_tokens (gots.Word words.Create ∷ gots.Variable var ∷ gots.Chars local ∷ []) ++ (keyed keywords.Is (part gots.Chars is_value) ++ (keyed keywords.In (part gots.Node document) ++ []))
-leaf_tokens (leaves.Both (ops.MakeText var chars document)) = all_tokens (gots.Word words.Text ∷ gots.Variable var ∷ gots.Chars chars ∷ []) ++ (keyed keywords.In (part gots.Node document) ++ [])
-leaf_tokens (leaves.Both (ops.Clone var place deep)) = all_tokens (gots.Word words.Clone ∷ gots.Variable var ∷ gots.Node place ∷ []) ++ (keyed keywords.Deep (mark deep) ++ [])
-leaf_tokens (leaves.Both (ops.Define name class base)) = all_tokens (gots.Word words.Define ∷ gots.Chars name ∷ gots.Class class ∷ []) ++ (keyed keywords.Extends (part gots.Chars base) ++ [])
-leaf_tokens (leaves.Both (ops.FormValue place val saved)) = all_tokens (gots.Word words.FormValue ∷ gots.Node place ∷ gots.Value val ∷ []) ++ (keyed keywords.State (part gots.Value saved) ++ [])
-leaf_tokens leaf = all_tokens (leaf_gots leaf)
+    all_tokens (read_as.Word words.Create ∷ read_as.Variable var ∷ read_as.Chars local ∷ []) ++ (keyed keywords.Is (part read_as.Chars is_value) ++ (keyed keywords.In (part read_as.Node document) ++ []))
+leaf_tokens (leaves.Both (ops.MakeText var chars document)) = all_tokens (read_as.Word words.Text ∷ read_as.Variable var ∷ read_as.Chars chars ∷ []) ++ (keyed keywords.In (part read_as.Node document) ++ [])
+leaf_tokens (leaves.Both (ops.Clone var place deep)) = all_tokens (read_as.Word words.Clone ∷ read_as.Variable var ∷ read_as.Node place ∷ []) ++ (keyed keywords.Deep (mark deep) ++ [])
+leaf_tokens (leaves.Both (ops.Define name class base)) = all_tokens (read_as.Word words.Define ∷ read_as.Chars name ∷ read_as.Class class ∷ []) ++ (keyed keywords.Extends (part read_as.Chars base) ++ [])
+leaf_tokens (leaves.Both (ops.FormValue place val saved)) = all_tokens (read_as.Word words.FormValue ∷ read_as.Node place ∷ read_as.Value val ∷ []) ++ (keyed keywords.State (part read_as.Value saved) ++ [])
+leaf_tokens leaf = all_tokens (leaf_as_read leaf)
 
 -- of what stands around an action
 abbrev pub wrap_tokens : Wrap → List Token
-wrap_tokens w = all_tokens (wrap_gots w)
+wrap_tokens w = all_tokens (wrap_as_read w)
 
 abbrev pub wraps_tokens : List Wrap → List Token → List Token
 wraps_tokens [] inside = inside

@@ -6,8 +6,8 @@ ghost use Rattle.rule_grammar.specs.Clean.{AreTexts};
 ghost use Rattle.rule_writer.specs.Canon.{act_tokens};
 
 use crate::op::put_op;
+use crate::operand_words::test;
 use crate::piece::{Piece, put_all};
-use crate::words::test;
 use ce_base::NoMemory;
 use rule_grammar::Word;
 use rule_lines::Action;

@@ -6,10 +6,10 @@ mod laws;
 mod line;
 mod many;
 mod op;
-mod operands;
+mod operand_text;
+mod operand_words;
 mod optional;
 mod piece;
-mod words;
 
 pub use laws::forms_are_canonical;
 pub use line::as_line;

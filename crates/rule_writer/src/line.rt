@@ -8,8 +8,8 @@ ghost use Rattle.rule_writer.specs.Canon.{command_tokens, part_tokens, said_toke
 
 use crate::action::put_action;
 use crate::op::put_op;
+use crate::operand_words::switch;
 use crate::piece::{Piece, put_all};
-use crate::words::switch;
 use ce_base::{NoMemory, Text};
 use rule_grammar::Word;
 use rule_lines::{ClassPart, Cmd, Line};

@@ -5,8 +5,8 @@ ghost use Rattle.rule_grammar.specs.Clean.{AreTexts};
 ghost use Rattle.rule_reader.specs.declared.form.Leaf.TheVariants as leaves;
 ghost use Rattle.rule_writer.specs.Canon.{leaf_tokens};
 
+use crate::operand_words::{ask_as, switch};
 use crate::piece::{Piece, put_all};
-use crate::words::{ask_as, switch};
 use ce_base::NoMemory;
 use rule_grammar::{Keyword, Word};
 use rule_lines::Op;

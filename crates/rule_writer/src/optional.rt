@@ -2,18 +2,18 @@
 ghost use Rattle.std.specs.Prelude.{◌≡◌, ◌++◌, OnOk, string_bytes};
 ghost use Rattle.rule_tokens.specs.Spaced.{spaced};
 ghost use Rattle.rule_grammar.specs.Canon.{keyed, tokens_of};
-ghost use Rattle.rule_grammar.specs.declared.got.Got.TheVariants as gots;
-ghost use Rattle.rule_reader.specs.Gots.{mark, part};
+ghost use Rattle.rule_grammar.specs.declared.read_as.ReadAs.TheVariants as read_as;
+ghost use Rattle.rule_reader.specs.AsRead.{mark, part};
 ghost use Rattle.rule_grammar.specs.Clean.{AreTexts};
 
-use crate::operands::{put_bare, put_node, put_text, put_value};
+use crate::operand_text::{put_bare, put_node, put_text, put_value};
 use ce_base::{NoMemory, Text};
 use rule_grammar::Keyword;
 use rule_tokens::{Operand, Val};
 use std::alloc::Global;
 
 pub(crate) fn put_some_node(out: &mut String, node: &Option<Operand>) -> Result<(), NoMemory>
-    ensures { OnOk result (string_bytes out.new ≡ string_bytes out.old ++ spaced (tokens_of (part gots.Node node.now))) }
+    ensures { OnOk result (string_bytes out.new ≡ string_bytes out.old ++ spaced (tokens_of (part read_as.Node node.now))) }
 {
     match node {
         None => Ok(()),
@@ -26,8 +26,8 @@ pub(crate) fn put_some_text(
     out: &mut String,
     text: &Option<Text>,
 ) -> Result<(), NoMemory>
-    ensures text { OnOk result (string_bytes out.new ≡ string_bytes out.old ++ spaced (tokens_of (part gots.Chars text.now))) }
-    ensures utf8 { OnOk result (AreTexts (tokens_of (part gots.Chars text.now))) }
+    ensures text { OnOk result (string_bytes out.new ≡ string_bytes out.old ++ spaced (tokens_of (part read_as.Chars text.now))) }
+    ensures utf8 { OnOk result (AreTexts (tokens_of (part read_as.Chars text.now))) }
 {
     match text {
         None => Ok(()),
@@ -50,8 +50,8 @@ pub(crate) fn put_keyed_text(
     word: Keyword,
     text: &Option<Text>,
 ) -> Result<(), NoMemory>
-    ensures text { OnOk result (string_bytes out.new ≡ string_bytes out.old ++ spaced (keyed word (part gots.Chars text.now))) }
-    ensures utf8 { OnOk result (AreTexts (keyed word (part gots.Chars text.now))) }
+    ensures text { OnOk result (string_bytes out.new ≡ string_bytes out.old ++ spaced (keyed word (part read_as.Chars text.now))) }
+    ensures utf8 { OnOk result (AreTexts (keyed word (part read_as.Chars text.now))) }
 {
     match text {
         None => Ok(()),
@@ -67,7 +67,7 @@ pub(crate) fn put_keyed_node(
     word: Keyword,
     node: &Option<Operand>,
 ) -> Result<(), NoMemory>
-    ensures { OnOk result (string_bytes out.new ≡ string_bytes out.old ++ spaced (keyed word (part gots.Node node.now))) }
+    ensures { OnOk result (string_bytes out.new ≡ string_bytes out.old ++ spaced (keyed word (part read_as.Node node.now))) }
 {
     match node {
         None => Ok(()),
@@ -84,8 +84,8 @@ pub(crate) fn put_keyed_value(
     word: Keyword,
     val: &Option<Val>,
 ) -> Result<(), NoMemory>
-    ensures text { OnOk result (string_bytes out.new ≡ string_bytes out.old ++ spaced (keyed word (part gots.Value val.now))) }
-    ensures utf8 { OnOk result (AreTexts (keyed word (part gots.Value val.now))) }
+    ensures text { OnOk result (string_bytes out.new ≡ string_bytes out.old ++ spaced (keyed word (part read_as.Value val.now))) }
+    ensures utf8 { OnOk result (AreTexts (keyed word (part read_as.Value val.now))) }
 {
     match val {
         None => Ok(()),

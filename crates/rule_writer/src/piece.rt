@@ -5,7 +5,7 @@ ghost use Rattle.rule_writer.specs.Pieces.{all_pieces, piece_tokens};
 ghost use Rattle.rule_grammar.specs.Clean.{AreTexts};
 
 use crate::many::{put_entries, put_texts, put_values};
-use crate::operands::{put_bare, put_flags, put_node, put_text, put_value, put_variable};
+use crate::operand_text::{put_bare, put_flags, put_node, put_text, put_value, put_variable};
 use crate::optional::{
     put_keyed_node, put_keyed_text, put_keyed_value, put_mark, put_some_node, put_some_text,
 };

@@ -5,7 +5,7 @@ ghost use Rattle.rule_tokens.specs.FlagsText.{flags_text};
 ghost use Rattle.rule_tokens.specs.Quoted.{in_quotes};
 ghost use Rattle.rule_tokens.specs.Spaced.{spaced};
 ghost use Rattle.rule_grammar.specs.Canon.{tokens_of};
-ghost use Rattle.rule_grammar.specs.declared.got.Got.TheVariants as gots;
+ghost use Rattle.rule_grammar.specs.declared.read_as.ReadAs.TheVariants as read_as;
 ghost use Rattle.rule_grammar.specs.Clean.{AreTexts};
 
 use ce_base::{Flags, NoMemory};
@@ -37,7 +37,7 @@ pub(crate) fn put_text(alloc: Global, out: &mut String, text: &str) -> Result<()
 }
 
 pub(crate) fn put_node(out: &mut String, node: &Operand) -> Result<(), NoMemory>
-    ensures { OnOk result (string_bytes out.new ≡ string_bytes out.old ++ spaced (tokens_of (gots.Node node.now))) }
+    ensures { OnOk result (string_bytes out.new ≡ string_bytes out.old ++ spaced (tokens_of (read_as.Node node.now))) }
 {
     match node {
         Operand::Doc => put_bare(out, "doc"),
@@ -47,8 +47,8 @@ pub(crate) fn put_node(out: &mut String, node: &Operand) -> Result<(), NoMemory>
 }
 
 pub(crate) fn put_value(alloc: Global, out: &mut String, val: &Val) -> Result<(), NoMemory>
-    ensures text { OnOk result (string_bytes out.new ≡ string_bytes out.old ++ spaced (tokens_of (gots.Value val.now))) }
-    ensures utf8 { OnOk result (AreTexts (tokens_of (gots.Value val.now))) }
+    ensures text { OnOk result (string_bytes out.new ≡ string_bytes out.old ++ spaced (tokens_of (read_as.Value val.now))) }
+    ensures utf8 { OnOk result (AreTexts (tokens_of (read_as.Value val.now))) }
 {
     match val {
         Val::Fixed(text) => put_text(alloc, out, text.as_str()),

@@ -1,9 +1,9 @@
 // Operands that only a body has.
 ghost use Rattle.std.specs.Prelude.{◌≡◌, Option, Some, None, false};
 ghost use Rattle.std.specs.List.{list_any};
-ghost use Rattle.rule_grammar.specs.declared.got.Got.TheVariants as gots;
+ghost use Rattle.rule_grammar.specs.declared.read_as.ReadAs.TheVariants as read_as;
 ghost use Rattle.rule_reader.specs.declared.form.Leaf.TheVariants as leaves;
-ghost use Rattle.rule_reader.specs.Gots.{leaf_gots, part};
+ghost use Rattle.rule_reader.specs.AsRead.{leaf_as_read, part};
 ghost use Rattle.rule_script.specs.Place.{has_body_operand, is_of_body, is_this, names_body};
 
 use rule_lines::Op;
@@ -24,7 +24,7 @@ fn is_of_body(value: &Val) -> bool
 }
 
 fn is_maybe_this(node: &Option<Operand>) -> bool
-    ensures { result ≡ names_body (part gots.Node node.now) }
+    ensures { result ≡ names_body (part read_as.Node node.now) }
 {
     match node {
         None => false,
@@ -33,7 +33,7 @@ fn is_maybe_this(node: &Option<Operand>) -> bool
 }
 
 fn is_maybe_of_body(value: &Option<Val>) -> bool
-    ensures { result ≡ names_body (part gots.Value value.now) }
+    ensures { result ≡ names_body (part read_as.Value value.now) }
 {
     match value {
         None => false,

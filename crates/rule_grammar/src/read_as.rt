@@ -1,10 +1,10 @@
-// What a token says where something is wanted of it.
+// What a token is read as where something is wanted of it.
 use crate::Word;
 use ce_base::{Flags, Text};
 use rule_tokens::{CallName, Operand, Val};
 
 /// The form of an operand.
-#[derive(Clone, Copy, Debug, PartialEq, Eq)]
+#[derive(Clone, Copy)]
 pub enum Kind {
     /// `$v`: a variable.
     Variable,
@@ -22,9 +22,9 @@ pub enum Kind {
     Callback,
 }
 
-/// What a token says as an operand; or the fixed word that it is; or that an optional part is not there.
-#[derive(Debug, Drop)]
-pub enum Got {
+/// What a token is read as: an operand; or a fixed word; or that an optional part is not there.
+#[derive(Drop)]
+pub enum ReadAs {
     /// A variable, without its `$`.
     Variable(Text),
     /// A node.

@@ -1,6 +1,6 @@
 // The words that operands are written as.
 ghost use Rattle.std.specs.Prelude.{◌≡◌};
-ghost use Rattle.rule_reader.specs.Gots.{ask_as, switch, test};
+ghost use Rattle.rule_reader.specs.AsRead.{ask_as, switch, test};
 
 use rule_grammar::Word;
 use rule_lines::AskWord;
