@@ -9,7 +9,7 @@ use crate::calls::{
 };
 use crate::replies::{put_answered, put_gave, put_reply, put_threw, put_was_bad};
 use crate::submissions::{put_blocked, put_get, put_post};
-use crate::trace::{put_at, put_enqueued, put_step};
+use crate::trace::put_traced;
 use crate::written::Written;
 use ce_algorithms::Event;
 use ce_base::{NoMemory, Text};
@@ -45,16 +45,16 @@ pub(crate) fn put_event(alloc: Global, out: &mut Written, e: &Event) -> Result<(
         Event::Threw(line, thrown) => put_threw(alloc, out, *line, thrown),
         Event::WasBad(line, bad) => put_was_bad(out, *line, *bad),
         Event::FuelLine => out.put("fuel"),
-        Event::QueueOpened(q) => put_step(out, "~ open ", q.0),
-        Event::Enqueued(r, n, reaction, q) => put_enqueued(out, *r, *n, *reaction, *q),
-        Event::DrainBegun(q) => put_step(out, "~ drain ", q.0),
-        Event::Started(r) => put_step(out, "~ start ", r.0),
-        Event::Finished(r) => put_step(out, "~ finish ", r.0),
-        Event::Dropped(r) => put_step(out, "~ drop ", r.0),
-        Event::QueueClosed(q) => put_step(out, "~ close ", q.0),
-        Event::UpgradeBegun(n) => put_at(out, "~ up ", *n),
-        Event::UpgradeDone(n) => put_at(out, "~ done ", *n),
-        Event::UpgradeThrew(n) => put_at(out, "~ threw ", *n),
+        Event::QueueOpened(_)
+        | Event::Enqueued(_, _, _, _)
+        | Event::DrainBegun(_)
+        | Event::Started(_)
+        | Event::Finished(_)
+        | Event::Dropped(_)
+        | Event::QueueClosed(_)
+        | Event::UpgradeBegun(_)
+        | Event::UpgradeDone(_)
+        | Event::UpgradeThrew(_) => put_traced(out, e),
     }
 }
 

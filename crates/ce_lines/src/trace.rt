@@ -1,5 +1,5 @@
 // The lines of a trace.
-ghost use Rattle.std.specs.Prelude.{◌≡◌, ◌++◌, OnOk};
+ghost use Rattle.std.specs.Prelude.{◌≡◌, ◌++◌, OnOk, true};
 ghost use Rattle.std.specs.Fmt.{decimal};
 ghost use Rattle.ce_algorithms.specs.Text.{event_text, is_trace, node};
 
@@ -10,7 +10,7 @@ use ce_base::{NoMemory, NodeNo, QueueNo, ReactionNo};
 use rule_tokens::CallOrUpgrade;
 
 /// Puts a word and a number behind.
-pub(crate) fn put_step(out: &mut Written, word: &str, number: u64) -> Result<(), NoMemory>
+fn put_step(out: &mut Written, word: &str, number: u64) -> Result<(), NoMemory>
     ensures { OnOk result (out.new ≡ out.old ++ word.now ++ decimal number) }
 {
     out.put(word)?;
@@ -18,14 +18,14 @@ pub(crate) fn put_step(out: &mut Written, word: &str, number: u64) -> Result<(),
 }
 
 /// Puts a word and a node behind.
-pub(crate) fn put_at(out: &mut Written, word: &str, n: NodeNo) -> Result<(), NoMemory>
+fn put_at(out: &mut Written, word: &str, n: NodeNo) -> Result<(), NoMemory>
     ensures { OnOk result (out.new ≡ out.old ++ word.now ++ node n) }
 {
     out.put(word)?;
     out.put_node(n)
 }
 
-pub(crate) fn put_enqueued(
+fn put_enqueued(
     out: &mut Written,
     r: ReactionNo,
     n: NodeNo,
@@ -39,6 +39,26 @@ pub(crate) fn put_enqueued(
     out.put(" ")?;
     out.put(what_word(reaction))?;
     put_step(out, " ", q.0)
+}
+
+/// Puts the line of an event behind that only a trace shows.
+pub(crate) fn put_traced(out: &mut Written, e: &Event) -> Result<(), NoMemory>
+    requires { is_trace e.now ≡ true }
+    ensures { OnOk result (out.new ≡ out.old ++ event_text e.now) }
+{
+    match e {
+        Event::QueueOpened(q) => put_step(out, "~ open ", q.0),
+        Event::Enqueued(r, n, reaction, q) => put_enqueued(out, *r, *n, *reaction, *q),
+        Event::DrainBegun(q) => put_step(out, "~ drain ", q.0),
+        Event::Started(r) => put_step(out, "~ start ", r.0),
+        Event::Finished(r) => put_step(out, "~ finish ", r.0),
+        Event::Dropped(r) => put_step(out, "~ drop ", r.0),
+        Event::QueueClosed(q) => put_step(out, "~ close ", q.0),
+        Event::UpgradeBegun(n) => put_at(out, "~ up ", *n),
+        Event::UpgradeDone(n) => put_at(out, "~ done ", *n),
+        Event::UpgradeThrew(n) => put_at(out, "~ threw ", *n),
+        _ => Ok(()),
+    }
 }
 
 /// Whether only a trace shows the event.
