@@ -3,6 +3,7 @@ mod sessions;
 mod steps;
 
 use ce_base::{MemSink, Stop, write_all};
+use ce_algorithms::Settings;
 use ce_drains::State;
 use sessions::*;
 use std::alloc::Global;
@@ -67,7 +68,7 @@ fn compare(
 
 // The same from a new state with so much fuel.
 fn begin(rt: &impl Abort, alloc: Global, fuel: u32, session: &str) -> Result<(), Fail> {
-    let mut state = State::make(alloc, fuel)?;
+    let mut state = State::make(alloc, Settings { fuel })?;
     compare(rt, alloc, &mut state, session, false)
 }
 
@@ -79,7 +80,7 @@ fn go_on(
     session: &str,
     trace: bool,
 ) -> Result<(), Fail> {
-    let mut state = State::make(alloc, fuel)?;
+    let mut state = State::make(alloc, Settings { fuel })?;
     compare(rt, alloc, &mut state, ELEMENTS, trace)?;
     compare(rt, alloc, &mut state, session, trace)
 }
@@ -133,7 +134,7 @@ fn failing(alloc: Global, call: u64) -> Result<MemSink, Fail> {
 
 // What a drain writes, where a write fails.
 fn cut_off(rt: &impl Abort, alloc: Global, call: u64) -> Result<MemSink, Fail> {
-    let mut state = State::make(alloc, 20)?;
+    let mut state = State::make(alloc, Settings { fuel: 20 })?;
     compare(rt, alloc, &mut state, ELEMENTS, false)?;
     let mut sink = failing(alloc, call)?;
     let end = react(rt, alloc, &mut state, "insert 2 3", false, &mut sink)?;

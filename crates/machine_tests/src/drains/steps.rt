@@ -213,7 +213,7 @@ fn define(alloc: Global, state: &mut State, words: &str) -> Result<String, Fail>
     let (class, base) = cut(words);
     let name = Text::of(alloc, name)?;
     let base = text_or_none(alloc, base)?;
-    let end = state.define(alloc, &name, ClassNo(number(class)), &base);
+    let end = state.define_element(alloc, &name, ClassNo(number(class)), &base);
     told(alloc, &end)
 }
 
