@@ -17,16 +17,16 @@ use std::alloc::Global;
 
 /// The node that an operand names: a ReferenceError where nothing is `this`, a TypeError where its variable
 /// is not set.
-pub(crate) fn node(state: &State, this: Option<NodeNo>, operand: &Operand) -> Result<NodeNo, Fault>
-    requires { IfSome this (IsNode state.now.page.forest) }
-    ensures names { result ≡ node (view this state.now) operand.now }
+pub(crate) fn node(state: &State, this: &Option<NodeNo>, operand: &Operand) -> Result<NodeNo, Fault>
+    requires { IfSome this.now (IsNode state.now.page.forest) }
+    ensures names { result ≡ node (view this.now state.now) operand.now }
     ensures there { IfOk result (IsNode state.now.page.forest) }
 {
     match operand {
         Operand::Doc => Ok(first(state)),
         Operand::This => match this {
             None => Err(Fault::ReferenceError),
-            Some(n) => Ok(n),
+            Some(n) => Ok(*n),
         },
         Operand::Variable(v) => match state.variable(v.as_str()) {
             None => Err(Fault::TypeError),
@@ -49,11 +49,11 @@ fn first(state: &State) -> NodeNo
 pub(crate) fn node_that(
     what: Fit,
     state: &State,
-    this: Option<NodeNo>,
+    this: &Option<NodeNo>,
     operand: &Operand,
 ) -> Result<NodeNo, Fault>
-    requires { IfSome this (IsNode state.now.page.forest) }
-    ensures names { result ≡ node_that what (view this state.now) operand.now }
+    requires { IfSome this.now (IsNode state.now.page.forest) }
+    ensures names { result ≡ node_that what (view this.now state.now) operand.now }
     ensures there { IfOk result (IsNode state.now.page.forest) }
 {
     let n = node(state, this, operand)?;
@@ -66,11 +66,11 @@ pub(crate) fn node_that(
 /// The element that an operand names, or a TypeError where it names none.
 pub(crate) fn element(
     state: &State,
-    this: Option<NodeNo>,
+    this: &Option<NodeNo>,
     operand: &Operand,
 ) -> Result<NodeNo, Fault>
-    requires { IfSome this (IsNode state.now.page.forest) }
-    ensures names { result ≡ element (view this state.now) operand.now }
+    requires { IfSome this.now (IsNode state.now.page.forest) }
+    ensures names { result ≡ element (view this.now state.now) operand.now }
     ensures there { IfOk result (IsNode state.now.page.forest) }
     ensures element { IfOk result (λ n. kind_at state.now.page.forest n ≡ ElementKind) }
 {
@@ -86,11 +86,11 @@ pub(crate) fn element(
 /// The document that an operand names, the page's where there is no operand.
 pub(crate) fn document_or_page(
     state: &State,
-    this: Option<NodeNo>,
+    this: &Option<NodeNo>,
     operand: &Option<Operand>,
 ) -> Result<NodeNo, Fault>
-    requires { IfSome this (IsNode state.now.page.forest) }
-    ensures { result ≡ document_or_page (view this state.now) operand.now }
+    requires { IfSome this.now (IsNode state.now.page.forest) }
+    ensures { result ≡ document_or_page (view this.now state.now) operand.now }
 {
     match operand {
         None => Ok(NodeNo(1)),

@@ -43,7 +43,7 @@ pub(crate) fn perform<K: Sink>(
     ensures below { K.below sink.old ≤ K.below sink.new }
 {
     match c {
-        Cmd::Both(op) => operate(state, alloc, None, op, trace, sink),
+        Cmd::Both(op) => operate(state, alloc, &None, op, trace, sink),
         Cmd::Doc { var } => make_document(state, alloc, var),
         _ => unreachable!(),
     }
@@ -70,15 +70,15 @@ fn document(state: &mut State, alloc: Global) -> Result<Given, PageStop>
 fn operate<K: Sink>(
     state: &mut State,
     alloc: Global,
-    this: Option<NodeNo>,
+    this: &Option<NodeNo>,
     op: &Op,
     trace: bool,
     sink: &mut K,
 ) -> Result<Result<Given, Fault>, Halt>
     requires built { is_built_op op.now ≡ true }
-    requires there { IfSome this (IsNode state.old.page.forest) }
+    requires there { IfSome this.now (IsNode state.old.page.forest) }
     requires room { state.old.page.queues.pushed + state.old.fuel + 1 < 2 ^ 64 }
-    ensures ran { Wrote trace (K.held sink.old) (K.held sink.new) (λ r. r) result state.new (attempt_in (operate model this op.now state.old)) }
+    ensures ran { Wrote trace (K.held sink.old) (K.held sink.new) (λ r. r) result state.new (attempt_in (operate model this.now op.now state.old)) }
     ensures later { K.failed sink.old ≤ K.failed sink.new }
     ensures cause { IsErrOf result Halt.WriteFault → Rose (K.failed sink.old) (K.failed sink.new) }
     ensures home { K.home sink.new ≡ K.home sink.old }

@@ -19,12 +19,12 @@ use std::alloc::Global;
 pub(crate) fn resolve(
     state: &State,
     alloc: Global,
-    this: Option<NodeNo>,
+    this: &Option<NodeNo>,
     op: &Op,
 ) -> Result<Deed, Refused>
     requires built { is_built_op op.now ≡ true }
-    requires there { IfSome this (IsNode state.now.page.forest) }
-    ensures deed { Resolves result (resolve (view this state.now) op.now) }
+    requires there { IfSome this.now (IsNode state.now.page.forest) }
+    ensures deed { Resolves result (resolve (view this.now state.now) op.now) }
     ensures ready { IfOk result (IsReady state.now.page.forest) }
 {
     match op {
