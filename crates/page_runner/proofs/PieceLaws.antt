@@ -1,6 +1,6 @@
 -- What a run has done between two reads, and what a piece adds.
-use Rattle.std.proofs.Common.{◌≡◌, ◌≢◌, ◌≤◌, ◌+◌, ◌-◌, ◌⊎◌, min, nat_le, cond, inl, inr, ℕ, true, false, List, [], ◌++◌, length, take, drop, sym, ap, subst, ◌∙◌, append-nil, arith, length-append, length-take-le, All}
-use Rattle.std.proofs.KnownBytes.{Consumes-trans}
+use Rattle.std.proofs.Common.{◌≡◌, ◌≢◌, ◌≤◌, ◌+◌, ◌-◌, ◌⊎◌, min, nat_le, cond, inl, inr, ℕ, true, false, List, [], ◌++◌, length, take, drop, refl, sym, ap, subst, ◌∙◌, append-nil, arith, length-append, length-take-le, All}
+use Rattle.std.proofs.KnownBytes.{Consumes-nil, Consumes-trans}
 use Rattle.std.proofs.lemmas.Grind.{common_steps}
 use Rattle.std.proofs.lemmas.List.{take-append-le, take-append-drop}
 use Rattle.std.proofs.Math.ListN.{drop_of_length-le}
@@ -16,7 +16,7 @@ use Rattle.page_runner.specs.Sitting.{Sitting}
 use Rattle.page_runner.specs.Table.{limit, counted}
 use Rattle.page_runner.specs.declared.words.Settings.{Settings}
 use Rattle.page_runner.proofs.LineLaws.{whole_lines-piece, last_part-piece}
-use Rattle.page_runner.proofs.SittingLaws.{answered_more, answered_part}
+use Rattle.page_runner.proofs.SittingLaws.{answered_more, answered_nothing, answered_part}
 
 -- the whole lines of what was taken were run and answered, and what stands behind them is in the feed
 pub record Streamed (set : Settings) (left left' held held' : Option (List ℕ)) (s : Sitting) (feed : List ℕ) (count : ℕ) : Type 0 where
@@ -30,6 +30,21 @@ pub record Streamed (set : Settings) (left left' held held' : Option (List ℕ))
 
 clean_nil : All (λ (b : ℕ). b ≢ 10) []
 clean_nil = grind (arith, common_steps)
+
+-- before the first piece
+pub streamed_first : (set : Settings) (left held : Option (List ℕ)) (s : Sitting) (feed : List ℕ) → s ≡ fresh set → feed ≡ [] → Streamed set left left held held s feed 0
+streamed_first set left held s feed is none =
+    let P : Sitting → List ℕ → Type 0 = λ t l. Streamed set left left held held t l 0 in
+    let first : P (fresh set) [] = record {
+      taken = [];
+      took = Consumes-nil left;
+      length_is = refl;
+      done = answered_nothing (fresh set) held refl;
+      drained = record { part = refl; clean = clean_nil };
+      number = omega arith;
+      within = omega arith;
+    } in
+    subst (P s) (sym none) (subst (λ t. P t []) (sym is) first)
 
 -- ---- the lines that count
 

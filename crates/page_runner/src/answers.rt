@@ -7,7 +7,7 @@ ghost use Rattle.page_runner.specs.Ran.{Answered, Drained, answers};
 
 use crate::lines::run_lines;
 use crate::{Feed, Session};
-use ce_base::{Gathering, Pending, Sink, Stop};
+use ce_base::{Gathering, NoMemory, Pending, Sink, Stop};
 use ce_machine::End;
 use std::alloc::Global;
 
@@ -28,7 +28,10 @@ pub(crate) fn take_piece<K: Sink>(
     ensures later { K.failed sink.old ≤ K.failed sink.new }
     ensures cause { IsErrOf result Stop.WriteFault → Rose (K.failed sink.old) (K.failed sink.new) }
 {
-    feed.piece(alloc, piece)?;
+    if let Err(NoMemory) = feed.piece(alloc, piece) {
+        drop(session);
+        return Err(Stop::NoMemory);
+    }
     let mut pending = Pending::make(alloc);
     let mut out = Gathering::make(sink, &mut pending);
     answer_lines(alloc, session, feed, &mut out)
@@ -78,7 +81,10 @@ fn answer_lines<K: Sink>(
     ensures home { out.new.sink.ghost_name ≡ out.old.sink.ghost_name }
 {
     let ran = run_lines(alloc, session, feed, out)?;
-    out.pass_on()?;
+    if let Err(stop) = out.pass_on() {
+        drop(ran.0);
+        return Err(stop);
+    }
     Ok(ran)
 }
 
@@ -99,6 +105,9 @@ fn answer_line<K: Sink>(
     ensures home { out.new.sink.ghost_name ≡ out.old.sink.ghost_name }
 {
     let ran = session.line(alloc, line, out)?;
-    out.pass_on()?;
+    if let Err(stop) = out.pass_on() {
+        drop(ran.0);
+        return Err(stop);
+    }
     Ok(ran)
 }

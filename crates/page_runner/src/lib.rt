@@ -15,6 +15,3 @@ pub use session::Session;
 pub use status::Status;
 pub use top::run;
 pub use words::{Meaning, Settings};
-
-#[cfg(test)]
-mod tests;

@@ -6,7 +6,7 @@ ghost use Rattle.ce_algorithms.specs.Lines.{whole_lines};
 ghost use Rattle.page_runner.specs.Ran.{Answered, Drained, answers};
 
 use crate::{Feed, Session};
-use ce_base::{Sink, Stop};
+use ce_base::{NoMemory, Sink, Stop};
 use ce_machine::End;
 use std::alloc::Global;
 
@@ -28,12 +28,19 @@ pub(crate) fn run_lines<K: Sink>(
     ensures home { K.home sink.new ≡ K.home sink.old }
     ensures below { K.below sink.old ≤ K.below sink.new }
 {
-    'lines: while let Some(line) = feed.next_line(alloc)? {
+    'lines: loop {
+        let line = match feed.next_line(alloc) {
+            Ok(Some(line)) => line,
+            Ok(None) => return Ok((session, End::Replied)),
+            Err(NoMemory) => {
+                drop(session);
+                return Err(Stop::NoMemory);
+            }
+        };
         let (next, end) = session.line(alloc, line.as_slice(), sink)?;
         session = next;
         if let End::FuelSpent = end {
             return Ok((session, end));
         }
     }
-    Ok((session, End::Replied))
 }

@@ -1,7 +1,9 @@
 // A session: the lines of a script, one after another.
-ghost use Rattle.std.specs.Prelude.{◌≡◌, ◌+◌, ◌<◌, ◌≤◌, ◌^◌, ◌||◌, [], false, IfOk, OnErr, IsErrOf};
+ghost use Rattle.std.specs.Prelude.{◌≡◌, ◌+◌, ◌<◌, ◌≤◌, ◌^◌, ◌||◌, [], Ok, false, true, IfOk, OnErr, IsErrOf};
 ghost use Rattle.ce_base.specs.Faults.{Rose};
 ghost use Rattle.ce_base.specs.Outside.{AppendsPart};
+ghost use Rattle.rule_lines.specs.Acts.{line_of};
+ghost use Rattle.rule_script.specs.Built.{is_built};
 ghost use Rattle.rule_script.specs.Reading.{reading};
 ghost use Rattle.ce_algorithms.specs.Model.{model};
 ghost use Rattle.ce_algorithms.specs.Session.{run_line, start, log_of};
@@ -85,18 +87,8 @@ impl Session {
         } = self;
         let line = line + 1;
         match read_line(alloc, bytes) {
-            Ok(Line::Blank) => Ok((
-                Session {
-                    machine,
-                    line,
-                    bad,
-                    trace,
-                },
-                End::Replied,
-            )),
-            Ok(Line::Command(c)) => {
-                let (machine, end) = machine.command(alloc, line, c, trace, sink)?;
-                Ok((
+            Ok(said) => match run_said(machine, alloc, line, said, trace, sink) {
+                Ok((machine, end)) => Ok((
                     Session {
                         machine,
                         line,
@@ -104,33 +96,55 @@ impl Session {
                         trace,
                     },
                     end,
-                ))
-            }
-            Ok(Line::Part(p)) => {
-                let machine = machine.part(alloc, line, p, trace, sink)?;
-                Ok((
-                    Session {
-                        machine,
-                        line,
-                        bad,
-                        trace,
-                    },
-                    End::Replied,
-                ))
-            }
+                )),
+                Err(stop) => Err(stop),
+            },
             Err(LineRefused::Bad(fault)) => {
-                let machine = machine.refused(alloc, line, fault, trace, sink)?;
-                Ok((
-                    Session {
-                        machine,
-                        line,
-                        bad: true,
-                        trace,
-                    },
-                    End::Replied,
-                ))
+                match machine.refused(alloc, line, fault, trace, sink) {
+                    Ok(machine) => Ok((
+                        Session {
+                            machine,
+                            line,
+                            bad: true,
+                            trace,
+                        },
+                        End::Replied,
+                    )),
+                    Err(stop) => Err(stop),
+                }
             }
-            Err(LineRefused::NoMemory) => Err(Stop::NoMemory),
+            Err(LineRefused::NoMemory) => {
+                drop(machine);
+                Err(Stop::NoMemory)
+            }
         }
+    }
+}
+
+// Runs what a line says.
+fn run_said<K: Sink>(
+    machine: Machine,
+    alloc: Global,
+    line: u64,
+    said: Line,
+    trace: bool,
+    sink: &mut K,
+) -> Result<(Machine, End), Stop>
+    requires { is_built (line_of said) ≡ true }
+    ensures ran { IfOk result (λ r. Did trace (K.held sink.old) (K.held sink.new) (run_line model line (Ok (line_of said)) machine) (outcome_of r.1 r.0)) }
+    ensures empty { IfOk result (λ r. r.0.log ≡ []) }
+    ensures part { OnErr result (AppendsPart (K.held sink.old) (K.held sink.new) (text trace (log_of (run_line model line (Ok (line_of said)) machine)))) }
+    ensures later { K.failed sink.old ≤ K.failed sink.new }
+    ensures cause { IsErrOf result Stop.WriteFault → Rose (K.failed sink.old) (K.failed sink.new) }
+    ensures home { K.home sink.new ≡ K.home sink.old }
+    ensures below { K.below sink.old ≤ K.below sink.new }
+{
+    match said {
+        Line::Blank => Ok((machine, End::Replied)),
+        Line::Command(c) => machine.command(alloc, line, c, trace, sink),
+        Line::Part(p) => match machine.part(alloc, line, p, trace, sink) {
+            Ok(machine) => Ok((machine, End::Replied)),
+            Err(stop) => Err(stop),
+        },
     }
 }

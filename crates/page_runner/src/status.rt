@@ -45,18 +45,15 @@ impl Status {
     }
 
     // The status at the end of the script.
-    pub(crate) fn at_end(session: &Session, end: End) -> Status
-        ensures { result ≡ status_at end session.now.bad }
+    pub(crate) fn at_end(session: Session, end: End) -> Status
+        ensures { result ≡ status_at end session.bad }
     {
+        let bad = session.is_bad();
+        drop(session);
         match end {
             End::FuelSpent => Status::Fuel,
-            End::Replied => {
-                if session.is_bad() {
-                    Status::BadLines
-                } else {
-                    Status::Done
-                }
-            }
+            End::Replied if bad => Status::BadLines,
+            End::Replied => Status::Done,
         }
     }
 

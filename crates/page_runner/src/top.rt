@@ -83,18 +83,23 @@ fn run_pieces<S: Source, K: Sink>(
     let mut taken = 0;
     'pieces: loop {
         match ask(source, buffer) {
-            Got::Failed => return Ok(Status::ReadFault),
+            Got::Failed => {
+                drop(session);
+                return Ok(Status::ReadFault);
+            }
             Got::End => {
                 let (session, end) = finish(alloc, session, feed, sink)?;
-                return Ok(Status::at_end(&session, end));
+                return Ok(Status::at_end(session, end));
             }
             Got::Bytes(count) => {
                 let within = count.min(LIMIT - taken);
                 let (next, end) = take_piece(alloc, session, &mut feed, &buffer[..within], sink)?;
                 if let End::FuelSpent = end {
+                    drop(next);
                     return Ok(Status::Fuel);
                 }
                 if within < count {
+                    drop(next);
                     return Ok(Status::TooLong);
                 }
                 session = next;

@@ -2,7 +2,7 @@
 mod events;
 mod tables;
 
-use ce_base::{MemSink, Sink, Stop, SureSink, Text};
+use ce_base::{MemSink, NoMemory, Sink, Stop, SureSink, Text};
 use ce_lines::{Event, write_event, write_out};
 use events::{event, texts};
 use std::alloc::Global;
@@ -10,11 +10,23 @@ use std::process::Abort;
 use std::test::Fail;
 use tables::*;
 
+fn line_of(alloc: Global, e: Event) -> Result<Text, NoMemory> {
+    let line = write_event(alloc, &e);
+    drop(e);
+    line
+}
+
+fn write<K: Sink>(alloc: Global, sink: &mut K, trace: bool, e: Event) -> Result<(), Stop> {
+    let end = write_out(alloc, sink, trace, &e);
+    drop(e);
+    end
+}
+
 // Compares the line of each event of a table.
 fn compare(rt: &impl Abort, alloc: Global, table: &str) -> Result<(), Fail> {
     for row in table.lines() {
         let (words, line) = row.split_once(" => ").ok_or("a row")?;
-        let text = write_event(alloc, &event(alloc, words)?)?;
+        let text = line_of(alloc, event(alloc, words)?)?;
         assert_eq!(rt; text.as_str(), line, "at {words}");
     }
     Ok(())
@@ -49,7 +61,7 @@ fn a_submission_is_sent_or_blocked(rt: HostRuntime) -> Result<(), Fail> {
 fn logged(alloc: Global, value: &str) -> Result<Text, Fail> {
     let mut values = texts(alloc, "")?;
     values.push(alloc, Text::of(alloc, value)?)?;
-    Ok(write_event(alloc, &Event::Logged(values))?)
+    Ok(line_of(alloc, Event::Logged(values))?)
 }
 
 #[test]
@@ -65,7 +77,7 @@ fn write_all_events(alloc: Global, trace: bool) -> Result<SureSink, Fail> {
     let mut sink = SureSink::make(alloc);
     for row in TRACE.lines() {
         let (words, _) = row.split_once(" => ").ok_or("a row")?;
-        write_out(alloc, &mut sink, trace, &event(alloc, words)?)?;
+        write(alloc, &mut sink, trace, event(alloc, words)?)?;
     }
     Ok(sink)
 }
@@ -99,28 +111,25 @@ fn without_a_trace_they_are_not_written(rt: HostRuntime) -> Result<(), Fail> {
     Ok(())
 }
 
-// A sink whose third write fails.
-fn failing(alloc: Global) -> Result<MemSink, Fail> {
-    let mut faults = Vec::new(alloc);
-    faults.push(2u64)?;
-    Ok(MemSink::make(alloc, faults))
-}
-
-// Writes a reply, and says whether the write failed.
-fn fails(alloc: Global, sink: &mut MemSink, line: u64, trace: bool) -> Result<bool, Fail> {
-    match write_out(alloc, sink, trace, &Event::Fine(line)) {
-        Ok(()) => Ok(false),
-        Err(stop) => Ok(stop == Stop::WriteFault),
-    }
+// Sees how the writing of a reply ends.
+fn replies(
+    rt: &impl Abort,
+    alloc: Global,
+    sink: &mut MemSink,
+    line: u64,
+    trace: bool,
+    end: Result<(), Stop>,
+) {
+    assert_eq!(rt; write(alloc, sink, trace, Event::Fine(line)), end);
 }
 
 #[test]
 fn a_write_fails_and_the_next_line_is_written(rt: HostRuntime) -> Result<(), Fail> {
     let alloc = rt.alloc();
-    let mut sink = failing(alloc)?;
-    for (line, trace, failed) in [(1, false, false), (2, true, true), (3, true, false)] {
-        assert_eq!(rt; fails(alloc, &mut sink, line, trace)?, failed, "at {line}");
-    }
+    let mut sink = MemSink::make(alloc, vec![in alloc; 2]?);
+    replies(&rt, alloc, &mut sink, 1, false, Ok(()));
+    replies(&rt, alloc, &mut sink, 2, true, Err(Stop::WriteFault));
+    replies(&rt, alloc, &mut sink, 3, true, Ok(()));
     assert_eq!(rt; str::from_utf8(sink.bytes())?, "1: ok\n3: ok\n");
     Ok(())
 }

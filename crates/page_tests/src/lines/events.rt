@@ -278,13 +278,12 @@ pub(super) fn event(alloc: Global, words: &str) -> Result<Event, Fail> {
         "report" => Ok(Event::Reported(fault(alloc, behind)?)),
         "ask" => Ok(Event::Asked(answer(alloc, behind)?)),
         "answered" => answered(alloc, behind),
-        "fine" | "gave" | "ignored" | "bad" | "fuel" => Ok(reply(words)),
+        "reply" => Ok(reply(behind)),
         "blocked" => blocked(alloc, behind),
         "get" => get(alloc, behind),
         "post" => post(alloc, behind),
         "enqueued" => Ok(enqueued(behind)),
-        "open" | "drain" | "close" | "start" | "finish" | "drop" => Ok(traced(words)),
-        "up" | "done" | "threw" => Ok(traced(words)),
+        "~" => Ok(traced(behind)),
         _ => callback(alloc, words),
     }
 }

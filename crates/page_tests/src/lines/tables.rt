@@ -53,19 +53,19 @@ ask flags 0 1 2 3 4 => ask valueMissing typeMismatch patternMismatch tooLong too
 ask flags 5 6 7 8 9 => ask rangeUnderflow rangeOverflow stepMismatch badInput customError"#;
 
 // Replies.
-pub(super) const REPLIES: &str = r#"fine 1 => 1: ok
-gave 18446744073709551615 2 => 18446744073709551615: #2
+pub(super) const REPLIES: &str = r#"reply fine 1 => 1: ok
+reply gave 18446744073709551615 2 => 18446744073709551615: #2
 answered 8 null => 8: null
 answered 8 nodes 7 3 => 8: #7 #3
-ignored 40 => 40: ignored
-fuel => fuel
-bad 3 long => 3: bad long
-bad 3 utf8 => 3: bad utf8
-bad 3 quote => 3: bad quote
-bad 3 escape => 3: bad escape
-bad 3 word => 3: bad word
-bad 3 arity => 3: bad arity
-bad 3 place => 3: bad place"#;
+reply ignored 40 => 40: ignored
+reply fuel => fuel
+reply bad 3 long => 3: bad long
+reply bad 3 utf8 => 3: bad utf8
+reply bad 3 quote => 3: bad quote
+reply bad 3 escape => 3: bad escape
+reply bad 3 word => 3: bad word
+reply bad 3 arity => 3: bad arity
+reply bad 3 place => 3: bad place"#;
 
 // Submissions.
 pub(super) const SUBMISSIONS: &str = r#"blocked 2 disconnected => submit #2 blocked disconnected
@@ -80,14 +80,14 @@ get 2 http://page.test/?r=2 => submit #2 get "http://page.test/?r=2"
 post 2 http://page.test/ text/plain a="1" => submit #2 post "http://page.test/" "text/plain" "a=\"1\"""#;
 
 // What only a trace shows.
-pub(super) const TRACE: &str = r#"open 3 => ~ open 3
+pub(super) const TRACE: &str = r#"~ open 3 => ~ open 3
 enqueued 1 2 attribute 3 => ~ enq 1 #2 attribute 3
 enqueued 1 2 upgrade 0 => ~ enq 1 #2 upgrade 0
-drain 3 => ~ drain 3
-start 1 => ~ start 1
-finish 1 => ~ finish 1
-drop 1 => ~ drop 1
-close 3 => ~ close 3
-up 2 => ~ up #2
-done 2 => ~ done #2
-threw 2 => ~ threw #2"#;
+~ drain 3 => ~ drain 3
+~ start 1 => ~ start 1
+~ finish 1 => ~ finish 1
+~ drop 1 => ~ drop 1
+~ close 3 => ~ close 3
+~ up 2 => ~ up #2
+~ done 2 => ~ done #2
+~ threw 2 => ~ threw #2"#;

@@ -5,7 +5,7 @@ ghost use Rattle.node_trees.specs.declared.kind.NodeKind.TheVariants.{Element as
 ghost use Rattle.node_trees.specs.Spots.{kind_at};
 ghost use Rattle.node_trees.specs.Nodes.{IsNode, IsNodeOrNone};
 
-use ce_base::{ClassNo, CustomState, DefNo, Fuel, NodeNo, ReactionNo, Text};
+use ce_base::{ClassNo, CustomState, DefNo, Fuel, NoMemory, NodeNo, ReactionNo, Text};
 use ce_page::*;
 use rule_tokens::{CallName, CallOrUpgrade};
 use std::alloc::Global;
@@ -76,6 +76,17 @@ impl Trial {
             "element" | "text" | "document" | "root" => self.making(rt, alloc, step),
             "insert" | "remove" | "adopt" => self.moving(rt, alloc, step),
             "set" | "unset" => self.attributes(rt, alloc, step),
+            _ => self.step_of_elements(rt, alloc, step),
+        }
+    }
+
+    fn step_of_elements(
+        &mut self,
+        rt: &impl Abort,
+        alloc: Global,
+        step: &str,
+    ) -> Result<String, Fail> {
+        match word(step, 0) {
             "define" => self.defining(alloc, step),
             "custom" | "failed" | "upgrade" => self.customizing(alloc, step),
             "enqueue" | "within" => self.enqueuing(alloc, step),
@@ -119,13 +130,10 @@ impl Trial {
 
     // define NAME CLASS BASE CALLS: the definition's number. BASE is `-` where there is none.
     fn defining(&mut self, alloc: Global, step: &str) -> Result<String, Fail> {
-        let base = match word(step, 3) {
-            "-" => None,
-            local => Some(Text::of(alloc, local)?),
-        };
-        let facts = class_facts(alloc, step)?;
         let name = Text::of(alloc, word(step, 1))?;
         let class = ClassNo(number(step, 2));
+        let base = base_of(alloc, word(step, 3))?;
+        let facts = class_facts(alloc, step)?;
         match self.define(alloc, name, class, facts, base) {
             Ok(d) => Ok(format!(in alloc; "{}", d.0)?),
             Err(stop) => stopped(alloc, stop),
@@ -147,10 +155,9 @@ impl Trial {
     // enqueue NODE CALLBACK, within NODE CALLBACK
     fn enqueuing(&mut self, alloc: Global, step: &str) -> Result<String, Fail> {
         let n = NodeNo(number(step, 1));
-        let r = reaction(word(step, 2));
         match word(step, 0) {
-            "enqueue" => ended(alloc, self.enqueue(alloc, n, r)),
-            _ => self.enqueue_within(alloc, n, r),
+            "enqueue" => ended(alloc, self.enqueue(alloc, n, word(step, 2))),
+            _ => self.enqueue_within(alloc, n, word(step, 2)),
         }
     }
 
@@ -158,7 +165,7 @@ impl Trial {
     fn taking(&mut self, alloc: Global, step: &str) -> Result<String, Fail> {
         let n = NodeNo(number(step, 1));
         match word(step, 0) {
-            "next" => waiting(alloc, self.page.next(n)),
+            "next" => waiting(alloc, &self.page.next(n)),
             "drop" => dropped(alloc, self.page.drop_first(n)),
             _ => id(alloc, self.page.next_backup()),
         }
@@ -314,18 +321,20 @@ impl Trial {
         self.page.remove_attribute(alloc, n, name, &mut self.fuel)
     }
 
-    fn enqueue(&mut self, alloc: Global, n: NodeNo, r: Reaction) -> Result<(), PageStop> {
-        self.page.enqueue_call(alloc, n, r, &mut self.fuel)
+    fn enqueue(&mut self, alloc: Global, n: NodeNo, name: &str) -> Result<(), PageStop> {
+        self.page
+            .enqueue_call(alloc, n, reaction(name), &mut self.fuel)
     }
 
     // Enqueues while an element queue is pushed, and tells the number of that queue and its elements. The
     // queue costs a unit of fuel here, so that its number is little too.
-    fn enqueue_within(&mut self, alloc: Global, n: NodeNo, r: Reaction) -> Result<String, Fail> {
+    fn enqueue_within(&mut self, alloc: Global, n: NodeNo, name: &str) -> Result<String, Fail> {
         if !self.fuel.spend() {
             return Err("fuel".into());
         }
         let number = self.page.begin(alloc)?;
-        self.page.enqueue_call(alloc, n, r, &mut self.fuel)?;
+        self.page
+            .enqueue_call(alloc, n, reaction(name), &mut self.fuel)?;
         let queue = self.page.end();
         self.queue_text(alloc, number.0, queue)
     }
@@ -377,6 +386,13 @@ fn number_or_none(step: &str, i: usize) -> Option<u64> {
 // The number that a word of a step is. No node has the number 0.
 fn number(step: &str, i: usize) -> u64 {
     number_or_none(step, i).unwrap_or(0)
+}
+
+fn base_of(alloc: Global, local: &str) -> Result<Option<Text>, NoMemory> {
+    if local == "-" {
+        return Ok(None);
+    }
+    Ok(Some(Text::of(alloc, local)?))
 }
 
 // The facts of a class that has the callbacks which stand behind the base, and observes `k`.
@@ -443,11 +459,11 @@ fn dropped(alloc: Global, number: Option<ReactionNo>) -> Result<String, Fail> {
 }
 
 // A reaction that waited, with its number.
-fn waiting(alloc: Global, first: Option<(ReactionNo, Reaction)>) -> Result<String, Fail> {
+fn waiting(alloc: Global, first: &Option<(ReactionNo, Reaction)>) -> Result<String, Fail> {
     match first {
         None => Ok(String::from_str(alloc, "null")?),
         Some((number, r)) => {
-            let text = reaction_text(alloc, &r)?;
+            let text = reaction_text(alloc, r)?;
             Ok(format!(in alloc; "{} {text}", number.0)?)
         }
     }

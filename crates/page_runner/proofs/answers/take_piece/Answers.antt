@@ -1,15 +1,13 @@
 use Rattle.std.proofs.Common.{ap, length, length-append, arith}
-use Rattle.std.proofs.lemmas.Result.{IfOk-weaker, err_from_is_err_and}
+use Rattle.std.proofs.lemmas.Result.{IfOk-weaker}
 use Rattle.ce_algorithms.proofs.Writing.{part_none}
 use Rattle.page_runner.proofs.answers.take_piece.Goals as goal
 
-pub returns-in_err-piece-clause-part : goal.returns-in_err-piece-clause-part
-returns-in_err-piece-clause-part g c =
-    let p = err_from_is_err_and c.from_residual.result c.from_residual.ensures.1 in
-    rw p.1 (part_none _ _)
+pub returns-in-Err-clause-part : goal.returns-in-Err-clause-part
+returns-in-Err-clause-part g c = part_none _ _
 
 pub returns-clause-number : goal.returns-clause-number
 returns-clause-number g c =
-    let fed = ap length c.in_ok-piece.ensures in
+    let fed = ap length c.in_default.ensures in
     let sum = length-append c.args.feed.now c.args.piece.now in
     IfOk-weaker c.answer_lines.result _ _ (λ r h. omega (arith, fed, sum, h)) c.answer_lines.ensures.number

@@ -11,40 +11,38 @@ lines-init g c = record {
   later = omega arith;
 }
 
-pub returns-in_err-line-clause-part : goal.returns-in_err-line-clause-part
-returns-in_err-line-clause-part g c =
-    let p = err_from_is_err_and c.from_residual.result c.from_residual.ensures.1 in
-    rw p.1 (runs_stop _ _ _ _ _ _ c.lines.invariant.runs)
+pub returns-in-Err-clause-part : goal.returns-in-Err-clause-part
+returns-in-Err-clause-part g c = runs_stop _ _ _ _ _ _ c.lines.invariant.runs
 
 pub returns-in_err-next-clause-part : goal.returns-in_err-next-clause-part
 returns-in_err-next-clause-part g c =
-    let gives = rw c.in-Some.is at c.in_ok-line.ensures.line in
-    let p = err_from_is_err_and c.from_residual-in_err-next.result c.from_residual-in_err-next.ensures.1 in
+    let gives = rw c.in-Ok-Some.field-0-is at c.in-Ok-Some.ensures.line in
+    let p = err_from_is_err_and c.from_residual.result c.from_residual.ensures.1 in
     rw p.1 (runs_part _ _ _ _ c.next_line.new.self c.as_slice.result.now _ _ _ c.lines.invariant.runs
     (rw c.as_slice.ensures gives) c.in_err-next.ensures.part)
 
 pub returns-in-FuelSpent-clause-ran : goal.returns-in-FuelSpent-clause-ran
 returns-in-FuelSpent-clause-ran g c =
-    let gives = rw c.in-Some.is at c.in_ok-line.ensures.line in
+    let gives = rw c.in-Ok-Some.field-0-is at c.in-Ok-Some.ensures.line in
     rw c.in-FuelSpent.is (runs_spent _ _ c.in_ok-next.next _ _ c.next_line.new.self c.as_slice.result.now _ _ _ c.lines.invariant.runs
     (rw c.as_slice.ensures gives) (rw c.in-FuelSpent.is at c.in_ok-next.ensures.ran) c.in_ok-next.ensures.empty c.in_ok-next.ensures.trace c.in_ok-next.ensures.number c.in_ok-next.ensures.bad)
 
 pub lines-preserved : goal.lines-preserved
 lines-preserved g c =
-    let gives = rw c.in-Some.is at c.in_ok-line.ensures.line in
+    let gives = rw c.in-Ok-Some.field-0-is at c.in-Ok-Some.ensures.line in
     record {
       runs = runs_line _ _ c.in_ok-next.next _ _ c.next_line.new.self c.as_slice.result.now _ _ _ c.lines.invariant.runs
-          (rw c.as_slice.ensures gives) (rw c.in_default-end.is at c.in_ok-next.ensures.ran) c.in_ok-next.ensures.empty c.in_ok-next.ensures.trace c.in_ok-next.ensures.number c.in_ok-next.ensures.bad;
+          (rw c.as_slice.ensures gives) (rw c.in_default.is at c.in_ok-next.ensures.ran) c.in_ok-next.ensures.empty c.in_ok-next.ensures.trace c.in_ok-next.ensures.number c.in_ok-next.ensures.bad;
       home = c.in_ok-next.ensures.home ∙ c.lines.invariant.home;
       below = omega arith;
       later = omega arith;
     }
 
-pub returns-clause-ran : goal.returns-clause-ran
-returns-clause-ran g c = runs_all _ _ _ _ _ _ c.lines.invariant.runs (rw c.in_default.is at c.in_ok-line.ensures.no_line_feed)
+pub returns-in-Ok-None-clause-ran : goal.returns-in-Ok-None-clause-ran
+returns-in-Ok-None-clause-ran g c = runs_all _ _ _ _ _ _ c.lines.invariant.runs (rw c.in-Ok-None.field-0-is at c.in-Ok-None.ensures.no_line_feed)
 
-pub returns-clause-drained : goal.returns-clause-drained
-returns-clause-drained g c = λ _.
-    let clean = rw c.in_default.is at c.in_ok-line.ensures.no_line_feed in
-    let same = rw c.in_default.is at c.in_ok-line.ensures.none in
+pub returns-in-Ok-None-clause-drained : goal.returns-in-Ok-None-clause-drained
+returns-in-Ok-None-clause-drained g c = λ _.
+    let clean = rw c.in-Ok-None.field-0-is at c.in-Ok-None.ensures.no_line_feed in
+    let same = rw c.in-Ok-None.field-0-is at c.in-Ok-None.ensures.none in
     rw same (runs_drained _ _ _ _ _ _ c.lines.invariant.runs clean)

@@ -1,9 +1,16 @@
 use Rattle.std.proofs.Common.{◌≡◌, ◌≤◌, ◌-◌, ◌∙◌, ap, take, length, length-take-le, arith, Err, refl}
 use Rattle.std.proofs.lemmas.Result.{err_from_is_err_and}
 use Rattle.page_runner.specs.Table.{limit, piece}
-use Rattle.page_runner.proofs.PieceLaws.{streamed_piece, within_limit}
+use Rattle.page_runner.proofs.PieceLaws.{streamed_first, streamed_piece, within_limit}
 use Rattle.page_runner.proofs.ExitLaws.{meets_read_fault, meets_end, meets_end_stop, meets_stop, meets_fuel, meets_too_long, rose_since}
 use Rattle.page_runner.proofs.top.run_pieces.Goals as goal
+
+pub pieces-init : goal.pieces-init
+pieces-init g c = record {
+  streamed = streamed_first _ _ _ _ _ c.in_ok-session.ensures c.make-feed.ensures;
+  source_later = omega arith;
+  sink_later = omega arith;
+}
 
 pub returns-in-Failed-clause-table : goal.returns-in-Failed-clause-table
 returns-in-Failed-clause-table g c =
