@@ -1,10 +1,9 @@
 // The operations at top level: resolved, done in a queue where they react, their variable set.
-ghost use Rattle.std.specs.Prelude.{◌≡◌, ◌≤◌, ◌+◌, ◌<◌, ◌^◌, ℕ, Bool, List, Option, option_copied, true, IfOk, IfSome, IsErrOf};
+ghost use Rattle.std.specs.Prelude.{◌≡◌, ◌≤◌, ◌+◌, ◌<◌, ◌^◌, ℕ, Bool, List, Option, option_copied, true, IfOk, IfSome, OnOk, IsErrOf};
 ghost use Rattle.ce_base.specs.Faults.{Rose};
 ghost use Rattle.node_trees.specs.Nodes.{IsNode};
 ghost use Rattle.rule_lines.specs.declared.line.Cmd.TheVariants as commands;
 ghost use Rattle.rule_script.specs.Built.{is_built_command, is_built_op};
-ghost use Rattle.ce_algorithms.specs.declared.event.Given.TheVariants as given;
 ghost use Rattle.ce_algorithms.specs.Deeds.{variable};
 ghost use Rattle.ce_algorithms.specs.Making.{make_document};
 ghost use Rattle.ce_algorithms.specs.Model.{model};
@@ -120,31 +119,33 @@ fn keep(
     ensures { IfOk result (λ r. Goes r state.new ≡ kept_as (option_copied var.entry) outcome state.old) }
 {
     match outcome {
-        Ok(Given::Node(n)) => {
-            keep_node(state, alloc, var, n)?;
-            Ok(Ok(Given::Node(n)))
-        }
-        Ok(Given::Nothing) => Ok(Ok(Given::Nothing)),
-        Ok(Given::Answers(a)) => Ok(Ok(Given::Answers(a))),
-        Ok(Given::Ignored) => Ok(Ok(Given::Ignored)),
         Err(f) => Ok(Err(f)),
+        Ok(given) => match keep_given(state, alloc, var, &given) {
+            Ok(()) => Ok(Ok(given)),
+            Err(NoMemory) => Err(NoMemory),
+        },
     }
 }
 
-fn keep_node(
+fn keep_given(
     state: &mut State,
     alloc: Global,
     var: Option<&Text>,
-    n: NodeNo,
+    given: &Given,
 ) -> Result<(), NoMemory>
-    requires { IsNode state.old.page.forest n }
-    ensures { IfOk result (λ r. Goes tt state.new ≡ keep (option_copied var.entry) (given.Node n) state.old) }
+    requires { IsThere state.old.page.forest given.now }
+    ensures { OnOk result (Goes tt state.new ≡ keep (option_copied var.entry) given.now state.old) }
 {
     match var {
         None => Ok(()),
-        Some(var) => {
-            let var = var.copy(alloc)?;
-            state.set_variable(var, n)
-        }
+        Some(var) => match given {
+            Given::Node(n) => {
+                let var = var.copy(alloc)?;
+                state.set_variable(var, *n)
+            }
+            Given::Nothing => Ok(()),
+            Given::Answers(_) => Ok(()),
+            Given::Ignored => Ok(()),
+        },
     }
 }

@@ -9,9 +9,8 @@ use Rattle.ce_base.specs.declared.stop.Stop.{Stop}
 use Rattle.ce_base.specs.declared.stop.Stop.TheVariants.{NoMemory as StopMemory, WriteFault as StopWrite}
 use Rattle.ce_algorithms.specs.declared.event.Event.{Event}
 use Rattle.ce_algorithms.specs.Lines.{whole_lines, last_line}
-use Rattle.ce_algorithms.specs.Script.{is_spent}
 use Rattle.ce_algorithms.specs.State.{State}
-use Rattle.ce_algorithms.specs.Steps.{Outcome, Goes, Throws, Spent}
+use Rattle.ce_algorithms.specs.Steps.{Outcome, Goes, Throws, Spent, is_spent}
 use Rattle.ce_algorithms.specs.Text.{text}
 use Rattle.ce_algorithms.specs.Written.{behind_in}
 use Rattle.ce_machine.specs.Ended.{outcome_of}
@@ -22,7 +21,7 @@ use Rattle.page_runner.specs.Sitting.{Sitting}
 use Rattle.page_runner.specs.Table.{limit, piece, counted, spends_all, Row, TakesOnlyNeeded, RunMeets, status_at, status_of_stop}
 use Rattle.page_runner.specs.declared.status.Status.{Status}
 use Rattle.page_runner.specs.declared.status.Status.TheVariants.{Done, BadLines, Usage, Fuel, ReadFault, TooLong}
-use Rattle.page_runner.specs.declared.words.Settings.{Settings}
+use Rattle.page_runner.specs.declared.words.Options.{Options}
 use Rattle.page_runner.specs.declared.words.Meaning.TheVariants.{Refused, Script}
 use Rattle.page_runner.proofs.SittingLaws.{ran_answers}
 use Rattle.page_runner.proofs.PieceLaws.{Streamed, answered_piece, part_piece, answered_end, part_end, answered_now}
@@ -33,16 +32,16 @@ is_spent-behind events (Throws f s) = refl
 is_spent-behind events (Spent s) = refl
 
 -- the fuel is spent where the last line says so
-spends : (set : Settings) (lines : List (List ℕ)) (end : End) (s : Sitting) (held held' : Option (List ℕ)) → Answered (fresh set) lines end s held held' → spends_all set lines ≡ is_spent (outcome_of end s.state)
+spends : (set : Options) (lines : List (List ℕ)) (end : End) (s : Sitting) (held held' : Option (List ℕ)) → Answered (fresh set) lines end s held held' → spends_all set lines ≡ is_spent (outcome_of end s.state)
 spends set lines end s held held' done = ap is_spent done.ran.same ∙ is_spent-behind done.events (outcome_of end s.state)
 
 -- the text that was written is the transcript
-writes : (set : Settings) (lines : List (List ℕ)) (end : End) (s : Sitting) (held held' : Option (List ℕ)) (done : Answered (fresh set) lines end s held held') → text set.trace done.events ≡ answers (fresh set) lines
+writes : (set : Options) (lines : List (List ℕ)) (end : End) (s : Sitting) (held held' : Option (List ℕ)) (done : Answered (fresh set) lines end s held held') → text set.trace done.events ≡ answers (fresh set) lines
 writes set lines end s held held' done = sym (ran_answers (fresh set) s lines end done.events done.ran)
 
 -- ---- what was taken before the last piece
 
-needed_piece : (set : Settings) (left left' held held' : Option (List ℕ)) (s : Sitting) (feed bytes : List ℕ) (n : ℕ) (before : Streamed set left left' held held' s feed n) → length bytes ≤ piece → TakesOnlyNeeded set (before.taken ++ bytes)
+needed_piece : (set : Options) (left left' held held' : Option (List ℕ)) (s : Sitting) (feed bytes : List ℕ) (n : ℕ) (before : Streamed set left left' held held' s feed n) → length bytes ≤ piece → TakesOnlyNeeded set (before.taken ++ bytes)
 needed_piece set left left' held held' s feed bytes n before short = record {
   before = before.taken;
   last = bytes;
@@ -52,7 +51,7 @@ needed_piece set left left' held held' s feed bytes n before short = record {
   goes = spends set _ Replied s held held' before.done;
 }
 
-needed_nothing : (set : Settings) (left left' held held' : Option (List ℕ)) (s : Sitting) (feed : List ℕ) (n : ℕ) (before : Streamed set left left' held held' s feed n) → TakesOnlyNeeded set before.taken
+needed_nothing : (set : Options) (left left' held held' : Option (List ℕ)) (s : Sitting) (feed : List ℕ) (n : ℕ) (before : Streamed set left left' held held' s feed n) → TakesOnlyNeeded set before.taken
 needed_nothing set left left' held held' s feed n before =
     let P : List ℕ → Type 0 = λ l. TakesOnlyNeeded set l in
     subst P (append-nil before.taken) (needed_piece set left left' held held' s feed [] n before (omega arith))
@@ -63,7 +62,7 @@ rose_since first before now h rose = omega arith
 
 -- ---- a piece was taken
 
-pub meets_fuel : (set : Settings) (left mid left' held held' held'' : Option (List ℕ)) (s t : Sitting) (end : End) (feed bytes front : List ℕ) (n sb sn kb kn : ℕ)
+pub meets_fuel : (set : Options) (left mid left' held held' held'' : Option (List ℕ)) (s t : Sitting) (end : End) (feed bytes front : List ℕ) (n sb sn kb kn : ℕ)
     → Streamed set left mid held held' s feed n → Consumes mid left' bytes → length bytes ≤ piece → front ≡ take (limit - n) bytes
     → end ≡ FuelSpent → Answered s (whole_lines (feed ++ front)) end t held' held''
     → RunMeets (Script set) Fuel left left' held held'' false sb sn kb kn
@@ -84,7 +83,7 @@ meets_fuel set left mid left' held held' held'' s t end feed bytes front n sb sn
       );
     }
 
-pub meets_too_long : (set : Settings) (left mid left' held held' held'' : Option (List ℕ)) (s t : Sitting) (end : End) (feed bytes front : List ℕ) (n sb sn kb kn : ℕ)
+pub meets_too_long : (set : Options) (left mid left' held held' held'' : Option (List ℕ)) (s t : Sitting) (end : End) (feed bytes front : List ℕ) (n sb sn kb kn : ℕ)
     → Streamed set left mid held held' s feed n → Consumes mid left' bytes → length bytes ≤ piece → front ≡ take (limit - n) bytes → limit < n + length bytes
     → end ≡ Replied → Answered s (whole_lines (feed ++ front)) end t held' held''
     → RunMeets (Script set) TooLong left left' held held'' false sb sn kb kn
@@ -106,12 +105,12 @@ meets_too_long set left mid left' held held' held'' s t end feed bytes front n s
     }
 
 -- a stop: some front of the transcript was written
-stop_row : (stop : Stop) (set : Settings) (taken written : List ℕ) (ended : Bool) (left : Option (List ℕ)) (sb sn kb kn : ℕ) → (stop ≡ StopWrite → Rose kb kn) → IsPrefix written (answers (fresh set) (counted ended taken))
+stop_row : (stop : Stop) (set : Options) (taken written : List ℕ) (ended : Bool) (left : Option (List ℕ)) (sb sn kb kn : ℕ) → (stop ≡ StopWrite → Rose kb kn) → IsPrefix written (answers (fresh set) (counted ended taken))
     → Row (status_of_stop stop) set (record { taken = taken; written = written; ended = ended; left = left; source_before = sb; source_now = sn; sink_before = kb; sink_now = kn })
 stop_row StopMemory set taken written ended left sb sn kb kn cause front = front
 stop_row StopWrite set taken written ended left sb sn kb kn cause front = (cause refl, front)
 
-pub meets_stop : (stop : Stop) (set : Settings) (left mid left' held held' held'' : Option (List ℕ)) (s : Sitting) (feed bytes front : List ℕ) (n sb sn kb kn : ℕ)
+pub meets_stop : (stop : Stop) (set : Options) (left mid left' held held' held'' : Option (List ℕ)) (s : Sitting) (feed bytes front : List ℕ) (n sb sn kb kn : ℕ)
     → Streamed set left mid held held' s feed n → Consumes mid left' bytes → length bytes ≤ piece → front ≡ take (limit - n) bytes
     → AppendsPart held' held'' (answers s (whole_lines (feed ++ front))) → (stop ≡ StopWrite → Rose kb kn)
     → RunMeets (Script set) (status_of_stop stop) left left' held held'' false sb sn kb kn
@@ -132,7 +131,7 @@ took_none a b c bytes p q =
     let P : List ℕ → Type 0 = λ l. Consumes a c l in
     subst P (append-nil bytes) (Consumes-trans a b c bytes [] p q)
 
-pub meets_read_fault : (set : Settings) (left mid left' held held' : Option (List ℕ)) (s : Sitting) (feed : List ℕ) (n sb sn kb kn : ℕ)
+pub meets_read_fault : (set : Options) (left mid left' held held' : Option (List ℕ)) (s : Sitting) (feed : List ℕ) (n sb sn kb kn : ℕ)
     → Streamed set left mid held held' s feed n → Consumes mid left' [] → Rose sb sn → RunMeets (Script set) ReadFault left left' held held' false sb sn kb kn
 meets_read_fault set left mid left' held held' s feed n sb sn kb kn before took rose =
     let all = answered_now set left mid held held' s feed n before in
@@ -144,7 +143,7 @@ meets_read_fault set left mid left' held held' s feed n sb sn kb kn before took 
       as_said = ((rose, omega (arith, before.length_is, before.within), spends set _ Replied s held held' all, writes set _ Replied s held held' all), needed_nothing set left mid held held' s feed n before);
     }
 
-end_row : (set : Settings) (end : End) (t : Sitting) (taken : List ℕ) (left held held' : Option (List ℕ)) (sb sn kb kn : ℕ) → IsAtEnd left → length taken ≤ limit → (all : Answered (fresh set) (counted true taken) end t held held')
+end_row : (set : Options) (end : End) (t : Sitting) (taken : List ℕ) (left held held' : Option (List ℕ)) (sb sn kb kn : ℕ) → IsAtEnd left → length taken ≤ limit → (all : Answered (fresh set) (counted true taken) end t held held')
     → Row (status_at end t.bad) set (record { taken = taken; written = text set.trace all.events; ended = true; left = left; source_before = sb; source_now = sn; sink_before = kb; sink_now = kn })
 end_row set FuelSpent t taken left held held' sb sn kb kn at_end within all = (λ _. at_end, spends set _ FuelSpent t held held' all, writes set _ FuelSpent t held held' all)
 end_row set Replied t taken left held held' sb sn kb kn at_end within all =
@@ -156,7 +155,7 @@ end_row set Replied t taken left held held' sb sn kb kn at_end within all =
       | false ↦ λ h. ((refl, at_end, within), goes, sym (all.ran.bad refl) ∙ h, wrote)
     ]) refl
 
-pub meets_end : (set : Settings) (left mid left' held held' held'' : Option (List ℕ)) (s t : Sitting) (end : End) (feed : List ℕ) (n sb sn kb kn : ℕ)
+pub meets_end : (set : Options) (left mid left' held held' held'' : Option (List ℕ)) (s t : Sitting) (end : End) (feed : List ℕ) (n sb sn kb kn : ℕ)
     → Streamed set left mid held held' s feed n → Consumes mid left' [] → IsAtEnd left' → Answered s (last_line feed) end t held' held''
     → RunMeets (Script set) (status_at end t.bad) left left' held held'' true sb sn kb kn
 meets_end set left mid left' held held' held'' s t end feed n sb sn kb kn before took at_end more =
@@ -169,7 +168,7 @@ meets_end set left mid left' held held' held'' s t end feed n sb sn kb kn before
       as_said = (end_row set end t before.taken left' held held'' sb sn kb kn at_end (omega (arith, before.length_is, before.within)) all, needed_nothing set left mid held held' s feed n before);
     }
 
-pub meets_end_stop : (stop : Stop) (set : Settings) (left mid left' held held' held'' : Option (List ℕ)) (s : Sitting) (feed : List ℕ) (n sb sn kb kn : ℕ)
+pub meets_end_stop : (stop : Stop) (set : Options) (left mid left' held held' held'' : Option (List ℕ)) (s : Sitting) (feed : List ℕ) (n sb sn kb kn : ℕ)
     → Streamed set left mid held held' s feed n → Consumes mid left' [] → AppendsPart held' held'' (answers s (last_line feed)) → (stop ≡ StopWrite → Rose kb kn)
     → RunMeets (Script set) (status_of_stop stop) left left' held held'' true sb sn kb kn
 meets_end_stop stop set left mid left' held held' held'' s feed n sb sn kb kn before took more cause =
@@ -182,7 +181,7 @@ meets_end_stop stop set left mid left' held held' held'' s feed n sb sn kb kn be
       as_said = (stop_row stop set _ part.0 true left' sb sn kb kn cause part.1, needed_nothing set left mid held held' s feed n before);
     }
 
-needed_first : (set : Settings) → TakesOnlyNeeded set []
+needed_first : (set : Options) → TakesOnlyNeeded set []
 needed_first set = record { before = []; last = []; split = refl; short = omega arith; within = omega arith; goes = refl }
 
 -- a run whose words are refused

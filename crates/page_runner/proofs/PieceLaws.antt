@@ -14,12 +14,12 @@ use Rattle.ce_machine.specs.declared.end.End.TheVariants.{Replied}
 use Rattle.page_runner.specs.Ran.{Answered, Drained, answers, fresh}
 use Rattle.page_runner.specs.Sitting.{Sitting}
 use Rattle.page_runner.specs.Table.{limit, counted}
-use Rattle.page_runner.specs.declared.words.Settings.{Settings}
+use Rattle.page_runner.specs.declared.words.Options.{Options}
 use Rattle.page_runner.proofs.LineLaws.{whole_lines-piece, last_part-piece}
 use Rattle.page_runner.proofs.SittingLaws.{answered_more, answered_nothing, answered_part}
 
 -- the whole lines of what was taken were run and answered, and what stands behind them is in the feed
-pub record Streamed (set : Settings) (left left' held held' : Option (List ℕ)) (s : Sitting) (feed : List ℕ) (count : ℕ) : Type 0 where
+pub record Streamed (set : Options) (left left' held held' : Option (List ℕ)) (s : Sitting) (feed : List ℕ) (count : ℕ) : Type 0 where
   pub taken : List ℕ
   pub took : Consumes left left' taken
   pub length_is : length taken ≡ count
@@ -32,7 +32,7 @@ clean_nil : All (λ (b : ℕ). b ≢ 10) []
 clean_nil = grind (arith, common_steps)
 
 -- before the first piece
-pub streamed_first : (set : Settings) (left held : Option (List ℕ)) (s : Sitting) (feed : List ℕ) → s ≡ fresh set → feed ≡ [] → Streamed set left left held held s feed 0
+pub streamed_first : (set : Options) (left held : Option (List ℕ)) (s : Sitting) (feed : List ℕ) → s ≡ fresh set → feed ≡ [] → Streamed set left left held held s feed 0
 streamed_first set left held s feed is none =
     let P : Sitting → List ℕ → Type 0 = λ t l. Streamed set left left held held t l 0 in
     let first : P (fresh set) [] = record {
@@ -61,7 +61,7 @@ pub counted-ended : (taken : List ℕ) → length taken ≤ limit → counted tr
 counted-ended taken h = ap (λ t. cond t (lines_of taken) (whole_lines (take limit taken))) (le_test (length taken) limit h)
 
 -- after bytes of which only those within the limit were run
-counted-piece : (set : Settings) (left left' held held' : Option (List ℕ)) (s : Sitting) (feed bytes piece : List ℕ) (n : ℕ) (before : Streamed set left left' held held' s feed n)
+counted-piece : (set : Options) (left left' held held' : Option (List ℕ)) (s : Sitting) (feed bytes piece : List ℕ) (n : ℕ) (before : Streamed set left left' held held' s feed n)
     → piece ≡ take (limit - n) bytes → counted false (before.taken ++ bytes) ≡ whole_lines before.taken ++ whole_lines (feed ++ piece)
 counted-piece set left left' held held' s feed bytes piece n before is =
     let sum : limit ≡ length before.taken + (limit - n) = omega (arith, before.length_is, before.within) in
@@ -70,14 +70,14 @@ counted-piece set left left' held held' s feed bytes piece n before is =
     ap whole_lines cut ∙ whole_lines-piece before.taken feed piece before.drained.part before.drained.clean
 
 -- at the end of the script
-counted-end : (set : Settings) (left left' held held' : Option (List ℕ)) (s : Sitting) (feed : List ℕ) (n : ℕ) (before : Streamed set left left' held held' s feed n)
+counted-end : (set : Options) (left left' held held' : Option (List ℕ)) (s : Sitting) (feed : List ℕ) (n : ℕ) (before : Streamed set left left' held held' s feed n)
     → counted true before.taken ≡ whole_lines before.taken ++ last_line feed
 counted-end set left left' held held' s feed n before =
     counted-ended before.taken (omega (arith, before.length_is, before.within)) ∙ ap (λ l. whole_lines before.taken ++ last_line l) (sym before.drained.part)
 
 -- ---- what a piece adds
 
-pub streamed_piece : (set : Settings) (left mid left' held held' held'' : Option (List ℕ)) (s t : Sitting) (feed feed' piece : List ℕ) (n count : ℕ)
+pub streamed_piece : (set : Options) (left mid left' held held' held'' : Option (List ℕ)) (s t : Sitting) (feed feed' piece : List ℕ) (n count : ℕ)
     → Streamed set left mid held held' s feed n → Consumes mid left' piece → length piece ≡ count → n + count ≤ limit
     → Answered s (whole_lines (feed ++ piece)) Replied t held' held'' → Drained (feed ++ piece) feed' → t.line + length feed' ≤ s.line + length feed + length piece
     → Streamed set left left' held held'' t feed' (n + count)
@@ -94,32 +94,32 @@ streamed_piece set left mid left' held held' held'' s t feed feed' piece n count
       within = room;
     }
 
-pub answered_piece : (set : Settings) (left left' held held' held'' : Option (List ℕ)) (s t : Sitting) (end : End) (feed bytes piece : List ℕ) (n : ℕ) (before : Streamed set left left' held held' s feed n)
+pub answered_piece : (set : Options) (left left' held held' held'' : Option (List ℕ)) (s t : Sitting) (end : End) (feed bytes piece : List ℕ) (n : ℕ) (before : Streamed set left left' held held' s feed n)
     → piece ≡ take (limit - n) bytes → Answered s (whole_lines (feed ++ piece)) end t held' held'' → Answered (fresh set) (counted false (before.taken ++ bytes)) end t held held''
 answered_piece set left left' held held' held'' s t end feed bytes piece n before is more =
     let P : List (List ℕ) → Type 0 = λ l. Answered (fresh set) l end t held held'' in
     subst P (sym (counted-piece set left left' held held' s feed bytes piece n before is)) (answered_more (fresh set) s t _ _ end held held' held'' before.done more)
 
-pub part_piece : (set : Settings) (left left' held held' held'' : Option (List ℕ)) (s : Sitting) (feed bytes piece : List ℕ) (n : ℕ) (before : Streamed set left left' held held' s feed n)
+pub part_piece : (set : Options) (left left' held held' held'' : Option (List ℕ)) (s : Sitting) (feed bytes piece : List ℕ) (n : ℕ) (before : Streamed set left left' held held' s feed n)
     → piece ≡ take (limit - n) bytes → AppendsPart held' held'' (answers s (whole_lines (feed ++ piece))) → AppendsPart held held'' (answers (fresh set) (counted false (before.taken ++ bytes)))
 part_piece set left left' held held' held'' s feed bytes piece n before is more =
     let P : List (List ℕ) → Type 0 = λ l. AppendsPart held held'' (answers (fresh set) l) in
     subst P (sym (counted-piece set left left' held held' s feed bytes piece n before is)) (answered_part (fresh set) s _ _ held held' held'' before.done more)
 
-pub answered_end : (set : Settings) (left left' held held' held'' : Option (List ℕ)) (s t : Sitting) (end : End) (feed : List ℕ) (n : ℕ) (before : Streamed set left left' held held' s feed n)
+pub answered_end : (set : Options) (left left' held held' held'' : Option (List ℕ)) (s t : Sitting) (end : End) (feed : List ℕ) (n : ℕ) (before : Streamed set left left' held held' s feed n)
     → Answered s (last_line feed) end t held' held'' → Answered (fresh set) (counted true before.taken) end t held held''
 answered_end set left left' held held' held'' s t end feed n before more =
     let P : List (List ℕ) → Type 0 = λ l. Answered (fresh set) l end t held held'' in
     subst P (sym (counted-end set left left' held held' s feed n before)) (answered_more (fresh set) s t _ _ end held held' held'' before.done more)
 
-pub part_end : (set : Settings) (left left' held held' held'' : Option (List ℕ)) (s : Sitting) (feed : List ℕ) (n : ℕ) (before : Streamed set left left' held held' s feed n)
+pub part_end : (set : Options) (left left' held held' held'' : Option (List ℕ)) (s : Sitting) (feed : List ℕ) (n : ℕ) (before : Streamed set left left' held held' s feed n)
     → AppendsPart held' held'' (answers s (last_line feed)) → AppendsPart held held'' (answers (fresh set) (counted true before.taken))
 part_end set left left' held held' held'' s feed n before more =
     let P : List (List ℕ) → Type 0 = λ l. AppendsPart held held'' (answers (fresh set) l) in
     subst P (sym (counted-end set left left' held held' s feed n before)) (answered_part (fresh set) s _ _ held held' held'' before.done more)
 
 -- nothing was taken
-pub answered_now : (set : Settings) (left left' held held' : Option (List ℕ)) (s : Sitting) (feed : List ℕ) (n : ℕ) (before : Streamed set left left' held held' s feed n)
+pub answered_now : (set : Options) (left left' held held' : Option (List ℕ)) (s : Sitting) (feed : List ℕ) (n : ℕ) (before : Streamed set left left' held held' s feed n)
     → Answered (fresh set) (counted false before.taken) Replied s held held'
 answered_now set left left' held held' s feed n before =
     let P : List (List ℕ) → Type 0 = λ l. Answered (fresh set) l Replied s held held' in

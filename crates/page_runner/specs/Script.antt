@@ -4,6 +4,7 @@ use Rattle.std.specs.List.{list_any}
 use Rattle.rule_tokens.specs.declared.refused.Bad.{Bad}
 use Rattle.rule_lines.specs.Acts.{Said}
 use Rattle.rule_script.specs.Reading.{reading}
+use Rattle.ce_algorithms.specs.declared.settings.Settings.{Settings}
 use Rattle.ce_algorithms.specs.Model.{model}
 use Rattle.ce_algorithms.specs.Session.{run_lines, start}
 use Rattle.ce_algorithms.specs.State.{State}
@@ -30,6 +31,6 @@ run_from number lines = run_lines model number (readings lines)
 abbrev pub upgrades : Bool
 upgrades = false
 
--- the session of the lines of a script, with so much fuel
-abbrev pub session : ℕ → List (List ℕ) → Outcome State (Unit {0})
-session fuel lines = run_from 1 lines (start upgrades fuel)
+-- the session of the lines of a script
+abbrev pub session : Settings → List (List ℕ) → Outcome State (Unit {0})
+session settings lines = run_from 1 lines (start upgrades settings)

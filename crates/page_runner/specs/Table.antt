@@ -9,7 +9,7 @@ use Rattle.ce_base.specs.declared.stop.Stop.TheVariants.{NoMemory as StopMemory,
 use Rattle.ce_base.specs.declared.outside.Got.{Got}
 use Rattle.ce_base.specs.declared.outside.Got.TheVariants.{Bytes, End as GotEnd, Failed}
 use Rattle.ce_algorithms.specs.Lines.{whole_lines, lines_of}
-use Rattle.ce_algorithms.specs.Script.{is_spent}
+use Rattle.ce_algorithms.specs.Steps.{is_spent}
 use Rattle.ce_algorithms.specs.Session.{log_of}
 use Rattle.ce_algorithms.specs.Text.{text}
 use Rattle.ce_machine.specs.declared.end.End.{End}
@@ -17,7 +17,7 @@ use Rattle.ce_machine.specs.declared.end.End.TheVariants.{Replied, FuelSpent}
 use Rattle.page_runner.specs.Script.{session, has_bad}
 use Rattle.page_runner.specs.declared.status.Status.{Status}
 use Rattle.page_runner.specs.declared.status.Status.TheVariants.{Done, BadLines, Usage, Fuel, ReadFault, WriteFault, NoMemory, TooLong}
-use Rattle.page_runner.specs.declared.words.Settings.{Settings}
+use Rattle.page_runner.specs.declared.words.Options.{Options}
 use Rattle.page_runner.specs.declared.words.Meaning.{Meaning}
 use Rattle.page_runner.specs.declared.words.Meaning.TheVariants.{Refused, Script}
 
@@ -59,26 +59,26 @@ abbrev pub lines_that_count : Call → List (List ℕ)
 lines_that_count call = counted call.ended call.taken
 
 -- the fuel was spent in the session of these lines
-abbrev pub spends_all : Settings → List (List ℕ) → Bool
-spends_all set lines = is_spent (session set.fuel lines)
+abbrev pub spends_all : Options → List (List ℕ) → Bool
+spends_all set lines = is_spent (session set.session lines)
 
 -- what the session of these lines writes
-abbrev pub transcript : Settings → List (List ℕ) → List ℕ
-transcript set lines = text set.trace (log_of (session set.fuel lines))
+abbrev pub transcript : Options → List (List ℕ) → List ℕ
+transcript set lines = text set.trace (log_of (session set.session lines))
 
 -- the script was read to its end, which is within the limit
 abbrev pub ReadsAll : Call → Type 0
 ReadsAll call = (call.ended ≡ true) × IsAtEnd call.left × (length call.taken ≤ limit)
 
 -- the whole transcript was written, or a front of it
-abbrev pub WritesAll : Settings → Call → Type 0
+abbrev pub WritesAll : Options → Call → Type 0
 WritesAll set call = call.written ≡ transcript set (lines_that_count call)
 
-abbrev pub WritesPart : Settings → Call → Type 0
+abbrev pub WritesPart : Options → Call → Type 0
 WritesPart set call = IsPrefix call.written (transcript set (lines_that_count call))
 
 -- the row of each status, where a script is run with these settings
-abbrev pub Row : Status → Settings → Call → Type 0
+abbrev pub Row : Status → Options → Call → Type 0
 Row Done set call = ReadsAll call × (spends_all set (lines_that_count call) ≡ false) × (has_bad (lines_that_count call) ≡ false) × WritesAll set call
 Row BadLines set call = ReadsAll call × (spends_all set (lines_that_count call) ≡ false) × (has_bad (lines_that_count call) ≡ true) × WritesAll set call
 Row Usage set call = ⊥
@@ -89,7 +89,7 @@ Row NoMemory set call = WritesPart set call
 Row TooLong set call = (limit < length call.taken) × (spends_all set (lines_that_count call) ≡ false) × WritesAll set call
 
 -- no more was taken than was needed: before the last piece the bytes were within the limit, and their whole lines left some fuel
-pub record TakesOnlyNeeded (set : Settings) (taken : List ℕ) : Type 0 where
+pub record TakesOnlyNeeded (set : Options) (taken : List ℕ) : Type 0 where
   pub before : List ℕ
   pub last : List ℕ
   pub split : before ++ last ≡ taken
@@ -115,11 +115,11 @@ abbrev pub status_at : End → Bool → Status
 status_at Replied bad = if bad then BadLines else Done
 status_at FuelSpent bad = Fuel
 
-abbrev pub script_status : Settings → List (List ℕ) → Status
+abbrev pub script_status : Options → List (List ℕ) → Status
 script_status set lines = if spends_all set lines then Fuel else (if has_bad lines then BadLines else Done)
 
 -- a script was run whole: the status is its status, and its transcript was written; or memory was refused
-abbrev pub RunsWhole : Settings → List ℕ → Status → Option (List ℕ) → Option (List ℕ) → Type 0
+abbrev pub RunsWhole : Options → List ℕ → Status → Option (List ℕ) → Option (List ℕ) → Type 0
 RunsWhole set script status held held' =
     ((status ≡ script_status set (lines_of script)) × Appends held held' (transcript set (lines_of script))) ⊎ (status ≡ NoMemory)
 

@@ -14,4 +14,4 @@ pub use feed::Feed;
 pub use session::Session;
 pub use status::Status;
 pub use top::run;
-pub use words::{Meaning, Settings};
+pub use words::{Meaning, Options};

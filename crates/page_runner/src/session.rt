@@ -6,12 +6,14 @@ ghost use Rattle.rule_lines.specs.Acts.{line_of};
 ghost use Rattle.rule_script.specs.Built.{is_built};
 ghost use Rattle.rule_script.specs.Reading.{reading};
 ghost use Rattle.ce_algorithms.specs.Model.{model};
-ghost use Rattle.ce_algorithms.specs.Session.{run_line, start, log_of};
+ghost use Rattle.ce_algorithms.specs.Session.{run_line, log_of};
 ghost use Rattle.ce_algorithms.specs.Text.{text};
 ghost use Rattle.ce_algorithms.specs.Written.{Did};
 ghost use Rattle.ce_machine.specs.Ended.{outcome_of};
-ghost use Rattle.page_runner.specs.Script.{is_bad, upgrades};
+ghost use Rattle.page_runner.specs.Ran.{fresh};
+ghost use Rattle.page_runner.specs.Script.{is_bad};
 
+use crate::Options;
 use ce_base::{NoMemory, Sink, Stop};
 use ce_machine::{End, Machine};
 use rule_script::{Line, LineRefused, read_line};
@@ -42,14 +44,14 @@ impl Model for Session {
 
 impl Session {
     /// A session before its first line.
-    pub fn make(alloc: Global, fuel: u32, trace: bool) -> Result<Session, NoMemory>
-        ensures { IfOk result (λ s. s ≡ record { state = start upgrades fuel; line = 0; bad = false; trace = trace }) }
+    pub fn make(alloc: Global, options: Options) -> Result<Session, NoMemory>
+        ensures { IfOk result (λ s. s ≡ fresh options) }
     {
         Ok(Session {
-            machine: Machine::make(alloc, fuel)?,
+            machine: Machine::make(alloc, options.session.fuel)?,
             line: 0,
             bad: false,
-            trace,
+            trace: options.trace,
         })
     }
 

@@ -6,7 +6,7 @@ ghost use Rattle.page_runner.specs.Words.{meaning};
 
 use crate::answers::{finish, take_piece};
 use crate::ask::ask;
-use crate::{Feed, Meaning, Session, Settings, Status};
+use crate::{Feed, Meaning, Options, Session, Status};
 use ce_base::{Got, NoMemory, Sink, Source, Stop};
 use ce_machine::End;
 use std::alloc::Global;
@@ -33,30 +33,30 @@ pub fn run<S: Source, K: Sink>(
     ensures later { (S.failed source.old ≤ S.failed source.new) × (K.failed sink.old ≤ K.failed sink.new) }
 
     // A script that ends within the limit is run whole, unless a count of faults rises or memory is refused.
-    ensures complete { (set : Settings) (script : List ℕ)
+    ensures complete { (set : Options) (script : List ℕ)
         → meaning (map (λ w. string_bytes w) words.now.items) ≡ Meaning.Script set → S.left source.old ≡ Some script → length script ≤ limit
         → ¬ Rose (S.failed source.old) (S.failed source.new) → ¬ Rose (K.failed sink.old) (K.failed sink.new)
         → RunsWhole set script result (K.held sink.old) (K.held sink.new) }
 {
     match Meaning::of(words) {
         Meaning::Refused => Status::Usage,
-        Meaning::Script(settings) => Status::of(run_script(alloc, settings, source, sink)),
+        Meaning::Script(options) => Status::of(run_script(alloc, options, source, sink)),
     }
 }
 
 // Runs a script, piece by piece.
 fn run_script<S: Source, K: Sink>(
     alloc: Global,
-    settings: Settings,
+    options: Options,
     source: &mut S,
     sink: &mut K,
 ) -> Result<Status, Stop>
-    ensures table { RunMeets (Meaning.Script settings) (status_of result) (S.left source.old) (S.left source.new) (K.held sink.old) (K.held sink.new)
+    ensures table { RunMeets (Meaning.Script options) (status_of result) (S.left source.old) (S.left source.new) (K.held sink.old) (K.held sink.new)
         (S.ended source.new) (S.failed source.old) (S.failed source.new) (K.failed sink.old) (K.failed sink.new) }
     ensures later { (S.failed source.old ≤ S.failed source.new) × (K.failed sink.old ≤ K.failed sink.new) }
 {
     let mut buffer = make_buffer(alloc)?;
-    run_pieces(alloc, settings, &mut buffer, source, sink)
+    run_pieces(alloc, options, &mut buffer, source, sink)
 }
 
 fn make_buffer(alloc: Global) -> Result<Vec<u8>, NoMemory>
@@ -68,18 +68,18 @@ fn make_buffer(alloc: Global) -> Result<Vec<u8>, NoMemory>
 // Asks for a piece after the other, and runs each before it asks again.
 fn run_pieces<S: Source, K: Sink>(
     alloc: Global,
-    settings: Settings,
+    options: Options,
     buffer: &mut [u8],
     source: &mut S,
     sink: &mut K,
 ) -> Result<Status, Stop>
     requires { length buffer.old ≡ piece }
-    ensures table { RunMeets (Meaning.Script settings) (status_of result) (S.left source.old) (S.left source.new) (K.held sink.old) (K.held sink.new)
+    ensures table { RunMeets (Meaning.Script options) (status_of result) (S.left source.old) (S.left source.new) (K.held sink.old) (K.held sink.new)
         (S.ended source.new) (S.failed source.old) (S.failed source.new) (K.failed sink.old) (K.failed sink.new) }
     ensures later { (S.failed source.old ≤ S.failed source.new) × (K.failed sink.old ≤ K.failed sink.new) }
 {
     let mut feed = Feed::make(alloc);
-    let mut session = Session::make(alloc, settings.fuel, settings.trace)?;
+    let mut session = Session::make(alloc, options)?;
     let mut taken = 0;
     'pieces: loop {
         match ask(source, buffer) {
