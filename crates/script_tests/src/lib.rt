@@ -1,0 +1,9 @@
+//! Tests of the language: lines are read, written and copied.
+#![tactic(auto)]
+
+#[cfg(test)]
+mod reading;
+#[cfg(test)]
+mod values;
+#[cfg(test)]
+mod writing;
