@@ -214,6 +214,16 @@ fn pass_on(sink: &mut MemSink, pending: &mut Pending) -> (&'static str, u64) {
     (end_word(end), out.faults())
 }
 
+// A piece that fills the upper sink, two bytes more, a write that fails, and one that doesn't.
+fn fill(rt: &impl Abort, sink: &mut MemSink, pending: &mut Pending, full: &[u8]) {
+    assert!(rt; gather(sink, pending, full) == ("ok", 0));
+    assert!(rt; gather(sink, pending, b"bc") == ("ok", 0));
+    assert!(rt; pass_on(sink, pending) == ("fault", 1));
+    assert!(rt; pending.as_slice() == b"bc".as_slice() && sink.bytes() == full);
+    assert!(rt; pass_on(sink, pending) == ("ok", 1));
+    assert!(rt; sink.bytes().len() == 65_538 && pending.as_slice().is_empty());
+}
+
 #[test]
 fn a_sink_over_a_sink_passes_on_what_is_too_much(rt: HostRuntime) -> Result<(), Fail> {
     let alloc = rt.alloc();
@@ -221,12 +231,7 @@ fn a_sink_over_a_sink_passes_on_what_is_too_much(rt: HostRuntime) -> Result<(), 
     let fails = vec![in alloc; 2]?;
     let mut sink = MemSink::make(alloc, fails);
     let mut pending = Pending::make(alloc);
-    assert!(rt; gather(&mut sink, &mut pending, &full) == ("ok", 0));
-    assert!(rt; gather(&mut sink, &mut pending, b"bc") == ("ok", 0));
-    assert!(rt; pass_on(&mut sink, &mut pending) == ("fault", 1));
-    assert!(rt; pending.as_slice() == b"bc".as_slice() && sink.bytes() == full.as_slice());
-    assert!(rt; pass_on(&mut sink, &mut pending) == ("ok", 1));
-    assert!(rt; sink.bytes().len() == 65_538 && pending.as_slice().is_empty());
+    fill(&rt, &mut sink, &mut pending, &full);
     Ok(())
 }
 
