@@ -214,6 +214,28 @@ fn pass_on(sink: &mut MemSink, pending: &mut Pending) -> (&'static str, u64) {
     (end_word(end), out.faults())
 }
 
+// Compares how a write ended, and how many faults there were.
+fn expect(rt: &impl Abort, given: (&'static str, u64), end: &str, faults: u64) {
+    same(rt, given.0, end, "a write");
+    assert!(rt; given.1 == faults);
+}
+
+fn hold(rt: &impl Abort, bytes: &[u8], want: &[u8]) {
+    assert!(rt; bytes == want);
+}
+
+// A piece that fills the upper sink, two bytes more, a write that fails, and one that doesn't.
+fn fill(rt: &impl Abort, sink: &mut MemSink, pending: &mut Pending, full: &[u8]) {
+    expect(rt, gather(sink, pending, full), "ok", 0);
+    expect(rt, gather(sink, pending, b"bc"), "ok", 0);
+    expect(rt, pass_on(sink, pending), "fault", 1);
+    hold(rt, sink.bytes(), full);
+    hold(rt, pending.as_slice(), b"bc");
+    expect(rt, pass_on(sink, pending), "ok", 1);
+    assert!(rt; sink.bytes().len() == 65_538);
+    hold(rt, pending.as_slice(), b"");
+}
+
 #[test]
 fn a_sink_over_a_sink_passes_on_what_is_too_much(rt: HostRuntime) -> Result<(), Fail> {
     let alloc = rt.alloc();
@@ -221,12 +243,7 @@ fn a_sink_over_a_sink_passes_on_what_is_too_much(rt: HostRuntime) -> Result<(), 
     let fails = vec![in alloc; 2]?;
     let mut sink = MemSink::make(alloc, fails);
     let mut pending = Pending::make(alloc);
-    assert!(rt; gather(&mut sink, &mut pending, &full) == ("ok", 0));
-    assert!(rt; gather(&mut sink, &mut pending, b"bc") == ("ok", 0));
-    assert!(rt; pass_on(&mut sink, &mut pending) == ("fault", 1));
-    assert!(rt; pending.as_slice() == b"bc".as_slice() && sink.bytes() == full.as_slice());
-    assert!(rt; pass_on(&mut sink, &mut pending) == ("ok", 1));
-    assert!(rt; sink.bytes().len() == 65_538 && pending.as_slice().is_empty());
+    fill(&rt, &mut sink, &mut pending, &full);
     Ok(())
 }
 

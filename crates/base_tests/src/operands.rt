@@ -259,17 +259,17 @@ fn flags_are_named(rt: HostRuntime) -> Result<(), Fail> {
     see_tokens(&rt, rt.alloc(), Form::Flags, FLAGS)
 }
 
-// Whether the text is the word "deep" without quotes.
-fn is_deep(alloc: Global, row: &str) -> Result<bool, Fail> {
-    Ok(is_word(&token(alloc, row)?, "deep"))
+// Whether a token is the word "deep".
+fn see_word(rt: &impl Abort, alloc: Global, row: &str, want: bool) -> Result<(), Fail> {
+    let t = token(alloc, row)?;
+    assert!(rt; is_word(&t, "deep") == want, "at {row}");
+    Ok(())
 }
 
 #[test]
 fn a_quoted_word_is_no_word(rt: HostRuntime) -> Result<(), Fail> {
-    let alloc = rt.alloc();
-    assert!(rt; is_deep(alloc, "deep")?);
-    for row in "\"deep Deep deeper".split_whitespace() {
-        assert!(rt; !is_deep(alloc, row)?, "at {row}");
-    }
-    Ok(())
+    see_word(&rt, rt.alloc(), "deep", true)?;
+    see_word(&rt, rt.alloc(), "\"deep", false)?;
+    see_word(&rt, rt.alloc(), "Deep", false)?;
+    see_word(&rt, rt.alloc(), "deeper", false)
 }
