@@ -181,9 +181,6 @@ meets_end_stop stop set left mid left' held held' held'' s feed n sb sn kb kn be
       as_said = (stop_row stop set _ part.0 true left' sb sn kb kn cause part.1, needed_nothing set left mid held held' s feed n before);
     }
 
-needed_first : (set : Options) → TakesOnlyNeeded set []
-needed_first set = record { before = []; last = []; split = refl; short = omega arith; within = omega arith; goes = refl }
-
 -- a run whose words are refused
 pub meets_refused : (left held : Option (List ℕ)) (ended : Bool) (sb sn kb kn : ℕ) → RunMeets Refused Usage left left held held ended sb sn kb kn
 meets_refused left held ended sb sn kb kn = record { taken = []; written = []; took = Consumes-nil left; wrote = Appends-nil held; as_said = (refl, refl, refl) }

@@ -1,0 +1,11 @@
+//! Tests of whole runs.
+#![tactic(auto)]
+
+#[cfg(test)]
+mod devices;
+#[cfg(test)]
+mod limits;
+#[cfg(test)]
+mod pieces;
+#[cfg(test)]
+mod script;

@@ -1,0 +1,92 @@
+// Scripts as texts: rows that begin with "> " are lines of the script, rows that begin with "< " lines of the
+// transcript. A number before the sign says how many times they come, `/` stands between lines that come in
+// turn, and `%` for a value of 4000 bytes.
+use ce_base::{Sink, Source, SureSink, SureSource};
+use page_runner::{Status, run};
+use std::alloc::Global;
+use std::process::Abort;
+use std::test::Fail;
+
+// What a row spells, once.
+fn spelled(alloc: Global, row: &str) -> Result<String, Fail> {
+    let value = "v".repeat(alloc, 4_000)?;
+    let lines = row.replace(alloc, " / ", "\n")?;
+    let lines = lines.replace(alloc, "%", value.as_str())?;
+    Ok(format!(in alloc; "{lines}\n")?)
+}
+
+// The rows of a text with this sign, spelled out.
+fn rows(alloc: Global, text: &str, sign: &str) -> Result<String, Fail> {
+    let mut out = String::new(alloc);
+    for row in text.lines() {
+        if let Some((times, row)) = row.split_once(sign) {
+            let times = times.parse::<usize>().unwrap_or(1);
+            out.push_str(spelled(alloc, row)?.repeat(alloc, times)?.as_str())?;
+        }
+    }
+    Ok(out)
+}
+
+pub(crate) fn script_of(alloc: Global, text: &str) -> Result<String, Fail> {
+    rows(alloc, text, "> ")
+}
+
+pub(crate) fn transcript_of(alloc: Global, text: &str) -> Result<String, Fail> {
+    rows(alloc, text, "< ")
+}
+
+// How a run ended, and what it wrote.
+#[derive(Drop)]
+pub(crate) struct Ended {
+    pub(crate) status: Status,
+    pub(crate) text: String,
+}
+
+impl Ended {
+    // Sees that it ended with this status and this transcript.
+    pub(crate) fn is(&self, rt: &impl Abort, status: Status, transcript: &str) {
+        assert_eq!(rt; self.status, status);
+        assert_eq!(rt; self.text.as_str(), transcript);
+    }
+}
+
+// Runs what a source gives into a sink.
+pub(crate) fn status_of(alloc: Global, source: &mut impl Source, sink: &mut impl Sink) -> Status {
+    run(alloc, &Vec::new(alloc), source, sink)
+}
+
+// Runs what a source gives.
+pub(crate) fn ran_from(alloc: Global, source: &mut impl Source) -> Result<Ended, Fail> {
+    let mut sink = SureSink::make(alloc);
+    let status = status_of(alloc, source, &mut sink);
+    let text = String::from_utf8_lossy(alloc, sink.bytes())?;
+    Ok(Ended { status, text })
+}
+
+// A source that gives a script in pieces of at most `cut` bytes.
+pub(crate) fn source_of(alloc: Global, script: &[u8], cut: usize) -> Result<SureSource, Fail> {
+    Ok(SureSource::make(script.to_vec(alloc)?, cut.max(1)))
+}
+
+// Runs a script that is read in such pieces.
+pub(crate) fn ran(alloc: Global, script: &[u8], cut: usize) -> Result<Ended, Fail> {
+    let mut source = source_of(alloc, script, cut)?;
+    ran_from(alloc, &mut source)
+}
+
+// A class that logs its attribute's changes, its definition, an element, and a change to an equal value.
+pub(crate) const FIRST: &str = r#"> class A
+> observe A k
+> on A attribute : log @1 @2 @3
+> define x-a A
+> create $e x-a
+2> setattr $e k 1
+< 4: ok
+< construct A
+< 5: #2
+< call #2 attribute "k" null "1"
+< log "k" "" "1"
+< 6: ok
+< call #2 attribute "k" "1" "1"
+< log "k" "1" "1"
+< 7: ok"#;
