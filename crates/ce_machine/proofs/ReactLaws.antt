@@ -5,7 +5,7 @@ use Rattle.ce_base.specs.declared.fault.Fault.{Fault}
 use Rattle.ce_algorithms.specs.Drain.{drain_popped, open_queue, reacting}
 use Rattle.ce_algorithms.specs.Model.{model}
 use Rattle.ce_algorithms.specs.State.{State}
-use Rattle.ce_algorithms.specs.Steps.{Step, Outcome, Goes, Throws, Spent, then_do, attempt_in, finally, finally_in, give, throw}
+use Rattle.ce_algorithms.specs.Steps.{Step, Outcome, Goes, then_do, attempt_in, finally, finally_in, give, throw}
 use Rattle.ce_algorithms.specs.Written.{Did}
 use Rattle.ce_algorithms.proofs.Framed.{framed_give, framed_throw}
 use Rattle.ce_algorithms.proofs.Writing.{did_attempt, did_more, did_same, did_spent, part_attempt, part_none, part_then}

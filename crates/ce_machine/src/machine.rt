@@ -1,5 +1,5 @@
 // The machine: parsed lines of a script, one after another.
-ghost use Rattle.std.specs.Prelude.{◌≡◌, ◌≤◌, [], Err, false, true, IfOk, OnErr, IsErrOf};
+ghost use Rattle.std.specs.Prelude.{◌≡◌, ◌≤◌, [], Err, Ok, false, true, IfOk, IfErr, OnErr, OnOk, IsErrOf};
 ghost use Rattle.ce_base.specs.Faults.{Rose};
 ghost use Rattle.ce_base.specs.Outside.{AppendsPart};
 ghost use Rattle.rule_lines.specs.Acts.{part_of};
@@ -124,9 +124,20 @@ impl Machine {
     {
         let Machine { state } = self;
         let mut state = state;
-        match write_command(&mut state, alloc, line, &c, trace, sink) {
-            Err(stop) => Err(stop),
-            Ok(end) => Ok((Machine { state }, end)),
-        }
+        let ran = write_command(&mut state, alloc, line, &c, trace, sink);
+        drop(c);
+        with_end(state, ran)
+    }
+}
+
+// The machine behind a command, where nothing stopped it.
+fn with_end(state: State, ran: Result<End, Stop>) -> Result<(Machine, End), Stop>
+    requires { OnOk ran (state.log ≡ []) }
+    ensures went { IfOk result (λ r. (ran ≡ Ok r.1) × (r.0 ≡ state)) }
+    ensures stopped { IfErr result (λ stop. ran ≡ Err stop) }
+{
+    match ran {
+        Err(stop) => Err(stop),
+        Ok(end) => Ok((Machine { state }, end)),
     }
 }

@@ -50,7 +50,8 @@ pub(crate) fn perform<K: Sink>(
 
 // Makes an inert document, and sets a variable to it.
 fn make_document(state: &mut State, alloc: Global, var: &Text) -> Result<Result<Given, Fault>, Halt>
-    ensures { (trace : Bool) (held : Option (List ℕ)) → Wrote trace held held (λ r. r) result state.new (attempt_in (perform model (commands.Doc var.now) state.old)) }
+    ensures ran { (trace : Bool) (held : Option (List ℕ)) → Wrote trace held held (λ r. r) result state.new (attempt_in (perform model (commands.Doc var.now) state.old)) }
+    ensures writes { IsErrOf result Halt.WriteFault → ⊥ }
 {
     let made = document(state, alloc);
     let outcome = settled(made)?;

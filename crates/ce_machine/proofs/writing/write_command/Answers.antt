@@ -8,4 +8,4 @@ returns-in_err-flush-clause-part g c =
     rw p.1 (part_flush_end c.args.trace _ _ _ c.in_ok-end.end _ c.run_command.new.state c.in_ok-end.ensures.ran c.in_err-flush.ensures.part)
 
 pub returns-clause-ran : goal.returns-clause-ran
-returns-clause-ran g c = did_flush_end c.args.trace _ _ _ c.in_ok-end.end _ c.run_command.new.state c.flush.new.state c.in_ok-end.ensures.ran c.in_ok-flush.ensures.written c.in_ok-flush.ensures.state
+returns-clause-ran g c = did_flush_end c.args.trace _ _ _ c.in_ok-end.end _ c.run_command.new.state c.flush.new.self c.in_ok-end.ensures.ran c.in_ok-flush.ensures.written c.in_ok-flush.ensures.state
