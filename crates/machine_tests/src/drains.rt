@@ -2,8 +2,8 @@
 mod sessions;
 mod steps;
 
-use ce_base::{MemSink, Stop, write_all};
 use ce_algorithms::Settings;
+use ce_base::{MemSink, Stop, write_all};
 use ce_drains::State;
 use sessions::*;
 use std::alloc::Global;
