@@ -1,0 +1,51 @@
+// What holds of frames: statements, each proved as the contract of a function that does nothing.
+ghost use Rattle.std.specs.Prelude.{◌≡◌, ◌<◌, ℕ, List, ◌++◌, ◌∷◌, []};
+ghost use Rattle.rule_lines.specs.declared.line.Cmd.{Cmd};
+ghost use Rattle.ce_algorithms.specs.declared.event.Event.{Event};
+ghost use Rattle.ce_algorithms.specs.declared.event.Given.{Given};
+ghost use Rattle.ce_algorithms.specs.Model.{model};
+ghost use Rattle.ce_algorithms.specs.Session.{command};
+ghost use Rattle.ce_algorithms.specs.State.{State};
+ghost use Rattle.ce_algorithms.specs.Steps.{Outcome};
+ghost use Rattle.ce_algorithms.specs.Written.{behind_in};
+ghost use Rattle.ce_frames.specs.Frames.{Frame};
+ghost use Rattle.ce_frames.specs.Handing.{nothing};
+ghost use Rattle.ce_frames.specs.After.{after};
+ghost use Rattle.ce_frames.specs.Rest.{End, outcome_of, rest};
+ghost use Rattle.ce_frames.specs.Work.{work};
+ghost use Rattle.ce_frames.specs.Turned.{left, to_come};
+ghost use Rattle.ce_frames.specs.Turns.{turn};
+ghost use Rattle.ce_frames.specs.Loop.{command_turn, looped};
+
+/// The machine is the model: a command, by the loop over frames, comes to what the algorithms come to, whether
+/// it ends with its reply or with its fuel.
+#[tactic(auto, using(crate::proofs::Looping::looped_is))]
+pub fn the_loop_is_the_model()
+    ensures { (line : ℕ) (c : Cmd) (s : State) → looped line c s ≡ nothing (command model line c s) }
+{}
+
+/// What the first turn of a command leaves to come is the command.
+#[tactic(auto, using(crate::proofs::Looping::begun_is))]
+pub fn a_command_begins()
+    ensures { (line : ℕ) (c : Cmd) (s : State) → to_come [] (command_turn line c s) ≡ nothing (command model line c s) }
+{}
+
+/// A turn of the topmost frame leaves what is still to come as it was, and lowers what is left to do.
+#[tactic(auto, using(crate::proofs::TurnComes::turn_leaves, crate::proofs::TurnCosts::turn_lowers))]
+pub fn a_turn_goes_on()
+    ensures rest { (frames : List Frame) (f : Frame) (e : End) (s : State) → to_come frames (turn f e s) ≡ rest (frames ++ f ∷ []) (outcome_of e s) }
+    ensures work { (frames : List Frame) (f : Frame) (e : End) (s : State) → left frames (turn f e s) < work (frames ++ f ∷ []) s }
+{}
+
+/// What the frames still do depends on nothing that was logged before it: the log may be written out and
+/// forgotten between any two turns.
+#[tactic(auto, using(crate::proofs::Behind::rest_behind))]
+pub fn no_frame_reads_the_log()
+    ensures { (frames : List Frame) (log : List Event) (o : Outcome State Given) → rest frames (behind_in log o) ≡ behind_in log (rest frames o) }
+{}
+
+/// The topmost frame ends first.
+#[tactic(auto, using(crate::proofs::Resting::rest_push))]
+pub fn the_topmost_ends_first()
+    ensures { (frames : List Frame) (f : Frame) (o : Outcome State Given) → rest (frames ++ f ∷ []) o ≡ rest frames (after f o) }
+{}
