@@ -13,3 +13,4 @@ pub mod MakeCosts
 pub mod TurnCosts
 pub mod Looping
 pub mod Behind
+pub mod Moves

@@ -10,3 +10,4 @@ pub mod BodyTurns
 pub mod DrainTurns
 pub mod Turns
 pub mod Loop
+pub mod Places

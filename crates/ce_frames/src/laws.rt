@@ -1,5 +1,7 @@
 // What holds of frames: statements, each proved as the contract of a function that does nothing.
-ghost use Rattle.std.specs.Prelude.{◌≡◌, ◌<◌, ℕ, List, ◌++◌, ◌∷◌, []};
+ghost use Rattle.std.specs.Prelude.{◌≡◌, ◌<◌, ℕ, List, ◌++◌, ◌∷◌, [], None, Option, Some, map, slice_get, slice_set};
+ghost use Rattle.rule_tokens.specs.declared.callback.CallName.{CallName};
+ghost use Rattle.rule_lines.specs.Acts.{Act};
 ghost use Rattle.rule_lines.specs.declared.line.Cmd.{Cmd};
 ghost use Rattle.ce_algorithms.specs.declared.event.Event.{Event};
 ghost use Rattle.ce_algorithms.specs.declared.event.Given.{Given};
@@ -11,6 +13,7 @@ ghost use Rattle.ce_algorithms.specs.Written.{behind_in};
 ghost use Rattle.ce_frames.specs.Frames.{Frame};
 ghost use Rattle.ce_frames.specs.Handing.{nothing};
 ghost use Rattle.ce_frames.specs.After.{after};
+ghost use Rattle.ce_frames.specs.Places.{Behaviour, Body, Held, Homes, IsTopmost, NoneOf, Place, Stands, Wait, held_in, holding, home_of, seen};
 ghost use Rattle.ce_frames.specs.Rest.{End, outcome_of, rest};
 ghost use Rattle.ce_frames.specs.Work.{work};
 ghost use Rattle.ce_frames.specs.Turned.{left, to_come};
@@ -48,4 +51,30 @@ pub fn no_frame_reads_the_log()
 #[tactic(auto, using(crate::proofs::Resting::rest_push))]
 pub fn the_topmost_ends_first()
     ensures { (frames : List Frame) (f : Frame) (o : Outcome State Given) → rest (frames ++ f ∷ []) o ≡ rest frames (after f o) }
+{}
+
+/// A class's behaviour is in one place: in the topmost frame of its bodies, or at home where there is none. It
+/// stays so as bodies of the class begin, above one of them or first of all, as they end, and as they go on and
+/// change what the class remembers. What a frame holds changes nothing of what it stands for; frames of no body
+/// come and go.
+pub fn a_behaviour_is_in_one_place()
+    ensures at_home { (bs : List Behaviour) → Stands (map Some bs) [] bs }
+    ensures all_home { (homes : Homes) (bs : List Behaviour) → Stands homes [] bs → homes ≡ map Some bs }
+    ensures top { (homes : Homes) (frames : List Held) (bs : List Behaviour) (k : ℕ) (p : Place) (h : Option Behaviour)
+        → Stands homes (frames ++ Body k p h ∷ []) bs → h ≡ slice_get bs k }
+    ensures fetched { (homes : Homes) (frames : List Held) (bs : List Behaviour) (k i : ℕ) (p : Place) (f : Held) → IsTopmost k frames i f
+        → Stands homes frames bs → Stands homes (slice_set frames i (holding None f) ++ Body k p (held_in f) ∷ []) bs }
+    ensures handed_back { (homes : Homes) (frames : List Held) (bs : List Behaviour) (k i : ℕ) (p : Place) (f : Held) (h : Option Behaviour)
+        → IsTopmost k frames i f → Stands homes (frames ++ Body k p h ∷ []) bs → Stands homes (slice_set frames i (holding h f)) bs }
+    ensures from_home { (homes : Homes) (frames : List Held) (bs : List Behaviour) (k : ℕ) (p : Place) → NoneOf k frames
+        → Stands homes frames bs → Stands (slice_set homes k None) (frames ++ Body k p (home_of homes k) ∷ []) bs }
+    ensures to_home { (homes : Homes) (frames : List Held) (bs : List Behaviour) (k : ℕ) (p : Place) (b : Behaviour) → NoneOf k frames
+        → Stands homes (frames ++ Body k p (Some b) ∷ []) bs → Stands (slice_set homes k (Some b)) frames bs }
+    ensures changed { (homes : Homes) (frames : List Held) (bs : List Behaviour) (k : ℕ) (p q : Place) (b c : Behaviour)
+        → Stands homes (frames ++ Body k p (Some b) ∷ []) bs → Stands homes (frames ++ Body k q (Some c) ∷ []) (slice_set bs k c) }
+    ensures seen { (bodies : List (List (CallName × Act))) (h : Option Behaviour) (f : Held) → seen bodies (holding h f) ≡ seen bodies f }
+    ensures waits { (homes : Homes) (frames : List Held) (bs : List Behaviour) (f : Frame)
+        → Stands homes frames bs → Stands homes (frames ++ Wait f ∷ []) bs }
+    ensures waited { (homes : Homes) (frames : List Held) (bs : List Behaviour) (f : Frame)
+        → Stands homes (frames ++ Wait f ∷ []) bs → Stands homes frames bs }
 {}
