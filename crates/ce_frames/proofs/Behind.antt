@@ -1,12 +1,12 @@
 -- No frame reads the log.
-use Rattle.std.proofs.Common.{◌≡◌, ℕ, true, false, List, [], ◌∷◌, Option, Some, refl, ap, ◌∙◌}
+use Rattle.std.proofs.Common.{◌≡◌, ℕ, true, false, List, [], ◌∷◌, Option, Some, refl, ap, ◌∙◌, sym, append-nil}
 use Rattle.std.specs.Prelude.{Result, Ok, Err}
 use Rattle.ce_base.specs.declared.fault.Fault.{Fault}
 use Rattle.rule_lines.specs.Acts.{Act}
 use Rattle.ce_algorithms.specs.declared.event.Event.{Event}
 use Rattle.ce_algorithms.specs.declared.event.Given.{Given}
 use Rattle.ce_algorithms.specs.declared.event.Given.TheVariants.{Nothing, Node}
-use Rattle.ce_algorithms.specs.Steps.{Step, Outcome, then_do, settle, catch_in, finally_in, attempt_in}
+use Rattle.ce_algorithms.specs.Steps.{Goes, Throws, Spent, Step, Outcome, then_do, settle, catch_in, finally_in, attempt_in}
 use Rattle.ce_algorithms.specs.State.{State}
 use Rattle.ce_algorithms.specs.Values.{Args}
 use Rattle.ce_algorithms.specs.Construction.{pop_construction}
@@ -24,7 +24,8 @@ use Rattle.ce_algorithms.proofs.FramedSteps.{framed_checkpoint}
 use Rattle.ce_frames.specs.Frames.{Frame, Replying, Checking, DrainingBackup, Naming, Stepping, Draining, InReaction, CreatingFit, CreatingExtended, Upgrading, Constructing, InBody}
 use Rattle.ce_frames.specs.Handing.{node_in, given_of, dropped, numbered}
 use Rattle.ce_frames.specs.After.{backup_on, drain_on, after}
-use Rattle.ce_frames.specs.Rest.{rest}
+use Rattle.ce_frames.specs.Rest.{End, Went, Threw, Over, outcome_of, rest}
+use Rattle.ce_frames.specs.Work.{potential, work}
 
 -- what is made of an outcome is made of it behind any events
 record Clear {A B : Type 0} (F : Outcome State A → Outcome State B) : Type 0 where
@@ -118,3 +119,19 @@ pub rest_behind : (frames : List Frame) (events : List Event) (o : Outcome State
 unfolding rest
 rest_behind [] events o = refl
 rest_behind (f ∷ frames) events o = ap (after f) (rest_behind frames events o) ∙ (after_clear f).at events (rest frames o)
+
+-- the log of a state stands before what is still to come
+
+log_behind : (e : End) (s : State) → outcome_of e s ≡ behind_in s.log (outcome_of e (record s { log = [] }))
+log_behind (Went given) s = ap (λ l. Goes given (record s { log = l })) (sym (append-nil s.log))
+log_behind (Threw f) s = ap (λ l. Throws f (record s { log = l })) (sym (append-nil s.log))
+log_behind Over s = ap (λ l. Spent (record s { log = l })) (sym (append-nil s.log))
+
+pub rest_forgotten : (frames : List Frame) (e : End) (s : State)
+    → rest frames (outcome_of e s) ≡ behind_in s.log (rest frames (outcome_of e (record s { log = [] })))
+rest_forgotten frames e s = ap (rest frames) (log_behind e s) ∙ rest_behind frames s.log (outcome_of e (record s { log = [] }))
+
+-- and is no work
+pub work_forgotten : (frames : List Frame) (s : State) → work frames (record s { log = [] }) ≡ work frames s
+unfolding potential
+work_forgotten frames s = refl

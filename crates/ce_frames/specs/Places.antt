@@ -17,7 +17,7 @@ pub record Behaviour : Type 0 where
 -- how far a body is
 pub record Place : Type 0 where
   pub call : CallName
-  pub index : ℕ  -- the actions of the body that were done
+  pub index : ℕ  -- how many of its actions have begun
   pub args : Args
   pub this : Option ℕ
   pub guarded : Bool

@@ -40,11 +40,14 @@ pub fn a_turn_goes_on()
     ensures work { (frames : List Frame) (f : Frame) (e : End) (s : State) → left frames (turn f e s) < work (frames ++ f ∷ []) s }
 {}
 
-/// What the frames still do depends on nothing that was logged before it: the log may be written out and
-/// forgotten between any two turns.
-#[tactic(auto, using(crate::proofs::Behind::rest_behind))]
+/// What the frames still do depends on nothing that was logged before it. So the log may be written out and
+/// forgotten between any two turns: it stands before what is still to come, and what is left to do stays.
+#[tactic(auto, using(crate::proofs::Behind::rest_behind, crate::proofs::Behind::rest_forgotten, crate::proofs::Behind::work_forgotten))]
 pub fn no_frame_reads_the_log()
-    ensures { (frames : List Frame) (log : List Event) (o : Outcome State Given) → rest frames (behind_in log o) ≡ behind_in log (rest frames o) }
+    ensures behind { (frames : List Frame) (log : List Event) (o : Outcome State Given) → rest frames (behind_in log o) ≡ behind_in log (rest frames o) }
+    ensures forgotten { (frames : List Frame) (e : End) (s : State)
+        → rest frames (outcome_of e s) ≡ behind_in s.log (rest frames (outcome_of e (record s { log = [] }))) }
+    ensures work { (frames : List Frame) (s : State) → work frames (record s { log = [] }) ≡ work frames s }
 {}
 
 /// The topmost frame ends first.
