@@ -7,9 +7,9 @@ use Rattle.ce_algorithms.specs.declared.event.Event.{Event}
 use Rattle.ce_algorithms.specs.declared.event.Given.{Given}
 use Rattle.ce_algorithms.specs.declared.event.Given.TheVariants.{Nothing, Node}
 use Rattle.ce_algorithms.specs.Steps.{Goes, Throws, Spent, Step, Outcome, then_do, settle, catch_in, finally_in, attempt_in}
+use Rattle.ce_algorithms.specs.Construction.{pop_construction}
 use Rattle.ce_algorithms.specs.State.{State}
 use Rattle.ce_algorithms.specs.Values.{Args}
-use Rattle.ce_algorithms.specs.Construction.{pop_construction}
 use Rattle.ce_algorithms.specs.Body.{Flow, Next, Ended, told_next, on_flow, body}
 use Rattle.ce_algorithms.specs.Upgrade.{upgrade_ends}
 use Rattle.ce_algorithms.specs.Create.{fitting}

@@ -1,13 +1,13 @@
 -- The turns of bodies come to what the bodies come to.
 use Rattle.std.proofs.Common.{◌≡◌, ℕ, zero, suc, Bool, true, false, List, [], ◌∷◌, Option, refl, ap, sym, ◌∙◌}
-use Rattle.rule_lines.specs.Acts.{Act, Both, Try, If}
 use Rattle.rule_lines.specs.declared.op.Op.{Op}
+use Rattle.rule_lines.specs.Acts.{Act, Both, Try, If}
 use Rattle.ce_algorithms.specs.declared.event.Event.TheVariants.{FuelLine}
 use Rattle.ce_algorithms.specs.Steps.{Step, Goes, Spent, then_do, ◌>>◌, give}
 use Rattle.ce_algorithms.specs.State.{State, class_of, logged, spend, spend_from}
+use Rattle.ce_algorithms.specs.Calls.{Operate}
 use Rattle.ce_algorithms.specs.Values.{Args, text_of, fixed}
 use Rattle.ce_algorithms.specs.Body.{Flow, Next, Ended, told_next, on_flow, act, body, holds}
-use Rattle.ce_algorithms.specs.Calls.{Operate}
 use Rattle.ce_algorithms.specs.Model.{model}
 use Rattle.ce_algorithms.proofs.Steady.{model_level}
 use Rattle.ce_frames.specs.Frames.{InBody}

@@ -1,32 +1,34 @@
 -- The turns of constructions, upgrades and creations come to what the algorithms come to.
 use Rattle.std.proofs.Common.{◌≡◌, ℕ, List, Option, Some, None, refl, ap, sym, ◌∙◌}
 use Rattle.ce_base.specs.declared.custom_state.CustomState.TheVariants.{Precustomized}
-use Rattle.ce_base.specs.declared.fault.Fault.TheVariants.{NotSupportedError}
+use Rattle.ce_base.specs.declared.fault.Fault.{Fault}
+use Rattle.ce_base.specs.declared.fault.Fault.TheVariants.{NotSupportedError, TypeError}
 use Rattle.rule_tokens.specs.declared.callback.CallName.TheVariants.{Constructor}
 use Rattle.rule_lines.specs.Acts.{Act}
-use Rattle.ce_registry.specs.ClassFacts.{has_call}
 use Rattle.ce_registry.specs.declared.definition.Definition.{Definition}
+use Rattle.ce_registry.specs.ClassFacts.{has_call}
 use Rattle.ce_registry.specs.Registry.{is_autonomous}
-use Rattle.ce_algorithms.specs.declared.event.Event.TheVariants.{Construct, UpgradeBegun}
-use Rattle.ce_algorithms.specs.declared.event.Given.TheVariants.{Nothing}
-use Rattle.ce_algorithms.specs.Steps.{Step, Outcome, Goes, Throws, Spent, then_do, give, throw_where}
-use Rattle.ce_algorithms.specs.Page.{with_state, state_of, definition_at}
-use Rattle.ce_algorithms.specs.State.{State, Class, class_of, logged, on_page}
-use Rattle.ce_algorithms.specs.Values.{Args, no_args}
+use Rattle.ce_algorithms.specs.declared.event.Event.TheVariants.{Construct, UpgradeBegun, UpgradeThrew}
+use Rattle.ce_algorithms.specs.declared.event.Given.{Given}
+use Rattle.ce_algorithms.specs.declared.event.Given.TheVariants.{Nothing, Node, Answers, Ignored}
+use Rattle.ce_algorithms.specs.Steps.{Step, Outcome, Goes, Throws, Spent, then_do, give, throw_where, catch_in, attempt_in}
+use Rattle.ce_algorithms.specs.Page.{with_state, state_of, definition_at, with_definition}
 use Rattle.ce_algorithms.specs.Enqueue.{lookup_in}
-use Rattle.ce_algorithms.specs.Construction.{base_call}
+use Rattle.ce_algorithms.specs.Construction.{base_call, stack_of, with_stack, without_last}
+use Rattle.ce_algorithms.specs.State.{State, Class, class_of, logged, on_page, with_work}
+use Rattle.ce_algorithms.specs.Values.{Args, no_args}
 use Rattle.ce_algorithms.specs.Body.{actions_of, body}
 use Rattle.ce_algorithms.specs.Construct.{base_alone, constructor_body, construct}
-use Rattle.ce_algorithms.specs.Upgrade.{is_shadow_refused, is_upgradable, begin_upgrade, same_node, construct_for, upgrade_now, upgrade}
-use Rattle.ce_algorithms.specs.Create.{create_extended, create_found, create}
-use Rattle.ce_algorithms.specs.Model.{model}
+use Rattle.ce_algorithms.specs.Upgrade.{is_shadow_refused, is_upgradable, begin_upgrade, same_node, construct_for, upgrade_now, upgrade, upgrade_threw, upgrade_ends, drop_reactions}
+use Rattle.ce_algorithms.specs.Create.{create_extended, create_found, create, fitting, create_failed}
 use Rattle.ce_algorithms.specs.Perform.{gives_node}
+use Rattle.ce_algorithms.specs.Model.{model}
 use Rattle.ce_frames.specs.Frames.{CreatingFit, CreatingExtended, Upgrading, Constructing}
 use Rattle.ce_frames.specs.Handing.{nothing, a_node, a_result}
 use Rattle.ce_frames.specs.After.{after, constructed, created, extended, upgraded}
 use Rattle.ce_frames.specs.Rest.{rest}
 use Rattle.ce_frames.specs.Turned.{turn_after, hand_down, below}
-use Rattle.ce_frames.specs.ConstructTurns.{begin_body, constructor_turn, construct_turn, construct_for_turn, upgrade_now_turn, upgrade_turn, create_extended_turn, create_found_turn, create_turn}
+use Rattle.ce_frames.specs.ConstructTurns.{begin_body, constructor_turn, construct_turn, construct_for_turn, upgrade_now_turn, upgrade_turn, create_extended_turn, create_found_turn, create_turn, fitting_given, created_turn, same_given, upgraded_turn}
 use Rattle.ce_frames.proofs.Joins.{then_assoc, dropped_nothing, numbered_node, resulted_result}
 use Rattle.ce_frames.proofs.Comes.{comes, Comes, comes_ended, comes_down, comes_below, comes_after, comes_then, comes_if, comes_when}
 
@@ -129,3 +131,42 @@ pub create_comes : (local : List ℕ) (is : Option (List ℕ)) (document : ℕ)
     → Comes (create_turn local is document) (λ s. a_node (create model local is document s))
 unfolding create_turn
 create_comes local is document = record { at = λ s. (create_found_comes local is document (lookup_in s.page document local is)).at s }
+
+-- a construction has ended
+
+created_comes : (local : List ℕ) (document : ℕ) (o : Outcome State ℕ)
+    → comes (turn_after (attempt_in o) (created_turn local document)) ≡ a_node (catch_in o (create_failed local document))
+created_comes local document (Goes n s) = comes_ended (Goes (Node n) s)
+created_comes local document (Throws x s) = comes_ended (a_node (create_failed local document x s))
+created_comes local document (Spent s) = comes_ended (Spent s)
+
+pub fit_went : (local : List ℕ) (document : ℕ) (given : Given) (s : State)
+    → comes (turn_after (attempt_in (fitting_given local document given s)) (created_turn local document)) ≡ after (CreatingFit local document) (Goes given s)
+unfolding after
+fit_went local document Nothing s = created_comes local document (Throws TypeError s)
+fit_went local document (Node n) s = created_comes local document (fitting local document n s)
+fit_went local document (Answers a) s = created_comes local document (Throws TypeError s)
+fit_went local document Ignored s = created_comes local document (Throws TypeError s)
+
+-- nothing comes after the fault that is thrown on
+threw_then : (n : ℕ) (x : Fault) (next : Unit {0} → Step State (Unit {0})) (s : State) → then_do (upgrade_threw n x s) next ≡ upgrade_threw n x s
+threw_then n x next s = then_assoc (drop_reactions n (record s { page = with_definition n None s.page })) (λ _ t. Throws x (logged (UpgradeThrew n) t)) next
+
+-- the state after the construction stack has lost its entry
+abbrev popped : ℕ → State → State
+popped d s = with_work (record { page = with_stack d (without_last (stack_of s.page d)) s.page; fuel = s.fuel }) s
+
+pub upgraded_comes : (n d : ℕ) (o : Outcome State (Unit {0})) → comes (turn_after (attempt_in o) (upgraded_turn n d)) ≡ nothing (upgraded n d o)
+upgraded_comes n d (Goes x s) = comes_after (upgrade_ends n (popped d s)) (λ _. comes_down (give Nothing))
+upgraded_comes n d (Throws x s) =
+    let t : State = popped d s in
+    comes_ended (nothing (upgrade_threw n x t)) ∙ ap (λ o. nothing o) (sym (threw_then n x (λ _. upgrade_ends n) t))
+upgraded_comes n d (Spent s) = comes_ended (Spent s)
+
+pub upgrade_went : (n d : ℕ) (given : Given) (s : State)
+    → comes (turn_after (attempt_in (same_given n given s)) (upgraded_turn n d)) ≡ after (Upgrading n d) (Goes given s)
+unfolding after
+upgrade_went n d Nothing s = upgraded_comes n d (Throws TypeError s)
+upgrade_went n d (Node m) s = upgraded_comes n d (same_node n m s)
+upgrade_went n d (Answers a) s = upgraded_comes n d (Throws TypeError s)
+upgrade_went n d Ignored s = upgraded_comes n d (Throws TypeError s)

@@ -4,9 +4,9 @@ use Rattle.std.specs.Prelude.{Result}
 use Rattle.ce_base.specs.declared.fault.Fault.{Fault}
 use Rattle.reaction_queue.specs.declared.reaction.Reaction.{Reaction}
 use Rattle.reaction_queue.specs.declared.reaction.Reaction.TheVariants.{Upgrade}
-use Rattle.reaction_queue.specs.ElementQueues.{is_empty}
-use Rattle.reaction_queue.specs.Queues.{waiting_at, with_waiting}
 use Rattle.reaction_queue.specs.Reactions.{what_of}
+use Rattle.reaction_queue.specs.Queues.{waiting_at, with_waiting}
+use Rattle.reaction_queue.specs.ElementQueues.{is_empty}
 use Rattle.ce_registry.specs.declared.definition.Definition.{Definition}
 use Rattle.ce_algorithms.specs.declared.event.Event.TheVariants.{DrainBegun, Started, QueueClosed}
 use Rattle.ce_algorithms.specs.declared.event.Given.{Given}
@@ -14,9 +14,9 @@ use Rattle.ce_algorithms.specs.declared.event.Given.TheVariants.{Nothing}
 use Rattle.ce_algorithms.specs.Steps.{Step, Outcome, Goes, Throws, Spent, then_do, ◌>>◌, give, done, settle}
 use Rattle.ce_algorithms.specs.Page.{with_queues, definition_of}
 use Rattle.ce_algorithms.specs.State.{State, class_of, log, logged, change_page}
+use Rattle.ce_algorithms.specs.Calls.{DrainRest, DrainBackup}
 use Rattle.ce_algorithms.specs.Values.{args_of}
 use Rattle.ce_algorithms.specs.Body.{body}
-use Rattle.ce_algorithms.specs.Calls.{DrainRest, DrainBackup}
 use Rattle.ce_algorithms.specs.Upgrade.{upgrade}
 use Rattle.ce_algorithms.specs.Drain.{log_call, actions_for, call_back, call_defined, run_reaction, react, drain, with_backup, drain_backup, drain_all_backup}
 use Rattle.ce_algorithms.specs.Model.{model}

@@ -7,12 +7,12 @@ use Rattle.ce_base.specs.declared.fault.Fault.{Fault}
 use Rattle.reaction_queue.specs.declared.reaction.Reaction.{Reaction}
 use Rattle.reaction_queue.specs.Queues.{Queues, Open, waiting_at, with_waiting, counted, appended_to, enqueued}
 use Rattle.ce_algorithms.specs.declared.event.Event.{Event}
-use Rattle.ce_algorithms.specs.Steps.{Step, Outcome, Goes, Throws, Spent, then_do, ◌>>=◌, ◌>>◌, give, done, throw, settle, read, when, throw_if, found, throw_where, for_each, catch_in, finally_in, attempt_in}
+use Rattle.ce_algorithms.specs.Steps.{Step, Outcome, Goes, Throws, Spent, then_do, ◌>>=◌, ◌>>◌, give, done, throw, settle, read, when, throw_if, found, throw_where, for_each, catch_in, attempt_in}
 use Rattle.ce_algorithms.specs.Page.{Page, Work, with_queues, with_state, with_definition}
 use Rattle.ce_algorithms.specs.Enqueue.{noted}
 use Rattle.ce_algorithms.specs.State.{State, Class, View, view, look, log, logged, on_page, with_outcome, work_of, read_page, change_page, set_variable, change_class}
-use Rattle.ce_algorithms.proofs.Low.{lower, with_waiting_load}
 use Rattle.ce_algorithms.proofs.PageSteps.{Keeps, Closed, work_in}
+use Rattle.ce_algorithms.proofs.Low.{lower, with_waiting_load}
 use Rattle.ce_frames.specs.Work.{elements_in, places, potential_of, potential}
 
 -- primitives of the page
@@ -104,12 +104,6 @@ falls_done = record { at = λ s. omega arith }
 
 pub falls_throw : {A : Type 0} (f : Fault) → Falls {A = A} (throw f)
 falls_throw f = record { at = λ s. omega arith }
-
-pub falls_finally : {A : Type 0} {last : Step State (Unit {0})} (o : Outcome State A) → Falls last
-    → potential (state_in (finally_in o last)) ≤ potential (state_in o)
-falls_finally {A} {last} (Goes a s) h = let k : Falls (last >> give a) = falls_seq h (falls_give a) in k.at s
-falls_finally {A} {last} (Throws f s) h = let k : Falls {A = A} (last >> throw f) = falls_seq h (falls_throw f) in k.at s
-falls_finally (Spent s) h = omega arith
 
 attempt_state : {A : Type 0} (o : Outcome State A) → potential (state_in (attempt_in o)) ≤ potential (state_in o)
 attempt_state (Goes a s) = omega arith

@@ -7,7 +7,7 @@ pub mod DrainComes
 pub mod Resting
 pub mod TurnComes
 pub mod Falls
-pub mod FrameFalls
+pub mod StepFalls
 pub mod Costs
 pub mod MakeCosts
 pub mod TurnCosts

@@ -6,11 +6,11 @@ use Rattle.rule_lines.specs.declared.line.Cmd.{Cmd}
 use Rattle.rule_lines.specs.declared.line.Cmd.TheVariants.{Both, Doc}
 use Rattle.ce_algorithms.specs.declared.event.Given.{Given}
 use Rattle.ce_algorithms.specs.Steps.{Outcome, then_do, attempt_in, give}
+use Rattle.ce_algorithms.specs.Making.{make_document}
 use Rattle.ce_algorithms.specs.State.{State, on_page}
 use Rattle.ce_algorithms.specs.Unbuilt.{unbuilt_given}
-use Rattle.ce_algorithms.specs.Making.{make_document}
-use Rattle.ce_algorithms.specs.Model.{model}
 use Rattle.ce_algorithms.specs.Perform.{gives_node}
+use Rattle.ce_algorithms.specs.Model.{model}
 use Rattle.ce_algorithms.specs.Session.{perform, reply_to, command}
 use Rattle.ce_frames.specs.Frames.{Frame, Replying}
 use Rattle.ce_frames.specs.Handing.{nothing}

@@ -5,8 +5,8 @@ use Rattle.std.specs.Str.{str_to_ascii_lowercase}
 use Rattle.ce_base.specs.declared.custom_state.CustomState.TheVariants.{Undefined}
 use Rattle.ce_base.specs.declared.fault.Fault.{Fault}
 use Rattle.rule_tokens.specs.declared.callback.CallName.TheVariants.{Constructor}
-use Rattle.rule_lines.specs.Acts.{Act, Both, Log, Super, Return, Throw, Bump, Keep, Try, If}
 use Rattle.rule_lines.specs.declared.op.Op.{Op}
+use Rattle.rule_lines.specs.Acts.{Act, Both, Log, Super, Return, Throw, Bump, Keep, Try, If}
 use Rattle.reaction_queue.specs.Queues.{ended, current_elements}
 use Rattle.ce_registry.specs.ClassFacts.{has_call}
 use Rattle.ce_registry.specs.Registry.{is_autonomous}
@@ -18,13 +18,13 @@ use Rattle.ce_algorithms.specs.declared.event.Given.{Given}
 use Rattle.ce_algorithms.specs.declared.event.Given.TheVariants.{Nothing, Node}
 use Rattle.ce_algorithms.specs.Steps.{Step}
 use Rattle.ce_algorithms.specs.Page.{with_queues, definition_at, state_of}
-use Rattle.ce_algorithms.specs.State.{State, Class, class_of, logged}
-use Rattle.ce_algorithms.specs.Values.{Args, no_args, text_of, fixed}
 use Rattle.ce_algorithms.specs.Enqueue.{lookup_in}
 use Rattle.ce_algorithms.specs.CreateLater.{first_state}
+use Rattle.ce_algorithms.specs.State.{State, Class, class_of, logged}
+use Rattle.ce_algorithms.specs.Values.{Args, no_args, text_of, fixed}
+use Rattle.ce_algorithms.specs.Deeds.{resolve, is_reacting_on_page, variable}
 use Rattle.ce_algorithms.specs.Body.{Flow, Next, Ended, actions_of, act, holds}
 use Rattle.ce_algorithms.specs.Upgrade.{is_upgradable}
-use Rattle.ce_algorithms.specs.Deeds.{resolve, is_reacting_on_page, variable}
 use Rattle.ce_algorithms.specs.Perform.{gives_nothing, gives_node, steps}
 use Rattle.ce_algorithms.proofs.PageSteps.{keeps_base_call, keeps_begin_upgrade, keeps_make_in_state, keeps_page_steps}
 use Rattle.ce_frames.specs.Frames.{Naming, Stepping, Draining, CreatingFit, CreatingExtended, Upgrading, Constructing, InBody}
@@ -36,7 +36,7 @@ use Rattle.ce_frames.specs.ConstructTurns.{begin_body, constructor_turn, constru
 use Rattle.ce_frames.specs.OperateTurns.{next_turn, pop_turn, steps_turn, create_named_turn, deed_turn, named_turn, operate_turn}
 use Rattle.ce_frames.specs.BodyTurns.{guarded_step, flow_turn, act_turn, body_turn}
 use Rattle.ce_frames.proofs.Falls.{Sinks, sinks, Falls, falls_steps, falls_bind, falls_seq, falls_give, falls_read, falls_read_page, falls_log, falls_page, falls_set_variable, falls_throw_if, falls_throw_where, falls_settle, falls_look, falls_attempt, falls_state, falls_catch, logged_potential}
-use Rattle.ce_frames.proofs.FrameFalls.{falls_returned, falls_define_element}
+use Rattle.ce_frames.proofs.StepFalls.{falls_returned, falls_define_element}
 use Rattle.ce_frames.proofs.Costs.{Costs, costs_more, costs_down, costs_go_on, costs_below, costs_bind, costs_seq, costs_if, costs_when, costs_spend, popped_potential, falls_open_queue}
 
 -- constructions
@@ -44,7 +44,7 @@ use Rattle.ce_frames.proofs.Costs.{Costs, costs_more, costs_down, costs_go_on, c
 pub begin_costs : (class : ℕ) (args : Args) (this : Option ℕ) (actions : List Act) → Costs 1 (begin_body class args this actions)
 begin_costs class args this actions = costs_below 0 (InBody class args this false actions) costs_go_on
 
-falls_gives_node : {f : Step State ℕ} → Falls f → Falls (gives_node f)
+pub falls_gives_node : {f : Step State ℕ} → Falls f → Falls (gives_node f)
 falls_gives_node h = falls_bind h (λ n. falls_give (Node n))
 
 constructor_costs : (class : ℕ) (k : Class) → Costs 2 (constructor_turn class k)
@@ -112,7 +112,7 @@ steps_costs h = costs_bind 1 falls_open_queue (λ queue. costs_bind 1 (falls_att
 create_named_costs : (name : List ℕ) (is : Option (List ℕ)) (document : ℕ) → Costs 4 (create_named_turn name is document)
 create_named_costs name is document = costs_seq 4 (falls_throw_if _ _) (create_costs (str_to_ascii_lowercase name) is document)
 
-falls_gives_nothing : {f : Step State (Unit {0})} → Falls f → Falls (gives_nothing f)
+pub falls_gives_nothing : {f : Step State (Unit {0})} → Falls f → Falls (gives_nothing f)
 falls_gives_nothing h = falls_seq h (falls_give Nothing)
 
 deed_costs : (deed : Deed) → Costs 6 (deed_turn deed)

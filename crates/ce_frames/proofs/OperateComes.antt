@@ -14,8 +14,8 @@ use Rattle.ce_algorithms.specs.Page.{with_queues}
 use Rattle.ce_algorithms.specs.State.{State, logged}
 use Rattle.ce_algorithms.specs.Deeds.{is_reacting, variable}
 use Rattle.ce_algorithms.specs.Drain.{drain_popped, reacting}
-use Rattle.ce_algorithms.specs.Model.{model}
 use Rattle.ce_algorithms.specs.Perform.{create_named, steps, perform_deed, kept, operate}
+use Rattle.ce_algorithms.specs.Model.{model}
 use Rattle.ce_frames.specs.Frames.{Naming, Stepping}
 use Rattle.ce_frames.specs.Handing.{a_node}
 use Rattle.ce_frames.specs.After.{after, drain_on}

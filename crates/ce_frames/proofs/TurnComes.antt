@@ -9,16 +9,17 @@ use Rattle.ce_algorithms.specs.declared.event.Given.TheVariants.{Nothing, Node, 
 use Rattle.ce_algorithms.specs.Steps.{Goes, Throws, Spent}
 use Rattle.ce_algorithms.specs.State.{State, logged}
 use Rattle.ce_algorithms.specs.Values.{Args}
-use Rattle.ce_frames.specs.Frames.{Frame, Replying, DrainingBackup, Stepping, Draining, InBody}
+use Rattle.ce_frames.specs.Frames.{Frame, Replying, DrainingBackup, Stepping, Draining, InBody, CreatingFit, Upgrading}
 use Rattle.ce_frames.specs.After.{after}
 use Rattle.ce_frames.specs.Rest.{rest, End, Went, Threw, Over, outcome_of}
 use Rattle.ce_frames.specs.Turned.{Turned, to_come}
 use Rattle.ce_frames.specs.Turns.{turn_went, turn_threw, turn}
-use Rattle.ce_frames.proofs.Resting.{rest_append, rest_push, after_spent}
 use Rattle.ce_frames.proofs.Comes.{comes, Comes, comes_ended}
+use Rattle.ce_frames.proofs.ConstructComes.{fit_went, upgraded_comes, upgrade_went}
 use Rattle.ce_frames.proofs.OperateComes.{pop_comes}
 use Rattle.ce_frames.proofs.BodyComes.{acted_next, body_comes}
 use Rattle.ce_frames.proofs.DrainComes.{drain_comes, backup_comes, check_comes}
+use Rattle.ce_frames.proofs.Resting.{rest_append, rest_push, after_spent}
 
 -- an operation of a body has ended
 body_goes_on : (class : ℕ) (args : Args) (this : Option ℕ) (guarded : Bool) (actions : List Act) (given : Given)
@@ -40,6 +41,8 @@ went_comes (DrainingBackup n) given s = (backup_comes n).at s
 went_comes (Stepping queue) given s = (pop_comes queue (Ok given)).at s
 went_comes (Draining queue elements kept) given s = (drain_comes queue elements kept).at s
 went_comes (InBody class args this guarded actions) given s = (body_goes_on class args this guarded actions given).at s
+went_comes (CreatingFit local document) given s = fit_went local document given s
+went_comes (Upgrading n d) given s = upgrade_went n d given s
 went_comes f given s = comes_ended (after f (Goes given s))
 
 threw_comes : (f : Frame) (x : Fault) (s : State) → comes (turn_threw f x s) ≡ after f (Throws x s)
@@ -47,6 +50,7 @@ unfolding after
 threw_comes (Replying line) x s = (check_comes line (Err x)).at s
 threw_comes (Stepping queue) x s = (pop_comes queue (Err x)).at s
 threw_comes (InBody class args this true actions) x s = (body_comes class args this actions).at (logged (Caught x) s)
+threw_comes (Upgrading n d) x s = upgraded_comes n d (Throws x s)
 threw_comes f x s = comes_ended (after f (Throws x s))
 
 -- without the frames below it

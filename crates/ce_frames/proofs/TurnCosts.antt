@@ -1,33 +1,36 @@
 -- Each turn lowers what is left to do.
-use Rattle.std.proofs.Common.{◌≡◌, ℕ, ◌+◌, ◌≤◌, ◌<◌, true, false, List, [], ◌∷◌, ◌++◌, length, Option, Some, None, refl, arith}
+use Rattle.std.proofs.Common.{◌≡◌, ℕ, ◌+◌, ◌≤◌, ◌<◌, true, List, [], ◌∷◌, ◌++◌, Option, Some, None, refl, arith}
 use Rattle.std.specs.Prelude.{Result, Ok, Err, sum_by}
 use Rattle.std.proofs.lemmas.List.Sums.{sum_by-cons, sum_by-append}
 use Rattle.ce_base.specs.declared.fault.Fault.{Fault}
+use Rattle.ce_base.specs.declared.fault.Fault.TheVariants.{ReferenceError}
 use Rattle.reaction_queue.specs.declared.reaction.Reaction.{Reaction}
 use Rattle.reaction_queue.specs.declared.reaction.Reaction.TheVariants.{Upgrade}
-use Rattle.reaction_queue.specs.Queues.{waiting_at, with_waiting}
 use Rattle.reaction_queue.specs.Reactions.{what_of}
+use Rattle.reaction_queue.specs.Queues.{waiting_at, with_waiting}
 use Rattle.ce_registry.specs.declared.definition.Definition.{Definition}
-use Rattle.ce_algorithms.specs.declared.event.Event.TheVariants.{Caught, DrainBegun, Started, QueueClosed}
+use Rattle.ce_algorithms.specs.declared.event.Event.TheVariants.{Caught, DrainBegun, Started, QueueClosed, Reported, Finished}
 use Rattle.ce_algorithms.specs.declared.event.Given.{Given}
-use Rattle.ce_algorithms.specs.Steps.{Outcome, Goes, Throws, Spent, throw}
+use Rattle.ce_algorithms.specs.declared.event.Given.TheVariants.{Node}
+use Rattle.ce_algorithms.specs.Steps.{Spent, throw}
 use Rattle.ce_algorithms.specs.Page.{with_queues, definition_of}
 use Rattle.ce_algorithms.specs.State.{State, class_of, logged}
 use Rattle.ce_algorithms.specs.Values.{args_of}
 use Rattle.ce_algorithms.specs.Drain.{actions_for, with_backup}
 use Rattle.ce_algorithms.specs.Session.{reply}
+use Rattle.ce_algorithms.proofs.PageSteps.{keeps_pop_construction}
 use Rattle.ce_frames.specs.Frames.{Frame, Replying, Checking, DrainingBackup, Naming, Stepping, Draining, InReaction, CreatingFit, CreatingExtended, Upgrading, Constructing, InBody}
-use Rattle.ce_frames.specs.After.{after}
+use Rattle.ce_frames.specs.Handing.{node_in}
 use Rattle.ce_frames.specs.Rest.{End, Went, Threw, Over}
 use Rattle.ce_frames.specs.Work.{weight, potential, work}
-use Rattle.ce_frames.specs.Turned.{Turned, below, hand_down, go_on, left}
-use Rattle.ce_frames.specs.Turned as turned
+use Rattle.ce_frames.specs.Turned.{Turned, hand_down, left, Turn}
+use Rattle.ce_frames.specs.ConstructTurns.{created_turn, upgrade_result_turn, upgraded_turn}
 use Rattle.ce_frames.specs.DrainTurns.{call_turn, reaction_turn, take_turn, taken_turn, drain_turn, next_backup_turn, taken_backup_turn, checked_turn}
 use Rattle.ce_frames.specs.Turns.{turn_went, turn_threw, turn}
-use Rattle.ce_frames.proofs.Falls.{state_in, falls_read, falls_read_page, falls_log, logged_potential}
-use Rattle.ce_frames.proofs.FrameFalls.{Lowers, falls_told, falls_log_call, lowers_checking, lowers_naming, lowers_in_reaction, lowers_creating_fit, lowers_creating_extended, lowers_upgrading, lowers_constructing}
-use Rattle.ce_frames.proofs.Costs.{cost, Costs, cost_ended, cost_with_below, costs_more, costs_go_on, costs_below, costs_bind, costs_seq, taken_potential, backup_potential}
-use Rattle.ce_frames.proofs.MakeCosts.{begin_costs, upgrade_costs, close_costs, next_costs, pop_costs, body_costs}
+use Rattle.ce_frames.proofs.Falls.{falls_give, falls_read, falls_read_page, falls_log, logged_potential, Sinks, sinks, falls_page, falls_attempt, falls_found, falls_throw}
+use Rattle.ce_frames.proofs.StepFalls.{falls_told, falls_log_call, falls_named, falls_fitting_given, falls_same_given, falls_create_failed, falls_upgrade_failed, falls_upgrade_threw, falls_upgrade_ends}
+use Rattle.ce_frames.proofs.Costs.{cost, Costs, cost_ended, cost_with_below, costs_down, costs_more, costs_go_on, costs_below, costs_bind, costs_seq, taken_potential, backup_potential}
+use Rattle.ce_frames.proofs.MakeCosts.{begin_costs, upgrade_costs, close_costs, next_costs, pop_costs, body_costs, falls_gives_node, falls_gives_nothing}
 
 -- reactions
 
@@ -90,51 +93,20 @@ checked_cost line kept (n ∷ ns) s is =
     let c = logged_potential (DrainBegun 0) s in
     omega (arith, a, b, c)
 
+-- a construction has ended
+
+created_costs : (local : List ℕ) (document : ℕ) (result : Result ℕ Fault) → Costs 0 (created_turn local document result)
+created_costs local document (Ok n) = costs_down (falls_give (Node n))
+created_costs local document (Err x) = costs_down (falls_gives_node (falls_create_failed local document x))
+
+upgrade_result_costs : (n : ℕ) (result : Result (Unit {0}) Fault) → Costs 0 (upgrade_result_turn n result)
+upgrade_result_costs n (Ok x) = costs_seq 0 (falls_upgrade_ends n) costs_go_on
+upgrade_result_costs n (Err x) = costs_down (falls_gives_nothing (falls_upgrade_threw n x))
+
+upgraded_costs : (n d : ℕ) (result : Result (Unit {0}) Fault) → Costs 0 (upgraded_turn n d result)
+upgraded_costs n d result = costs_seq 0 (falls_page (keeps_pop_construction Sinks sinks d)) (upgrade_result_costs n result)
+
 -- turns
-
--- what comes after a frame is done at once
-lowered : {F : Outcome State Given → Outcome State Given} (m : ℕ) → 0 < m → Lowers F → (o : Outcome State Given)
-    → cost (turned.ended (F o)) < potential (state_in o) + m
-lowered {F} m some h o = let a = cost_ended (F o) in let b = h.at o in omega (arith, a, b, some)
-
-went_cost : (f : Frame) (given : Given) (s : State) → cost (turn_went f given s) < potential s + weight f
-unfolding after
-went_cost (Replying line) given s = let a = checked_cost line (Ok given) s.page.queues.backup s refl in omega (arith, a)
-went_cost (Checking line kept) given s = lowered 1 (omega arith) (lowers_checking line kept) (Goes given s)
-went_cost (DrainingBackup n) given s = taken_backup_cost n (waiting_at s.page.queues n) s refl
-went_cost (Naming var) given s = lowered 1 (omega arith) (lowers_naming var) (Goes given s)
-went_cost (Stepping queue) given s = let a = (pop_costs queue (Ok given)).at s in omega (arith, a)
-went_cost (Draining queue elements kept) given s = drain_cost queue elements kept s
-went_cost (InReaction number) given s = lowered 1 (omega arith) (lowers_in_reaction number) (Goes given s)
-went_cost (CreatingFit local document) given s = lowered 1 (omega arith) (lowers_creating_fit local document) (Goes given s)
-went_cost (CreatingExtended n) given s = lowered 1 (omega arith) (lowers_creating_extended n) (Goes given s)
-went_cost (Upgrading n d) given s = lowered 1 (omega arith) (lowers_upgrading n d) (Goes given s)
-went_cost Constructing given s = lowered 1 (omega arith) lowers_constructing (Goes given s)
-went_cost (InBody class args this guarded actions) given s =
-    let h : Costs 0 (turn_went (InBody class args this guarded actions) given) = costs_seq 0 (falls_told given)
-    (body_costs class args this actions) in let a = h.at s in omega (arith, a)
-
--- a fault that is handed down
-through : (m : ℕ) → 0 < m → (x : Fault) (s : State) → cost (hand_down (throw x) s) < potential s + m
-through m some x s = let a = cost_ended (Throws x s) in omega (arith, a, some)
-
-threw_cost : (f : Frame) (x : Fault) (s : State) → cost (turn_threw f x s) < potential s + weight f
-unfolding after
-threw_cost (Replying line) x s = let a = checked_cost line (Err x) s.page.queues.backup s refl in omega (arith, a)
-threw_cost (Checking line kept) x s = through 1 (omega arith) x s
-threw_cost (DrainingBackup n) x s = through 1 (omega arith) x s
-threw_cost (Naming var) x s = through 1 (omega arith) x s
-threw_cost (Stepping queue) x s = let a = (pop_costs queue (Err x)).at s in omega (arith, a)
-threw_cost (Draining queue elements kept) x s = through (length elements + 1) (omega arith) x s
-threw_cost (InReaction number) x s = lowered 1 (omega arith) (lowers_in_reaction number) (Throws x s)
-threw_cost (CreatingFit local document) x s = lowered 1 (omega arith) (lowers_creating_fit local document) (Throws x s)
-threw_cost (CreatingExtended n) x s = lowered 1 (omega arith) (lowers_creating_extended n) (Throws x s)
-threw_cost (Upgrading n d) x s = lowered 1 (omega arith) (lowers_upgrading n d) (Throws x s)
-threw_cost Constructing x s = through 1 (omega arith) x s
-threw_cost (InBody class args this true actions) x s =
-    let h : Costs 0 (turn_threw (InBody class args this true actions) x) = costs_seq 0 (falls_log (Caught x))
-    (body_costs class args this actions) in let a = h.at s in omega (arith, a)
-threw_cost (InBody class args this false actions) x s = through 1 (omega arith) x s
 
 weight_some : (f : Frame) → 0 < weight f
 weight_some (Replying line) = omega arith
@@ -149,6 +121,41 @@ weight_some (CreatingExtended n) = omega arith
 weight_some (Upgrading n d) = omega arith
 weight_some Constructing = omega arith
 weight_some (InBody class args this guarded actions) = omega arith
+
+-- the frame goes, and nothing is pushed that was not paid for
+gone : {turn : Turn} (f : Frame) (s : State) → Costs 0 turn → cost (turn s) < potential s + weight f
+gone f s h = let a = h.at s in let b = weight_some f in omega (arith, a, b)
+
+went_cost : (f : Frame) (given : Given) (s : State) → cost (turn_went f given s) < potential s + weight f
+went_cost (Replying line) given s = let a = checked_cost line (Ok given) s.page.queues.backup s refl in omega (arith, a)
+went_cost (Checking line kept) given s = gone (Checking line kept) s (costs_seq 0 (falls_log (reply line kept)) costs_go_on)
+went_cost (DrainingBackup n) given s = taken_backup_cost n (waiting_at s.page.queues n) s refl
+went_cost (Naming var) given s = gone (Naming var) s (costs_down (falls_named (Some var) given))
+went_cost (Stepping queue) given s = let a = (pop_costs queue (Ok given)).at s in omega (arith, a)
+went_cost (Draining queue elements kept) given s = drain_cost queue elements kept s
+went_cost (InReaction number) given s = gone (InReaction number) s (costs_seq 0 (falls_log (Finished number)) costs_go_on)
+went_cost (CreatingFit local document) given s =
+    gone (CreatingFit local document) s (costs_bind 0 (falls_attempt (falls_fitting_given local document given)) (created_costs local document))
+went_cost (CreatingExtended n) given s = gone (CreatingExtended n) s (costs_down (falls_give (Node n)))
+went_cost (Upgrading n d) given s = gone (Upgrading n d) s (costs_bind 0 (falls_attempt (falls_same_given n given)) (upgraded_costs n d))
+went_cost Constructing given s = gone Constructing s (costs_down (falls_gives_node (falls_found (node_in given) ReferenceError)))
+went_cost (InBody class args this guarded actions) given s =
+    gone (InBody class args this guarded actions) s (costs_seq 0 (falls_told given) (body_costs class args this actions))
+
+-- a fault that is handed down
+through : (f : Frame) (x : Fault) (s : State) → cost (hand_down (throw x) s) < potential s + weight f
+through f x s = gone f s (costs_down (falls_throw x))
+
+threw_cost : (f : Frame) (x : Fault) (s : State) → cost (turn_threw f x s) < potential s + weight f
+threw_cost (Replying line) x s = let a = checked_cost line (Err x) s.page.queues.backup s refl in omega (arith, a)
+threw_cost (Stepping queue) x s = let a = (pop_costs queue (Err x)).at s in omega (arith, a)
+threw_cost (InReaction number) x s = gone (InReaction number) s (costs_seq 0 (falls_log (Reported x)) (costs_seq 0 (falls_log (Finished number)) costs_go_on))
+threw_cost (CreatingFit local document) x s = gone (CreatingFit local document) s (created_costs local document (Err x))
+threw_cost (CreatingExtended n) x s = gone (CreatingExtended n) s (costs_seq 0 (falls_upgrade_failed n x) (costs_down (falls_give (Node n))))
+threw_cost (Upgrading n d) x s = gone (Upgrading n d) s (upgraded_costs n d (Err x))
+threw_cost (InBody class args this true actions) x s =
+    gone (InBody class args this true actions) s (costs_seq 0 (falls_log (Caught x)) (body_costs class args this actions))
+threw_cost f x s = through f x s
 
 -- without the frames below it
 pub turn_cost : (f : Frame) (end : End) (s : State) → cost (turn f end s) < potential s + weight f

@@ -6,13 +6,13 @@ use Rattle.rule_lines.specs.Acts.{Act}
 use Rattle.ce_algorithms.specs.declared.event.Event.TheVariants.{Reported, Finished, QueueClosed}
 use Rattle.ce_algorithms.specs.declared.event.Given.{Given}
 use Rattle.ce_algorithms.specs.Steps.{Step, Outcome, then_do, ◌>>◌, give, settle, found, catch_in, finally_in, attempt_in}
+use Rattle.ce_algorithms.specs.Construction.{pop_construction}
 use Rattle.ce_algorithms.specs.State.{State, log, on_page}
 use Rattle.ce_algorithms.specs.Values.{Args}
-use Rattle.ce_algorithms.specs.Construction.{pop_construction}
 use Rattle.ce_algorithms.specs.Body.{Flow, told_next, caught, on_flow, body}
 use Rattle.ce_algorithms.specs.Upgrade.{same_node, upgrade_threw, upgrade_ends}
-use Rattle.ce_algorithms.specs.Create.{fitting, create_failed, upgrade_failed}
 use Rattle.ce_algorithms.specs.Drain.{drain, drain_and_close, drain_popped, drain_backup}
+use Rattle.ce_algorithms.specs.Create.{fitting, create_failed, upgrade_failed}
 use Rattle.ce_algorithms.specs.Perform.{named}
 use Rattle.ce_algorithms.specs.Model.{model}
 use Rattle.ce_algorithms.specs.Session.{reply, reply_to}

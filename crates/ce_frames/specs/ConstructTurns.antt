@@ -1,23 +1,27 @@
 -- Turns of constructions, upgrades and creations (HTML Standard, sections "Upgrades", "HTML element constructors"; DOM
 -- Standard, section "Interface Element", "create an element").
-use Rattle.std.specs.Prelude.{ℕ, false, if◌then◌else◌, List, Option, Some, None}
+use Rattle.std.specs.Prelude.{ℕ, false, if◌then◌else◌, List, Option, Some, None, Result, Ok, Err}
 use Rattle.ce_base.specs.declared.custom_state.CustomState.TheVariants.{Undefined, Precustomized}
-use Rattle.ce_base.specs.declared.fault.Fault.TheVariants.{NotSupportedError}
+use Rattle.ce_base.specs.declared.fault.Fault.{Fault}
+use Rattle.ce_base.specs.declared.fault.Fault.TheVariants.{NotSupportedError, TypeError}
 use Rattle.rule_tokens.specs.declared.callback.CallName.TheVariants.{Constructor}
 use Rattle.rule_lines.specs.Acts.{Act}
 use Rattle.ce_registry.specs.ClassFacts.{has_call}
 use Rattle.ce_registry.specs.Registry.{is_autonomous}
 use Rattle.ce_algorithms.specs.declared.event.Event.TheVariants.{Construct, UpgradeBegun}
-use Rattle.ce_algorithms.specs.Steps.{read, throw_where}
+use Rattle.ce_algorithms.specs.declared.event.Given.{Given}
+use Rattle.ce_algorithms.specs.declared.event.Given.TheVariants.{Node}
+use Rattle.ce_algorithms.specs.Steps.{read, throw_where, Step, give, throw}
 use Rattle.ce_algorithms.specs.Page.{with_state, state_of, definition_at}
+use Rattle.ce_algorithms.specs.Enqueue.{lookup_in}
+use Rattle.ce_algorithms.specs.CreateLater.{make_undefined, make_in_state}
+use Rattle.ce_algorithms.specs.Construction.{base_call, pop_construction}
 use Rattle.ce_algorithms.specs.State.{State, Class, class_of, log, on_page, read_page, change_page}
 use Rattle.ce_algorithms.specs.Values.{Args, no_args}
-use Rattle.ce_algorithms.specs.Enqueue.{lookup_in}
-use Rattle.ce_algorithms.specs.Construction.{base_call}
-use Rattle.ce_algorithms.specs.CreateLater.{make_undefined, make_in_state}
 use Rattle.ce_algorithms.specs.Body.{actions_of}
-use Rattle.ce_algorithms.specs.Upgrade.{begin_upgrade, is_shadow_refused, is_upgradable}
-use Rattle.ce_algorithms.specs.Perform.{gives_node}
+use Rattle.ce_algorithms.specs.Upgrade.{begin_upgrade, is_shadow_refused, is_upgradable, same_node, upgrade_threw, upgrade_ends}
+use Rattle.ce_algorithms.specs.Create.{fitting, create_failed}
+use Rattle.ce_algorithms.specs.Perform.{gives_node, gives_nothing}
 use Rattle.ce_frames.specs.Frames.{CreatingFit, CreatingExtended, Upgrading, Constructing, InBody}
 use Rattle.ce_frames.specs.Turned.{Turn, ◌>>=◌, ◌>>◌, hand_down, go_on, below, when_turn}
 
@@ -77,3 +81,31 @@ unfoldable pub create_turn : List ℕ → Option (List ℕ) → ℕ → Turn
 create_turn local is document = do
   d ← read_page (λ p. lookup_in p document local is)
   create_found_turn local is document d
+
+-- a construction has ended
+
+-- what was constructed for a creation is tested
+abbrev pub fitting_given : List ℕ → ℕ → Given → Step State ℕ
+fitting_given local document (Node n) = fitting local document n
+fitting_given local document given = throw TypeError
+
+-- it is the answer; or the fault is reported, and a failed element is
+abbrev pub created_turn : List ℕ → ℕ → Result ℕ Fault → Turn
+created_turn local document (Ok n) = hand_down (give (Node n))
+created_turn local document (Err x) = hand_down (gives_node (create_failed local document x))
+
+-- what was constructed for an upgrade has to be the element itself
+abbrev pub same_given : ℕ → Given → Step State (Unit {0})
+same_given n (Node m) = same_node n m
+same_given n given = throw TypeError
+
+-- the element is custom; or the fault is thrown on
+abbrev pub upgrade_result_turn : ℕ → Result (Unit {0}) Fault → Turn
+upgrade_result_turn n (Ok x) = upgrade_ends n >> go_on
+upgrade_result_turn n (Err x) = hand_down (gives_nothing (upgrade_threw n x))
+
+-- in each case the construction stack loses its last entry
+abbrev pub upgraded_turn : ℕ → ℕ → Result (Unit {0}) Fault → Turn
+upgraded_turn n d result = do
+  on_page (pop_construction d)
+  upgrade_result_turn n result

@@ -4,8 +4,8 @@ use Rattle.std.specs.Prelude.{ℕ, Option, Some, None}
 use Rattle.ce_base.specs.declared.fault.Fault.TheVariants.{TypeError}
 use Rattle.ce_algorithms.specs.declared.event.Given.{Given}
 use Rattle.ce_algorithms.specs.declared.event.Given.TheVariants.{Nothing, Node}
-use Rattle.ce_algorithms.specs.State.{State}
 use Rattle.ce_algorithms.specs.Steps.{Outcome, then_do, give, done, found}
+use Rattle.ce_algorithms.specs.State.{State}
 
 -- written
 

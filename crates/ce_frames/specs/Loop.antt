@@ -4,9 +4,9 @@ use Rattle.rule_lines.specs.declared.line.Cmd.{Cmd}
 use Rattle.rule_lines.specs.declared.line.Cmd.TheVariants.{Both, Doc}
 use Rattle.ce_algorithms.specs.declared.event.Given.{Given}
 use Rattle.ce_algorithms.specs.Steps.{Outcome, Spent, give}
+use Rattle.ce_algorithms.specs.Making.{make_document}
 use Rattle.ce_algorithms.specs.State.{State, on_page, spend}
 use Rattle.ce_algorithms.specs.Unbuilt.{unbuilt_given}
-use Rattle.ce_algorithms.specs.Making.{make_document}
 use Rattle.ce_algorithms.specs.Perform.{gives_node}
 use Rattle.ce_frames.specs.Frames.{Frame, Replying}
 use Rattle.ce_frames.specs.Rest.{End, outcome_of}

@@ -2,8 +2,8 @@
 use Rattle.std.specs.Prelude.{List, [], ◌∷◌}
 use Rattle.ce_base.specs.declared.fault.Fault.{Fault}
 use Rattle.ce_algorithms.specs.declared.event.Given.{Given}
-use Rattle.ce_algorithms.specs.State.{State}
 use Rattle.ce_algorithms.specs.Steps.{Outcome, Goes, Throws, Spent}
+use Rattle.ce_algorithms.specs.State.{State}
 use Rattle.ce_frames.specs.Frames.{Frame}
 use Rattle.ce_frames.specs.After.{after}
 

@@ -3,9 +3,9 @@
 use Rattle.std.specs.Prelude.{ℕ, Bool, true, false, List, [], ◌∷◌, ◌++◌}
 use Rattle.ce_algorithms.specs.declared.event.Given.{Given}
 use Rattle.ce_algorithms.specs.declared.event.Given.TheVariants.{Nothing}
-use Rattle.ce_algorithms.specs.Calls.{Again}
-use Rattle.ce_algorithms.specs.State.{State}
 use Rattle.ce_algorithms.specs.Steps.{Step, Outcome, Goes, Throws, Spent, give}
+use Rattle.ce_algorithms.specs.State.{State}
+use Rattle.ce_algorithms.specs.Calls.{Again}
 use Rattle.ce_frames.specs.Frames.{Frame}
 use Rattle.ce_frames.specs.Rest.{End, Went, Threw, Over, outcome_of, rest}
 use Rattle.ce_frames.specs.Work.{work}

@@ -5,18 +5,17 @@ use Rattle.ce_base.specs.declared.fault.Fault.TheVariants.{ReferenceError}
 use Rattle.ce_algorithms.specs.declared.event.Event.TheVariants.{Caught, Reported, Finished}
 use Rattle.ce_algorithms.specs.declared.event.Given.{Given}
 use Rattle.ce_algorithms.specs.declared.event.Given.TheVariants.{Node}
-use Rattle.ce_algorithms.specs.Steps.{Goes, Throws, Spent, then_do, give, throw, found}
+use Rattle.ce_algorithms.specs.Steps.{Spent, give, throw, found, attempt}
 use Rattle.ce_algorithms.specs.State.{log}
 use Rattle.ce_algorithms.specs.Body.{told}
-use Rattle.ce_algorithms.specs.Upgrade.{same_node}
-use Rattle.ce_algorithms.specs.Create.{create_failed, upgrade_failed}
+use Rattle.ce_algorithms.specs.Create.{upgrade_failed}
 use Rattle.ce_algorithms.specs.Perform.{gives_node, named}
 use Rattle.ce_algorithms.specs.Session.{reply}
 use Rattle.ce_frames.specs.Frames.{Frame, Replying, Checking, DrainingBackup, Naming, Stepping, Draining, InReaction, CreatingFit, CreatingExtended, Upgrading, Constructing, InBody}
-use Rattle.ce_frames.specs.Handing.{nothing, a_node, node_in, numbered}
-use Rattle.ce_frames.specs.After.{created, upgraded}
+use Rattle.ce_frames.specs.Handing.{node_in}
 use Rattle.ce_frames.specs.Rest.{End, Went, Threw, Over}
-use Rattle.ce_frames.specs.Turned.{Turn, ended, ◌>>◌, hand_down, go_on}
+use Rattle.ce_frames.specs.Turned.{Turn, ended, ◌>>=◌, ◌>>◌, hand_down, go_on}
+use Rattle.ce_frames.specs.ConstructTurns.{fitting_given, created_turn, same_given, upgraded_turn}
 use Rattle.ce_frames.specs.OperateTurns.{pop_turn}
 use Rattle.ce_frames.specs.BodyTurns.{body_turn}
 use Rattle.ce_frames.specs.DrainTurns.{drain_turn, backup_turn, check_turn}
@@ -30,9 +29,9 @@ turn_went (Naming var) given = hand_down (named (Some var) given)
 turn_went (Stepping queue) given = pop_turn queue (Ok given)
 turn_went (Draining queue elements kept) given = drain_turn queue elements kept
 turn_went (InReaction number) given = log (Finished number) >> go_on
-turn_went (CreatingFit local document) given = λ s. ended (a_node (created local document (numbered (Goes given s))))
+turn_went (CreatingFit local document) given = attempt (fitting_given local document given) >>= created_turn local document
 turn_went (CreatingExtended n) given = hand_down (give (Node n))
-turn_went (Upgrading n d) given = λ s. ended (nothing (upgraded n d (then_do (numbered (Goes given s)) (same_node n))))
+turn_went (Upgrading n d) given = attempt (same_given n given) >>= upgraded_turn n d
 turn_went Constructing given = hand_down (gives_node (found (node_in given) ReferenceError))
 turn_went (InBody class args this guarded actions) given = told given >> body_turn class args this actions
 
@@ -41,9 +40,9 @@ abbrev pub turn_threw : Frame → Fault → Turn
 turn_threw (Replying line) x = check_turn line (Err x)
 turn_threw (Stepping queue) x = pop_turn queue (Err x)
 turn_threw (InReaction number) x = log (Reported x) >> (log (Finished number) >> go_on)
-turn_threw (CreatingFit local document) x = hand_down (gives_node (create_failed local document x))
+turn_threw (CreatingFit local document) x = created_turn local document (Err x)
 turn_threw (CreatingExtended n) x = upgrade_failed n x >> hand_down (give (Node n))
-turn_threw (Upgrading n d) x = λ s. ended (nothing (upgraded n d (Throws x s)))
+turn_threw (Upgrading n d) x = upgraded_turn n d (Err x)
 turn_threw (InBody class args this true actions) x = log (Caught x) >> body_turn class args this actions
 turn_threw f x = hand_down (throw x)
 
