@@ -1,0 +1,16 @@
+pub mod Joins
+pub mod Comes
+pub mod ConstructComes
+pub mod OperateComes
+pub mod BodyComes
+pub mod DrainComes
+pub mod Resting
+pub mod TurnComes
+pub mod Falls
+pub mod StepFalls
+pub mod Costs
+pub mod MakeCosts
+pub mod TurnCosts
+pub mod Looping
+pub mod Behind
+pub mod Moves

@@ -1,0 +1,82 @@
+-- The steps of the algorithms that run no body do not raise the potential.
+use Rattle.std.proofs.Common.{ℕ, List, Option, Some, None}
+use Rattle.ce_base.specs.declared.fault.Fault.{Fault}
+use Rattle.rule_tokens.specs.declared.operand.Operand.{Operand}
+use Rattle.reaction_queue.specs.declared.reaction.Reaction.{Reaction}
+use Rattle.reaction_queue.specs.declared.reaction.Reaction.TheVariants.{Upgrade, Connected, Disconnected, Adopted, Attribute, FormAssociated, FormDisabled, FormReset, FormStateRestore}
+use Rattle.ce_algorithms.specs.declared.event.Given.{Given}
+use Rattle.ce_algorithms.specs.declared.event.Given.TheVariants.{Nothing, Node, Answers, Ignored}
+use Rattle.ce_algorithms.specs.Body.{told, returned}
+use Rattle.ce_algorithms.specs.Upgrade.{drop_reactions, upgrade_threw, upgrade_ends}
+use Rattle.ce_algorithms.specs.Drain.{log_call}
+use Rattle.ce_algorithms.specs.Create.{fitting, create_failed, upgrade_failed}
+use Rattle.ce_algorithms.specs.Perform.{define_element, keep, named}
+use Rattle.ce_algorithms.proofs.PageSteps.{keeps_make_in_state, keeps_tell_form, keeps_define_name}
+use Rattle.ce_frames.specs.ConstructTurns.{fitting_given, same_given}
+use Rattle.ce_frames.proofs.Falls.{Sinks, sinks, Falls, falls_steps, falls_seq, falls_give, falls_done, falls_throw_if, falls_log, falls_set_variable, falls_throw}
+
+-- steps
+
+pub falls_told : (given : Given) → Falls (told given)
+falls_told Nothing = falls_done
+falls_told (Node n) = falls_done
+falls_told (Answers a) = falls_log _
+falls_told Ignored = falls_done
+
+pub falls_returned : (this : Option ℕ) (o : Option Operand) → Falls (returned this o)
+falls_returned this None = falls_give _
+falls_returned this (Some o) = search (falls_steps) depth 12
+
+pub falls_log_call : (n : ℕ) (r : Reaction) → Falls (log_call n r)
+falls_log_call n (Upgrade d) = falls_done
+falls_log_call n Connected = falls_log _
+falls_log_call n Disconnected = falls_log _
+falls_log_call n (Adopted old new) = falls_log _
+falls_log_call n (Attribute name old new) = falls_log _
+falls_log_call n (FormAssociated form) = falls_log _
+falls_log_call n (FormDisabled disabled) = falls_log _
+falls_log_call n FormReset = falls_log _
+falls_log_call n (FormStateRestore state why) = falls_log _
+
+pub falls_define_element : (name : List ℕ) (k : ℕ) (base : Option (List ℕ)) → Falls (define_element name k base)
+falls_define_element name k base = search (falls_steps, keeps_define_name Sinks sinks) depth 12
+
+falls_keep : (var : Option (List ℕ)) (given : Given) → Falls (keep var given)
+falls_keep None given = falls_done
+falls_keep (Some var) Nothing = falls_done
+falls_keep (Some var) (Node n) = falls_set_variable var n
+falls_keep (Some var) (Answers a) = falls_done
+falls_keep (Some var) Ignored = falls_done
+
+pub falls_named : (var : Option (List ℕ)) (given : Given) → Falls (named var given)
+falls_named var given = falls_seq (falls_keep var given) (falls_give given)
+
+falls_fitting : (local : List ℕ) (document n : ℕ) → Falls (fitting local document n)
+falls_fitting local document n = search (falls_steps) depth 12
+
+pub falls_create_failed : (local : List ℕ) (document : ℕ) (x : Fault) → Falls (create_failed local document x)
+falls_create_failed local document x = search (falls_steps, keeps_make_in_state Sinks sinks) depth 12
+
+pub falls_upgrade_failed : (n : ℕ) (x : Fault) → Falls (upgrade_failed n x)
+falls_upgrade_failed n x = search (falls_steps) depth 12
+
+falls_drop_reactions : (n : ℕ) → Falls (drop_reactions n)
+falls_drop_reactions n = search (falls_steps) depth 12
+
+pub falls_upgrade_threw : (n : ℕ) (x : Fault) → Falls (upgrade_threw n x)
+falls_upgrade_threw n x = search (falls_steps, falls_drop_reactions) depth 12
+
+pub falls_upgrade_ends : (n : ℕ) → Falls (upgrade_ends n)
+falls_upgrade_ends n = search (falls_steps, keeps_tell_form Sinks sinks) depth 12
+
+pub falls_fitting_given : (local : List ℕ) (document : ℕ) (given : Given) → Falls (fitting_given local document given)
+falls_fitting_given local document Nothing = falls_throw _
+falls_fitting_given local document (Node n) = falls_fitting local document n
+falls_fitting_given local document (Answers a) = falls_throw _
+falls_fitting_given local document Ignored = falls_throw _
+
+pub falls_same_given : (n : ℕ) (given : Given) → Falls (same_given n given)
+falls_same_given n Nothing = falls_throw _
+falls_same_given n (Node m) = falls_throw_if _ _
+falls_same_given n (Answers a) = falls_throw _
+falls_same_given n Ignored = falls_throw _

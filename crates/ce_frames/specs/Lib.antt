@@ -1,0 +1,13 @@
+pub mod Frames
+pub mod Handing
+pub mod After
+pub mod Rest
+pub mod Work
+pub mod Turned
+pub mod ConstructTurns
+pub mod OperateTurns
+pub mod BodyTurns
+pub mod DrainTurns
+pub mod Turns
+pub mod Loop
+pub mod Places
