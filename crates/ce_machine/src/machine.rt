@@ -21,10 +21,11 @@ use rule_tokens::Bad;
 use std::alloc::Global;
 use std::marker::Model;
 
-/// A machine: the state of a session of which everything logged was written out.
+/// A machine: the state of a session of which everything logged was written out. It is handed on by value
+/// with each line, so the state stands behind a pointer.
 #[derive(Drop)]
 pub struct Machine {
-    state: State,
+    state: Box<State>,
 }
 
 impl Model for Machine {
@@ -38,9 +39,9 @@ impl Model for Machine {
 
     ghost coded = { Prim.hlevel (codes, act_code, trees_code) };
 
-    ghost view = { λ m. m.state };
+    ghost view = { λ m. m.state.value };
 
-    ghost invariant = { λ m. m.state.log ≡ [] };
+    ghost invariant = { λ m. m.state.value.log ≡ [] };
 }
 
 impl Machine {
@@ -48,8 +49,9 @@ impl Machine {
     pub fn make(alloc: Global, fuel: u32) -> Result<Machine, NoMemory>
         ensures { IfOk result (λ m. m ≡ start false (record { fuel = fuel })) }
     {
+        let state = State::make(alloc, Settings { fuel })?;
         Ok(Machine {
-            state: State::make(alloc, Settings { fuel })?,
+            state: Box::new(alloc, state)?,
         })
     }
 
@@ -73,7 +75,7 @@ impl Machine {
     {
         let Machine { state } = self;
         let mut state = state;
-        match write_part(&mut state, alloc, line, p, trace, sink) {
+        match write_part(&mut *state, alloc, line, p, trace, sink) {
             Err(stop) => Err(stop),
             Ok(()) => Ok(Machine { state }),
         }
@@ -98,7 +100,7 @@ impl Machine {
     {
         let Machine { state } = self;
         let mut state = state;
-        match write_refused(&mut state, alloc, line, bad, trace, sink) {
+        match write_refused(&mut *state, alloc, line, bad, trace, sink) {
             Err(stop) => Err(stop),
             Ok(()) => Ok(Machine { state }),
         }
@@ -124,16 +126,16 @@ impl Machine {
     {
         let Machine { state } = self;
         let mut state = state;
-        let ran = write_command(&mut state, alloc, line, &c, trace, sink);
+        let ran = write_command(&mut *state, alloc, line, &c, trace, sink);
         drop(c);
         with_end(state, ran)
     }
 }
 
 // The machine behind a command, where nothing stopped it.
-fn with_end(state: State, ran: Result<End, Stop>) -> Result<(Machine, End), Stop>
-    requires { OnOk ran (state.log ≡ []) }
-    ensures went { IfOk result (λ r. (ran ≡ Ok r.1) × (r.0 ≡ state)) }
+fn with_end(state: Box<State>, ran: Result<End, Stop>) -> Result<(Machine, End), Stop>
+    requires { OnOk ran (state.value.log ≡ []) }
+    ensures went { IfOk result (λ r. (ran ≡ Ok r.1) × (r.0 ≡ state.value)) }
     ensures stopped { IfErr result (λ stop. ran ≡ Err stop) }
 {
     match ran {
