@@ -4,4 +4,5 @@ pub mod Reads
 pub mod Clauses
 pub mod After
 pub mod Law
+pub mod Words
 pub mod Samples

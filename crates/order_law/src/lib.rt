@@ -5,7 +5,11 @@
 mod laws;
 mod samples;
 
-pub use laws::each_front_is_lawful;
+pub use laws::{
+    each_backup_is_drained, each_drop_is_part_of_a_throw, each_element_is_upgraded_once,
+    each_element_keeps_its_order, each_front_is_lawful, each_queue_closes_empty,
+    each_reaction_is_taken_once, each_reply_leaves_none, fuel_ends_the_log, numbers_count_up,
+};
 pub use samples::{
     closes_empty_refuses, counts_up_refuses, drops_by_throw_refuses, fuel_is_last_refuses,
     nests_refuses, replies_at_rest_refuses, runs_in_order_refuses, runs_once_refuses,
