@@ -5,3 +5,5 @@ pub mod Entries
 pub mod Waiting
 pub mod Runs
 pub mod Upgrading
+pub mod Opens
+pub mod Stands

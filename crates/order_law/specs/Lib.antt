@@ -5,4 +5,5 @@ pub mod Clauses
 pub mod After
 pub mod Law
 pub mod Words
+pub mod Brackets
 pub mod Samples
