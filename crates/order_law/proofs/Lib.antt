@@ -7,3 +7,5 @@ pub mod Runs
 pub mod Upgrading
 pub mod Opens
 pub mod Stands
+pub mod Pushed
+pub mod Ended

@@ -61,7 +61,7 @@ of_line : Event → Option Entry
 of_line (Enqueued r n what q) = Some (record { number = r; element = n; what = what; queue = q })
 of_line e = None
 
-same_line : (v w : Entry) → enqueue_line v ≡ enqueue_line w → v ≡ w
+pub same_line : (v w : Entry) → enqueue_line v ≡ enqueue_line w → v ≡ w
 unfolding of_line
 same_line v w h = let k : Some v ≡ Some w = ap of_line h in cc
 

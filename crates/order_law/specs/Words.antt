@@ -1,7 +1,7 @@
 -- Words about places in a log, for laws that are told without the book.
-use Rattle.std.specs.Prelude.{◌≡◌, ◌⊎◌, ℕ, ◌+◌, Bool, true, false, if◌then◌else◌, List, [], ◌∷◌}
+use Rattle.std.specs.Prelude.{◌≡◌, ◌⊎◌, ℕ, ◌+◌, ◌≤◌, Bool, true, false, if◌then◌else◌, List, [], ◌∷◌}
 use Rattle.ce_algorithms.specs.declared.event.Event.{Event}
-use Rattle.ce_algorithms.specs.declared.event.Event.TheVariants.{Enqueued, Started, Dropped, QueueOpened}
+use Rattle.ce_algorithms.specs.declared.event.Event.TheVariants.{DrainBegun, Dropped, Enqueued, QueueOpened, Started}
 use Rattle.order_law.specs.Book.{Entry}
 
 -- the log says this somewhere
@@ -37,3 +37,12 @@ is_enqueue e = false
 abbrev pub is_push : Event → Bool
 is_push (QueueOpened q) = true
 is_push e = false
+
+-- the queue was pushed, and its draining has not begun
+abbrev pub IsFilling : List Event → ℕ → Type 0
+IsFilling log q = Says log (QueueOpened q) × (Says log (DrainBegun q) → ⊥)
+
+-- the last that was pushed, of the queues whose draining has not begun: the one with the greatest number; or 0, where there is
+-- none
+abbrev pub IsCurrent : List Event → ℕ → Type 0
+IsCurrent log q = ((q ≡ 0) ⊎ IsFilling log q) × ((p : ℕ) → IsFilling log p → p ≤ q)

@@ -5,11 +5,11 @@ ghost use Rattle.rule_tokens.specs.declared.callback.CallName.{CallName};
 ghost use Rattle.rule_tokens.specs.declared.callback.CallOrUpgrade.{CallOrUpgrade};
 ghost use Rattle.rule_tokens.specs.declared.callback.CallOrUpgrade.TheVariants.{Call};
 ghost use Rattle.ce_algorithms.specs.declared.event.Event.{Event};
-ghost use Rattle.ce_algorithms.specs.declared.event.Event.TheVariants.{QueueOpened, Enqueued, Started, Dropped, QueueClosed, UpgradeBegun, UpgradeThrew, FuelLine};
+ghost use Rattle.ce_algorithms.specs.declared.event.Event.TheVariants.{QueueOpened, Enqueued, Started, Finished, Dropped, QueueClosed, UpgradeBegun, UpgradeThrew, FuelLine};
 ghost use Rattle.order_law.specs.Book.{Entry};
 ghost use Rattle.order_law.specs.Law.{Lawful};
 ghost use Rattle.order_law.specs.Lines.{is_reply};
-ghost use Rattle.order_law.specs.Words.{Says, Waits, IsDropOf, count, is_enqueue, is_push};
+ghost use Rattle.order_law.specs.Words.{Says, Waits, IsCurrent, IsDropOf, count, enqueue_line, is_enqueue, is_push};
 
 /// A lawful log may end anywhere: each front of it is lawful.
 #[tactic(auto, using(crate::proofs::Fronts::front_lawful))]
@@ -17,11 +17,12 @@ pub fn each_front_is_lawful()
     ensures { (front rest : List Event) → Lawful (front ++ rest) → Lawful front }
 {}
 
-/// Reactions are numbered 1, 2, 3 and on, and so are the element queues that are pushed.
-#[tactic(auto, using(crate::proofs::Upgrading::enqueue_counts, crate::proofs::Upgrading::push_counts))]
+/// Reactions are numbered 1, 2, 3 and on, and so are the element queues that are pushed. An enqueue tells the current queue.
+#[tactic(auto, using(crate::proofs::Upgrading::enqueue_counts, crate::proofs::Upgrading::push_counts, crate::proofs::Pushed::enqueue_tells_current))]
 pub fn numbers_count_up()
     ensures reactions { (before behind : List Event) (r n q : ℕ) (what : CallOrUpgrade) → Lawful (before ++ Enqueued r n what q ∷ behind) → r ≡ count is_enqueue before + 1 }
     ensures queues { (before behind : List Event) (q : ℕ) → Lawful (before ++ QueueOpened q ∷ behind) → q ≡ count is_push before + 1 }
+    ensures told { (before behind : List Event) (r n q : ℕ) (what : CallOrUpgrade) → Lawful (before ++ Enqueued r n what q ∷ behind) → IsCurrent before q }
 {}
 
 /// What starts or is dropped was enqueued before, and has neither started nor been dropped.
@@ -46,10 +47,11 @@ pub fn each_drop_is_part_of_a_throw()
     ensures threw { (before behind : List Event) (n : ℕ) (w : Entry) → Lawful (before ++ UpgradeThrew n ∷ behind) → Waits before w → w.element ≡ n → ⊥ }
 {}
 
-/// Where a queue is closed, nothing waits that was enqueued with it.
-#[tactic(auto, using(crate::proofs::Runs::close_leaves_none))]
+/// Where a queue is closed, all that was enqueued with it has finished or was dropped, and nothing of it waits.
+#[tactic(auto, using(crate::proofs::Ended::close_ends_all, crate::proofs::Runs::close_leaves_none))]
 pub fn each_queue_closes_empty()
-    ensures { (before behind : List Event) (q : ℕ) (w : Entry) → Lawful (before ++ QueueClosed q ∷ behind) → Waits before w → w.queue ≡ q → ⊥ }
+    ensures ended { (before behind : List Event) (q : ℕ) (w : Entry) → Lawful (before ++ QueueClosed q ∷ behind) → Says before (enqueue_line w) → w.queue ≡ q → Says before (Finished w.number) ⊎ Says before (Dropped w.number) }
+    ensures none_waits { (before behind : List Event) (q : ℕ) (w : Entry) → Lawful (before ++ QueueClosed q ∷ behind) → Waits before w → w.queue ≡ q → ⊥ }
 {}
 
 /// Between an enqueue that tells 0 and the next reply the backup element queue is closed.
