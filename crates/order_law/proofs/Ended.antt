@@ -47,13 +47,15 @@ record Ends (past : List Event) (b : Book) : Type 0 where
 ends_first : Ends [] blank
 ends_first = record { told = λ w i. absurd i; runs = λ w i. absurd i; fits = tt; ends = λ w i. absurd i }
 
-more_begun : (past : List Event) (e : Event) (ws vs : List Entry) (w : Entry) → (IsAmong w ws → IsBegun (e ∷ past) vs w) → IsBegun past ws w → IsBegun (e ∷ past) vs w
+more_begun : (past : List Event) (e : Event) (ws vs : List Entry) (w : Entry) → (IsAmong w ws → IsBegun (e ∷ past) vs w) → IsBegun past ws w →
+    IsBegun (e ∷ past) vs w
 more_begun past e ws vs w f (inl i) = inl (inr i)
 more_begun past e ws vs w f (inr (inl i)) = inr (inl (inr i))
 more_begun past e ws vs w f (inr (inr i)) = f i
 
 -- an event at which nothing is enqueued, starts, or ends
-stays : (past : List Event) (b : Book) (e : Event) (c : Book) → Ends past b → ((w : Entry) → e ≡ enqueue_line w → ⊥) → running c.brackets ≡ running b.brackets → Fits c.brackets → c.waiting ≡ b.waiting → b.queues ≤ c.queues → Ends (e ∷ past) c
+stays : (past : List Event) (b : Book) (e : Event) (c : Book) → Ends past b → ((w : Entry) → e ≡ enqueue_line w → ⊥) →
+    running c.brackets ≡ running b.brackets → Fits c.brackets → c.waiting ≡ b.waiting → b.queues ≤ c.queues → Ends (e ∷ past) c
 stays past b e c k no_line hr fits hw hq =
     record {
       told = λ w i. let f = k.told w (line w i) in omega (arith, f, hq);
@@ -68,7 +70,8 @@ stays past b e c k no_line hr fits hw hq =
 false_true : {A : Type 0} → false ≡ true → A
 false_true h = absurd cc
 
-enqueues : (past : List Event) (b : Book) (v : Entry) → Ends past b → Pushed past b → v.queue ≡ current b.brackets → Ends (enqueue_line v ∷ past) (after b (enqueue_line v))
+enqueues : (past : List Event) (b : Book) (v : Entry) → Ends past b → Pushed past b → v.queue ≡ current b.brackets →
+    Ends (enqueue_line v ∷ past) (after b (enqueue_line v))
 enqueues past b v k p is =
     record {
       told = λ w i. ⊎_elim (λ e. let f = ap (λ (x : Entry). x.queue) (same_line v w e) in let g = low in omega (arith, f, g)) (λ e. k.told w e) i;
@@ -81,7 +84,8 @@ enqueues past b v k p is =
     low = ⊎_elim (λ i. let z = i.0 in omega (arith, z, is)) (λ i. let f = p.below (current b.brackets) (p.filling (current b.brackets) i).0 in omega (arith, f, is)) (current_of b.brackets)
 
 -- a reaction starts
-starts : (past : List Event) (b : Book) (r : ℕ) (o : Option Entry) → entry_of r b.waiting ≡ o → is_some o ≡ true → Ends past b → Kept past b → Ends (Started r ∷ past) (record (started o b) { dropping = None })
+starts : (past : List Event) (b : Book) (r : ℕ) (o : Option Entry) → entry_of r b.waiting ≡ o → is_some o ≡ true → Ends past b → Kept past b →
+    Ends (Started r ∷ past) (record (started o b) { dropping = None })
 starts past b r None e h k kept = false_true h
 starts past b r (Some v) e h k kept =
     record {
@@ -97,7 +101,8 @@ starts past b r (Some v) e h k kept =
     line : (w : Entry) → Says (Started r ∷ past) (enqueue_line w) → Says past (enqueue_line w)
     line w s = ⊎_elim (λ i. absurd (let j : Started r ≡ enqueue_line w = i in cc)) (λ i. i) s
 
-    go : (w : Entry) → IsAmong w b.waiting → (t : Bool) → w.number == v.number ≡ t → IsAmong w (without v.number b.waiting) ⊎ IsBegun (Started r ∷ past) (v ∷ running b.brackets) w
+    go : (w : Entry) → IsAmong w b.waiting → (t : Bool) → w.number == v.number ≡ t →
+        IsAmong w (without v.number b.waiting) ⊎ IsBegun (Started r ∷ past) (v ∷ running b.brackets) w
     go w j true is =
         let number = eqb-true w.number v.number is in
         let both : Some v ≡ Some w = sym (among_found 0 b.waiting v kept.rising found.0) ∙ ap (λ x. entry_of x b.waiting) (sym number) ∙ among_found 0 b.waiting w kept.rising j in
@@ -105,7 +110,8 @@ starts past b r (Some v) e h k kept =
     go w j false is = inl (without_among v.number b.waiting w (eqb-false w.number v.number is) j)
 
 -- a reaction finishes
-finishes : (past : List Event) (b : Book) (r : ℕ) (bs : List Bracket) → b.brackets ≡ bs → ends_reaction r bs ≡ true → Ends past b → (c : Book) → c.brackets ≡ around bs → c.waiting ≡ b.waiting → c.queues ≡ b.queues → Ends (Finished r ∷ past) c
+finishes : (past : List Event) (b : Book) (r : ℕ) (bs : List Bracket) → b.brackets ≡ bs → ends_reaction r bs ≡ true → Ends past b → (c : Book) →
+    c.brackets ≡ around bs → c.waiting ≡ b.waiting → c.queues ≡ b.queues → Ends (Finished r ∷ past) c
 finishes past b r (Reacting v called ∷ bs) e h k c hb hw hq =
     record {
       told = λ w i. let f = k.told w (line w i) in omega (arith, f, hq);
@@ -138,7 +144,8 @@ drops past b r k =
     line : (w : Entry) → Says (Dropped r ∷ past) (enqueue_line w) → Says past (enqueue_line w)
     line w s = ⊎_elim (λ i. absurd (let j : Dropped r ≡ enqueue_line w = i in cc)) (λ i. i) s
 
-    go : (w : Entry) → IsAmong w b.waiting → (t : Bool) → w.number == r ≡ t → IsAmong w (without r b.waiting) ⊎ IsBegun (Dropped r ∷ past) (running b.brackets) w
+    go : (w : Entry) → IsAmong w b.waiting → (t : Bool) → w.number == r ≡ t →
+        IsAmong w (without r b.waiting) ⊎ IsBegun (Dropped r ∷ past) (running b.brackets) w
     go w j true is = inr (inr (inl (inl (ap Dropped (sym (eqb-true w.number r is))))))
     go w j false is = inl (without_among r b.waiting w (eqb-false w.number r is) j)
 
@@ -177,7 +184,8 @@ marked_call (Some c) (Draining q ∷ bs) = record { running = refl; fits = λ f.
 marked_call (Some c) (Reacting w called ∷ bs) = record { running = refl; fits = λ f. f }
 marked_call (Some c) (Upgrading n ∷ bs) = record { running = refl; fits = λ f. f }
 
-same_stays : (past : List Event) (b : Book) (e : Event) (c : Book) → Ends past b → ((w : Entry) → e ≡ enqueue_line w → ⊥) → Same b.brackets c.brackets → c.waiting ≡ b.waiting → c.queues ≡ b.queues → Ends (e ∷ past) c
+same_stays : (past : List Event) (b : Book) (e : Event) (c : Book) → Ends past b → ((w : Entry) → e ≡ enqueue_line w → ⊥) →
+    Same b.brackets c.brackets → c.waiting ≡ b.waiting → c.queues ≡ b.queues → Ends (e ∷ past) c
 same_stays past b e c k no_line s hw hq = stays past b e c k no_line s.running (s.fits k.fits) hw (omega (arith, hq))
 
 ends_step : (past : List Event) (b : Book) (e : Event) → Ends past b → Pushed past b → Kept past b → Keeps b e → Ends (e ∷ past) (after b e)
@@ -215,7 +223,8 @@ none_runs q (Filling m ∷ bs) w h f i e = false_true h
 none_runs q (Reacting v called ∷ bs) w h f i e = false_true h
 none_runs q (Upgrading n ∷ bs) w h f i e = false_true h
 
-pub close_ends_all : (before behind : List Event) (q : ℕ) (w : Entry) → Lawful (before ++ QueueClosed q ∷ behind) → Says before (enqueue_line w) → w.queue ≡ q → Says before (Finished w.number) ⊎ Says before (Dropped w.number)
+pub close_ends_all : (before behind : List Event) (q : ℕ) (w : Entry) → Lawful (before ++ QueueClosed q ∷ behind) → Says before (enqueue_line w) →
+    w.queue ≡ q → Says before (Finished w.number) ⊎ Says before (Dropped w.number)
 close_ends_all before behind q w h i e =
     let a = at All all_first all_step before (QueueClosed q) behind h in
     let b = read blank before in

@@ -33,7 +33,8 @@ rising_without low r (w ∷ ws) h = go (w.number == r) (rising_without w.number 
     go true k = rising_lower w.number low ws (omega (arith, h.0)) h.1
     go false k = (h.0, k)
 
-pub rising_append : (low m : ℕ) (ws : List Entry) (v : Entry) → Rising low ws → ((w : Entry) → IsAmong w ws → w.number ≤ m) → low ≤ m → m < v.number → Rising low (ws ++ v ∷ [])
+pub rising_append : (low m : ℕ) (ws : List Entry) (v : Entry) → Rising low ws → ((w : Entry) → IsAmong w ws → w.number ≤ m) → low ≤ m →
+    m < v.number → Rising low (ws ++ v ∷ [])
 rising_append low m [] v h all le lt = (omega (arith, le, lt), tt)
 rising_append low m (w ∷ ws) v h all le lt = (h.0, rising_append w.number m ws v h.1 (λ x i. all x (inr i)) (all w (inl refl)) lt)
 
@@ -85,7 +86,8 @@ pub found_among : (r : ℕ) (ws : List Entry) (w : Entry) → entry_of r ws ≡ 
 found_among r [] w h = absurd (cc)
 found_among r (v ∷ ws) w h = go (v.number == r) refl h (found_among r ws w)
   where
-    go : (t : Bool) → v.number == r ≡ t → (if t then Some v else entry_of r ws) ≡ Some w → (entry_of r ws ≡ Some w → IsAmong w ws × (w.number ≡ r)) → IsAmong w (v ∷ ws) × (w.number ≡ r)
+    go : (t : Bool) → v.number == r ≡ t → (if t then Some v else entry_of r ws) ≡ Some w → (entry_of r ws ≡ Some w → IsAmong w ws × (w.number ≡ r)) →
+        IsAmong w (v ∷ ws) × (w.number ≡ r)
     go true is k next = let e : v ≡ w = cc in (inl e, subst (λ x. x.number ≡ r) e (eqb-true v.number r is))
     go false is k next = let f = next k in (inr f.0, f.1)
 
@@ -117,7 +119,8 @@ pub is_first_says : (low r n : ℕ) (ws : List Entry) (v : Entry) → Rising low
 is_first_says low r n [] v rises h i e = absurd i
 is_first_says low r n (w ∷ ws) v rises h i e = go (w.number == r) refl h i (λ k j. is_first_says w.number r n ws v rises.1 k j e)
   where
-    go : (t : Bool) → w.number == r ≡ t → (if t then true else not (w.element == n) && is_first r n ws) ≡ true → IsAmong v (w ∷ ws) → (is_first r n ws ≡ true → IsAmong v ws → r ≤ v.number) → r ≤ v.number
+    go : (t : Bool) → w.number == r ≡ t → (if t then true else not (w.element == n) && is_first r n ws) ≡ true → IsAmong v (w ∷ ws) →
+        (is_first r n ws ≡ true → IsAmong v ws → r ≤ v.number) → r ≤ v.number
     go true is k (inl j) next = let f = eqb-true w.number r is in let g = ap (λ x. x.number) j in omega (arith, f, g)
     go true is k (inr j) next = let f = eqb-true w.number r is in let g = rising_above w.number ws v rises.1 j in omega (arith, f, g)
     go false is k (inl j) next = absurd (not_equal w.element n (is_first r n ws) k (ap (λ x. x.element) j ∙ e))

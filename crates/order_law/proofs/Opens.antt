@@ -46,7 +46,8 @@ Opens log (Upgrading n ∷ bs) = Around [] (UpgradeBegun n) (λ l. Opens l bs) l
 abbrev Piece : List Event → Type 0
 Piece more = (calls log : List Event) → Whole calls log → Whole calls (log ++ more)
 
-wider : (calls : List Event) (opening : Event) (P : List Event → Type 0) (log more : List Event) → Piece more → Around calls opening P log → Around calls opening P (log ++ more)
+wider : (calls : List Event) (opening : Event) (P : List Event → Type 0) (log more : List Event) → Piece more → Around calls opening P log →
+    Around calls opening P (log ++ more)
 wider calls opening P log more piece a =
     (a.0, a.1 ++ more, ap (λ l. l ++ more) a.2 ∙ append_assoc a.0 (opening ∷ a.1) more, piece calls a.1 a.3, a.4)
 
@@ -59,7 +60,8 @@ more_in (Reacting w called ∷ bs) log more piece o = (o.0, o.1, wider o.0 (Star
 more_in (Upgrading n ∷ bs) log more piece o = wider [] (UpgradeBegun n) (λ l. Opens l bs) log more piece o
 
 -- a bracket ends
-ended : (bs : List Bracket) (calls : List Event) (opening closing : Event) (log outside inside : List Event) → log ≡ outside ++ opening ∷ inside → Piece (opening ∷ (inside ++ closing ∷ [])) → Opens outside bs → Opens (log ++ closing ∷ []) bs
+ended : (bs : List Bracket) (calls : List Event) (opening closing : Event) (log outside inside : List Event) → log ≡ outside ++ opening ∷ inside →
+    Piece (opening ∷ (inside ++ closing ∷ [])) → Opens outside bs → Opens (log ++ closing ∷ []) bs
 ended bs calls opening closing log outside inside cut piece o =
     subst (λ l. Opens l bs) (sym (ap (λ l. l ++ closing ∷ []) cut ∙ append_assoc outside (opening ∷ inside) (closing ∷ []))) (more_in bs outside (opening ∷ (inside ++ closing ∷ [])) piece o)
 
@@ -76,13 +78,15 @@ begins q (Draining m ∷ bs) log h o = false_true h
 begins q (Reacting w called ∷ bs) log h o = false_true h
 begins q (Upgrading n ∷ bs) log h o = false_true h
 
-operation : (q : ℕ) (steps drain : List Event) → Whole [] steps → Whole [] drain → Piece (QueueOpened q ∷ (steps ++ DrainBegun q ∷ (drain ++ QueueClosed q ∷ [])))
+operation : (q : ℕ) (steps drain : List Event) → Whole [] steps → Whole [] drain →
+    Piece (QueueOpened q ∷ (steps ++ DrainBegun q ∷ (drain ++ QueueClosed q ∷ [])))
 operation q steps drain s d calls log w = Operation q steps drain w s d
 
 ends : (q : ℕ) (bs : List Bracket) (log : List Event) → ends_drain q bs ≡ true → Opens log bs → Opens (log ++ QueueClosed q ∷ []) (around bs)
 ends q (Draining m ∷ bs) log h o = go (subst (λ x. Opens log (Draining x ∷ bs)) (eqb-true m q h) o)
   where
-    joined : (outside inside : List Event) → log ≡ outside ++ DrainBegun q ∷ inside → log ++ QueueClosed q ∷ [] ≡ outside ++ DrainBegun q ∷ (inside ++ QueueClosed q ∷ [])
+    joined : (outside inside : List Event) → log ≡ outside ++ DrainBegun q ∷ inside →
+        log ++ QueueClosed q ∷ [] ≡ outside ++ DrainBegun q ∷ (inside ++ QueueClosed q ∷ [])
     joined outside inside cut = ap (λ l. l ++ QueueClosed q ∷ []) cut ∙ append_assoc outside (DrainBegun q ∷ inside) (QueueClosed q ∷ [])
 
     go : Opens log (Draining q ∷ bs) → Opens (log ++ QueueClosed q ∷ []) bs
@@ -145,7 +149,8 @@ for_is (Call a) name h = ap Call (same_is a name h)
 for_is Upgrade name h = false_true h
 
 -- a callback's line
-line : (e : Event) (n : ℕ) (name : CallName) (bs : List Bracket) (log : List Event) → call_of e ≡ Some (n, name) → is_some (call_of e) ≡ true → may_call (Some (n, name)) bs ≡ true → Opens log bs → Opens (log ++ e ∷ []) (marked (Some (n, name)) bs)
+line : (e : Event) (n : ℕ) (name : CallName) (bs : List Bracket) (log : List Event) → call_of e ≡ Some (n, name) → is_some (call_of e) ≡ true →
+    may_call (Some (n, name)) bs ≡ true → Opens log bs → Opens (log ++ e ∷ []) (marked (Some (n, name)) bs)
 line e n name (Reacting w false ∷ bs) log is some_ h (calls, none, (outside, inside, cut, whole, rest)) =
     let element = eqb-true w.element n (left_true (w.element == n) (is_for w.what name) h) in
     let what = for_is w.what name (right_true (w.element == n) (is_for w.what name) h) in (
@@ -160,13 +165,15 @@ line e n name (Draining m ∷ bs) log is some_ h o = false_true h
 line e n name (Upgrading m ∷ bs) log is some_ h o = false_true h
 
 -- a reaction starts
-starts : (r : ℕ) (o : Option Entry) (b : Book) (log : List Event) → ((w : Entry) → o ≡ Some w → (w.number ≡ r) × Says log (enqueue_line w)) → is_some o && is_in_drain b.brackets ≡ true → Opens log b.brackets → Opens (log ++ Started r ∷ []) (started o b).brackets
+starts : (r : ℕ) (o : Option Entry) (b : Book) (log : List Event) → ((w : Entry) → o ≡ Some w → (w.number ≡ r) × Says log (enqueue_line w)) →
+    is_some o && is_in_drain b.brackets ≡ true → Opens log b.brackets → Opens (log ++ Started r ∷ []) (started o b).brackets
 starts r None b log known h o = false_true h
 starts r (Some w) b log known h o =
     let k = known w refl in
     ([], refl, (log, [], ap (λ x. log ++ Started x ∷ []) (sym k.0), Empty, (k.1, o)))
 
-pub opens_step : (log : List Event) (b : Book) (e : Event) → Kept (past_of log []) b → Opens log b.brackets → Keeps b e → Opens (log ++ e ∷ []) (after b e).brackets
+pub opens_step : (log : List Event) (b : Book) (e : Event) → Kept (past_of log []) b → Opens log b.brackets → Keeps b e →
+    Opens (log ++ e ∷ []) (after b e).brackets
 opens_step log b (QueueOpened q) k o h = let number = eqb-true q (b.queues + 1) h.counts in (omega (arith, number), (log, [], refl, Empty, o))
 opens_step log b (DrainBegun q) k o h = begins q b.brackets log (left_true (begins_drain q b.brackets) _ h.nested) o
 opens_step log b (QueueClosed q) k o h = ends q b.brackets log (left_true (ends_drain q b.brackets) _ h.nested) o

@@ -45,7 +45,8 @@ pub pushed_first : Pushed [] blank
 pushed_first = record { filling = λ q i. absurd i; among = λ q i. absurd i.0; falls = tt; below = λ q i. absurd i; begun = λ q i. absurd i }
 
 -- an event that neither pushes a queue nor begins to drain one
-same : (past : List Event) (b : Book) (e : Event) (c : Book) → Pushed past b → ((q : ℕ) → e ≡ QueueOpened q → ⊥) → ((q : ℕ) → e ≡ DrainBegun q → ⊥) → fillings c.brackets ≡ fillings b.brackets → c.queues ≡ b.queues → Pushed (e ∷ past) c
+same : (past : List Event) (b : Book) (e : Event) (c : Book) → Pushed past b → ((q : ℕ) → e ≡ QueueOpened q → ⊥) → ((q : ℕ) → e ≡ DrainBegun q → ⊥) →
+    fillings c.brackets ≡ fillings b.brackets → c.queues ≡ b.queues → Pushed (e ∷ past) c
 same past b e c k no_push no_drain hf hq =
     record {
       filling = λ q i. let f = k.filling q (subst (λ l. IsOf l q) hf i) in (inr f.0, λ s. ⊎_elim (λ j. no_drain q j) (λ j. f.1 j) s);
@@ -80,7 +81,8 @@ no_push : (past : List Event) (q p : ℕ) → Says (DrainBegun q ∷ past) (Queu
 no_push past q p s = ⊎_elim (λ j. absurd (let f : DrainBegun q ≡ QueueOpened p = j in cc)) (λ j. j) s
 
 -- the innermost queue that fills begins to drain
-drains : (past : List Event) (b : Book) (q : ℕ) (ms : List ℕ) (c : Book) → Pushed past b → fillings b.brackets ≡ q ∷ ms → fillings c.brackets ≡ ms → c.queues ≡ b.queues → Pushed (DrainBegun q ∷ past) c
+drains : (past : List Event) (b : Book) (q : ℕ) (ms : List ℕ) (c : Book) → Pushed past b → fillings b.brackets ≡ q ∷ ms → fillings c.brackets ≡ ms →
+    c.queues ≡ b.queues → Pushed (DrainBegun q ∷ past) c
 drains past b q ms c k hb hc hq =
     record {
       filling = λ p i. let j = subst (λ l. IsOf l p) hc i in let f = k.filling p (subst (λ l. IsOf l p) (sym hb) (inr j)) in (inr f.0, λ s. ⊎_elim (λ e. let g = ap queue_of e in let lt = falls.0 p j in absurd (omega (arith, g, lt))) (λ e. f.1 e) s);
@@ -94,7 +96,8 @@ drains past b q ms c k hb hc hq =
     falls = subst Falling hb k.falls
 
 -- none fills: the backup element queue begins to drain
-checks : (past : List Event) (b : Book) (c : Book) → Pushed past b → fillings b.brackets ≡ [] → fillings c.brackets ≡ [] → c.queues ≡ b.queues → Pushed (DrainBegun 0 ∷ past) c
+checks : (past : List Event) (b : Book) (c : Book) → Pushed past b → fillings b.brackets ≡ [] → fillings c.brackets ≡ [] → c.queues ≡ b.queues →
+    Pushed (DrainBegun 0 ∷ past) c
 checks past b c k hb hc hq =
     record {
       filling = λ p i. absurd (subst (λ l. IsOf l p) hc i);
@@ -107,7 +110,8 @@ checks past b c k hb hc hq =
 false_true : {A : Type 0} → false ≡ true → A
 false_true h = absurd cc
 
-begins : (past : List Event) (b : Book) (q : ℕ) → Pushed past b → (bs : List Bracket) → b.brackets ≡ bs → begins_drain q bs ≡ true → Pushed (DrainBegun q ∷ past) (after b (DrainBegun q))
+begins : (past : List Event) (b : Book) (q : ℕ) → Pushed past b → (bs : List Bracket) → b.brackets ≡ bs → begins_drain q bs ≡ true →
+    Pushed (DrainBegun q ∷ past) (after b (DrainBegun q))
 begins past b q k [] e h =
     let c = after b (DrainBegun q) in
     subst (λ x. Pushed (DrainBegun x ∷ past) c) (sym (eqb-true q 0 h)) (checks past b c k (ap fillings e) (ap (λ bs. fillings (around bs)) e) refl)
@@ -187,7 +191,8 @@ filling_turned log q i = (says_turned log (QueueOpened q) i.0, λ s. i.1 (says_b
 filling_back : (log : List Event) (q : ℕ) → IsFilling (past_of log []) q → IsFilling log q
 filling_back log q i = (says_back log (QueueOpened q) i.0, λ s. i.1 (says_turned log (DrainBegun q) s))
 
-pub enqueue_tells_current : (before behind : List Event) (r n q : ℕ) (what : CallOrUpgrade) → Lawful (before ++ Enqueued r n what q ∷ behind) → IsCurrent before q
+pub enqueue_tells_current : (before behind : List Event) (r n q : ℕ) (what : CallOrUpgrade) → Lawful (before ++ Enqueued r n what q ∷ behind) →
+    IsCurrent before q
 enqueue_tells_current before behind r n q what h =
     let a = at Pushed pushed_first pushed_step before (Enqueued r n what q) behind h in
     let b = read blank before in

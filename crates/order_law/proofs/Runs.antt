@@ -34,7 +34,8 @@ pub waits_of : (log : List Event) (b : Book) (w : Entry) → Kept (past_of log [
 waits_of log b w k i = let h = k.waits w i in (says_back log (enqueue_line w) h.0, λ t. h.1 (taken_turned log w.number t))
 
 -- a reaction of this number waits
-found : (log : List Event) (b : Book) (r : ℕ) (o : Option Entry) → Kept (past_of log []) b → entry_of r b.waiting ≡ o → is_some o ≡ true → (w : Entry) × (w.number ≡ r) × Waits log w
+found : (log : List Event) (b : Book) (r : ℕ) (o : Option Entry) → Kept (past_of log []) b → entry_of r b.waiting ≡ o → is_some o ≡ true →
+    (w : Entry) × (w.number ≡ r) × Waits log w
 found log b r None k e h = absurd (let f : false ≡ true = h in cc)
 found log b r (Some w) k e h = let f = found_among r b.waiting w e in (w, f.1, waits_of log b w k f.0)
 
@@ -51,17 +52,20 @@ drop_waits before behind r h =
     found before b r (entry_of r b.waiting) a.past refl (left_true _ _ a.keeps.runs)
 
 -- the lowest of the element
-lowest : (log : List Event) (b : Book) (w v : Entry) → Kept (past_of log []) b → leads (entry_of w.number b.waiting) b.waiting ≡ true → Waits log w → Waits log v → v.element ≡ w.element → w.number ≤ v.number
+lowest : (log : List Event) (b : Book) (w v : Entry) → Kept (past_of log []) b → leads (entry_of w.number b.waiting) b.waiting ≡ true → Waits log w →
+    Waits log v → v.element ≡ w.element → w.number ≤ v.number
 lowest log b w v k h i j e =
     let found = among_found 0 b.waiting w k.rising (among_of log b w k i) in
     is_first_says 0 w.number w.element b.waiting v k.rising (sym (ap (λ o. leads o b.waiting) found) ∙ h) (among_of log b v k j) e
 
-pub start_in_order : (before behind : List Event) (w v : Entry) → Lawful (before ++ Started w.number ∷ behind) → Waits before w → Waits before v → v.element ≡ w.element → w.number ≤ v.number
+pub start_in_order : (before behind : List Event) (w v : Entry) → Lawful (before ++ Started w.number ∷ behind) → Waits before w → Waits before v →
+    v.element ≡ w.element → w.number ≤ v.number
 start_in_order before behind w v h i j e =
     let a = at_kept before (Started w.number) behind h in
     lowest before (read blank before) w v a.past a.keeps.order i j e
 
-pub drop_in_order : (before behind : List Event) (w v : Entry) → Lawful (before ++ Dropped w.number ∷ behind) → Waits before w → Waits before v → v.element ≡ w.element → w.number ≤ v.number
+pub drop_in_order : (before behind : List Event) (w v : Entry) → Lawful (before ++ Dropped w.number ∷ behind) → Waits before w → Waits before v →
+    v.element ≡ w.element → w.number ≤ v.number
 drop_in_order before behind w v h i j e =
     let a = at_kept before (Dropped w.number) behind h in
     lowest before (read blank before) w v a.past a.keeps.order i j e
@@ -107,7 +111,8 @@ follows log b n (Dropped r) k h = go (entry_of r b.waiting) refl h
     go (Some w) e h = let f = found_among r b.waiting w e in inr (w, ap Dropped (sym f.1), sym (eqb-true n w.element h), waits_of log b w k f.0)
 follows log b n e k h = absurd (let f : false ≡ true = h in cc)
 
-pub drop_is_followed : (before behind : List Event) (w : Entry) (e : Event) → Lawful (before ++ Dropped w.number ∷ e ∷ behind) → Waits before w → (e ≡ UpgradeThrew w.element) ⊎ IsDropOf (before ++ Dropped w.number ∷ []) w.element e
+pub drop_is_followed : (before behind : List Event) (w : Entry) (e : Event) → Lawful (before ++ Dropped w.number ∷ e ∷ behind) → Waits before w →
+    (e ≡ UpgradeThrew w.element) ⊎ IsDropOf (before ++ Dropped w.number ∷ []) w.element e
 drop_is_followed before behind w e h i =
     let b = read blank before in
     let front = before ++ Dropped w.number ∷ [] in

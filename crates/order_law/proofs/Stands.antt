@@ -156,7 +156,8 @@ drop_top w (Filling m ∷ bs) log h o = false_true h
 drop_top w (Draining m ∷ bs) log h o = false_true h
 drop_top w (Reacting v called ∷ bs) log h o = false_true h
 
-pub drop_is_in_upgrade : (before behind : List Event) (w : Entry) → Lawful (before ++ Dropped w.number ∷ behind) → Waits before w → Innermost [] (UpgradeBegun w.element) before
+pub drop_is_in_upgrade : (before behind : List Event) (w : Entry) → Lawful (before ++ Dropped w.number ∷ behind) → Waits before w →
+    Innermost [] (UpgradeBegun w.element) before
 drop_is_in_upgrade before behind w h i =
     let s = here before behind (Dropped w.number) h in
     let b = read blank before in
@@ -191,7 +192,8 @@ up_is_where_it_may before behind n h =
     let b = read blank before in
     up_top n b.brackets before (left_true (may_upgrade n b.brackets) _ (left_true _ _ s.keeps.upgrades)) s.stands.opens
 
-call_top : (n : ℕ) (name : CallName) (bs : List Bracket) (log : List Event) → may_call (Some (n, name)) bs ≡ true → Opens log bs → (w : Entry) × (w.element ≡ n) × (w.what ≡ Call name) × Runs w log
+call_top : (n : ℕ) (name : CallName) (bs : List Bracket) (log : List Event) → may_call (Some (n, name)) bs ≡ true → Opens log bs →
+    (w : Entry) × (w.element ≡ n) × (w.what ≡ Call name) × Runs w log
 call_top n name (Reacting w false ∷ bs) log h (lines, none, a) =
     let element = eqb-true w.element n (left_true (w.element == n) (is_for w.what name) h) in
     let what = for_is w.what name (right_true (w.element == n) (is_for w.what name) h) in
@@ -206,13 +208,15 @@ calls_say : (b : Book) (e : Event) (n : ℕ) (name : CallName) → call_of e ≡
 calls_say b (Finished r) n name is h = absurd (let e : None ≡ Some (n, name) = is in cc)
 calls_say b e n name is h = right_true (starts_once b e) _ h.runs
 
-pub call_is_in_its_reaction : (before behind : List Event) (e : Event) (n : ℕ) (name : CallName) → call_of e ≡ Some (n, name) → Lawful (before ++ e ∷ behind) → (w : Entry) × (w.element ≡ n) × (w.what ≡ Call name) × Runs w before
+pub call_is_in_its_reaction : (before behind : List Event) (e : Event) (n : ℕ) (name : CallName) → call_of e ≡ Some (n, name) →
+    Lawful (before ++ e ∷ behind) → (w : Entry) × (w.element ≡ n) × (w.what ≡ Call name) × Runs w before
 call_is_in_its_reaction before behind e n name is h =
     let s = here before behind e h in
     let b = read blank before in
     call_top n name b.brackets before (sym (ap (λ c. may_call c b.brackets) is) ∙ calls_say b e n name is s.keeps) s.stands.opens
 
-all_lines : (w : Entry) (called : Bool) (lines : List Event) → Called w called lines → (what : CallOrUpgrade) → w.what ≡ what → called || not (is_callback what) ≡ true → AreLines what w.element lines
+all_lines : (w : Entry) (called : Bool) (lines : List Event) → Called w called lines → (what : CallOrUpgrade) → w.what ≡ what →
+    called || not (is_callback what) ≡ true → AreLines what w.element lines
 all_lines w true lines c (Call name) is h = let e : Call c.2 ≡ Call name = sym c.4 ∙ is in let f : c.2 ≡ name = cc in (c.0, c.1, c.3 ∙ ap (λ x. Some (w.element, x)) f)
 all_lines w false lines c (Call name) is h = false_true h
 all_lines w called lines c Upgrade is h = no_lines w called lines c is

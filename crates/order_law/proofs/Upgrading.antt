@@ -52,7 +52,8 @@ more m n ns h = go (m == n)
     go true = refl
     go false = h
 
-knows_same : (past : List Event) (b : Book) (e : Event) (c : Book) → Knows past b → ((n : ℕ) → e ≡ UpgradeBegun n → ⊥) → ((n : ℕ) → e ≡ UpgradeThrew n → ⊥) → c.upgraded ≡ b.upgraded → c.thrown ≡ b.thrown → Knows (e ∷ past) c
+knows_same : (past : List Event) (b : Book) (e : Event) (c : Book) → Knows past b → ((n : ℕ) → e ≡ UpgradeBegun n → ⊥) →
+    ((n : ℕ) → e ≡ UpgradeThrew n → ⊥) → c.upgraded ≡ b.upgraded → c.thrown ≡ b.thrown → Knows (e ∷ past) c
 knows_same past b e c k no_up no_throw hu ht =
     record {
       begun = λ n s. ap (is_one_of n) hu ∙ ⊎_elim (λ i. absurd (no_up n i)) (λ i. k.begun n i) s;
@@ -91,12 +92,14 @@ one_upgrade before behind n h s =
     let b = read blank before in
     not_true (is_one_of n b.upgraded) (right_true (may_upgrade n b.brackets) (not (is_one_of n b.upgraded)) (left_true _ _ a.keeps.upgrades)) (a.past.begun n (says_turned before (UpgradeBegun n) s))
 
-pub no_enqueue_behind_throw : (before behind : List Event) (r n q : ℕ) (name : CallName) → Lawful (before ++ Enqueued r n (Call name) q ∷ behind) → Says before (UpgradeThrew n) → ⊥
+pub no_enqueue_behind_throw : (before behind : List Event) (r n q : ℕ) (name : CallName) → Lawful (before ++ Enqueued r n (Call name) q ∷ behind) →
+    Says before (UpgradeThrew n) → ⊥
 no_enqueue_behind_throw before behind r n q name h s =
     let a = at_knows before (Enqueued r n (Call name) q) behind h in
     not_both true (is_one_of n (read blank before).thrown) (right_true (begins_upgrade (read blank before) (Enqueued r n (Call name) q)) _ a.keeps.upgrades) refl (a.past.threw n (says_turned before (UpgradeThrew n) s))
 
-pub no_start_behind_throw : (before behind : List Event) (w : Entry) (name : CallName) → Lawful (before ++ Started w.number ∷ behind) → Waits before w → w.what ≡ Call name → Says before (UpgradeThrew w.element) → ⊥
+pub no_start_behind_throw : (before behind : List Event) (w : Entry) (name : CallName) → Lawful (before ++ Started w.number ∷ behind) →
+    Waits before w → w.what ≡ Call name → Says before (UpgradeThrew w.element) → ⊥
 no_start_behind_throw before behind w name h i e s =
     let a = at_knows before (Started w.number) behind h in
     let k = at Kept kept_first kept_step before (Started w.number) behind h in
@@ -106,7 +109,8 @@ no_start_behind_throw before behind w name h i e s =
 
 -- the checkpoint
 
-close_pays : (b : Book) (q : ℕ) (log : List Event) (t : Bool) → q == 0 ≡ t → b.owed ≡ true → Says (QueueClosed q ∷ log) (QueueClosed 0) ⊎ ((after b (QueueClosed q)).owed ≡ true)
+close_pays : (b : Book) (q : ℕ) (log : List Event) (t : Bool) → q == 0 ≡ t → b.owed ≡ true →
+    Says (QueueClosed q ∷ log) (QueueClosed 0) ⊎ ((after b (QueueClosed q)).owed ≡ true)
 close_pays b q log true e h = inl (inl (ap QueueClosed (eqb-true q 0 e)))
 close_pays b q log false e h = inr (ap (λ t. b.owed && not t) e ∙ ap (λ t. t && true) h)
 
@@ -120,7 +124,8 @@ owes : (b : Book) (log : List Event) → b.owed ≡ true → Says log (QueueClos
 owes b [] h = inr h
 owes b (e ∷ log) h = ⊎_elim (λ s. inl s) (λ k. ⊎_elim (λ s. inl (inr s)) (λ j. inr j) (owes (after b e) log k)) (owes_on b e log h)
 
-pub checkpoint_before_reply : (before between behind : List Event) (r n : ℕ) (what : CallOrUpgrade) (e : Event) → is_reply e ≡ true → Lawful (before ++ Enqueued r n what 0 ∷ (between ++ e ∷ behind)) → Says between (QueueClosed 0)
+pub checkpoint_before_reply : (before between behind : List Event) (r n : ℕ) (what : CallOrUpgrade) (e : Event) → is_reply e ≡ true →
+    Lawful (before ++ Enqueued r n what 0 ∷ (between ++ e ∷ behind)) → Says between (QueueClosed 0)
 checkpoint_before_reply before between behind r n what e is h =
     let b = read blank before in
     let c = after b (Enqueued r n what 0) in
@@ -153,7 +158,8 @@ count_turned : (test : Event → Bool) (log past : List Event) → count test (p
 count_turned test [] past = omega (arith)
 count_turned test (e ∷ log) past = go (test e) (count_turned test log (e ∷ past))
   where
-    go : (t : Bool) → count test (past_of log (e ∷ past)) ≡ count test log + (if t then count test past + 1 else count test past) → count test (past_of log (e ∷ past)) ≡ (if t then count test log + 1 else count test log) + count test past
+    go : (t : Bool) → count test (past_of log (e ∷ past)) ≡ count test log + (if t then count test past + 1 else count test past) →
+        count test (past_of log (e ∷ past)) ≡ (if t then count test log + 1 else count test log) + count test past
     go true k = omega (arith, k)
     go false k = k
 
@@ -163,7 +169,8 @@ count_back test log = let k = count_turned test log [] in omega (arith, k)
 at_counts : (before : List Event) (e : Event) (behind : List Event) → Lawful (before ++ e ∷ behind) → At Counts before e behind
 at_counts before e behind h = at Counts (record { numbers = refl; queues = refl }) counts_step before e behind h
 
-pub enqueue_counts : (before behind : List Event) (r n q : ℕ) (what : CallOrUpgrade) → Lawful (before ++ Enqueued r n what q ∷ behind) → r ≡ count is_enqueue before + 1
+pub enqueue_counts : (before behind : List Event) (r n q : ℕ) (what : CallOrUpgrade) → Lawful (before ++ Enqueued r n what q ∷ behind) →
+    r ≡ count is_enqueue before + 1
 enqueue_counts before behind r n q what h =
     let a = at_counts before (Enqueued r n what q) behind h in
     let b = read blank before in

@@ -16,8 +16,10 @@ use Rattle.order_law.proofs.Entries.{IsAmong, Rising, rising_append, rising_with
 -- what an event does to what waits: it enqueues a reaction, takes one, or neither
 pub data Change (b : Book) (e : Event) : Type 0 where
   Adds : (w : Entry) → e ≡ enqueue_line w → w.number ≡ b.numbers + 1 → (after b e).waiting ≡ b.waiting ++ w ∷ [] → (after b e).numbers ≡ w.number → Change b e
-  Takes : (w : Entry) → (e ≡ Started w.number) ⊎ (e ≡ Dropped w.number) → entry_of w.number b.waiting ≡ Some w → (after b e).waiting ≡ without w.number b.waiting → (after b e).numbers ≡ b.numbers → Change b e
-  Stays : ((w : Entry) → e ≡ enqueue_line w → ⊥) → ((r : ℕ) → e ≡ Started r → ⊥) → ((r : ℕ) → e ≡ Dropped r → ⊥) → (after b e).waiting ≡ b.waiting → (after b e).numbers ≡ b.numbers → Change b e
+  Takes : (w : Entry) → (e ≡ Started w.number) ⊎ (e ≡ Dropped w.number) → entry_of w.number b.waiting ≡ Some w →
+      (after b e).waiting ≡ without w.number b.waiting → (after b e).numbers ≡ b.numbers → Change b e
+  Stays : ((w : Entry) → e ≡ enqueue_line w → ⊥) → ((r : ℕ) → e ≡ Started r → ⊥) → ((r : ℕ) → e ≡ Dropped r → ⊥) → (after b e).waiting ≡ b.waiting →
+      (after b e).numbers ≡ b.numbers → Change b e
 
 starts : (b : Book) (r : ℕ) (o : Option Entry) → entry_of r b.waiting ≡ o → is_some o && is_in_drain b.brackets ≡ true → Change b (Started r)
 starts b r None e h = absurd (let k : false ≡ true = h in cc)
@@ -75,7 +77,9 @@ less_taken past e r f g (inl (inr s)) = inl s
 less_taken past e r f g (inr (inl i)) = absurd (g i)
 less_taken past e r f g (inr (inr s)) = inr s
 
-adds : (past : List Event) (b : Book) (e : Event) (w : Entry) → Kept past b → e ≡ enqueue_line w → w.number ≡ b.numbers + 1 → (waiting : List Entry) → waiting ≡ b.waiting ++ w ∷ [] → (numbers : ℕ) → numbers ≡ w.number → (c : Book) → c.waiting ≡ waiting → c.numbers ≡ numbers → Kept (e ∷ past) c
+adds : (past : List Event) (b : Book) (e : Event) (w : Entry) → Kept past b → e ≡ enqueue_line w → w.number ≡ b.numbers + 1 →
+    (waiting : List Entry) → waiting ≡ b.waiting ++ w ∷ [] → (numbers : ℕ) → numbers ≡ w.number → (c : Book) → c.waiting ≡ waiting →
+    c.numbers ≡ numbers → Kept (e ∷ past) c
 adds past b e w k is number waiting h numbers n c hw hn =
     record {
       waits = λ v i. ⊎_elim (λ j. (inr (k.waits v j).0, λ t. (k.waits v j).1 (less v t))) (λ j. (inl (is ∙ ap enqueue_line j), λ t. fresh v j (less v t))) (among_append b.waiting w v (subst (IsAmong v) (hw ∙ h) i));
@@ -91,7 +95,8 @@ adds past b e w k is number waiting h numbers n c hw hn =
     fresh : (v : Entry) → w ≡ v → IsTaken past v.number → ⊥
     fresh v j t = let f = k.taken v.number t in let g = ap (λ (x : Entry). x.number) j in omega (arith, f, g, number)
 
-takes : (past : List Event) (b : Book) (e : Event) (w : Entry) → Kept past b → (e ≡ Started w.number) ⊎ (e ≡ Dropped w.number) → entry_of w.number b.waiting ≡ Some w → (c : Book) → c.waiting ≡ without w.number b.waiting → c.numbers ≡ b.numbers → Kept (e ∷ past) c
+takes : (past : List Event) (b : Book) (e : Event) (w : Entry) → Kept past b → (e ≡ Started w.number) ⊎ (e ≡ Dropped w.number) →
+    entry_of w.number b.waiting ≡ Some w → (c : Book) → c.waiting ≡ without w.number b.waiting → c.numbers ≡ b.numbers → Kept (e ∷ past) c
 takes past b e w k is found c hw hn =
     record {
       waits = λ v i. let j = subst (IsAmong v) hw i in let old = k.waits v (among_without w.number b.waiting v j) in (inr old.0, λ t. old.1 (less v.number (gone_without 0 w.number b.waiting v k.rising j) t));
@@ -123,7 +128,8 @@ takes past b e w k is found c hw hn =
     go r s true h = let i = found_among w.number b.waiting w found in let f = k.below w (k.waits w i.0).0 in let g = eqb-true r w.number h in omega (arith, f, g, hn)
     go r s false h = let f = k.taken r (less r (eqb-false r w.number h) s) in omega (arith, f, hn)
 
-stays : (past : List Event) (b : Book) (e : Event) → Kept past b → ((w : Entry) → e ≡ enqueue_line w → ⊥) → ((r : ℕ) → e ≡ Started r → ⊥) → ((r : ℕ) → e ≡ Dropped r → ⊥) → (c : Book) → c.waiting ≡ b.waiting → c.numbers ≡ b.numbers → Kept (e ∷ past) c
+stays : (past : List Event) (b : Book) (e : Event) → Kept past b → ((w : Entry) → e ≡ enqueue_line w → ⊥) → ((r : ℕ) → e ≡ Started r → ⊥) →
+    ((r : ℕ) → e ≡ Dropped r → ⊥) → (c : Book) → c.waiting ≡ b.waiting → c.numbers ≡ b.numbers → Kept (e ∷ past) c
 stays past b e k no_line no_start no_drop c hw hn =
     record {
       waits = λ v i. let old = k.waits v (subst (IsAmong v) hw i) in (inr old.0, λ t. old.1 (less v.number t));

@@ -48,7 +48,8 @@ past_of [] past = past
 past_of (e ∷ log) past = past_of log (e ∷ past)
 
 -- what holds at the beginning, and is kept by each event that may come, holds behind a lawful log
-pub walk_from : (P : List Event → Book → Type 0) → ((past : List Event) (b : Book) (e : Event) → P past b → Keeps b e → P (e ∷ past) (after b e)) → (past : List Event) (b : Book) → P past b → (log : List Event) → is_lawful b log ≡ true → P (past_of log past) (read b log)
+pub walk_from : (P : List Event → Book → Type 0) → ((past : List Event) (b : Book) (e : Event) → P past b → Keeps b e → P (e ∷ past) (after b e)) →
+    (past : List Event) (b : Book) → P past b → (log : List Event) → is_lawful b log ≡ true → P (past_of log past) (read b log)
 walk_from P step past b p [] h = p
 walk_from P step past b p (e ∷ log) h =
     walk_from P step (e ∷ past) (after b e) (step past b e p (keeps b e (left_true (may_come b e) _ h))) log (right_true (may_come b e) _ h)
@@ -64,7 +65,9 @@ pub record At (P : List Event → Book → Type 0) (before : List Event) (e : Ev
   pub keeps : Keeps (read blank before) e
   pub goes_on : is_lawful (after (read blank before) e) behind ≡ true
 
-pub at : (P : List Event → Book → Type 0) → P [] blank → ((past : List Event) (b : Book) (e : Event) → P past b → Keeps b e → P (e ∷ past) (after b e)) → (before : List Event) (e : Event) (behind : List Event) → Lawful (before ++ e ∷ behind) → At P before e behind
+pub at : (P : List Event → Book → Type 0) → P [] blank →
+    ((past : List Event) (b : Book) (e : Event) → P past b → Keeps b e → P (e ∷ past) (after b e)) →
+    (before : List Event) (e : Event) (behind : List Event) → Lawful (before ++ e ∷ behind) → At P before e behind
 at P first step before e behind h =
     let rest = rest_from blank before (e ∷ behind) h in
     record {

@@ -25,11 +25,16 @@ pub data Whole : List Event → List Event → Type 0 where
   Empty : Whole [] []
   Plain : {calls log : List Event} → (e : Event) → is_plain e ≡ true → Whole calls log → Whole calls (log ++ e ∷ [])
   Line : {calls log : List Event} → (e : Event) → is_some (call_of e) ≡ true → Whole calls log → Whole (calls ++ e ∷ []) (log ++ e ∷ [])
-  Operation : {calls log : List Event} → (q : ℕ) (steps drain : List Event) → Whole calls log → Whole [] steps → Whole [] drain → Whole calls (log ++ QueueOpened q ∷ (steps ++ DrainBegun q ∷ (drain ++ QueueClosed q ∷ [])))
-  Checkpoint : {calls log : List Event} → (drain : List Event) → Whole calls log → Whole [] drain → Whole calls (log ++ DrainBegun 0 ∷ (drain ++ QueueClosed 0 ∷ []))
-  Reaction : {calls log lines : List Event} → (r : ℕ) (body : List Event) → Whole calls log → Whole lines body → Whole calls (log ++ Started r ∷ (body ++ Finished r ∷ []))
-  Done : {calls log : List Event} → (n : ℕ) (made : List Event) → Whole calls log → Whole [] made → Whole calls (log ++ UpgradeBegun n ∷ (made ++ UpgradeDone n ∷ []))
-  Threw : {calls log : List Event} → (n : ℕ) (made : List Event) → Whole calls log → Whole [] made → Whole calls (log ++ UpgradeBegun n ∷ (made ++ UpgradeThrew n ∷ []))
+  Operation : {calls log : List Event} → (q : ℕ) (steps drain : List Event) → Whole calls log → Whole [] steps → Whole [] drain →
+      Whole calls (log ++ QueueOpened q ∷ (steps ++ DrainBegun q ∷ (drain ++ QueueClosed q ∷ [])))
+  Checkpoint : {calls log : List Event} → (drain : List Event) → Whole calls log → Whole [] drain →
+      Whole calls (log ++ DrainBegun 0 ∷ (drain ++ QueueClosed 0 ∷ []))
+  Reaction : {calls log lines : List Event} → (r : ℕ) (body : List Event) → Whole calls log → Whole lines body →
+      Whole calls (log ++ Started r ∷ (body ++ Finished r ∷ []))
+  Done : {calls log : List Event} → (n : ℕ) (made : List Event) → Whole calls log → Whole [] made →
+      Whole calls (log ++ UpgradeBegun n ∷ (made ++ UpgradeDone n ∷ []))
+  Threw : {calls log : List Event} → (n : ℕ) (made : List Event) → Whole calls log → Whole [] made →
+      Whole calls (log ++ UpgradeBegun n ∷ (made ++ UpgradeThrew n ∷ []))
 
 -- at the end of the log the innermost open bracket is the one that begins with this event; these callbacks' lines stand directly
 -- in it

@@ -26,14 +26,16 @@ pub fn each_end_is_of_the_innermost()
 #[tactic(auto, using(crate::proofs::Stands::start_is_in_drain, crate::proofs::Stands::call_is_in_its_reaction, crate::proofs::Stands::finish_has_run))]
 pub fn each_reaction_has_its_line()
     ensures start { (before behind : List Event) (r : ℕ) → Lawful (before ++ Started r ∷ behind) → (q : ℕ) × Innermost [] (DrainBegun q) before }
-    ensures line { (before behind : List Event) (e : Event) (n : ℕ) (name : CallName) → call_of e ≡ Some (n, name) → Lawful (before ++ e ∷ behind) → (w : Entry) × (w.element ≡ n) × (w.what ≡ Call name) × Runs w before }
+    ensures line { (before behind : List Event) (e : Event) (n : ℕ) (name : CallName) → call_of e ≡ Some (n, name) → Lawful (before ++ e ∷ behind) →
+        (w : Entry) × (w.element ≡ n) × (w.what ≡ Call name) × Runs w before }
     ensures finish { (before behind : List Event) (r : ℕ) → Lawful (before ++ Finished r ∷ behind) → HasRun r before }
 {}
 
 /// A reaction is dropped directly in the upgrade of its element.
 #[tactic(auto, using(crate::proofs::Stands::drop_is_in_upgrade))]
 pub fn each_drop_is_in_its_upgrade()
-    ensures { (before behind : List Event) (w : Entry) → Lawful (before ++ Dropped w.number ∷ behind) → Waits before w → Innermost [] (UpgradeBegun w.element) before }
+    ensures { (before behind : List Event) (w : Entry) → Lawful (before ++ Dropped w.number ∷ behind) → Waits before w →
+        Innermost [] (UpgradeBegun w.element) before }
 {}
 
 /// An upgrade begins directly in its upgrade reaction, or in a queue whose draining has not begun.
