@@ -1,0 +1,165 @@
+-- The law computes.
+use Rattle.std.specs.Prelude.{◌≡◌, false, refl}
+use Rattle.std.specs.Str.{chars}
+use Rattle.ce_algorithms.specs.Worked.Logs as logs
+use Rattle.order_law.specs.Book.{blank}
+use Rattle.order_law.specs.Law.{Lawful, is_lawful}
+use Rattle.order_law.specs.Samples as samples
+
+pub traced_lawful : Lawful logs.traced
+unfolding chars
+traced_lawful = refl
+
+pub traced_throws_lawful : Lawful logs.traced_throws
+unfolding chars
+traced_throws_lawful = refl
+
+pub upgrade_lawful : Lawful samples.upgrade
+unfolding chars
+upgrade_lawful = refl
+
+pub throws_lawful : Lawful samples.throws
+unfolding chars
+throws_lawful = refl
+
+-- first clause
+
+pub number_skipped_unlawful : is_lawful blank samples.number_skipped ≡ false
+unfolding chars
+number_skipped_unlawful = refl
+
+pub number_again_unlawful : is_lawful blank samples.number_again ≡ false
+unfolding chars
+number_again_unlawful = refl
+
+pub queue_skipped_unlawful : is_lawful blank samples.queue_skipped ≡ false
+unfolding chars
+queue_skipped_unlawful = refl
+
+pub other_queue_unlawful : is_lawful blank samples.other_queue ≡ false
+unfolding chars
+other_queue_unlawful = refl
+
+pub current_queue_passed_over_unlawful : is_lawful blank samples.current_queue_passed_over ≡ false
+unfolding chars
+current_queue_passed_over_unlawful = refl
+
+-- second clause
+
+pub start_of_nothing_unlawful : is_lawful blank samples.start_of_nothing ≡ false
+unfolding chars
+start_of_nothing_unlawful = refl
+
+pub second_start_unlawful : is_lawful blank samples.second_start ≡ false
+unfolding chars
+second_start_unlawful = refl
+
+pub start_in_upgrade_unlawful : is_lawful blank samples.start_in_upgrade ≡ false
+unfolding chars
+start_in_upgrade_unlawful = refl
+
+pub call_outside_unlawful : is_lawful blank samples.call_outside ≡ false
+unfolding chars
+call_outside_unlawful = refl
+
+pub call_in_upgrade_unlawful : is_lawful blank samples.call_in_upgrade ≡ false
+unfolding chars
+call_in_upgrade_unlawful = refl
+
+pub call_of_other_element_unlawful : is_lawful blank samples.call_of_other_element ≡ false
+unfolding chars
+call_of_other_element_unlawful = refl
+
+pub other_callback_unlawful : is_lawful blank samples.other_callback ≡ false
+unfolding chars
+other_callback_unlawful = refl
+
+pub second_call_unlawful : is_lawful blank samples.second_call ≡ false
+unfolding chars
+second_call_unlawful = refl
+
+pub no_call_unlawful : is_lawful blank samples.no_call ≡ false
+unfolding chars
+no_call_unlawful = refl
+
+-- third clause
+
+pub start_before_lower_unlawful : is_lawful blank samples.start_before_lower ≡ false
+unfolding chars
+start_before_lower_unlawful = refl
+
+pub drop_before_lower_unlawful : is_lawful blank samples.drop_before_lower ≡ false
+unfolding chars
+drop_before_lower_unlawful = refl
+
+-- fourth clause
+
+pub drop_without_throw_unlawful : is_lawful blank samples.drop_without_throw ≡ false
+unfolding chars
+drop_without_throw_unlawful = refl
+
+pub drop_and_no_throw_unlawful : is_lawful blank samples.drop_and_no_throw ≡ false
+unfolding chars
+drop_and_no_throw_unlawful = refl
+
+pub drop_in_reaction_unlawful : is_lawful blank samples.drop_in_reaction ≡ false
+unfolding chars
+drop_in_reaction_unlawful = refl
+
+pub throw_with_one_waiting_unlawful : is_lawful blank samples.throw_with_one_waiting ≡ false
+unfolding chars
+throw_with_one_waiting_unlawful = refl
+
+-- fifth clause
+
+pub close_with_one_waiting_unlawful : is_lawful blank samples.close_with_one_waiting ≡ false
+unfolding chars
+close_with_one_waiting_unlawful = refl
+
+-- sixth clause
+
+pub end_around_another_unlawful : is_lawful blank samples.end_around_another ≡ false
+unfolding chars
+end_around_another_unlawful = refl
+
+pub drain_twice_unlawful : is_lawful blank samples.drain_twice ≡ false
+unfolding chars
+drain_twice_unlawful = refl
+
+pub checkpoint_in_drain_unlawful : is_lawful blank samples.checkpoint_in_drain ≡ false
+unfolding chars
+checkpoint_in_drain_unlawful = refl
+
+pub no_checkpoint_unlawful : is_lawful blank samples.no_checkpoint ≡ false
+unfolding chars
+no_checkpoint_unlawful = refl
+
+-- seventh clause
+
+pub second_upgrade_unlawful : is_lawful blank samples.second_upgrade ≡ false
+unfolding chars
+second_upgrade_unlawful = refl
+
+pub upgrade_in_drain_unlawful : is_lawful blank samples.upgrade_in_drain ≡ false
+unfolding chars
+upgrade_in_drain_unlawful = refl
+
+pub callback_after_throw_unlawful : is_lawful blank samples.callback_after_throw ≡ false
+unfolding chars
+callback_after_throw_unlawful = refl
+
+-- eighth clause
+
+pub reply_in_bracket_unlawful : is_lawful blank samples.reply_in_bracket ≡ false
+unfolding chars
+reply_in_bracket_unlawful = refl
+
+pub reply_with_one_waiting_unlawful : is_lawful blank samples.reply_with_one_waiting ≡ false
+unfolding chars
+reply_with_one_waiting_unlawful = refl
+
+-- the end of the fuel
+
+pub behind_fuel_unlawful : is_lawful blank samples.behind_fuel ≡ false
+unfolding chars
+behind_fuel_unlawful = refl

@@ -1,0 +1,11 @@
+pub mod Fronts
+pub mod Computed
+pub mod Walk
+pub mod Entries
+pub mod Waiting
+pub mod Runs
+pub mod Upgrading
+pub mod Opens
+pub mod Stands
+pub mod Pushed
+pub mod Ended
