@@ -1,6 +1,5 @@
 // Enqueuing reactions.
-ghost use Rattle.std.specs.Prelude.{◌≡◌, ◌+◌, ◌<◌, ◌^◌, ◌∷◌, ◌++◌, [], true, bytes_eq, OnOk, OnErr};
-ghost use Rattle.std.specs.List.{list_any};
+ghost use Rattle.std.specs.Prelude.{◌≡◌, ◌+◌, ◌<◌, ◌^◌, ◌∷◌, ◌++◌, [], true, slice_get, IfSome, OnOk, OnErr};
 ghost use Rattle.rule_tokens.specs.declared.callback.CallOrUpgrade.{CallOrUpgrade};
 ghost use Rattle.reaction_queue.specs.Queues.{enqueued};
 ghost use Rattle.ce_algorithms.specs.Steps.{where_is};
@@ -12,8 +11,8 @@ ghost use Rattle.ce_page.specs.Numbers.{StaysWithin, OnlyEnqueues};
 
 use crate::{Page, PageStop};
 use ce_algorithms::Note;
-use ce_base::{Fuel, NoMemory, NodeNo, Text};
-use ce_registry::Definition;
+use ce_base::{DefNo, Fuel, NoMemory, NodeNo};
+use ce_registry::{Definition, Registry};
 use reaction_queue::Reaction;
 use rule_tokens::CallOrUpgrade;
 use std::alloc::Global;
@@ -48,9 +47,9 @@ impl Page {
         ensures gives { result ≡ gives_reaction (definition_of self.now n) r.now }
         ensures callback { result ≡ true → is_callback r.now ≡ true }
     {
-        match self.definition_of(n) {
+        match self.definition(n) {
             None => false,
-            Some(d) => has_callback(r.what(), d) && is_observed(d, r),
+            Some(d) => gives(&self.registry, d, r),
         }
     }
 
@@ -145,17 +144,22 @@ fn has_callback(what: CallOrUpgrade, d: &Definition) -> bool
 }
 
 /// An attribute callback wants the attribute's name observed.
-fn is_observed(d: &Definition, r: &Reaction) -> bool
-    ensures { result ≡ is_observed r.now d.now }
+fn is_observed(registry: &Registry, d: DefNo, r: &Reaction) -> bool
+    ensures { IfSome (slice_get registry.now d) (λ found. result ≡ is_observed r.now found) }
 {
     match r {
-        Reaction::Attribute(name, _, _) => has_text(d.facts.observed.as_slice(), name.as_str()),
+        Reaction::Attribute(name, _, _) => registry.observes(d, name.as_str()),
         _ => true,
     }
 }
 
-fn has_text(texts: &[Text], text: &str) -> bool
-    ensures { result ≡ list_any (λ t. bytes_eq t text.now) texts.now }
+/// Whether a definition gives a reaction. An upgrade it does not.
+fn gives(registry: &Registry, d: DefNo, r: &Reaction) -> bool
+    ensures gives { result ≡ gives_reaction (slice_get registry.now d) r.now }
+    ensures callback { result ≡ true → is_callback r.now ≡ true }
 {
-    texts.iter().any(|t| t.as_str() == text)
+    match registry.at(d) {
+        None => false,
+        Some(found) => has_callback(r.what(), found) && is_observed(registry, d, r),
+    }
 }

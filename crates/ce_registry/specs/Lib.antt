@@ -1,3 +1,4 @@
 pub mod ClassFacts
 pub mod Registry
+pub mod Found
 pub mod Defines

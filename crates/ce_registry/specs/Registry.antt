@@ -1,6 +1,6 @@
 -- The custom element registry: the definitions in the order of defining (HTML Standard, section "The CustomElementRegistry interface").
 use Rattle.std.specs.Prelude.{ℕ, Bool, true, false, ◌&&◌, ◌==◌, not, if◌then◌else◌, List, Option, Some, None, bytes_eq, is_some}
-use Rattle.std.specs.List.{position}
+use Rattle.std.specs.List.{list_any, position}
 use Rattle.ce_base.specs.declared.fault.Fault.{Fault}
 use Rattle.ce_base.specs.declared.fault.Fault.TheVariants.{NotSupportedError, SyntaxError}
 use Rattle.element_names.specs.Names.{custom_name}
@@ -58,3 +58,8 @@ or_else (Some n) o = Some n
 abbrev pub lookup : List Definition → Bool → List ℕ → Option (List ℕ) → Option ℕ
 lookup ds false local is = None
 lookup ds true local is = or_else (by_names ds local local) (by_is_value ds is local)
+
+-- the definition observes the attribute's name, where there is one
+abbrev pub observes : Option Definition → List ℕ → Bool
+observes None name = false
+observes (Some d) name = list_any (λ observed. bytes_eq observed name) d.facts.observed

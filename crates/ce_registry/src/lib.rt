@@ -3,6 +3,7 @@
 
 mod class_facts;
 mod definition;
+mod entry;
 mod registry;
 
 pub use class_facts::{Calls, ClassFacts};

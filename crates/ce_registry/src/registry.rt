@@ -1,29 +1,37 @@
 // The custom element registry.
-ghost use Rattle.std.specs.Prelude.{◌≡◌, ◌<◌, ◌++◌, ◌∷◌, [], length, option_copied, slice_get, Some, IfOk, OnOk};
+ghost use Rattle.std.specs.Prelude.{◌≡◌, ◌<◌, ◌++◌, ◌∷◌, [], length, option_copied, slice_get, None, Some, IfOk, OnOk};
 ghost use Rattle.ce_base.specs.declared.fault.Refused.TheVariants.{Fault as FaultIs};
-ghost use Rattle.ce_registry.specs.Registry.{by_name, by_class, by_names, by_is_value, local_of, lookup, may_define, may_extend};
+ghost use Rattle.ce_registry.specs.Registry.{by_name, by_class, by_names, by_is_value, local_of, lookup, may_define, may_extend, observes};
 ghost use Rattle.ce_registry.specs.Defines.{Defines};
+ghost use Rattle.ce_registry.specs.Found.{has_local};
 
+use crate::entry::Entry;
 use crate::{ClassFacts, Definition};
 use ce_base::{ClassNo, DefNo, Fault, NoMemory, Refused, Text};
 use element_names::{is_custom_name, is_known_html};
 use std::alloc::Global;
+use std::collections::BTreeMap;
 use std::marker::Model;
 
 /// The custom element registry of the page (HTML Standard, section "The CustomElementRegistry interface"). A
-/// contract sees its definitions, in the order of defining.
+/// contract sees its definitions, in the order of defining; maps find them by their names and classes.
 #[derive(Drop)]
 pub struct Registry {
-    definitions: Vec<Definition>,
+    entries: Vec<Entry>,
+    names: BTreeMap<String, DefNo>,
+    classes: BTreeMap<u64, DefNo>,
 }
 
 impl Model for Registry {
     ghost use Rattle.std.specs.Prelude.{List};
     ghost use Rattle.ce_registry.specs.declared.definition.Definition.{Definition};
+    ghost use Rattle.ce_registry.specs.Found.{Finds};
 
     ghost Value = { List Definition };
 
-    ghost view = { λ r. r.definitions.items };
+    ghost view = { λ r. r.entries.items };
+
+    ghost invariant = { λ r. Finds r.names r.classes r.entries.items };
 }
 
 impl Registry {
@@ -32,7 +40,9 @@ impl Registry {
         ensures { result ≡ [] }
     {
         Registry {
-            definitions: Vec::new(alloc),
+            entries: Vec::new(alloc),
+            names: BTreeMap::new(alloc),
+            classes: BTreeMap::new(alloc),
         }
     }
 
@@ -57,22 +67,45 @@ impl Registry {
         if let Some(fault) = self.refusal(name.as_str(), class, base.as_ref().map(|t| t.as_str())) {
             return Err(Refused::Fault(fault));
         }
-        let number = self.add(Definition {
-            name,
-            local,
-            class,
-            facts,
-        })?;
+        let number = self.add(
+            alloc,
+            Definition {
+                name,
+                local,
+                class,
+                facts,
+            },
+        )?;
         Ok(number)
     }
 
-    fn add(&mut self, d: Definition) -> Result<DefNo, NoMemory>
+    // Puts a definition last, which no other has the name or the class of.
+    fn add(&mut self, alloc: Global, d: Definition) -> Result<DefNo, NoMemory>
+        requires name { by_name self.old d.name ≡ None }
+        requires class { by_class self.old d.class ≡ None }
         ensures number { IfOk result (λ n. n ≡ length self.old) }
         ensures last { OnOk result (self.new ≡ self.old ++ d ∷ []) }
     {
-        let number = DefNo(self.definitions.len() as u64);
-        self.definitions.push(d)?;
-        Ok(number)
+        let count = self.entries.len();
+        let number = DefNo(count as u64);
+        let entry = Entry::make(alloc, d)?;
+        let class = entry.class_key();
+        let name = entry.key(alloc)?;
+        self.entries.push(entry)?;
+        match self.classes.insert(class, number) {
+            Ok(_) => match self.names.insert(name, number) {
+                Ok(_) => Ok(number),
+                Err(_) => {
+                    self.classes.remove(&class);
+                    self.entries.truncate(count);
+                    Err(NoMemory)
+                }
+            },
+            Err(_) => {
+                self.entries.truncate(count);
+                Err(NoMemory)
+            }
+        }
     }
 
     // Why a definition is refused, the first reason that holds.
@@ -92,36 +125,14 @@ impl Registry {
     pub fn get(&self, name: &str) -> Option<DefNo>
         ensures { result ≡ by_name self.now name.now }
     {
-        numbered(self.place_of_name(name))
+        self.names.get(name).copied()
     }
 
     /// The definition with this class. None exactly where there is none.
     pub fn by_class(&self, class: ClassNo) -> Option<DefNo>
         ensures { result ≡ by_class self.now class }
     {
-        numbered(self.place_of_class(class))
-    }
-
-    fn place_of_name(&self, name: &str) -> Option<usize>
-        ensures { result ≡ by_name self.now name.now }
-    {
-        self.definitions
-            .iter()
-            .position(|d| d.name.as_str() == name)
-    }
-
-    fn place_of_class(&self, class: ClassNo) -> Option<usize>
-        ensures { result ≡ by_class self.now class }
-    {
-        self.definitions.iter().position(|d| d.class == class)
-    }
-
-    fn place_of_both(&self, name: &str, local: &str) -> Option<usize>
-        ensures { result ≡ by_names self.now name.now local.now }
-    {
-        self.definitions
-            .iter()
-            .position(|d| d.name.as_str() == name && d.local.as_str() == local)
+        self.classes.get(&class.0).copied()
     }
 
     /// A definition.
@@ -129,14 +140,27 @@ impl Registry {
         requires { d < length self.now }
         ensures { slice_get self.now d ≡ Some result.now }
     {
-        &self.definitions[d.0 as usize]
+        self.entries[d.0 as usize].definition()
     }
 
     /// The definition with a number. None exactly where the registry did not give this number.
     pub fn at(&self, d: DefNo) -> Option<&Definition>
         ensures { option_copied result ≡ slice_get self.now d }
     {
-        self.definitions.get(d.0 as usize)
+        match self.entries.get(d.0 as usize) {
+            None => None,
+            Some(e) => Some(e.definition()),
+        }
+    }
+
+    /// Whether a definition observes the attribute name. One that the registry does not have observes none.
+    pub fn observes(&self, d: DefNo, name: &str) -> bool
+        ensures { result ≡ observes (slice_get self.now d) name.now }
+    {
+        match self.entries.get(d.0 as usize) {
+            None => false,
+            Some(e) => e.observes(name),
+        }
     }
 
     /// Looks up a definition for the page's document: the one whose name and local name both are `local`,
@@ -149,7 +173,7 @@ impl Registry {
         if !in_page {
             return None;
         }
-        match numbered(self.place_of_both(local, local)) {
+        match self.with_names(local, local) {
             Some(d) => Some(d),
             None => self.extending(local, is_value),
         }
@@ -160,7 +184,23 @@ impl Registry {
     {
         match is_value {
             None => None,
-            Some(value) => numbered(self.place_of_both(value, local)),
+            Some(value) => self.with_names(value, local),
+        }
+    }
+
+    // The definition with this name, where it has this local name: no other one has the name.
+    fn with_names(&self, name: &str, local: &str) -> Option<DefNo>
+        ensures { result ≡ by_names self.now name.now local.now }
+    {
+        match self.names.get(name).copied() {
+            None => None,
+            Some(d) => {
+                if has_local(&self.entries, d, local) {
+                    Some(d)
+                } else {
+                    None
+                }
+            }
         }
     }
 }
@@ -175,12 +215,12 @@ fn may_extend(base: Option<&str>) -> bool
     }
 }
 
-// A definition's number is its place.
-fn numbered(place: Option<usize>) -> Option<DefNo>
-    ensures { result ≡ place }
+// Whether the definition has the local name.
+fn has_local(entries: &[Entry], d: DefNo, local: &str) -> bool
+    ensures { result ≡ has_local (slice_get entries.now d) local.now }
 {
-    match place {
-        None => None,
-        Some(i) => Some(DefNo(i as u64)),
+    match entries.get(d.0 as usize) {
+        None => false,
+        Some(e) => e.definition().local.as_str() == local,
     }
 }
