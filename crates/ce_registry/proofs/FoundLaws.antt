@@ -1,12 +1,12 @@
 -- What a definition that is put last is found by.
-use Rattle.std.proofs.Common.{◌≡◌, ◌<◌, ◌+◌, ◌++◌, ◌∷◌, ◌&&◌, ◌==◌, ◌||◌, [], ℕ, Bool, true, false, cond, List, Option, None, Some, String, string_bytes, not, length, take, get_or, sym, refl, ap, ◌∙◌, arith}
-use Rattle.std.specs.Prelude.{IfSome, bytes_eq, is_some, slice_get}
-use Rattle.std.specs.BTreeMap.{BTreeMap, get, get_by_text, is_at}
+use Rattle.std.proofs.Common.{◌≡◌, ◌<◌, ◌+◌, ◌++◌, ◌∷◌, ◌&&◌, ◌==◌, ◌||◌, [], ℕ, Bool, true, false, cond, List, Option, None, Some, String, length, take, get_or, sym, refl, ap, ◌∙◌, arith}
+use Rattle.std.specs.Prelude.{IfSome, bytes_eq, slice_get}
+use Rattle.std.specs.BTreeMap.{BTreeMap, get, get_by_text}
 use Rattle.std.specs.BTreeSet.{BTreeSet, contains_text}
 use Rattle.std.specs.Cmp.{unsigned_Decides}
-use Rattle.std.specs.Cmp.Lexicographic.{bytes_decides, slice_cmp}
+use Rattle.std.specs.Cmp.Lexicographic.{bytes_decides}
 use Rattle.std.specs.List.{list_any, position, position_from}
-use Rattle.std.specs.Map.{lookup, update}
+use Rattle.std.specs.Map.{update}
 use Rattle.std.specs.Ordering.{nat_cmp, is_eq}
 use Rattle.std.proofs.lemmas.Iterator.Adapters.{position_from-zero}
 use Rattle.std.proofs.lemmas.List.{get_or_push, length-append}
@@ -15,9 +15,7 @@ use Rattle.std.proofs.lemmas.List.Folds.{list_any_more}
 use Rattle.std.proofs.lemmas.List.Quantifiers.{position-Some}
 use Rattle.std.proofs.lemmas.Option.{slice_get-get_or}
 use Rattle.ce_registry.specs.declared.definition.Definition.{Definition}
-use Rattle.ce_base.specs.declared.fault.Fault.TheVariants.{NotSupportedError, SyntaxError}
-use Rattle.element_names.specs.Names.{custom_name}
-use Rattle.ce_registry.specs.Registry.{by_name, by_class, by_names, may_define, may_extend}
+use Rattle.ce_registry.specs.Registry.{by_name, by_class, by_names}
 use Rattle.ce_registry.specs.Found.{Finds, has_local, with_local}
 
 module _ {X : Type 0} (p : X → Bool) (y : X) where
@@ -106,33 +104,3 @@ finds-added m n k l ds d finds no_name no_class names classes = record {
 -- what is set at the key of a class
 pub set-at : (k l : BTreeMap ℕ ℕ) (key class : ℕ) (v w : Option ℕ) → key ≡ class → v ≡ w → ((c : ℕ) → get nat_cmp l c ≡ cond (is_eq (nat_cmp key c)) v (get nat_cmp k c)) → (c : ℕ) → get nat_cmp l c ≡ cond (is_eq (nat_cmp class c)) w (get nat_cmp k c)
 set-at k l key class v w is same sets c = sets c ∙ ap (λ n. cond (is_eq (nat_cmp n c)) v (get nat_cmp k c)) is ∙ ap (λ o. cond (is_eq (nat_cmp class c)) o (get nat_cmp k c)) same
-
--- a class that is put in and taken out again, which was not there
-pub finds-restored : {Y : Type 0} (m n : BTreeMap (String Y) ℕ) (k l o : BTreeMap ℕ ℕ) (ds : List Definition) (class : ℕ) (w : Option ℕ) → Finds m k ds → by_class ds class ≡ None → n.entries ≡ m.entries → ((c : ℕ) → get nat_cmp l c ≡ cond (is_eq (nat_cmp class c)) w (get nat_cmp k c)) → ((c : ℕ) → get nat_cmp o c ≡ cond (is_eq (nat_cmp class c)) None (get nat_cmp l c)) → Finds n o ds
-finds-restored m n k l o ds class w finds no_class names put taken = record {
-  named = λ name. ap (lookup (is_at (λ t. slice_cmp nat_cmp name (string_bytes t)))) names ∙ finds.named name;
-  with_class = λ c. taken c ∙ ap (cond (is_eq (nat_cmp class c)) None) (put c) ∙ rw (is_eq_nat class c) (go c (class == c) refl);
-  only = finds.only;
-}
-  where
-    go : (c : ℕ) (same : Bool) → (class == c) ≡ same → cond same None (cond same w (get nat_cmp k c)) ≡ by_class ds c
-    go c true e = sym (ap (by_class ds) (sym ((unsigned_Decides class c).0 e)) ∙ no_class)
-    go c false e = finds.with_class c
-
--- a class that is not put in
-pub finds-kept : {Y : Type 0} (m : BTreeMap (String Y) ℕ) (k l : BTreeMap ℕ ℕ) (ds : List Definition) → Finds m k ds → l.entries ≡ k.entries → Finds m l ds
-finds-kept m k l ds finds same = record {
-  named = finds.named;
-  with_class = λ c. ap (lookup (is_at (nat_cmp c))) same ∙ finds.with_class c;
-  only = finds.only;
-}
-
--- what was tested before a definition is added
-pub unrefused : (ds : List Definition) (name : List ℕ) (class : ℕ) (base : Option (List ℕ)) → may_define ds name class base ≡ None → (by_name ds name ≡ None) × (by_class ds class ≡ None)
-unrefused ds name class base may = go (not (custom_name name)) (by_name ds name) (by_class ds class) (not (may_extend base)) may
-  where
-    go : (form : Bool) (named with_class : Option ℕ) (other : Bool) → cond form (Some SyntaxError) (cond (is_some named) (Some NotSupportedError) (cond (is_some with_class) (Some NotSupportedError) (cond other (Some NotSupportedError) None))) ≡ None → (named ≡ None) × (with_class ≡ None)
-    go true n c b e = (cc, cc)
-    go false (Some n) c b e = (cc, cc)
-    go false None (Some c) b e = (cc, cc)
-    go false None None b e = (refl, refl)

@@ -6,6 +6,18 @@ use Rattle.ce_registry.specs.declared.class_facts.ClassFacts.{ClassFacts}
 use Rattle.ce_registry.specs.declared.definition.Definition.{Definition}
 use Rattle.ce_registry.specs.Registry.{may_define, local_of}
 
+-- nothing speaks against a definition, and its local name is given; or it is refused with the first fault that holds
+abbrev pub Allows : Result (List ℕ) Refused → List Definition → List ℕ → ℕ → Option (List ℕ) → Type 0
+Allows (Ok local) ds name class base = (may_define ds name class base ≡ None) × (local ≡ local_of name base)
+Allows (Err (HasFault f)) ds name class base = may_define ds name class base ≡ Some f
+Allows (Err NoMemory) ds name class base = ⊤
+
+-- a definition was put last, unless memory was refused
+abbrev pub Adds : Result ℕ Refused → Definition → List Definition → List Definition → Type 0
+Adds (Ok d) definition old new = (d ≡ length old) × (new ≡ old ++ definition ∷ [])
+Adds (Err (HasFault f)) definition old new = ⊥
+Adds (Err NoMemory) definition old new = ⊤
+
 -- a definition was added as the last one, and nothing spoke against it
 pub record Added (d : ℕ) (definition : Definition) (base : Option (List ℕ)) (old new : List Definition) : Type 0 where
   pub may : may_define old definition.name definition.class base ≡ None

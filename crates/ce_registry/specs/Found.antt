@@ -1,5 +1,5 @@
 -- How the registry finds its definitions and their observed names.
-use Rattle.std.specs.Prelude.{◌≡◌, ℕ, Bool, false, if◌then◌else◌, List, Option, Some, None, String, bytes_eq, slice_get}
+use Rattle.std.specs.Prelude.{◌≡◌, ℕ, Bool, false, if◌then◌else◌, List, [], ◌∷◌, ◌++◌, length, Option, Some, None, String, bytes_eq, slice_get}
 use Rattle.std.specs.List.{list_any}
 use Rattle.std.specs.Ordering.{nat_cmp}
 use Rattle.std.specs.BTreeMap.{BTreeMap, get, get_by_text}
@@ -26,3 +26,13 @@ pub record Finds {Y : Type 0} (names : BTreeMap (String Y) ℕ) (classes : BTree
   pub named : (name : List ℕ) → get_by_text names name ≡ by_name ds name
   pub with_class : (class : ℕ) → get nat_cmp classes class ≡ by_class ds class
   pub only : (name local : List ℕ) → by_names ds name local ≡ with_local ds (by_name ds name) local
+
+-- the maps find a definition that is put last with this number, where no other one has its name or its class
+abbrev pub Follows : {Y : Type 0} → BTreeMap (String Y) ℕ → BTreeMap ℕ ℕ → BTreeMap (String Y) ℕ → BTreeMap ℕ ℕ → Definition → ℕ → Type 0
+Follows names classes more_names more_classes d number =
+    (ds : List Definition) → Finds names classes ds → by_name ds d.name ≡ None → by_class ds d.class ≡ None → number ≡ length ds → Finds more_names more_classes (ds ++ d ∷ [])
+
+-- the maps find what they found, where no definition has this one's class
+abbrev pub Stays : {Y : Type 0} → BTreeMap (String Y) ℕ → BTreeMap ℕ ℕ → BTreeMap (String Y) ℕ → BTreeMap ℕ ℕ → Definition → Type 0
+Stays names classes same_names same_classes d =
+    (ds : List Definition) → Finds names classes ds → by_class ds d.class ≡ None → Finds same_names same_classes ds

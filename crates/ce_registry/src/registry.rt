@@ -1,9 +1,9 @@
 // The custom element registry.
-ghost use Rattle.std.specs.Prelude.{◌≡◌, ◌<◌, ◌++◌, ◌∷◌, [], length, option_copied, slice_get, None, Some, IfOk, OnOk};
+ghost use Rattle.std.specs.Prelude.{◌≡◌, ◌<◌, ◌++◌, ◌∷◌, [], length, option_copied, slice_get, None, Some, OnErr, OnOk};
 ghost use Rattle.ce_base.specs.declared.fault.Refused.TheVariants.{Fault as FaultIs};
 ghost use Rattle.ce_registry.specs.Registry.{by_name, by_class, by_names, by_is_value, local_of, lookup, may_define, may_extend, observes};
-ghost use Rattle.ce_registry.specs.Defines.{Defines};
-ghost use Rattle.ce_registry.specs.Found.{has_local};
+ghost use Rattle.ce_registry.specs.Defines.{Adds, Allows, Defines};
+ghost use Rattle.ce_registry.specs.Found.{has_local, Follows, Stays};
 
 use crate::entry::Entry;
 use crate::{ClassFacts, Definition};
@@ -60,50 +60,56 @@ impl Registry {
     ) -> Result<DefNo, Refused>
         ensures { Defines result name class facts base self.old self.new }
     {
-        let local = match &base {
+        match self.allowed(alloc, &name, class, &base) {
+            Err(refused) => Err(refused),
+            Ok(local) => self.add(
+                alloc,
+                Definition {
+                    name,
+                    local,
+                    class,
+                    facts,
+                },
+            ),
+        }
+    }
+
+    // The local name of a definition, or why it is refused.
+    fn allowed(
+        &self,
+        alloc: Global,
+        name: &Text,
+        class: ClassNo,
+        base: &Option<Text>,
+    ) -> Result<Text, Refused>
+        ensures { Allows result self.now name.now class base.now }
+    {
+        let extends = base.as_ref().map(|t| t.as_str());
+        if let Some(fault) = self.refusal(name.as_str(), class, extends) {
+            return Err(Refused::Fault(fault));
+        }
+        let local = match base {
             None => name.copy(alloc)?,
             Some(t) => t.copy(alloc)?,
         };
-        if let Some(fault) = self.refusal(name.as_str(), class, base.as_ref().map(|t| t.as_str())) {
-            return Err(Refused::Fault(fault));
-        }
-        let number = self.add(
-            alloc,
-            Definition {
-                name,
-                local,
-                class,
-                facts,
-            },
-        )?;
-        Ok(number)
+        Ok(local)
     }
 
     // Puts a definition last, which no other has the name or the class of.
-    fn add(&mut self, alloc: Global, d: Definition) -> Result<DefNo, NoMemory>
+    fn add(&mut self, alloc: Global, d: Definition) -> Result<DefNo, Refused>
         requires name { by_name self.old d.name ≡ None }
         requires class { by_class self.old d.class ≡ None }
-        ensures number { IfOk result (λ n. n ≡ length self.old) }
-        ensures last { OnOk result (self.new ≡ self.old ++ d ∷ []) }
+        ensures { Adds result d self.old self.new }
     {
         let count = self.entries.len();
         let number = DefNo(count as u64);
-        let entry = Entry::make(alloc, d)?;
-        let class = entry.class_key();
-        let name = entry.key(alloc)?;
-        self.entries.push(entry)?;
-        match self.classes.insert(class, number) {
-            Ok(_) => match self.names.insert(name, number) {
-                Ok(_) => Ok(number),
-                Err(_) => {
-                    self.classes.remove(&class);
-                    self.entries.truncate(count);
-                    Err(NoMemory)
-                }
-            },
+        self.entries.push(Entry::make(alloc, d)?)?;
+        let entry = &self.entries[count];
+        match note(alloc, &mut self.names, &mut self.classes, entry, number) {
+            Ok(()) => Ok(number),
             Err(_) => {
                 self.entries.truncate(count);
-                Err(NoMemory)
+                Err(Refused::NoMemory)
             }
         }
     }
@@ -201,6 +207,29 @@ impl Registry {
                     None
                 }
             }
+        }
+    }
+}
+
+// Puts the number of a definition that comes last into both maps, or leaves them as they were.
+fn note(
+    alloc: Global,
+    names: &mut BTreeMap<String, DefNo>,
+    classes: &mut BTreeMap<u64, DefNo>,
+    entry: &Entry,
+    number: DefNo,
+) -> Result<(), NoMemory>
+    ensures ok { OnOk result (Follows names.old classes.old names.new classes.new entry.now number) }
+    ensures err { OnErr result (Stays names.old classes.old names.new classes.new entry.now) }
+{
+    let class = entry.class_key();
+    let name = entry.key(alloc)?;
+    classes.insert(class, number)?;
+    match names.insert(name, number) {
+        Ok(_) => Ok(()),
+        Err(_) => {
+            classes.remove(&class);
+            Err(NoMemory)
         }
     }
 }

@@ -1,0 +1,2 @@
+pub mod LastEntry
+pub mod StacksLemmas

@@ -1,0 +1,9 @@
+//! The elements that a definition may upgrade, and those that a call of `upgrade` goes through.
+#![tactic(auto)]
+
+mod candidate;
+mod element;
+mod place;
+
+pub use candidate::candidates;
+pub use element::walk;
