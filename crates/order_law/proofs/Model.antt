@@ -31,3 +31,4 @@ pub mod Bodies
 pub mod Operations
 pub mod Sessions
 pub mod Scripts
+pub mod Readings
