@@ -68,10 +68,6 @@ any_last n (x ∷ xs) = refl
 or_left : (a b : Bool) → a ≡ true → a || b ≡ true
 or_left a b h = ap (λ x. x || b) h
 
-or_false : (a : Bool) → a || false ≡ a
-or_false true = refl
-or_false false = refl
-
 zero_not : (q : ℕ) → 0 < q → q == 0 ≡ false
 zero_not q lt = go (q == 0) refl
   where

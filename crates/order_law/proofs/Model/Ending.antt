@@ -65,10 +65,6 @@ and_false : (a : Bool) → a && false ≡ false
 and_false true = refl
 and_false false = refl
 
-and_any : (a : Bool) → a && true ≡ a
-and_any true = refl
-and_any false = refl
-
 -- the event of a close, where nothing of the queue waits
 closing : (m : ℕ) (h : List Hold) (l : List Event) (p : Page) (k : Holds (InDrain m [] ∷ h) l p) → Each (λ w. w.queue ≢ m) k.book.waiting → Reads blank (l ++ QueueClosed m ∷ []) (record (k.book) { brackets = brackets_of h; owed = k.book.owed && not (m == 0); dropping = None })
 closing m h l p k out =

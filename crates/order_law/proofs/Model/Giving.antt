@@ -78,9 +78,6 @@ give_seq_at {others = others} {h = h} {l = l} {f = f} {g = g} x n = record { at 
 pub give_at : {A : Type 0} {nodes : A → List ℕ} {h : List Hold} {l : List Event} (a : A) → All (λ n. IsHeld n h) (nodes a) → GivesAt nodes h l (give a)
 give_at {nodes = nodes} {h = h} {l = l} a held = record { at = λ w o. (o, all_rows (nodes a) h (l ++ map event_of w.page.notes) w.page held o.holds) }
 
-pub give_throw_at : {A : Type 0} {nodes : A → List ℕ} {h : List Hold} {l : List Event} (f : Fault) → GivesAt nodes h l (throw f)
-give_throw_at f = record { at = λ w o. o }
-
 pub give_throw_if_at : {h : List Hold} {l : List Event} (t : Bool) (f : Fault) → GivesAt none h l (throw_if t f)
 give_throw_if_at true f = record { at = λ w o. o }
 give_throw_if_at false f = record { at = λ w o. (o, tt) }

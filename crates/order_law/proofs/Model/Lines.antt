@@ -80,34 +80,6 @@ called_holds e w name h l p x what k =
       elements = let t = k.elements in record { known = t.known; defined = t.defined; unset = t.unset; upgraded = t.upgraded; thrown = t.thrown; document = t.document; ongoing = t.ongoing };
     }
 
--- a reply, where nothing is suspended and the backup element queue is empty
-pub fine_holds : (line : ℕ) (l : List Event) (p : Page) → p.queues.backup ≡ [] → Holds [] l p → Holds [] (l ++ Fine line ∷ []) p
-fine_holds line l p is k =
-    let r = at_rest l p is k in
-    let same : after k.book (Fine line) ≡ k.book = ap (λ d. record (k.book) { dropping = d }) (sym k.dropping) in
-    record {
-      book = k.book;
-      reads = reads_append blank l (Fine line ∷ []) k.book k.book k.reads (subst (Reads k.book (Fine line ∷ [])) same (reads_one k.book (Fine line) (tested k.book (Fine line) (record {
-        counts = refl;
-        starts = refl;
-        calls = refl;
-        order = refl;
-        throws = refl;
-        together = ap (λ o. goes_on o None) k.dropping;
-        closes = refl;
-        nested = refl;
-        paid = ap not r.1;
-        upgrades = refl;
-        quiet = refl;
-        rest = ap (λ bs. is_none bs && is_none k.book.waiting) k.queues.brackets ∙ ap is_none r.0;
-        last = ap not k.over;
-      }))));
-      over = k.over;
-      dropping = k.dropping;
-      queues = k.queues;
-      elements = k.elements;
-    }
-
 -- the line of each callback
 pub call_line : (n : ℕ) (x : Reaction) (name : CallName) → what_of x ≡ Call name → (h : List Hold) (s : State) (w : Entry) → w.element ≡ n → w.what ≡ what_of x → HoldsIn (InReaction w false ∷ h) s → After {A = Unit {0}} (InReaction w true ∷ h) (log_call n x s)
 call_line n Connected name is h s w at what k = record { holds = called_holds (ConnectedLine n) w ConnectedName h s.log s.page (subst (λ m. CallLine (ConnectedLine n) m ConnectedName) (sym at) (record { at = λ b o d may. record { counts = refl; starts = refl; calls = may; order = refl; throws = refl; together = ap (λ o. goes_on o None) d; closes = refl; nested = refl; paid = refl; upgrades = refl; quiet = refl; rest = refl; last = ap not o }; is = λ b. refl })) what k.holds; notes = k.notes; rest = k.rest }
