@@ -2,7 +2,6 @@
 use Rattle.std.proofs.Common.{ℕ, zero, suc, Bool, true, false, List, [], ◌∷◌, Option, Some, None, refl, sym, ap, ◌∙◌, inl, arith}
 use Rattle.std.specs.Prelude.{◌≡◌, if◌then◌else◌, is_some, map, not, ◌==◌, slice_get, length, ok_or, option_map, bytes_eq}
 use Rattle.std.specs.List.{find}
-use Rattle.order_law.specs.Clauses.{goes_on}
 use Rattle.ce_base.specs.declared.fault.Fault.{Fault}
 use Rattle.ce_base.specs.declared.fault.Fault.TheVariants.{ReferenceError, TypeError, NotSupportedError, UserThrow}
 use Rattle.rule_tokens.specs.declared.callback.CallName.TheVariants.{Constructor}
@@ -31,7 +30,7 @@ use Rattle.ce_algorithms.specs.Construct.{construct, constructor_body, base_alon
 use Rattle.order_law.specs.Whole.{has_steps, is_whole, are_whole}
 use Rattle.order_law.proofs.Model.Sound.{IsRow, All, all_set}
 use Rattle.order_law.proofs.Model.Invariant.{Hold, InUpgrade, fits, nodes_of, Holds, HoldsIn, After}
-use Rattle.order_law.proofs.Model.Reading.{each_map}
+use Rattle.order_law.proofs.Model.Reading.{line_tests, each_map}
 use Rattle.order_law.proofs.Model.Upgrades.{says_row, rest_row}
 use Rattle.order_law.proofs.Model.Hands.{with_hands, IsHeld, all_rows, all_under, all_taken}
 use Rattle.order_law.proofs.Model.Ending.{spent_lawful}
@@ -54,7 +53,7 @@ pub keeps_plain : {h : List Hold} (e : Event) → Plain e → Keeps h (log e)
 keeps_plain {h} e x = record { at = λ s k. record { holds = plain_holds e h s.log s.page x k.holds; notes = k.notes; rest = k.rest } }
 
 logged_plain : (texts : List (List ℕ)) → Plain (Logged texts)
-logged_plain texts = record { at = λ b o d. record { counts = refl; starts = refl; calls = refl; order = refl; throws = refl; together = ap (λ o. goes_on o None) d; closes = refl; nested = refl; paid = refl; upgrades = refl; quiet = refl; rest = refl; last = ap not o }; is = λ b. refl }
+logged_plain texts = record { at = λ b o d. line_tests b (Logged texts) refl o d refl refl refl; is = λ b. refl }
 
 pub keeps_spend : {h : List Hold} → Keeps h spend
 keeps_spend {h} = record { at = λ s k. go s s.fuel k }

@@ -1,6 +1,6 @@
 -- Reactions, drains, reacting operations, the checkpoint.
 use Rattle.std.proofs.Common.{◌≡◌, ℕ, ◌+◌, ◌<◌, Bool, true, false, List, [], ◌∷◌, ◌++◌, zero, suc, Option, Some, None, refl, sym, ap, ◌∙◌, subst, arith, inl}
-use Rattle.std.specs.Prelude.{◌||◌, ◌&&◌, slice_get, not, if◌then◌else◌}
+use Rattle.std.specs.Prelude.{◌||◌, slice_get, not, if◌then◌else◌}
 use Rattle.rule_tokens.specs.declared.callback.CallName.{CallName}
 use Rattle.rule_tokens.specs.declared.callback.CallName.TheVariants.{Connected as ConnectedName, Disconnected as DisconnectedName, Adopted as AdoptedName, Attribute as AttributeName, FormAssociated as FormAssociatedName, FormDisabled as FormDisabledName, FormReset as FormResetName, FormStateRestore as FormStateRestoreName}
 use Rattle.rule_tokens.specs.declared.callback.CallOrUpgrade.{CallOrUpgrade}
@@ -30,6 +30,7 @@ use Rattle.order_law.proofs.Model.Invariant.{Hold, InSteps, InDrain, InReaction,
 use Rattle.order_law.proofs.Model.Reactions.{opened_holds, drained_holds, started_holds, finished_holds}
 use Rattle.order_law.proofs.Model.Ending.{closed_holds, skipped_holds, taken_holds, checkpoint_holds, checkpoint_closed}
 use Rattle.order_law.proofs.Model.Lines.{plain_holds, reported_plain, call_line}
+use Rattle.order_law.proofs.Model.Reading.{both_true}
 use Rattle.order_law.proofs.Model.Sound.{All}
 use Rattle.order_law.proofs.Model.Hands.{IsHeld, with_hands, take_in_below, hand_rows}
 use Rattle.order_law.proofs.Model.Steps.{AfterCalm, Keeps, keeps_seq}
@@ -54,10 +55,6 @@ pub class_whole : (ks : List Class) (k : ℕ) → All (λ (c : Class). are_whole
 class_whole [] k all = refl
 class_whole (c ∷ ks) zero all = all.0
 class_whole (c ∷ ks) (suc k) all = class_whole ks k all.1
-
-pub both_true : (a b : Bool) → a && b ≡ true → (a ≡ true) × (b ≡ true)
-both_true true b e = (refl, e)
-both_true false b e = absurd (let x : false ≡ true = e in cc)
 
 pub whole_actions : (call : CallName) (bodies : List (CallName × Act)) → are_whole bodies ≡ true → All (λ a. is_whole a ≡ true) (actions_of call bodies)
 whole_actions call [] e = tt

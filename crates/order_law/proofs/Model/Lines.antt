@@ -1,6 +1,6 @@
 -- Lines that change no queue: plain ones, call lines, replies.
 use Rattle.std.proofs.Common.{◌≡◌, ℕ, true, false, List, [], ◌∷◌, ◌++◌, Some, None, refl, sym, ap, ◌∙◌, subst}
-use Rattle.std.specs.Prelude.{◌&&◌, not}
+use Rattle.std.specs.Prelude.{◌&&◌}
 use Rattle.std.specs.Str.{chars}
 use Rattle.std.proofs.lemmas.Bool.{eq-eqb}
 use Rattle.ce_base.specs.declared.fault.Fault.{Fault}
@@ -11,19 +11,18 @@ use Rattle.reaction_queue.specs.declared.reaction.Reaction.{Reaction}
 use Rattle.reaction_queue.specs.declared.reaction.Reaction.TheVariants.{Upgrade, Connected, Disconnected, Adopted, Attribute, FormAssociated, FormDisabled, FormReset, FormStateRestore}
 use Rattle.reaction_queue.specs.Reactions.{what_of}
 use Rattle.ce_algorithms.specs.declared.event.Event.{Event}
-use Rattle.ce_algorithms.specs.declared.event.Event.TheVariants.{Construct, Caught, Reported, Asked, Fine, Connected as ConnectedLine, Disconnected as DisconnectedLine, Adopted as AdoptedLine, Attribute as AttributeLine, FormAssociated as FormAssociatedLine, FormDisabled as FormDisabledLine, FormReset as FormResetLine, FormStateRestore as FormStateRestoreLine}
+use Rattle.ce_algorithms.specs.declared.event.Event.TheVariants.{Construct, Caught, Reported, Asked, Connected as ConnectedLine, Disconnected as DisconnectedLine, Adopted as AdoptedLine, Attribute as AttributeLine, FormAssociated as FormAssociatedLine, FormDisabled as FormDisabledLine, FormReset as FormResetLine, FormStateRestore as FormStateRestoreLine}
 use Rattle.ce_algorithms.specs.declared.event.Answer.{Answer}
 use Rattle.ce_algorithms.specs.Body.{same_call}
 use Rattle.ce_algorithms.specs.Page.{Page}
 use Rattle.order_law.specs.Book.{Entry, Reacting, Book, blank}
 use Rattle.order_law.specs.Reads.{is_for}
-use Rattle.order_law.specs.Clauses.{may_call, goes_on, is_none}
+use Rattle.order_law.specs.Clauses.{may_call}
 use Rattle.order_law.specs.After.{marked, after}
-use Rattle.order_law.proofs.Model.Reading.{Reads, Tests, tested, reads_append, reads_one}
+use Rattle.order_law.proofs.Model.Reading.{Reads, Tests, line_tests, tested, reads_append, reads_one}
 use Rattle.order_law.proofs.Model.Invariant.{Hold, InReaction, brackets_of, Holds, HoldsIn, After}
-use Rattle.ce_algorithms.specs.State.{State}
+use Rattle.ce_algorithms.specs.State.{State, logged}
 use Rattle.ce_algorithms.specs.Drain.{log_call}
-use Rattle.order_law.proofs.Model.Ending.{at_rest}
 
 -- a line that the book does not keep
 pub record Plain (e : Event) : Type 0 where
@@ -36,16 +35,16 @@ plain_holds e h l p x k =
     record { book = k.book; reads = reads_append blank l (e ∷ []) k.book k.book k.reads (subst (Reads k.book (e ∷ [])) same (reads_one k.book e (tested k.book e (x.at k.book k.over k.dropping)))); over = k.over; dropping = k.dropping; queues = k.queues; elements = k.elements }
 
 pub construct_plain : (name : List ℕ) → Plain (Construct name)
-construct_plain name = record { at = λ b o d. record { counts = refl; starts = refl; calls = refl; order = refl; throws = refl; together = ap (λ o. goes_on o None) d; closes = refl; nested = refl; paid = refl; upgrades = refl; quiet = refl; rest = refl; last = ap not o }; is = λ b. refl }
+construct_plain name = record { at = λ b o d. line_tests b (Construct name) refl o d refl refl refl; is = λ b. refl }
 
 pub reported_plain : (f : Fault) → Plain (Reported f)
-reported_plain f = record { at = λ b o d. record { counts = refl; starts = refl; calls = refl; order = refl; throws = refl; together = ap (λ o. goes_on o None) d; closes = refl; nested = refl; paid = refl; upgrades = refl; quiet = refl; rest = refl; last = ap not o }; is = λ b. refl }
+reported_plain f = record { at = λ b o d. line_tests b (Reported f) refl o d refl refl refl; is = λ b. refl }
 
 pub caught_plain : (f : Fault) → Plain (Caught f)
-caught_plain f = record { at = λ b o d. record { counts = refl; starts = refl; calls = refl; order = refl; throws = refl; together = ap (λ o. goes_on o None) d; closes = refl; nested = refl; paid = refl; upgrades = refl; quiet = refl; rest = refl; last = ap not o }; is = λ b. refl }
+caught_plain f = record { at = λ b o d. line_tests b (Caught f) refl o d refl refl refl; is = λ b. refl }
 
 pub asked_plain : (a : Answer) → Plain (Asked a)
-asked_plain a = record { at = λ b o d. record { counts = refl; starts = refl; calls = refl; order = refl; throws = refl; together = ap (λ o. goes_on o None) d; closes = refl; nested = refl; paid = refl; upgrades = refl; quiet = refl; rest = refl; last = ap not o }; is = λ b. refl }
+asked_plain a = record { at = λ b o d. line_tests b (Asked a) refl o d refl refl refl; is = λ b. refl }
 
 -- the line of a callback
 pub record CallLine (e : Event) (n : ℕ) (name : CallName) : Type 0 where
@@ -81,13 +80,17 @@ called_holds e w name h l p x what k =
     }
 
 -- the line of each callback
+
+call_at : (e : Event) (n : ℕ) (name : CallName) (h : List Hold) (s : State) (w : Entry) → CallLine e n name → w.element ≡ n → w.what ≡ Call name → HoldsIn (InReaction w false ∷ h) s → HoldsIn (InReaction w true ∷ h) (logged e s)
+call_at e n name h s w x at what k = record { holds = called_holds e w name h s.log s.page (subst (λ m. CallLine e m name) (sym at) x) what k.holds; notes = k.notes; rest = k.rest }
+
 pub call_line : (n : ℕ) (x : Reaction) (name : CallName) → what_of x ≡ Call name → (h : List Hold) (s : State) (w : Entry) → w.element ≡ n → w.what ≡ what_of x → HoldsIn (InReaction w false ∷ h) s → After {A = Unit {0}} (InReaction w true ∷ h) (log_call n x s)
-call_line n Connected name is h s w at what k = record { holds = called_holds (ConnectedLine n) w ConnectedName h s.log s.page (subst (λ m. CallLine (ConnectedLine n) m ConnectedName) (sym at) (record { at = λ b o d may. record { counts = refl; starts = refl; calls = may; order = refl; throws = refl; together = ap (λ o. goes_on o None) d; closes = refl; nested = refl; paid = refl; upgrades = refl; quiet = refl; rest = refl; last = ap not o }; is = λ b. refl })) what k.holds; notes = k.notes; rest = k.rest }
-call_line n Disconnected name is h s w at what k = record { holds = called_holds (DisconnectedLine n) w DisconnectedName h s.log s.page (subst (λ m. CallLine (DisconnectedLine n) m DisconnectedName) (sym at) (record { at = λ b o d may. record { counts = refl; starts = refl; calls = may; order = refl; throws = refl; together = ap (λ o. goes_on o None) d; closes = refl; nested = refl; paid = refl; upgrades = refl; quiet = refl; rest = refl; last = ap not o }; is = λ b. refl })) what k.holds; notes = k.notes; rest = k.rest }
-call_line n (Adopted old new) name is h s w at what k = record { holds = called_holds (AdoptedLine n old new) w AdoptedName h s.log s.page (subst (λ m. CallLine (AdoptedLine n old new) m AdoptedName) (sym at) (record { at = λ b o d may. record { counts = refl; starts = refl; calls = may; order = refl; throws = refl; together = ap (λ o. goes_on o None) d; closes = refl; nested = refl; paid = refl; upgrades = refl; quiet = refl; rest = refl; last = ap not o }; is = λ b. refl })) what k.holds; notes = k.notes; rest = k.rest }
-call_line n (Attribute key old new) name is h s w at what k = record { holds = called_holds (AttributeLine n key old new) w AttributeName h s.log s.page (subst (λ m. CallLine (AttributeLine n key old new) m AttributeName) (sym at) (record { at = λ b o d may. record { counts = refl; starts = refl; calls = may; order = refl; throws = refl; together = ap (λ o. goes_on o None) d; closes = refl; nested = refl; paid = refl; upgrades = refl; quiet = refl; rest = refl; last = ap not o }; is = λ b. refl })) what k.holds; notes = k.notes; rest = k.rest }
-call_line n (FormAssociated form) name is h s w at what k = record { holds = called_holds (FormAssociatedLine n form) w FormAssociatedName h s.log s.page (subst (λ m. CallLine (FormAssociatedLine n form) m FormAssociatedName) (sym at) (record { at = λ b o d may. record { counts = refl; starts = refl; calls = may; order = refl; throws = refl; together = ap (λ o. goes_on o None) d; closes = refl; nested = refl; paid = refl; upgrades = refl; quiet = refl; rest = refl; last = ap not o }; is = λ b. refl })) what k.holds; notes = k.notes; rest = k.rest }
-call_line n (FormDisabled disabled) name is h s w at what k = record { holds = called_holds (FormDisabledLine n disabled) w FormDisabledName h s.log s.page (subst (λ m. CallLine (FormDisabledLine n disabled) m FormDisabledName) (sym at) (record { at = λ b o d may. record { counts = refl; starts = refl; calls = may; order = refl; throws = refl; together = ap (λ o. goes_on o None) d; closes = refl; nested = refl; paid = refl; upgrades = refl; quiet = refl; rest = refl; last = ap not o }; is = λ b. refl })) what k.holds; notes = k.notes; rest = k.rest }
-call_line n FormReset name is h s w at what k = record { holds = called_holds (FormResetLine n) w FormResetName h s.log s.page (subst (λ m. CallLine (FormResetLine n) m FormResetName) (sym at) (record { at = λ b o d may. record { counts = refl; starts = refl; calls = may; order = refl; throws = refl; together = ap (λ o. goes_on o None) d; closes = refl; nested = refl; paid = refl; upgrades = refl; quiet = refl; rest = refl; last = ap not o }; is = λ b. refl })) what k.holds; notes = k.notes; rest = k.rest }
-call_line n (FormStateRestore state why) name is h s w at what k = record { holds = called_holds (FormStateRestoreLine n state why) w FormStateRestoreName h s.log s.page (subst (λ m. CallLine (FormStateRestoreLine n state why) m FormStateRestoreName) (sym at) (record { at = λ b o d may. record { counts = refl; starts = refl; calls = may; order = refl; throws = refl; together = ap (λ o. goes_on o None) d; closes = refl; nested = refl; paid = refl; upgrades = refl; quiet = refl; rest = refl; last = ap not o }; is = λ b. refl })) what k.holds; notes = k.notes; rest = k.rest }
+call_line n Connected name is h s w at what k = call_at (ConnectedLine n) n ConnectedName h s w (record { at = λ b o d may. line_tests b (ConnectedLine n) refl o d may refl refl; is = λ b. refl }) at what k
+call_line n Disconnected name is h s w at what k = call_at (DisconnectedLine n) n DisconnectedName h s w (record { at = λ b o d may. line_tests b (DisconnectedLine n) refl o d may refl refl; is = λ b. refl }) at what k
+call_line n (Adopted old new) name is h s w at what k = call_at (AdoptedLine n old new) n AdoptedName h s w (record { at = λ b o d may. line_tests b (AdoptedLine n old new) refl o d may refl refl; is = λ b. refl }) at what k
+call_line n (Attribute key old new) name is h s w at what k = call_at (AttributeLine n key old new) n AttributeName h s w (record { at = λ b o d may. line_tests b (AttributeLine n key old new) refl o d may refl refl; is = λ b. refl }) at what k
+call_line n (FormAssociated form) name is h s w at what k = call_at (FormAssociatedLine n form) n FormAssociatedName h s w (record { at = λ b o d may. line_tests b (FormAssociatedLine n form) refl o d may refl refl; is = λ b. refl }) at what k
+call_line n (FormDisabled disabled) name is h s w at what k = call_at (FormDisabledLine n disabled) n FormDisabledName h s w (record { at = λ b o d may. line_tests b (FormDisabledLine n disabled) refl o d may refl refl; is = λ b. refl }) at what k
+call_line n FormReset name is h s w at what k = call_at (FormResetLine n) n FormResetName h s w (record { at = λ b o d may. line_tests b (FormResetLine n) refl o d may refl refl; is = λ b. refl }) at what k
+call_line n (FormStateRestore state why) name is h s w at what k = call_at (FormStateRestoreLine n state why) n FormStateRestoreName h s w (record { at = λ b o d may. line_tests b (FormStateRestoreLine n state why) refl o d may refl refl; is = λ b. refl }) at what k
 call_line n (Upgrade d) name is h s w at what k = absurd (let x : IsUpgrade ≡ Call name = is in cc)

@@ -26,6 +26,10 @@ pub and_true : {a b : Bool} → a ≡ true → b ≡ true → a && b ≡ true
 and_true {b} h k = subst (λ x. x && b ≡ true) (sym h) k
 
 -- an event that each test lets through
+pub both_true : (a b : Bool) → a && b ≡ true → (a ≡ true) × (b ≡ true)
+both_true true b e = (refl, e)
+both_true false b e = absurd (let x : false ≡ true = e in cc)
+
 pub record Tests (b : Book) (e : Event) : Type 0 where
   pub counts : counts_up b e ≡ true
   pub starts : starts_once b e ≡ true
@@ -45,6 +49,37 @@ pub tested : (b : Book) (e : Event) → Tests b e → may_come b e ≡ true
 tested b e t =
     and_true t.counts (and_true (and_true t.starts t.calls) (and_true t.order (and_true (and_true t.throws t.together) (and_true t.closes
     (and_true (and_true t.nested t.paid) (and_true (and_true t.upgrades t.quiet) (and_true t.rest t.last)))))))
+
+-- of a line that the queues and upgrades leave as they are, these pass whatever the book says
+abbrev pub is_line : Book → Event → Bool
+is_line b e =
+    counts_up b e && (starts_once b e && (runs_in_order b e && (drops_in_upgrade b e && (closes_empty b e && (ends_innermost b e
+    && (begins_upgrade b e && spares_thrown b e))))))
+
+pub line_tests : (b : Book) (e : Event) → is_line b e ≡ true → b.over ≡ false → b.dropping ≡ None → calls_once b e ≡ true → pays b e ≡ true → replies_at_rest b e ≡ true → Tests b e
+line_tests b e line over dropping calls pays rest =
+    let counts = both_true (counts_up b e) _ line in
+    let starts = both_true (starts_once b e) _ counts.1 in
+    let order = both_true (runs_in_order b e) _ starts.1 in
+    let throws = both_true (drops_in_upgrade b e) _ order.1 in
+    let closes = both_true (closes_empty b e) _ throws.1 in
+    let nested = both_true (ends_innermost b e) _ closes.1 in
+    let upgrades = both_true (begins_upgrade b e) _ nested.1 in
+    record {
+      counts = counts.0;
+      starts = starts.0;
+      calls = calls;
+      order = order.0;
+      throws = throws.0;
+      together = ap (λ o. goes_on o (loser b e)) dropping;
+      closes = closes.0;
+      nested = nested.0;
+      paid = pays;
+      upgrades = upgrades.0;
+      quiet = upgrades.1;
+      rest = rest;
+      last = ap not over;
+    }
 
 -- a log is lawful, and this is its book
 pub record Reads (from : Book) (log : List Event) (b : Book) : Type 0 where

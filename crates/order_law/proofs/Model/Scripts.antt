@@ -3,7 +3,7 @@ use Rattle.std.proofs.Common.{◌≡◌, ℕ, zero, suc, ◌+◌, Bool, true, fa
 use Rattle.std.specs.Prelude.{Result, Ok, Err, is_some, slice_get, slice_set, ◌&&◌}
 use Rattle.reaction_queue.specs.Queues.{waiting_at, no_queues, list_at}
 use Rattle.ce_algorithms.specs.Page.{Element, element_of, or_uncustomized, uncustomized, blank_page}
-use Rattle.order_law.proofs.Model.Reading.{reads_none}
+use Rattle.order_law.proofs.Model.Reading.{both_true, reads_none}
 use Rattle.ce_base.specs.declared.fault.Fault.TheVariants.{TypeError, NotSupportedError}
 use Rattle.rule_tokens.specs.declared.refused.Bad.{Bad}
 use Rattle.rule_lines.specs.Acts.{Act, Part, On, Has, Observe, Associate, DisableShadow, DisableInternals, Said, Blank, Command, Declares}
@@ -28,7 +28,7 @@ use Rattle.node_trees.specs.Nodes.{times}
 use Rattle.rule_tokens.specs.declared.callback.CallName.{CallName}
 use Rattle.order_law.specs.Whole.{is_whole, are_whole, is_whole_part, is_whole_line}
 use Rattle.order_law.proofs.Model.Sound.{IsRow, All, all_set, all_append, Sound}
-use Rattle.order_law.proofs.Model.Draining.{both_true, class_whole}
+use Rattle.order_law.proofs.Model.Draining.{class_whole}
 use Rattle.order_law.proofs.Model.Sessions.{Rests, Ends, replied, replies, refuses, command_ends}
 
 -- steps that leave the page and the log alone

@@ -1,12 +1,12 @@
 -- Levels, the model, commands.
 use Rattle.std.proofs.Common.{◌≡◌, ℕ, zero, suc, true, false, List, [], ◌∷◌, Some, None, refl, sym, ap, ◌∙◌, subst}
-use Rattle.std.specs.Prelude.{not, ◌&&◌, Result, Ok, Err}
+use Rattle.std.specs.Prelude.{Bool, not, ◌&&◌, ◌||◌, Result, Ok, Err}
 use Rattle.ce_base.specs.declared.fault.Fault.{Fault}
 use Rattle.rule_tokens.specs.declared.refused.Bad.{Bad}
 use Rattle.rule_lines.specs.declared.line.Cmd.{Cmd}
 use Rattle.rule_lines.specs.declared.line.Cmd.TheVariants as commands
 use Rattle.ce_algorithms.specs.declared.event.Event.{Event}
-use Rattle.ce_algorithms.specs.declared.event.Event.TheVariants.{WasBad}
+use Rattle.ce_algorithms.specs.declared.event.Event.TheVariants.{Fine, Gave, Answered, Ignored as IgnoredLine, Threw, WasBad}
 use Rattle.ce_algorithms.specs.declared.event.Given.{Given}
 use Rattle.ce_algorithms.specs.declared.event.Given.TheVariants.{Nothing, Node, Answers, Ignored}
 use Rattle.ce_algorithms.specs.Steps.{Outcome, Goes, Throws, Spent, then_do, ◌>>=◌, ◌>>◌, give, attempt, attempt_in}
@@ -16,11 +16,12 @@ use Rattle.ce_algorithms.specs.Drain.{drain, drain_backup, checkpoint}
 use Rattle.ce_algorithms.specs.Model.{level, run, model, clock}
 use Rattle.ce_algorithms.specs.Session.{perform, reply, command}
 use Rattle.order_law.specs.Book.{Book, blank}
-use Rattle.order_law.specs.Clauses.{goes_on, is_none}
+use Rattle.order_law.specs.Lines.{is_reply}
+use Rattle.order_law.specs.Clauses.{calls_once, is_none}
 use Rattle.order_law.specs.After.{after}
 use Rattle.order_law.specs.Law.{Lawful}
 use Rattle.order_law.specs.Whole.{is_whole_command}
-use Rattle.order_law.proofs.Model.Reading.{Reads, Tests, tested, reads_append, reads_one}
+use Rattle.order_law.proofs.Model.Reading.{Reads, Tests, is_line, line_tests, tested, reads_append, reads_one}
 use Rattle.order_law.proofs.Model.Invariant.{Hold, InDrain, HoldsIn, After}
 use Rattle.order_law.proofs.Model.Ending.{at_rest, spent_lawful}
 use Rattle.order_law.proofs.Model.Steps.{AfterCalm, Keeps}
@@ -37,15 +38,28 @@ pub record Replies (e : Event) : Type 0 where
   pub at : (b : Book) → b.over ≡ false → b.dropping ≡ None → b.owed ≡ false → b.brackets ≡ [] → b.waiting ≡ [] → Tests b e
   pub is : (b : Book) → b.brackets ≡ [] → after b e ≡ record b { dropping = None }
 
+-- nothing waits, no bracket is open, and nothing is owed
+reply_tests : (b : Book) (e : Event) → is_line b e ≡ true → calls_once b e ≡ true → b.over ≡ false → b.dropping ≡ None → b.owed ≡ false → b.brackets ≡ [] → b.waiting ≡ [] → Tests b e
+reply_tests b e line calls over dropping owed brackets waiting = line_tests b e line over dropping calls
+    (ap (λ t. not (is_reply e && t)) owed ∙ never (is_reply e)) (ap (λ bs. not (is_reply e) || (is_none bs && is_none b.waiting)) brackets ∙ ap (λ ws. not (is_reply e) || is_none ws) waiting ∙ always (not (is_reply e)))
+  where
+    never : (t : Bool) → not (t && false) ≡ true
+    never true = refl
+    never false = refl
+
+    always : (t : Bool) → t || true ≡ true
+    always true = refl
+    always false = refl
+
 pub replies : (line : ℕ) (r : Result Given Fault) → Replies (reply line r)
-replies line (Ok Nothing) = record { at = λ b o d w i n. record { counts = refl; starts = refl; calls = refl; order = refl; throws = refl; together = ap (λ o. goes_on o None) d; closes = refl; nested = refl; paid = ap not w; upgrades = refl; quiet = refl; rest = ap (λ bs. is_none bs && is_none b.waiting) i ∙ ap is_none n; last = ap not o }; is = λ b i. refl }
-replies line (Ok Ignored) = record { at = λ b o d w i n. record { counts = refl; starts = refl; calls = refl; order = refl; throws = refl; together = ap (λ o. goes_on o None) d; closes = refl; nested = refl; paid = ap not w; upgrades = refl; quiet = refl; rest = ap (λ bs. is_none bs && is_none b.waiting) i ∙ ap is_none n; last = ap not o }; is = λ b i. refl }
-replies line (Ok (Node n)) = record { at = λ b o d w i n. record { counts = refl; starts = refl; calls = refl; order = refl; throws = refl; together = ap (λ o. goes_on o None) d; closes = refl; nested = refl; paid = ap not w; upgrades = refl; quiet = refl; rest = ap (λ bs. is_none bs && is_none b.waiting) i ∙ ap is_none n; last = ap not o }; is = λ b i. refl }
-replies line (Ok (Answers a)) = record { at = λ b o d w i n. record { counts = refl; starts = refl; calls = refl; order = refl; throws = refl; together = ap (λ o. goes_on o None) d; closes = refl; nested = refl; paid = ap not w; upgrades = refl; quiet = refl; rest = ap (λ bs. is_none bs && is_none b.waiting) i ∙ ap is_none n; last = ap not o }; is = λ b i. refl }
-replies line (Err f) = record { at = λ b o d w i n. record { counts = refl; starts = refl; calls = refl; order = refl; throws = refl; together = ap (λ o. goes_on o None) d; closes = refl; nested = refl; paid = ap not w; upgrades = refl; quiet = refl; rest = ap (λ bs. is_none bs && is_none b.waiting) i ∙ ap is_none n; last = ap not o }; is = λ b i. refl }
+replies line (Ok Nothing) = record { at = λ b. reply_tests b (Fine line) refl refl; is = λ b i. refl }
+replies line (Ok Ignored) = record { at = λ b. reply_tests b (IgnoredLine line) refl refl; is = λ b i. refl }
+replies line (Ok (Node n)) = record { at = λ b. reply_tests b (Gave line n) refl refl; is = λ b i. refl }
+replies line (Ok (Answers a)) = record { at = λ b. reply_tests b (Answered line a) refl refl; is = λ b i. refl }
+replies line (Err f) = record { at = λ b. reply_tests b (Threw line f) refl refl; is = λ b i. refl }
 
 pub refuses : (line : ℕ) (bad : Bad) → Replies (WasBad line bad)
-refuses line bad = record { at = λ b o d w i n. record { counts = refl; starts = refl; calls = refl; order = refl; throws = refl; together = ap (λ o. goes_on o None) d; closes = refl; nested = refl; paid = ap not w; upgrades = refl; quiet = refl; rest = ap (λ bs. is_none bs && is_none b.waiting) i ∙ ap is_none n; last = ap not o }; is = λ b i. refl }
+refuses line bad = record { at = λ b. reply_tests b (WasBad line bad) refl refl; is = λ b i. refl }
 
 -- nothing is suspended, and nothing is in the backup element queue
 pub record Rests (s : State) : Type 0 where
