@@ -1,5 +1,5 @@
 // Sessions: what they log is lawful.
-ghost use Rattle.std.specs.Prelude.{◌≡◌, ℕ, Bool, true, List, map, Result};
+ghost use Rattle.std.specs.Prelude.{◌≡◌, ℕ, Bool, false, true, List, map, Result};
 ghost use Rattle.std.specs.List.{list_all};
 ghost use Rattle.rule_tokens.specs.declared.refused.Bad.{Bad};
 ghost use Rattle.rule_lines.specs.Acts.{Said};
@@ -7,7 +7,10 @@ ghost use Rattle.rule_script.specs.Reading.{reading};
 ghost use Rattle.ce_algorithms.specs.declared.settings.Settings.{Settings};
 ghost use Rattle.ce_algorithms.specs.Model.{model};
 ghost use Rattle.ce_algorithms.specs.Session.{log_of, run_lines, start};
-ghost use Rattle.order_law.specs.Law.{Lawful};
+ghost use Rattle.ce_algorithms.specs.Worked.{traced};
+ghost use Rattle.order_law.specs.Book.{blank};
+ghost use Rattle.order_law.specs.Law.{Lawful, is_lawful};
+ghost use Rattle.order_law.specs.Samples as samples;
 ghost use Rattle.order_law.specs.Whole.{is_whole_line};
 
 /// The log of each session is lawful: of all lines, each read or refused, on a page where elements are upgraded or not, and with
@@ -23,4 +26,11 @@ pub fn each_script_is_lawful()
 pub fn each_session_is_lawful()
     ensures { (upgrades : Bool) (settings : Settings) (lines : List (Result Said Bad)) → list_all is_whole_line lines ≡ true →
         Lawful (log_of (run_lines model 1 lines (start upgrades settings))) }
+{}
+
+/// Why the operations are to have their steps: what stands for another operation leaves a variable that holds no node, and the
+/// log of a session with it may be unlawful.
+#[tactic(auto, using(crate::proofs::Computed::without_steps_unlawful))]
+pub fn steps_are_needed()
+    ensures { is_lawful blank (traced samples.without_steps) ≡ false }
 {}

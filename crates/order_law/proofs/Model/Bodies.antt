@@ -62,7 +62,8 @@ keeps_spend {h} = record { at = λ s k. go s s.fuel k }
     go s zero k = spent_lawful h s.log s.page k.holds
     go s (suc n) k = record { holds = k.holds; notes = k.notes; rest = k.rest }
 
-pub keeps_class : {h : List Hold} (k : ℕ) (f : Class → Class) → ((c : Class) → are_whole c.bodies ≡ true → are_whole (f c).bodies ≡ true) → Keeps h (change_class k f)
+pub keeps_class : {h : List Hold} (k : ℕ) (f : Class → Class) → ((c : Class) → are_whole c.bodies ≡ true → are_whole (f c).bodies ≡ true) →
+    Keeps h (change_class k f)
 keeps_class k f whole = record {
   at = λ s o. record {
     holds = o.holds;
@@ -85,7 +86,8 @@ keeps_told (Node n) = keeps_done
 keeps_told Ignored = keeps_done
 
 -- the node that an operand names
-pub node_row : (rows : ℕ) (v : View) (operand : Operand) → IsRow rows 1 → All (IsRow rows) (maybe v.this) → All (IsRow rows) (nodes_of v.variables) → FoundRows one rows (node v operand)
+pub node_row : (rows : ℕ) (v : View) (operand : Operand) → IsRow rows 1 → All (IsRow rows) (maybe v.this) → All (IsRow rows) (nodes_of v.variables) →
+    FoundRows one rows (node v operand)
 node_row rows v Doc first this named = (first, tt)
 node_row rows v This first this named = go v.this this
   where
@@ -98,7 +100,8 @@ node_row rows v (Variable name) first this named = go v.variables named
     go [] named = tt
     go (b ∷ vs) named = at (bytes_eq b.0 name) (go vs named.1)
       where
-        at : (t : Bool) → FoundRows one rows (ok_or (value_of vs name) TypeError) → FoundRows one rows (ok_or (option_map (λ (b : List ℕ × ℕ). b.1) (if t then Some b else find (λ (b : List ℕ × ℕ). bytes_eq b.0 name) vs)) TypeError)
+        at : (t : Bool) → FoundRows one rows (ok_or (value_of vs name) TypeError) →
+            FoundRows one rows (ok_or (option_map (λ (b : List ℕ × ℕ). b.1) (if t then Some b else find (λ (b : List ℕ × ℕ). bytes_eq b.0 name) vs)) TypeError)
         at true rest = (named.0, tt)
         at false rest = rest
 
@@ -106,7 +109,8 @@ first_row : (h : List Hold) (s : State) → HoldsIn h s → IsRow (length s.page
 first_row h s k = let some = k.rest.sound.some in record { low = omega arith; high = omega (arith, some) }
 
 -- in a view of a state
-pub view_row : (h : List Hold) (this : Option ℕ) (operand : Operand) (s : State) → All (λ n. IsHeld n h) (maybe this) → HoldsIn h s → FoundRows one (length s.page.elements) (node (view this s) operand)
+pub view_row : (h : List Hold) (this : Option ℕ) (operand : Operand) (s : State) → All (λ n. IsHeld n h) (maybe this) → HoldsIn h s →
+    FoundRows one (length s.page.elements) (node (view this s) operand)
 view_row h this operand s held k = node_row (length s.page.elements) (view this s) operand (first_row h s k) (all_rows (maybe this) h s.log s.page held k.holds) k.rest.named
 
 abbrev pub flow_nodes : Flow → List ℕ
@@ -123,7 +127,8 @@ fixed_steps memory args op e = e
 
 -- a constructor under an upgrade begins
 
-precustomized_holds : (n : ℕ) (h : List Hold) (l : List Event) (p : Page) → Holds (InUpgrade n ∷ h) l p → Holds (InUpgrade n ∷ h) l (with_state n Precustomized p)
+precustomized_holds : (n : ℕ) (h : List Hold) (l : List Event) (p : Page) → Holds (InUpgrade n ∷ h) l p →
+    Holds (InUpgrade n ∷ h) l (with_state n Precustomized p)
 precustomized_holds n h l p k =
     let b = k.book in
     let e : Element = record (element_of p n) { state = Precustomized } in
@@ -149,7 +154,8 @@ base : (class : ℕ) (h : List Hold) → Gives one h (on_page (base_call class))
 base class h = gives_page (λ vs l. base_gives class)
 
 module _ (again : Again) (keeps : KeepsLaw again) where
-  act_gives : (class : ℕ) (args : Args) (this : Option ℕ) (a : Act) (h : List Hold) → is_whole a ≡ true → All (λ n. IsHeld n h) (maybe this) → Gives flow_nodes h (act again class args this a)
+  act_gives : (class : ℕ) (args : Args) (this : Option ℕ) (a : Act) (h : List Hold) → is_whole a ≡ true → All (λ n. IsHeld n h) (maybe this) →
+      Gives flow_nodes h (act again class args this a)
   act_gives class args this (Both op) h whole held =
       gives_after (keeps_read (λ s. (class_of s class).memory)) (λ memory. gives_bind (keeps.operates this (fixed memory args op) h (fixed_steps memory args op whole) held)
       (λ given. gives_seq (keeps_told given) (gives_give (Next this) (all_under (given_nodes given) (maybe this) h held))))
@@ -168,11 +174,14 @@ module _ (again : Again) (keeps : KeepsLaw again) where
       gives_after (keeps_read (λ s. (class_of s class).memory))
       (λ memory. gives_if (holds equal (text_of memory args left) (text_of memory args right)) (gives_seq keeps_spend (act_gives class args this action h whole held)) (gives_give (Next this) held))
 
-  body_gives : (class : ℕ) (args : Args) (this : Option ℕ) (actions : List Act) (h : List Hold) → All (λ a. is_whole a ≡ true) actions → All (λ n. IsHeld n h) (maybe this) → Gives maybe h (body again class args this actions)
+  body_gives : (class : ℕ) (args : Args) (this : Option ℕ) (actions : List Act) (h : List Hold) → All (λ a. is_whole a ≡ true) actions →
+      All (λ n. IsHeld n h) (maybe this) → Gives maybe h (body again class args this actions)
   body_gives class args this [] h whole held = gives_give this held
   body_gives class args this (a ∷ rest) h whole held = gives_seq keeps_spend (gives_bind (act_gives class args this a h whole.0 held) (λ flow. flows flow (λ next g held. body_gives class args next rest g whole.1 held)))
     where
-      flows : (flow : Flow) → ((next : Option ℕ) (g : List Hold) → All (λ n. IsHeld n g) (maybe next) → Gives maybe g (body again class args next rest)) → Gives maybe (with_hands (flow_nodes flow) h) (on_flow (λ next. body again class args next rest) flow)
+      flows : (flow : Flow) →
+          ((next : Option ℕ) (g : List Hold) → All (λ n. IsHeld n g) (maybe next) → Gives maybe g (body again class args next rest)) →
+          Gives maybe (with_hands (flow_nodes flow) h) (on_flow (λ next. body again class args next rest) flow)
       flows (Next next) goes = goes next (with_hands (maybe next) h) (all_taken (maybe next) h)
       flows (Ended result) goes = gives_give result (all_taken (maybe result) h)
 
@@ -184,7 +193,8 @@ module _ (again : Again) (keeps : KeepsLaw again) where
   result_gives h (Some n) held = gives_give n held
 
   -- the class as it is in this state
-  construct_of : (class : ℕ) (k : Class) (h : List Hold) → are_whole k.bodies ≡ true → Gives one h (log (Construct k.name) >> (constructor_body again class k >>= (λ result. found result ReferenceError)))
+  construct_of : (class : ℕ) (k : Class) (h : List Hold) → are_whole k.bodies ≡ true →
+      Gives one h (log (Construct k.name) >> (constructor_body again class k >>= (λ result. found result ReferenceError)))
   construct_of class k h whole = gives_seq (keeps_plain (Construct k.name) (construct_plain k.name))
       (gives_bind {nodes = maybe} (gives_if (has_call Constructor k.facts.calls) (body_gives class no_args None (actions_of Constructor k.bodies) h (whole_actions Constructor k.bodies whole) tt) (alone_gives class h))
       (λ result. result_gives (with_hands (maybe result) h) result (all_taken (maybe result) h)))
@@ -192,7 +202,8 @@ module _ (again : Again) (keeps : KeepsLaw again) where
   pub construct_gives : (class : ℕ) (h : List Hold) → Gives one h (construct again class)
   construct_gives class h = record { at = λ s o. (construct_of class (class_of s class) h (class_whole s.classes class o.rest.whole)).at s o }
 
-  pub body_keeps : (class : ℕ) (args : Args) (this : Option ℕ) (actions : List Act) (h : List Hold) → All (λ a. is_whole a ≡ true) actions → All (λ n. IsHeld n h) (maybe this) → Keeps h (body again class args this actions)
+  pub body_keeps : (class : ℕ) (args : Args) (this : Option ℕ) (actions : List Act) (h : List Hold) → All (λ a. is_whole a ≡ true) actions →
+      All (λ n. IsHeld n h) (maybe this) → Keeps h (body again class args this actions)
   body_keeps class args this actions h whole held = gives_keeps (body_gives class args this actions h whole held)
 
   pub construct_for_keeps : (n d : ℕ) (h : List Hold) → Keeps (InUpgrade n ∷ h) (construct_for again n d)

@@ -44,11 +44,13 @@ told_append : (n : ℕ) (ws vs : List Entry) → told_at n (ws ++ vs) ≡ told_a
 told_append n [] vs = refl
 told_append n (w ∷ ws) vs = go (w.element == n) (told_append n ws vs)
   where
-    go : (b : Bool) → told_at n (ws ++ vs) ≡ told_at n ws ++ told_at n vs → add_if b (w.number, w.what) (told_at n (ws ++ vs)) ≡ add_if b (w.number, w.what) (told_at n ws) ++ told_at n vs
+    go : (b : Bool) → told_at n (ws ++ vs) ≡ told_at n ws ++ told_at n vs →
+        add_if b (w.number, w.what) (told_at n (ws ++ vs)) ≡ add_if b (w.number, w.what) (told_at n ws) ++ told_at n vs
     go true h = ap (λ l. (w.number, w.what) ∷ l) h
     go false h = h
 
-rising_append : (low top : ℕ) (ws : List Entry) (w : Entry) → Rising low ws → Each (λ v. v.number ≤ top) ws → top < w.number → low < w.number → Rising low (ws ++ w ∷ [])
+rising_append : (low top : ℕ) (ws : List Entry) (w : Entry) → Rising low ws → Each (λ v. v.number ≤ top) ws → top < w.number → low < w.number →
+    Rising low (ws ++ w ∷ [])
 rising_append low top [] w r b t l = (l, tt)
 rising_append low top (v ∷ ws) w r b t l = (r.0, rising_append v.number top ws w r.1 b.1 t (omega (arith, b.0, t)))
 
@@ -75,7 +77,8 @@ zero_not q lt = go (q == 0) refl
     go true t = let e = eqb-true q 0 t in absurd (omega (arith, e, lt))
     go false t = refl
 
-pub enqueued_holds : (n : ℕ) (x : Reaction) (h : List Hold) (l : List Event) (p : Page) → Known p.elements n → fits (what_of x) (definition_of p n) ≡ true → Holds h l p
+pub enqueued_holds : (n : ℕ) (x : Reaction) (h : List Hold) (l : List Event) (p : Page) → Known p.elements n →
+    fits (what_of x) (definition_of p n) ≡ true → Holds h l p
     → Holds h (l ++ Enqueued (p.queues.reactions + 1) n (what_of x) (current_of p.queues) ∷ []) (with_queues (enqueued n x) p)
 enqueued_holds n x h l p known fitting k = go p.queues.stack refl
   where
@@ -143,7 +146,8 @@ enqueued_holds n x h l p known fitting k = go p.queues.stack refl
     below : (q : ℕ) → Each (λ w. w.number ≤ r) (b.waiting ++ entry q ∷ [])
     below q = each_append (λ w. w.number ≤ r) b.waiting (entry q ∷ []) (each_map (λ w. w.number ≤ b.numbers) (λ w. w.number ≤ r) b.waiting (λ w le. let e = s.numbers in omega (arith, le, e)) s.below) (omega arith, tt)
 
-    go : (os : List Open) → p.queues.stack ≡ os → Holds h (l ++ Enqueued r n (what_of x) (number_of os) ∷ []) (with_queues (λ q. appended_to os n (with_reaction n x (counted q))) p)
+    go : (os : List Open) → p.queues.stack ≡ os →
+        Holds h (l ++ Enqueued r n (what_of x) (number_of os) ∷ []) (with_queues (λ q. appended_to os n (with_reaction n x (counted q))) p)
     go [] e = record {
       book = next 0;
       reads = reads [] e;

@@ -60,7 +60,9 @@ pub whole_actions : (call : CallName) (bodies : List (CallName × Act)) → are_
 whole_actions call [] e = tt
 whole_actions call (b ∷ bodies) e = go (same_call b.0 call) (both_true (is_whole b.1) (are_whole bodies) e) (λ k. whole_actions call bodies k)
   where
-    go : (t : Bool) → (is_whole b.1 ≡ true) × (are_whole bodies ≡ true) → (are_whole bodies ≡ true → All (λ a. is_whole a ≡ true) (actions_of call bodies)) → All (λ a. is_whole a ≡ true) (if t then b.1 ∷ actions_of call bodies else actions_of call bodies)
+    go : (t : Bool) → (is_whole b.1 ≡ true) × (are_whole bodies ≡ true) →
+        (are_whole bodies ≡ true → All (λ a. is_whole a ≡ true) (actions_of call bodies)) →
+        All (λ a. is_whole a ≡ true) (if t then b.1 ∷ actions_of call bodies else actions_of call bodies)
     go true e rest = (e.0, rest e.1)
     go false e rest = rest e.1
 
@@ -70,12 +72,14 @@ whole_for IsUpgrade bodies e = tt
 
 -- what goes on again keeps the law, whatever is suspended
 pub record KeepsLaw (again : Again) : Type 0 where
-  pub operates : (this : Option ℕ) (op : Op) (h : List Hold) → has_steps op ≡ true → All (λ n. IsHeld n h) (maybe this) → Gives given_nodes h (again (Operate this op))
+  pub operates : (this : Option ℕ) (op : Op) (h : List Hold) → has_steps op ≡ true → All (λ n. IsHeld n h) (maybe this) →
+      Gives given_nodes h (again (Operate this op))
   pub drains : (ns : List ℕ) (q : ℕ) (h : List Hold) (s : State) → HoldsIn (InDrain q ns ∷ h) s → AfterCalm (InDrain q [] ∷ h) (again (DrainRest ns) s)
   pub backups : (s : State) → HoldsIn (InDrain 0 [] ∷ []) s → AfterBackup (again DrainBackup s)
 
 module _ (again : Again) (keeps : KeepsLaw again) (constructs : (n d : ℕ) (h : List Hold) → Keeps (InUpgrade n ∷ h) (construct_for again n d)) (bodies : (class : ℕ) (args : Args) (this : Option ℕ) (actions : List Act) (h : List Hold) → All (λ a. is_whole a ≡ true) actions → All (λ n. IsHeld n h) (maybe this) → Keeps h (body again class args this actions)) where
-  rest_keeps : (n class : ℕ) (x : Reaction) (h : List Hold) → IsHeld n h → Keeps h (read (λ (s : State). class_of s class) >>= (λ k. body again class (args_of x) (Some n) (actions_for (what_of x) k.bodies) >> done))
+  rest_keeps : (n class : ℕ) (x : Reaction) (h : List Hold) → IsHeld n h →
+      Keeps h (read (λ (s : State). class_of s class) >>= (λ k. body again class (args_of x) (Some n) (actions_for (what_of x) k.bodies) >> done))
   rest_keeps n class x h held = record { at = λ s k. (keeps_seq (bodies class (args_of x) (Some n) (actions_for (what_of x) (class_of s class).bodies) h (whole_for (what_of x) (class_of s class).bodies (class_whole s.classes class k.rest.whole)) (held, tt)) (record { at = λ t l. l })).at s k }
 
   line_then : {A B : Type 0} (h : List Hold) (o : Outcome State A) (f : Step State B) → After h o → Keeps h f → After h (then_do o (λ _. f))
@@ -83,14 +87,18 @@ module _ (again : Again) (keeps : KeepsLaw again) (constructs : (n d : ℕ) (h :
   line_then h (Throws x s) f o k = o
   line_then h (Spent s) f o k = o
 
-  callback_after : (n : ℕ) (x : Reaction) (name : CallName) (is : what_of x ≡ Call name) (w : Entry) (h : List Hold) (s : State) → w.element ≡ n → w.what ≡ what_of x → fits (what_of x) (definition_of s.page n) ≡ true → HoldsIn (InReaction w false ∷ h) s → After {A = Unit {0}} (InReaction w true ∷ h) (call_defined again n x (definition_of s.page n) s)
+  callback_after : (n : ℕ) (x : Reaction) (name : CallName) (is : what_of x ≡ Call name) (w : Entry) (h : List Hold) (s : State) → w.element ≡ n →
+      w.what ≡ what_of x → fits (what_of x) (definition_of s.page n) ≡ true → HoldsIn (InReaction w false ∷ h) s →
+      After {A = Unit {0}} (InReaction w true ∷ h) (call_defined again n x (definition_of s.page n) s)
   callback_after n x name is w h s at what fit k = go (definition_of s.page n) fit
     where
       go : (o : Option Definition) → fits (what_of x) o ≡ true → After {A = Unit {0}} (InReaction w true ∷ h) (call_defined again n x o s)
       go None fit = absurd (let y : fits (Call name) None ≡ true = sym (ap (λ t. fits t None) is) ∙ fit in let z : false ≡ true = y in cc)
       go (Some d) fit = line_then (InReaction w true ∷ h) (log_call n x s) _ (call_line n x name is h s w at what k) (rest_keeps n d.class x (InReaction w true ∷ h) (inl at))
 
-  run_after : (n : ℕ) (x : Reaction) (w : Entry) (h : List Hold) (s : State) → w.element ≡ n → w.what ≡ what_of x → fits (what_of x) (definition_of s.page n) ≡ true → Known s.page.elements n → HoldsIn (InReaction w false ∷ h) s → After (InReaction w (is_callback (what_of x)) ∷ h) (run_reaction again n x s)
+  run_after : (n : ℕ) (x : Reaction) (w : Entry) (h : List Hold) (s : State) → w.element ≡ n → w.what ≡ what_of x →
+      fits (what_of x) (definition_of s.page n) ≡ true → Known s.page.elements n → HoldsIn (InReaction w false ∷ h) s →
+      After (InReaction w (is_callback (what_of x)) ∷ h) (run_reaction again n x s)
   run_after n (Upgrade d) w h s at what fit known k = upgrade_after again n d (InReaction w false ∷ h) s known (at, what) (constructs n d (InReaction w false ∷ h)) k
   run_after n Connected w h s at what fit known k = callback_after n Connected ConnectedName refl w h s at what fit k
   run_after n Disconnected w h s at what fit known k = callback_after n Disconnected DisconnectedName refl w h s at what fit k
@@ -105,7 +113,9 @@ module _ (again : Again) (keeps : KeepsLaw again) (constructs : (n d : ℕ) (h :
   whole (Call name) = refl
   whole IsUpgrade = refl
 
-  report_then : (w : Entry) (c : Bool) (g g' : List Hold) (o : Outcome State (Unit {0})) (next : Step State (Unit {0})) → c || not (is_callback w.what) ≡ true → After (InReaction w c ∷ g) o → ((s : State) → HoldsIn g s → AfterCalm g' (next s)) → AfterCalm g' (then_do (then_do (catch_in o (λ f. log (Reported f))) (λ _. log (Finished w.number))) (λ _. next))
+  report_then : (w : Entry) (c : Bool) (g g' : List Hold) (o : Outcome State (Unit {0})) (next : Step State (Unit {0})) →
+      c || not (is_callback w.what) ≡ true → After (InReaction w c ∷ g) o → ((s : State) → HoldsIn g s → AfterCalm g' (next s)) →
+      AfterCalm g' (then_do (then_do (catch_in o (λ f. log (Reported f))) (λ _. log (Finished w.number))) (λ _. next))
   report_then w c g g' (Goes a s) next e k n = n (logged (Finished w.number) s) (record { holds = finished_holds w c g s.log s.page e k.holds; notes = k.notes; rest = k.rest })
   report_then w c g g' (Throws f s) next e k n = n (logged (Finished w.number) (logged (Reported f) s)) (record { holds = finished_holds w c g (s.log ++ Reported f ∷ []) s.page e (plain_holds (Reported f) (InReaction w c ∷ g) s.log s.page (reported_plain f) k.holds); notes = k.notes; rest = k.rest })
   report_then w c g g' (Spent s) next e k n = k
@@ -133,7 +143,8 @@ module _ (again : Again) (keeps : KeepsLaw again) (constructs : (n d : ℕ) (h :
           (run_after n v.1 w (InDrain q (n ∷ ns) ∷ h) t st.2 st.3 st.4 st.5 held)
           (λ u l. calm_done (InDrain q [] ∷ h) (again (DrainRest (n ∷ ns)) u) (keeps.drains (n ∷ ns) q h u l)))
 
-  closed_then : (m : ℕ) (h : List Hold) (o : Outcome State (Unit {0})) → 0 < m → AfterCalm (InDrain m [] ∷ h) o → AfterCalm {A = Unit {0}} h (then_do o (λ _. log (QueueClosed m)))
+  closed_then : (m : ℕ) (h : List Hold) (o : Outcome State (Unit {0})) → 0 < m → AfterCalm (InDrain m [] ∷ h) o →
+      AfterCalm {A = Unit {0}} h (then_do o (λ _. log (QueueClosed m)))
   closed_then m h (Goes a s) lt k = record { holds = closed_holds m h s.log s.page lt k.holds; notes = k.notes; rest = k.rest }
   closed_then m h (Throws f s) lt k = k
   closed_then m h (Spent s) lt k = k
@@ -144,20 +155,23 @@ module _ (again : Again) (keeps : KeepsLaw again) (constructs : (n d : ℕ) (h :
       let t : State = logged (DrainBegun m) (record s { page = with_queues ended s.page }) in
       closed_then m h (drain again es t) lt (drain_after es m h t (record { holds = drained_holds m h s.log s.page k.holds; notes = k.notes; rest = k.rest }))
 
-  last_then : {A : Type 0} (nodes : A → List ℕ) (h : List Hold) (o : Outcome State (Unit {0})) (k : Step State A) → AfterCalm h o → ((s : State) → HoldsIn h s → AfterGives nodes h (k s)) → AfterGives nodes h (then_do o (λ _. k))
+  last_then : {A : Type 0} (nodes : A → List ℕ) (h : List Hold) (o : Outcome State (Unit {0})) (k : Step State A) → AfterCalm h o →
+      ((s : State) → HoldsIn h s → AfterGives nodes h (k s)) → AfterGives nodes h (then_do o (λ _. k))
   last_then nodes h (Goes a s) k o n = n s o
   last_then nodes h (Throws f s) k o n = absurd o
   last_then nodes h (Spent s) k o n = o
 
   -- what the steps gave is kept in hand
-  finish_after : {A : Type 0} (nodes : A → List ℕ) (m : ℕ) (h : List Hold) (o : Outcome State A) → 0 < m → AfterGives nodes (InSteps m ∷ h) o → AfterGives nodes h (finally_in o (drain_popped again m))
+  finish_after : {A : Type 0} (nodes : A → List ℕ) (m : ℕ) (h : List Hold) (o : Outcome State A) → 0 < m → AfterGives nodes (InSteps m ∷ h) o →
+      AfterGives nodes h (finally_in o (drain_popped again m))
   finish_after nodes m h (Goes a s) lt k = let_go nodes (nodes a) h (finally_in (Goes a s) (drain_popped again m))
       (last_then nodes (with_hands (nodes a) h) (drain_popped again m s) (give a) (popped_after m (with_hands (nodes a) h) s lt (take_in_below (nodes a) m h s k.1 k.0)) (λ t l. (l, hand_rows (nodes a) h t.log t.page l.holds)))
   finish_after nodes m h (Throws f s) lt k = last_then nodes h (drain_popped again m s) (throw f) (popped_after m h s lt k) (λ t l. l)
   finish_after nodes m h (Spent s) lt k = k
 
   -- an operation with a queue, whose steps keep the law in it
-  pub reacting_gives : {A : Type 0} (nodes : A → List ℕ) (h : List Hold) (steps : Step State A) → ((m : ℕ) → Gives nodes (InSteps m ∷ h) steps) → Gives nodes h (reacting again steps)
+  pub reacting_gives : {A : Type 0} (nodes : A → List ℕ) (h : List Hold) (steps : Step State A) → ((m : ℕ) → Gives nodes (InSteps m ∷ h) steps) →
+      Gives nodes h (reacting again steps)
   reacting_gives nodes h steps n = record {
     at = λ s k. finish_after nodes (s.page.queues.pushed + 1) h (steps (logged (QueueOpened (s.page.queues.pushed + 1)) (record s { page = with_queues begun s.page }))) (omega arith)
         ((n (s.page.queues.pushed + 1)).at _ (record { holds = opened_holds h s.log s.page k.holds; notes = k.notes; rest = k.rest }));
@@ -177,7 +191,8 @@ module _ (again : Again) (keeps : KeepsLaw again) (constructs : (n d : ℕ) (h :
   pub backup_after : (s : State) → HoldsIn (InDrain 0 [] ∷ []) s → AfterBackup (drain_backup again s)
   backup_after s k = go s.page.queues.backup refl
     where
-      go : (ns : List ℕ) → s.page.queues.backup ≡ ns → AfterBackup ((elim ns as (λ _. Step State (Unit {0})) [ [] ↦ done | n ∷ ns ↦ change_page (with_queues (with_backup ns)) >> (drain again (n ∷ []) >> (again DrainBackup >> done)) ]) s)
+      go : (ns : List ℕ) → s.page.queues.backup ≡ ns →
+          AfterBackup ((elim ns as (λ _. Step State (Unit {0})) [ [] ↦ done | n ∷ ns ↦ change_page (with_queues (with_backup ns)) >> (drain again (n ∷ []) >> (again DrainBackup >> done)) ]) s)
       go [] e = (k, e)
       go (n ∷ ns) e =
           let t : State = record s { page = with_queues (with_backup ns) s.page } in
@@ -195,6 +210,7 @@ module _ (again : Again) (keeps : KeepsLaw again) (constructs : (n d : ℕ) (h :
       empty [] e = refl
       empty (n ∷ ns) e = absurd (let x : false ≡ true = e in cc)
 
-      go : (t : Bool) (ns : List ℕ) → s.page.queues.backup ≡ ns → is_empty ns ≡ t → AfterRest ((elim t as (λ _. Step State (Unit {0})) [ true ↦ done | false ↦ drain_all_backup again ]) s)
+      go : (t : Bool) (ns : List ℕ) → s.page.queues.backup ≡ ns → is_empty ns ≡ t →
+          AfterRest ((elim t as (λ _. Step State (Unit {0})) [ true ↦ done | false ↦ drain_all_backup again ]) s)
       go true ns b e = (k, b ∙ empty ns e)
       go false ns b e = close_then (drain_backup again (logged (DrainBegun 0) s)) (backup_after (logged (DrainBegun 0) s) (record { holds = checkpoint_holds s.log s.page k.holds; notes = k.notes; rest = k.rest }))

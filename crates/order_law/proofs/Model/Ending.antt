@@ -66,7 +66,8 @@ and_false true = refl
 and_false false = refl
 
 -- the event of a close, where nothing of the queue waits
-closing : (m : ℕ) (h : List Hold) (l : List Event) (p : Page) (k : Holds (InDrain m [] ∷ h) l p) → Each (λ w. w.queue ≢ m) k.book.waiting → Reads blank (l ++ QueueClosed m ∷ []) (record (k.book) { brackets = brackets_of h; owed = k.book.owed && not (m == 0); dropping = None })
+closing : (m : ℕ) (h : List Hold) (l : List Event) (p : Page) (k : Holds (InDrain m [] ∷ h) l p) → Each (λ w. w.queue ≢ m) k.book.waiting →
+    Reads blank (l ++ QueueClosed m ∷ []) (record (k.book) { brackets = brackets_of h; owed = k.book.owed && not (m == 0); dropping = None })
 closing m h l p k out =
     let b = k.book in
     reads_append blank l (QueueClosed m ∷ []) b _ k.reads (subst (λ bs. Reads b (QueueClosed m ∷ []) (record b { brackets = bs; owed = b.owed && not (m == 0); dropping = None })) (ap outer_of k.queues.brackets) (reads_one b (QueueClosed m) (tested b (QueueClosed m) (record {
@@ -174,7 +175,8 @@ checkpoint_holds l p k =
     or_true false = refl
 
 -- the first element of the backup element queue is taken
-pub taken_holds : (n : ℕ) (ns : List ℕ) (l : List Event) (p : Page) → p.queues.backup ≡ n ∷ ns → Holds (InDrain 0 [] ∷ []) l p → Holds (InDrain 0 (n ∷ []) ∷ []) l (with_queues (with_backup ns) p)
+pub taken_holds : (n : ℕ) (ns : List ℕ) (l : List Event) (p : Page) → p.queues.backup ≡ n ∷ ns → Holds (InDrain 0 [] ∷ []) l p →
+    Holds (InDrain 0 (n ∷ []) ∷ []) l (with_queues (with_backup ns) p)
 taken_holds n ns l p is k =
     let s = k.queues in
     record {
@@ -239,7 +241,8 @@ checkpoint_closed l p is k = record {
     nowhere w (inr (inr i)) = i.1
 
 -- nothing waits at the first element of a drain
-pub skipped_holds : (q n : ℕ) (ns : List ℕ) (h : List Hold) (l : List Event) (p : Page) → waiting_at p.queues n ≡ [] → Holds (InDrain q (n ∷ ns) ∷ h) l p → Holds (InDrain q ns ∷ h) l p
+pub skipped_holds : (q n : ℕ) (ns : List ℕ) (h : List Hold) (l : List Event) (p : Page) → waiting_at p.queues n ≡ [] →
+    Holds (InDrain q (n ∷ ns) ∷ h) l p → Holds (InDrain q ns ∷ h) l p
 skipped_holds q n ns h l p is k =
     let s = k.queues in
     record {
@@ -262,17 +265,21 @@ skipped_holds q n ns h l p is k =
       elements = let e = k.elements in record { known = e.known; defined = e.defined; unset = e.unset; upgraded = e.upgraded; thrown = e.thrown; document = e.document; ongoing = e.ongoing };
     }
   where
-    one : (w : Entry) → (n ≡ w.element → ⊥) → IsPlaced p.queues.stack p.queues.backup (InDrain q (n ∷ ns) ∷ h) w → IsPlaced p.queues.stack p.queues.backup (InDrain q ns ∷ h) w
+    one : (w : Entry) → (n ≡ w.element → ⊥) → IsPlaced p.queues.stack p.queues.backup (InDrain q (n ∷ ns) ∷ h) w →
+        IsPlaced p.queues.stack p.queues.backup (InDrain q ns ∷ h) w
     one w not_here (inl i) = inl i
     one w not_here (inr (inl (inl i))) = inr (inl (inl (i.0, ⊎_elim (λ same. absurd (not_here same)) (λ left. left) i.1)))
     one w not_here (inr (inl (inr i))) = inr (inl (inr i))
     one w not_here (inr (inr i)) = inr (inr i)
 
-    go : (ws : List Entry) → told_at n ws ≡ [] → Each (IsPlaced p.queues.stack p.queues.backup (InDrain q (n ∷ ns) ∷ h)) ws → Each (IsPlaced p.queues.stack p.queues.backup (InDrain q ns ∷ h)) ws
+    go : (ws : List Entry) → told_at n ws ≡ [] → Each (IsPlaced p.queues.stack p.queues.backup (InDrain q (n ∷ ns) ∷ h)) ws →
+        Each (IsPlaced p.queues.stack p.queues.backup (InDrain q ns ∷ h)) ws
     go [] z e = tt
     go (w ∷ ws) z e = at (w.element == n) refl z (λ y. go ws y e.1)
       where
-        at : (b : Bool) → w.element == n ≡ b → add_if b (w.number, w.what) (told_at n ws) ≡ [] → (told_at n ws ≡ [] → Each (IsPlaced p.queues.stack p.queues.backup (InDrain q ns ∷ h)) ws) → Each (IsPlaced p.queues.stack p.queues.backup (InDrain q ns ∷ h)) (w ∷ ws)
+        at : (b : Bool) → w.element == n ≡ b → add_if b (w.number, w.what) (told_at n ws) ≡ [] →
+            (told_at n ws ≡ [] → Each (IsPlaced p.queues.stack p.queues.backup (InDrain q ns ∷ h)) ws) →
+            Each (IsPlaced p.queues.stack p.queues.backup (InDrain q ns ∷ h)) (w ∷ ws)
         at true t z next = absurd (let x : ◌≡◌ {A = List (ℕ × CallOrUpgrade)} ((w.number, w.what) ∷ told_at n ws) [] = z in cc)
         at false t z next = (one w (λ same. eqb-false w.element n t (sym same)) e.0, next z)
 

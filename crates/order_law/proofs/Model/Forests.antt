@@ -71,7 +71,8 @@ first_or : (a b : Option Spot) → reads_element (or_spot a b) ≡ true → (rea
 first_or None b is = inr is
 first_or (Some s) b is = inl is
 
-pub element_counts : (parent host : Option ℕ) (n : ℕ) (f : Trees) → reads_element (spot_in parent host n f) ≡ true → 0 < weight (λ m x. one_element n m x.kind) f
+pub element_counts : (parent host : Option ℕ) (n : ℕ) (f : Trees) → reads_element (spot_in parent host n f) ≡ true →
+    0 < weight (λ m x. one_element n m x.kind) f
 element_counts parent host n none is = absurd (let x : false ≡ true = is in cc)
 element_counts parent host n (tree m x shadow children rest) is =
     go (m == n) refl is (λ a. element_counts None (Some m) n shadow a) (λ a. element_counts (Some m) None n children a) (λ a. element_counts parent host n rest a)
@@ -79,7 +80,8 @@ element_counts parent host n (tree m x shadow children rest) is =
     count : Trees → ℕ
     count f = weight (λ m x. one_element n m x.kind) f
 
-    go : (t : Bool) → m == n ≡ t → reads_element (if t then Some (spot_of x parent host shadow children) else or_spot (spot_in None (Some m) n shadow) (or_spot (spot_in (Some m) None n children) (spot_in parent host n rest))) ≡ true
+    go : (t : Bool) → m == n ≡ t →
+        reads_element (if t then Some (spot_of x parent host shadow children) else or_spot (spot_in None (Some m) n shadow) (or_spot (spot_in (Some m) None n children) (spot_in parent host n rest))) ≡ true
         → (reads_element (spot_in None (Some m) n shadow) ≡ true → 0 < count shadow) → (reads_element (spot_in (Some m) None n children) ≡ true → 0 < count children) → (reads_element (spot_in parent host n rest) ≡ true → 0 < count rest)
         → 0 < count (tree m x shadow children rest)
     go true t is in_shadow in_children in_rest = let first : one_element n m x.kind ≡ 1 = ap (λ v. if v && is_element x.kind then 1 else 0) t ∙ ap (λ v. if v then 1 else 0) is in omega (arith, first)

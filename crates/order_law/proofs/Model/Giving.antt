@@ -42,24 +42,28 @@ AfterGivesAt nodes h l (Spent w) = HoldsAt Any h l w
 pub record GivesAt {A : Type 0} (nodes : A → List ℕ) (h : List Hold) (l : List Event) (f : Step Work A) : Type 0 where
   pub at : (w : Work) → HoldsAt Any h l w → AfterGivesAt nodes h l (f w)
 
-pub take_at : (ns : List ℕ) (h : List Hold) (l : List Event) (w : Work) → All (IsRow (length w.page.elements)) ns → HoldsAt Any h l w → HoldsAt Any (with_hands ns h) l w
+pub take_at : (ns : List ℕ) (h : List Hold) (l : List Event) (w : Work) → All (IsRow (length w.page.elements)) ns → HoldsAt Any h l w →
+    HoldsAt Any (with_hands ns h) l w
 take_at ns h l w rows k = record { holds = take_hands ns h (l ++ map event_of w.page.notes) w.page rows k.holds; sound = k.sound; known = tt }
 
 drop_at : (ns : List ℕ) (h : List Hold) (l : List Event) (w : Work) → HoldsAt Any (with_hands ns h) l w → HoldsAt Any h l w
 drop_at ns h l w k = record { holds = drop_hands ns h (l ++ map event_of w.page.notes) w.page k.holds; sound = k.sound; known = tt }
 
-pub let_go_at : {A : Type 0} (nodes : A → List ℕ) (ns : List ℕ) (h : List Hold) (l : List Event) (o : Outcome Work A) → AfterGivesAt nodes (with_hands ns h) l o → AfterGivesAt nodes h l o
+pub let_go_at : {A : Type 0} (nodes : A → List ℕ) (ns : List ℕ) (h : List Hold) (l : List Event) (o : Outcome Work A) →
+    AfterGivesAt nodes (with_hands ns h) l o → AfterGivesAt nodes h l o
 let_go_at nodes ns h l (Goes a w) k = (drop_at ns h l w k.0, k.1)
 let_go_at nodes ns h l (Throws f w) k = drop_at ns h l w k
 let_go_at nodes ns h l (Spent w) k = drop_at ns h l w k
 
-pub give_then_at : {A B : Type 0} (nodes : A → List ℕ) (others : B → List ℕ) (h : List Hold) (l : List Event) (o : Outcome Work A) (k : A → Step Work B) → AfterGivesAt nodes h l o
+pub give_then_at : {A B : Type 0} (nodes : A → List ℕ) (others : B → List ℕ) (h : List Hold) (l : List Event) (o : Outcome Work A) (k : A → Step Work B) →
+    AfterGivesAt nodes h l o
     → ((a : A) → GivesAt others (with_hands (nodes a) h) l (k a)) → AfterGivesAt others h l (then_do o k)
 give_then_at nodes others h l (Goes a w) k o n = let_go_at others (nodes a) h l (k a w) ((n a).at w (take_at (nodes a) h l w o.1 o.0))
 give_then_at nodes others h l (Throws f w) k o n = o
 give_then_at nodes others h l (Spent w) k o n = o
 
-pub give_bind_at : {A B : Type 0} {nodes : A → List ℕ} {others : B → List ℕ} {h : List Hold} {l : List Event} {f : Step Work A} {k : A → Step Work B} → GivesAt nodes h l f
+pub give_bind_at : {A B : Type 0} {nodes : A → List ℕ} {others : B → List ℕ} {h : List Hold} {l : List Event} {f : Step Work A} {k : A → Step Work B} →
+    GivesAt nodes h l f
     → ((a : A) → GivesAt others (with_hands (nodes a) h) l (k a)) → GivesAt others h l (f >>= k)
 give_bind_at {nodes = nodes} {others = others} {h = h} {l = l} {f = f} {k = k} x n = record { at = λ w o. give_then_at nodes others h l (f w) k (x.at w o) n }
 
@@ -72,7 +76,8 @@ given_at h l (Spent w) k = k
 pub keeps_at : {A : Type 0} {h : List Hold} {l : List Event} {f : Step Work A} → KeepsAt Any h l f → GivesAt none h l f
 keeps_at {h = h} {l = l} {f = f} k = record { at = λ w o. given_at h l (f w) (k.at w o) }
 
-pub give_seq_at : {A B : Type 0} {others : B → List ℕ} {h : List Hold} {l : List Event} {f : Step Work A} {g : Step Work B} → GivesAt none h l f → GivesAt others h l g → GivesAt others h l (f >> g)
+pub give_seq_at : {A B : Type 0} {others : B → List ℕ} {h : List Hold} {l : List Event} {f : Step Work A} {g : Step Work B} → GivesAt none h l f →
+    GivesAt others h l g → GivesAt others h l (f >> g)
 give_seq_at {others = others} {h = h} {l = l} {f = f} {g = g} x n = record { at = λ w o. give_then_at none others h l (f w) (λ _. g) (x.at w o) (λ _. n) }
 
 pub give_at : {A : Type 0} {nodes : A → List ℕ} {h : List Hold} {l : List Event} (a : A) → All (λ n. IsHeld n h) (nodes a) → GivesAt nodes h l (give a)
@@ -134,11 +139,13 @@ kept_of nodes h (Spent s) k = k
 pub gives_keeps : {A : Type 0} {nodes : A → List ℕ} {h : List Hold} {f : Step State A} → Gives nodes h f → Keeps h f
 gives_keeps {nodes = nodes} {h = h} {f = f} k = record { at = λ s o. kept_of nodes h (f s) (k.at s o) }
 
-pub gives_seq : {A B : Type 0} {others : B → List ℕ} {h : List Hold} {f : Step State A} {g : Step State B} → Keeps h f → Gives others h g → Gives others h (f >> g)
+pub gives_seq : {A B : Type 0} {others : B → List ℕ} {h : List Hold} {f : Step State A} {g : Step State B} → Keeps h f → Gives others h g →
+    Gives others h (f >> g)
 gives_seq {others = others} {h = h} {f = f} {g = g} x n = record { at = λ s o. gives_then none others h (f s) (λ _. g) (of_kept h (f s) (x.at s o)) (λ _. n) }
 
 -- a step that reads, and then others that know nothing of what was read
-pub gives_after : {A B : Type 0} {others : B → List ℕ} {h : List Hold} {f : Step State A} {k : A → Step State B} → Keeps h f → ((a : A) → Gives others h (k a)) → Gives others h (f >>= k)
+pub gives_after : {A B : Type 0} {others : B → List ℕ} {h : List Hold} {f : Step State A} {k : A → Step State B} → Keeps h f →
+    ((a : A) → Gives others h (k a)) → Gives others h (f >>= k)
 gives_after {others = others} {h = h} {f = f} {k = k} x n = record { at = λ s o. gives_then none others h (f s) k (of_kept h (f s) (x.at s o)) n }
 
 pub gives_give : {A : Type 0} {nodes : A → List ℕ} {h : List Hold} (a : A) → All (λ n. IsHeld n h) (nodes a) → Gives nodes h (give a)
@@ -147,26 +154,31 @@ gives_give {nodes = nodes} {h = h} a held = record { at = λ s o. (o, all_rows (
 pub gives_throw : {A : Type 0} {nodes : A → List ℕ} {h : List Hold} (f : Fault) → Gives nodes h (throw f)
 gives_throw f = record { at = λ s o. o }
 
-pub gives_if : {A : Type 0} {nodes : A → List ℕ} {h : List Hold} {f g : Step State A} (t : Bool) → Gives nodes h f → Gives nodes h g → Gives nodes h (if t then f else g)
+pub gives_if : {A : Type 0} {nodes : A → List ℕ} {h : List Hold} {f g : Step State A} (t : Bool) → Gives nodes h f → Gives nodes h g →
+    Gives nodes h (if t then f else g)
 gives_if true x y = x
 gives_if false x y = y
 
-catch_gives : {A : Type 0} (nodes : A → List ℕ) (h : List Hold) (o : Outcome State A) (k : Fault → Step State A) → AfterGives nodes h o → ((f : Fault) → Gives nodes h (k f)) → AfterGives nodes h (catch_in o k)
+catch_gives : {A : Type 0} (nodes : A → List ℕ) (h : List Hold) (o : Outcome State A) (k : Fault → Step State A) → AfterGives nodes h o →
+    ((f : Fault) → Gives nodes h (k f)) → AfterGives nodes h (catch_in o k)
 catch_gives nodes h (Goes a s) k o n = o
 catch_gives nodes h (Throws f s) k o n = (n f).at s o
 catch_gives nodes h (Spent s) k o n = o
 
-pub gives_catch : {A : Type 0} {nodes : A → List ℕ} {h : List Hold} {f : Step State A} {k : Fault → Step State A} → Gives nodes h f → ((x : Fault) → Gives nodes h (k x)) → Gives nodes h (catch f k)
+pub gives_catch : {A : Type 0} {nodes : A → List ℕ} {h : List Hold} {f : Step State A} {k : Fault → Step State A} → Gives nodes h f →
+    ((x : Fault) → Gives nodes h (k x)) → Gives nodes h (catch f k)
 gives_catch {nodes = nodes} {h = h} {f = f} {k = k} x n = record { at = λ s o. catch_gives nodes h (f s) k (x.at s o) n }
 
 -- a primitive on the page
-page_back : {A : Type 0} (nodes : A → List ℕ) (h : List Hold) (s : State) (o : Outcome Work A) → All (λ (k : Class). are_whole k.bodies ≡ true) s.classes → AfterGivesAt nodes (with_hands (nodes_of s.variables) h) s.log o
+page_back : {A : Type 0} (nodes : A → List ℕ) (h : List Hold) (s : State) (o : Outcome Work A) →
+    All (λ (k : Class). are_whole k.bodies ≡ true) s.classes → AfterGivesAt nodes (with_hands (nodes_of s.variables) h) s.log o
     → AfterGives nodes h (with_outcome o s)
 page_back nodes h s (Goes a w) whole k = (came_back h s w whole k.0, k.1)
 page_back nodes h s (Throws f w) whole k = came_back h s w whole k
 page_back nodes h s (Spent w) whole k = spent_lawful (with_hands (nodes_of s.variables) h) (s.log ++ map event_of w.page.notes) w.page k.holds
 
-pub gives_page : {A : Type 0} {nodes : A → List ℕ} {h : List Hold} {f : Step Work A} → ((vs : List ℕ) (l : List Event) → GivesAt nodes (with_hands vs h) l f) → Gives nodes h (on_page f)
+pub gives_page : {A : Type 0} {nodes : A → List ℕ} {h : List Hold} {f : Step Work A} →
+    ((vs : List ℕ) (l : List Event) → GivesAt nodes (with_hands vs h) l f) → Gives nodes h (on_page f)
 gives_page {nodes = nodes} {h = h} {f = f} n = record { at = λ s k. page_back nodes h s (f (work_of s)) k.rest.whole ((n (nodes_of s.variables) s.log).at (work_of s) (at_work h s k)) }
 
 -- what is looked up
@@ -174,7 +186,8 @@ abbrev pub FoundRows : {A : Type 0} → (A → List ℕ) → ℕ → Result A Fa
 FoundRows nodes rows (Ok a) = All (IsRow rows) (nodes a)
 FoundRows nodes rows (Err f) = Unit {0}
 
-settles : {A : Type 0} (nodes : A → List ℕ) (h : List Hold) (s : State) (r : Result A Fault) → HoldsIn h s → FoundRows nodes (length s.page.elements) r → AfterGives nodes h (settle r s)
+settles : {A : Type 0} (nodes : A → List ℕ) (h : List Hold) (s : State) (r : Result A Fault) → HoldsIn h s →
+    FoundRows nodes (length s.page.elements) r → AfterGives nodes h (settle r s)
 settles nodes h s (Ok a) k rows = (k, rows)
 settles nodes h s (Err f) k rows = k
 

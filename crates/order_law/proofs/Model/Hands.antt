@@ -76,7 +76,8 @@ drop_one n h l p k = record {
 }
 
 -- below the steps of an operation
-take_below : (n m : ℕ) (h : List Hold) (l : List Event) (p : Page) → IsRow (length p.elements) n → Holds (InSteps m ∷ h) l p → Holds (InSteps m ∷ InHand n ∷ h) l p
+take_below : (n m : ℕ) (h : List Hold) (l : List Event) (p : Page) → IsRow (length p.elements) n → Holds (InSteps m ∷ h) l p →
+    Holds (InSteps m ∷ InHand n ∷ h) l p
 take_below n m h l p row k = record {
   book = k.book;
   reads = k.reads;
@@ -91,7 +92,8 @@ pub take_hands : (ns : List ℕ) (h : List Hold) (l : List Event) (p : Page) →
 take_hands [] h l p rows k = k
 take_hands (n ∷ ns) h l p rows k = take_one n (with_hands ns h) l p rows.0 (take_hands ns h l p rows.1 k)
 
-pub take_hands_below : (ns : List ℕ) (m : ℕ) (h : List Hold) (l : List Event) (p : Page) → All (IsRow (length p.elements)) ns → Holds (InSteps m ∷ h) l p → Holds (InSteps m ∷ with_hands ns h) l p
+pub take_hands_below : (ns : List ℕ) (m : ℕ) (h : List Hold) (l : List Event) (p : Page) → All (IsRow (length p.elements)) ns →
+    Holds (InSteps m ∷ h) l p → Holds (InSteps m ∷ with_hands ns h) l p
 take_hands_below [] m h l p rows k = k
 take_hands_below (n ∷ ns) m h l p rows k = take_below n m (with_hands ns h) l p rows.0 (take_hands_below ns m h l p rows.1 k)
 
@@ -109,7 +111,8 @@ hand_rows (n ∷ ns) h l p k = (k.elements.ongoing.0, hand_rows ns h l p (drop_o
 pub take_in : (ns : List ℕ) (h : List Hold) (s : State) → All (IsRow (length s.page.elements)) ns → HoldsIn h s → HoldsIn (with_hands ns h) s
 take_in ns h s rows k = record { holds = take_hands ns h s.log s.page rows k.holds; notes = k.notes; rest = k.rest }
 
-pub take_in_below : (ns : List ℕ) (m : ℕ) (h : List Hold) (s : State) → All (IsRow (length s.page.elements)) ns → HoldsIn (InSteps m ∷ h) s → HoldsIn (InSteps m ∷ with_hands ns h) s
+pub take_in_below : (ns : List ℕ) (m : ℕ) (h : List Hold) (s : State) → All (IsRow (length s.page.elements)) ns → HoldsIn (InSteps m ∷ h) s →
+    HoldsIn (InSteps m ∷ with_hands ns h) s
 take_in_below ns m h s rows k = record { holds = take_hands_below ns m h s.log s.page rows k.holds; notes = k.notes; rest = k.rest }
 
 pub drop_in : (ns : List ℕ) (h : List Hold) (s : State) → HoldsIn (with_hands ns h) s → HoldsIn h s

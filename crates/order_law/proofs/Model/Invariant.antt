@@ -158,7 +158,8 @@ pub record HoldsRest (f : Trees) (rows : ℕ) (stacks : List (List (Option ℕ))
   pub whole : All (λ (k : Class). are_whole k.bodies ≡ true) classes
 
 -- as many rows
-pub rest_rows : (f : Trees) (rows others : ℕ) (stacks : List (List (Option ℕ))) (variables : List (List ℕ × ℕ)) (classes : List Class) → rows ≡ others → HoldsRest f rows stacks variables classes → HoldsRest f others stacks variables classes
+pub rest_rows : (f : Trees) (rows others : ℕ) (stacks : List (List (Option ℕ))) (variables : List (List ℕ × ℕ)) (classes : List Class) →
+    rows ≡ others → HoldsRest f rows stacks variables classes → HoldsRest f others stacks variables classes
 rest_rows f rows others stacks variables classes e k = subst (λ n. HoldsRest f n stacks variables classes) e k
 
 -- the state is what the log says, with this suspended

@@ -63,7 +63,8 @@ same_name FormDisabledName = refl
 same_name FormResetName = refl
 same_name FormStateRestoreName = refl
 
-pub called_holds : (e : Event) (w : Entry) (name : CallName) (h : List Hold) (l : List Event) (p : Page) → CallLine e w.element name → w.what ≡ Call name → Holds (InReaction w false ∷ h) l p → Holds (InReaction w true ∷ h) (l ++ e ∷ []) p
+pub called_holds : (e : Event) (w : Entry) (name : CallName) (h : List Hold) (l : List Event) (p : Page) → CallLine e w.element name →
+    w.what ≡ Call name → Holds (InReaction w false ∷ h) l p → Holds (InReaction w true ∷ h) (l ++ e ∷ []) p
 called_holds e w name h l p x what k =
     let b = k.book in
     let c : Book = record b { brackets = Reacting w true ∷ brackets_of h; dropping = None } in
@@ -81,10 +82,12 @@ called_holds e w name h l p x what k =
 
 -- the line of each callback
 
-call_at : (e : Event) (n : ℕ) (name : CallName) (h : List Hold) (s : State) (w : Entry) → CallLine e n name → w.element ≡ n → w.what ≡ Call name → HoldsIn (InReaction w false ∷ h) s → HoldsIn (InReaction w true ∷ h) (logged e s)
+call_at : (e : Event) (n : ℕ) (name : CallName) (h : List Hold) (s : State) (w : Entry) → CallLine e n name → w.element ≡ n → w.what ≡ Call name →
+    HoldsIn (InReaction w false ∷ h) s → HoldsIn (InReaction w true ∷ h) (logged e s)
 call_at e n name h s w x at what k = record { holds = called_holds e w name h s.log s.page (subst (λ m. CallLine e m name) (sym at) x) what k.holds; notes = k.notes; rest = k.rest }
 
-pub call_line : (n : ℕ) (x : Reaction) (name : CallName) → what_of x ≡ Call name → (h : List Hold) (s : State) (w : Entry) → w.element ≡ n → w.what ≡ what_of x → HoldsIn (InReaction w false ∷ h) s → After {A = Unit {0}} (InReaction w true ∷ h) (log_call n x s)
+pub call_line : (n : ℕ) (x : Reaction) (name : CallName) → what_of x ≡ Call name → (h : List Hold) (s : State) (w : Entry) → w.element ≡ n →
+    w.what ≡ what_of x → HoldsIn (InReaction w false ∷ h) s → After {A = Unit {0}} (InReaction w true ∷ h) (log_call n x s)
 call_line n Connected name is h s w at what k = call_at (ConnectedLine n) n ConnectedName h s w (record { at = λ b o d may. line_tests b (ConnectedLine n) refl o d may refl refl; is = λ b. refl }) at what k
 call_line n Disconnected name is h s w at what k = call_at (DisconnectedLine n) n DisconnectedName h s w (record { at = λ b o d may. line_tests b (DisconnectedLine n) refl o d may refl refl; is = λ b. refl }) at what k
 call_line n (Adopted old new) name is h s w at what k = call_at (AdoptedLine n old new) n AdoptedName h s w (record { at = λ b o d may. line_tests b (AdoptedLine n old new) refl o d may refl refl; is = λ b. refl }) at what k

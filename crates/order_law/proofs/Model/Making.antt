@@ -58,7 +58,8 @@ new_holds f h l p k = record {
 }
 
 -- a row that can be upgraded is set: a new element's, in any state
-pub fresh_holds : (n : ℕ) (e : Element) (h : List Hold) (l : List Event) (p : Page) → Known p.elements n → is_upgradable (state_of p n) ≡ true → (is_upgradable e.state ≡ true → e.definition ≡ None) → Holds h l p → Holds h l (with_element n e p)
+pub fresh_holds : (n : ℕ) (e : Element) (h : List Hold) (l : List Event) (p : Page) → Known p.elements n → is_upgradable (state_of p n) ≡ true →
+    (is_upgradable e.state ≡ true → e.definition ≡ None) → Holds h l p → Holds h l (with_element n e p)
 fresh_holds n e h l p known may unset k = record {
   book = k.book;
   reads = k.reads;
@@ -74,7 +75,8 @@ fresh_holds n e h l p known may unset k = record {
 }
 
 -- a row that can't be upgraded changes its state to another such: an upgrade that failed
-pub failed_holds : (n : ℕ) (e : Element) (h : List Hold) (l : List Event) (p : Page) → Known p.elements n → is_upgradable e.state ≡ false → e.definition ≡ (element_of p n).definition → Holds h l p → Holds h l (with_element n e p)
+pub failed_holds : (n : ℕ) (e : Element) (h : List Hold) (l : List Event) (p : Page) → Known p.elements n → is_upgradable e.state ≡ false →
+    e.definition ≡ (element_of p n).definition → Holds h l p → Holds h l (with_element n e p)
 failed_holds n e h l p known not_again same k = record {
   book = k.book;
   reads = k.reads;
@@ -91,7 +93,8 @@ failed_holds n e h l p known not_again same k = record {
 }
 
 -- a definition more: what was defined still is
-fits_more : (k : CallOrUpgrade) (d : Definition) (ds : List Definition) (o : Option ℕ) → fits k (option_and_then (slice_get ds) o) ≡ true → fits k (option_and_then (slice_get (ds ++ d ∷ [])) o) ≡ true
+fits_more : (k : CallOrUpgrade) (d : Definition) (ds : List Definition) (o : Option ℕ) → fits k (option_and_then (slice_get ds) o) ≡ true →
+    fits k (option_and_then (slice_get (ds ++ d ∷ [])) o) ≡ true
 fits_more IsUpgrade d ds o f = refl
 fits_more (Call name) d ds None f = f
 fits_more (Call name) d ds (Some i) f = go ds i f

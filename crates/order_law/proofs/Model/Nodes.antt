@@ -51,7 +51,8 @@ no_row (x ∷ rows) zero le = absurd (omega arith)
 no_row (x ∷ rows) (suc i) le = no_row rows i (omega (arith, le))
 
 -- a forest with one node more
-more_at : (forest : Trees) (h : List Hold) (l : List Event) (w : Work) → Sound forest (length w.page.elements + 1) w.page.stacks → (fuel : ℕ) → HoldsAt Any h l w → IsNew h l (next_number w.page) (record w { page = with_new forest w.page; fuel = fuel })
+more_at : (forest : Trees) (h : List Hold) (l : List Event) (w : Work) → Sound forest (length w.page.elements + 1) w.page.stacks → (fuel : ℕ) →
+    HoldsAt Any h l w → IsNew h l (next_number w.page) (record w { page = with_new forest w.page; fuel = fuel })
 more_at forest h l w sound fuel k = record {
   holds = record { holds = new_holds forest h (l ++ map event_of w.page.notes) w.page k.holds; sound = sound_rows forest (length w.page.elements + 1) (length (w.page.elements ++ uncustomized ∷ [])) w.page.stacks (sym rows) sound; known = tt };
   known = let some = k.sound.some in let s = k.sound.size in record { low = omega (arith, some, s); high = omega (arith, rows, s) };
@@ -64,7 +65,8 @@ more_at forest h l w sound fuel k = record {
 new_at : (facts : ℕ → Facts) (h : List Hold) (l : List Event) (w : Work) → HoldsAt Any h l w → AfterNew h l (make_node facts w)
 new_at facts h l w k = go w.fuel
   where
-    go : (fuel : ℕ) → AfterNew h l (then_do (page.spend_from fuel w) (λ _. page.read_page next_number >>= (λ n. page.change_page (λ p. with_new (with_node n (facts n) p.forest) p) >> give n)))
+    go : (fuel : ℕ) →
+        AfterNew h l (then_do (page.spend_from fuel w) (λ _. page.read_page next_number >>= (λ n. page.change_page (λ p. with_new (with_node n (facts n) p.forest) p) >> give n)))
     go zero = k
     go (suc fuel) = more_at (with_node (next_number w.page) (facts (next_number w.page)) w.page.forest) h l w
         (sound_more w.page.forest (with_node (next_number w.page) (facts (next_number w.page)) w.page.forest) (length w.page.elements) w.page.stacks (facts (next_number w.page)).kind (more_node (next_number w.page) (facts (next_number w.page)) w.page.forest) k.sound)
@@ -90,7 +92,8 @@ AfterMade h l (Throws f w) = ⊥
 AfterMade h l (Spent w) = HoldsAt Any h l w
 
 -- its row is set
-set_row : (n : ℕ) (e : Element) (h : List Hold) (l : List Event) (w : Work) → (is_upgradable e.state ≡ true → e.definition ≡ None) → IsNew h l n w → IsMade h l n (record w { page = with_element n e w.page })
+set_row : (n : ℕ) (e : Element) (h : List Hold) (l : List Event) (w : Work) → (is_upgradable e.state ≡ true → e.definition ≡ None) → IsNew h l n w →
+    IsMade h l n (record w { page = with_element n e w.page })
 set_row n e h l w unset k = record {
   holds = record {
     holds = fresh_holds n e h (l ++ map event_of w.page.notes) w.page k.known (ap (λ (r : Element). is_upgradable r.state) k.blank) unset k.holds.holds;
@@ -103,12 +106,14 @@ set_row n e h l w unset k = record {
     rows : length (with_element n e w.page).elements ≡ length w.page.elements
     rows = length-set w.page.elements (n - 1) e
 
-state_then : (state : CustomState) (h : List Hold) (l : List Event) (o : Outcome Work ℕ) → AfterNew h l o → AfterMade h l (then_do o (λ n. page.change_page (with_state n state) >> give n))
+state_then : (state : CustomState) (h : List Hold) (l : List Event) (o : Outcome Work ℕ) → AfterNew h l o →
+    AfterMade h l (then_do o (λ n. page.change_page (with_state n state) >> give n))
 state_then state h l (Goes n w) k = set_row n (record (element_of w.page n) { state = state }) h l w (λ _. ap (λ (r : Element). r.definition) k.blank) k
 state_then state h l (Throws f w) k = k
 state_then state h l (Spent w) k = k
 
-pub made_at : (local : List ℕ) (is : Option (List ℕ)) (document : ℕ) (state : CustomState) (h : List Hold) (l : List Event) (w : Work) → HoldsAt Any h l w → AfterMade h l (make_in_state local is document state w)
+pub made_at : (local : List ℕ) (is : Option (List ℕ)) (document : ℕ) (state : CustomState) (h : List Hold) (l : List Event) (w : Work) →
+    HoldsAt Any h l w → AfterMade h l (make_in_state local is document state w)
 made_at local is document state h l w k = state_then state h l (make_element local is document w) (new_at (λ n. new_element local is document) h l w k)
 
 made_gives : (h : List Hold) (l : List Event) (o : Outcome Work ℕ) → AfterMade h l o → AfterGivesAt one h l o
@@ -116,11 +121,13 @@ made_gives h l (Goes n w) k = let x = k.known in (k.holds, (record { low = omega
 made_gives h l (Throws f w) k = absurd k
 made_gives h l (Spent w) k = k
 
-pub state_gives : {h : List Hold} {l : List Event} (local : List ℕ) (is : Option (List ℕ)) (document : ℕ) (state : CustomState) → GivesAt one h l (make_in_state local is document state)
+pub state_gives : {h : List Hold} {l : List Event} (local : List ℕ) (is : Option (List ℕ)) (document : ℕ) (state : CustomState) →
+    GivesAt one h l (make_in_state local is document state)
 state_gives {h} {l} local is document state = record { at = λ w k. made_gives h l (make_in_state local is document state w) (made_at local is document state h l w k) }
 
 -- a new element, custom at once
-custom_then : (d : ℕ) (h : List Hold) (l : List Event) (o : Outcome Work ℕ) → AfterNew h l o → AfterGivesAt one h l (then_do o (λ n. page.change_page (with_definition n (Some d)) >> (page.change_page (with_state n Custom) >> give n)))
+custom_then : (d : ℕ) (h : List Hold) (l : List Event) (o : Outcome Work ℕ) → AfterNew h l o →
+    AfterGivesAt one h l (then_do o (λ n. page.change_page (with_definition n (Some d)) >> (page.change_page (with_state n Custom) >> give n)))
 custom_then d h l (Goes n w) k =
     let e : Element = record { state = Custom; definition = Some d } in
     let first : Element = record (element_of w.page n) { definition = Some d } in
@@ -133,7 +140,8 @@ custom_then d h l (Spent w) k = k
 
 -- the base call
 
-entry_after : (d : ℕ) (x : Definition) (entries : List (Option ℕ)) (h : List Hold) (l : List Event) (w : Work) → All (IsEntry (length w.page.elements)) entries → HoldsAt Any h l w → AfterGivesAt one h l (base_entry d x entries w)
+entry_after : (d : ℕ) (x : Definition) (entries : List (Option ℕ)) (h : List Hold) (l : List Event) (w : Work) →
+    All (IsEntry (length w.page.elements)) entries → HoldsAt Any h l w → AfterGivesAt one h l (base_entry d x entries w)
 entry_after d x [] h l w all k = custom_then d h l (make_element x.local (is_value_of x) 1 w) (new_at (λ n. new_element x.local (is_value_of x) 1) h l w k)
 entry_after d x (None ∷ entries) h l w all k = k
 entry_after d x (Some n ∷ entries) h l w all k = (stack_holds Any h l d (None ∷ entries) w (tt, all.1) k, (all.0, tt))
@@ -141,13 +149,15 @@ entry_after d x (Some n ∷ entries) h l w all k = (stack_holds Any h l d (None 
 pub base_gives : {h : List Hold} {l : List Event} (class : ℕ) → GivesAt one h l (base_call class)
 base_gives {h} {l} class = record { at = λ w k. go w k (by_class w.page.definitions class) }
   where
-    go : (w : Work) → HoldsAt Any h l w → (o : Option ℕ) → AfterGivesAt one h l (then_do (found o TypeError w) (λ d. page.read_page (λ p. definition_at p d) >>= (λ x. page.read_page (λ p. stack_of p d) >>= base_entry d x)))
+    go : (w : Work) → HoldsAt Any h l w → (o : Option ℕ) →
+        AfterGivesAt one h l (then_do (found o TypeError w) (λ d. page.read_page (λ p. definition_at p d) >>= (λ x. page.read_page (λ p. stack_of p d) >>= base_entry d x)))
     go w k None = k
     go w k (Some d) = entry_after d (definition_at w.page d) (stack_of w.page d) h l w (stack_entries (length w.page.elements) w.page.stacks d k.sound.stacked) k
 
 -- creating that is not synchronous
 
-later_then : (d : ℕ) (h : List Hold) (l : List Event) (o : Outcome Work ℕ) → AfterMade h l o → AfterGivesAt one h l (then_do o (λ n. enqueue_upgrade d n >> give n))
+later_then : (d : ℕ) (h : List Hold) (l : List Event) (o : Outcome Work ℕ) → AfterMade h l o →
+    AfterGivesAt one h l (then_do o (λ n. enqueue_upgrade d n >> give n))
 later_then d h l (Goes n w) k =
     let x = k.known in
     let taken : HoldsAt Any (InHand n ∷ h) l w = take_at (n ∷ []) h l w (record { low = omega (arith, x.low); high = x.high }, tt) k.holds in
@@ -156,16 +166,19 @@ later_then d h l (Goes n w) k =
 later_then d h l (Throws f w) k = absurd k
 later_then d h l (Spent w) k = k
 
-later_gives : {h : List Hold} {l : List Event} (local : List ℕ) (is : Option (List ℕ)) (document : ℕ) (d : Option ℕ) → GivesAt one h l (make_later local is document d)
+later_gives : {h : List Hold} {l : List Event} (local : List ℕ) (is : Option (List ℕ)) (document : ℕ) (d : Option ℕ) →
+    GivesAt one h l (make_later local is document d)
 later_gives local is document None = state_gives local is document (first_state local is)
 later_gives {h} {l} local is document (Some d) = record { at = λ w k. later_then d h l (make_in_state local is document Undefined w) (made_at local is document Undefined h l w k) }
 
-pub create_later_gives : {h : List Hold} {l : List Event} (local : List ℕ) (is : Option (List ℕ)) (document : ℕ) → GivesAt one h l (create_later local is document)
+pub create_later_gives : {h : List Hold} {l : List Event} (local : List ℕ) (is : Option (List ℕ)) (document : ℕ) →
+    GivesAt one h l (create_later local is document)
 create_later_gives local is document = give_bind_at {nodes = none} (keeps_at (at_read (λ p. lookup_in p document local is))) (λ d. later_gives local is document d)
 
 -- a shadow root, at a host that is there
 
-shadow_after : (host : ℕ) (h : List Hold) (l : List Event) (w : Work) → times host w.page.forest ≡ 1 → HoldsAt Any h l w → AfterGivesAt one h l (make_shadow_root host w)
+shadow_after : (host : ℕ) (h : List Hold) (l : List Event) (w : Work) → times host w.page.forest ≡ 1 → HoldsAt Any h l w →
+    AfterGivesAt one h l (make_shadow_root host w)
 shadow_after host h l w there k = go w.fuel
   where
     root : Facts
@@ -174,7 +187,8 @@ shadow_after host h l w there k = go w.fuel
     forest : Trees
     forest = with_shadow host (single (next_number w.page) root) w.page.forest
 
-    go : (fuel : ℕ) → AfterGivesAt one h l (then_do (page.spend_from fuel w) (λ _. page.read_page next_number >>= (λ n. page.change_page (λ p. with_new (with_shadow host (single n (blank ShadowRoot (document_at p.forest host))) p.forest) p) >> give n)))
+    go : (fuel : ℕ) →
+        AfterGivesAt one h l (then_do (page.spend_from fuel w) (λ _. page.read_page next_number >>= (λ n. page.change_page (λ p. with_new (with_shadow host (single n (blank ShadowRoot (document_at p.forest host))) p.forest) p) >> give n)))
     go zero = k
     go (suc fuel) = new_gives h l (Goes (next_number w.page) (record w { page = with_new forest w.page; fuel = fuel }))
         (more_at forest h l w (sound_more w.page.forest forest (length w.page.elements) w.page.stacks ShadowRoot (more_shadow host (next_number w.page) root w.page.forest there) k.sound) fuel k)
@@ -182,11 +196,13 @@ shadow_after host h l w there k = go w.fuel
 pub attach_gives : {h : List Hold} {l : List Event} (n : ℕ) → GivesAt one h l (attach_shadow n)
 attach_gives {h} {l} n = record { at = λ w k. first w k (shadow_host (facts_at w.page.forest n).local) refl }
   where
-    third : (w : Work) → HoldsAt Any h l w → times n w.page.forest ≡ 1 → (t : Bool) → AfterGivesAt one h l (then_do (throw_if t NotSupportedError w) (λ _. make_shadow_root n))
+    third : (w : Work) → HoldsAt Any h l w → times n w.page.forest ≡ 1 → (t : Bool) →
+        AfterGivesAt one h l (then_do (throw_if t NotSupportedError w) (λ _. make_shadow_root n))
     third w k there true = k
     third w k there false = shadow_after n h l w there k
 
-    second : (w : Work) → HoldsAt Any h l w → times n w.page.forest ≡ 1 → (t : Bool) → AfterGivesAt one h l (then_do (throw_if t NotSupportedError w) (λ _. throw_where (λ (w : Work). is_some (shadow_at w.page.forest n)) NotSupportedError >> make_shadow_root n))
+    second : (w : Work) → HoldsAt Any h l w → times n w.page.forest ≡ 1 → (t : Bool) →
+        AfterGivesAt one h l (then_do (throw_if t NotSupportedError w) (λ _. throw_where (λ (w : Work). is_some (shadow_at w.page.forest n)) NotSupportedError >> make_shadow_root n))
     second w k there true = k
     second w k there false = third w k there (is_some (shadow_at w.page.forest n))
 

@@ -60,15 +60,18 @@ deed_nodes (deeds.Let var n) = n ∷ []
 deed_nodes deed = []
 
 -- of a deed of no such nodes nothing is said
-found_any : {A : Type 0} (rows : ℕ) (r : Result A Fault) (k : A → Result Deed Fault) → ((a : A) → FoundRows deed_nodes rows (k a)) → FoundRows deed_nodes rows (operands.◌>>=◌ r k)
+found_any : {A : Type 0} (rows : ℕ) (r : Result A Fault) (k : A → Result Deed Fault) → ((a : A) → FoundRows deed_nodes rows (k a)) →
+    FoundRows deed_nodes rows (operands.◌>>=◌ r k)
 found_any rows (Ok a) k n = n a
 found_any rows (Err f) k n = tt
 
-found_node : (rows : ℕ) (r : Result ℕ Fault) (k : ℕ → Result Deed Fault) → FoundRows one rows r → ((n : ℕ) → IsRow rows n → FoundRows deed_nodes rows (k n)) → FoundRows deed_nodes rows (operands.◌>>=◌ r k)
+found_node : (rows : ℕ) (r : Result ℕ Fault) (k : ℕ → Result Deed Fault) → FoundRows one rows r →
+    ((n : ℕ) → IsRow rows n → FoundRows deed_nodes rows (k n)) → FoundRows deed_nodes rows (operands.◌>>=◌ r k)
 found_node rows (Ok n) k row next = next n row.0
 found_node rows (Err f) k row next = tt
 
-resolved : (rows : ℕ) (v : View) (op : Op) → has_steps op ≡ true → ((operand : Operand) → FoundRows one rows (node v operand)) → FoundRows deed_nodes rows (resolve v op)
+resolved : (rows : ℕ) (v : View) (op : Op) → has_steps op ≡ true → ((operand : Operand) → FoundRows one rows (node v operand)) →
+    FoundRows deed_nodes rows (resolve v op)
 resolved rows v (ops.Create var local is within) steps row = found_any rows (document_or_page v within) _ (λ d. tt)
 resolved rows v (ops.New var name) steps row = found_any rows (class v.classes name) _ (λ k. tt)
 resolved rows v (ops.MakeText var chars within) steps row = found_any rows (document_or_page v within) _ (λ d. tt)
@@ -90,16 +93,19 @@ resolved rows v op steps row = absurd (let x : false ≡ true = steps in cc)
 
 -- variables
 
-set_nodes : (rows : ℕ) (vs : List (List ℕ × ℕ)) (i : ℕ) (v : List ℕ) (n : ℕ) → IsRow rows n → All (IsRow rows) (nodes_of vs) → All (IsRow rows) (nodes_of (slice_set vs i (v, n)))
+set_nodes : (rows : ℕ) (vs : List (List ℕ × ℕ)) (i : ℕ) (v : List ℕ) (n : ℕ) → IsRow rows n → All (IsRow rows) (nodes_of vs) →
+    All (IsRow rows) (nodes_of (slice_set vs i (v, n)))
 set_nodes rows [] i v n row all = tt
 set_nodes rows (b ∷ vs) zero v n row all = (row, all.1)
 set_nodes rows (b ∷ vs) (suc i) v n row all = (all.0, set_nodes rows vs i v n row all.1)
 
-more_nodes : (rows : ℕ) (vs : List (List ℕ × ℕ)) (v : List ℕ) (n : ℕ) → IsRow rows n → All (IsRow rows) (nodes_of vs) → All (IsRow rows) (nodes_of (vs ++ (v, n) ∷ []))
+more_nodes : (rows : ℕ) (vs : List (List ℕ × ℕ)) (v : List ℕ) (n : ℕ) → IsRow rows n → All (IsRow rows) (nodes_of vs) →
+    All (IsRow rows) (nodes_of (vs ++ (v, n) ∷ []))
 more_nodes rows [] v n row all = (row, tt)
 more_nodes rows (b ∷ vs) v n row all = (all.0, more_nodes rows vs v n row all.1)
 
-put_nodes : (rows : ℕ) (o : Option ℕ) (v : List ℕ) (n : ℕ) (vs : List (List ℕ × ℕ)) → IsRow rows n → All (IsRow rows) (nodes_of vs) → All (IsRow rows) (nodes_of (put_variable o v n vs))
+put_nodes : (rows : ℕ) (o : Option ℕ) (v : List ℕ) (n : ℕ) (vs : List (List ℕ × ℕ)) → IsRow rows n → All (IsRow rows) (nodes_of vs) →
+    All (IsRow rows) (nodes_of (put_variable o v n vs))
 put_nodes rows None v n vs row all = more_nodes rows vs v n row all
 put_nodes rows (Some i) v n vs row all = set_nodes rows vs i v n row all
 
@@ -134,7 +140,8 @@ AfterMadeIn h (Goes n s) = HoldsIn h s × Known s.page.elements n
 AfterMadeIn h (Throws f s) = ⊥
 AfterMadeIn h (Spent s) = Lawful s.log
 
-made_in : (h : List Hold) (s : State) (o : Outcome Work ℕ) → HoldsIn h s → AfterMade (with_hands (nodes_of s.variables) h) s.log o → AfterMadeIn h (with_outcome o s)
+made_in : (h : List Hold) (s : State) (o : Outcome Work ℕ) → HoldsIn h s → AfterMade (with_hands (nodes_of s.variables) h) s.log o →
+    AfterMadeIn h (with_outcome o s)
 made_in h s (Goes n w) k made = (came_back h s w k.rest.whole made.holds, made.known)
 made_in h s (Throws f w) k made = made
 made_in h s (Spent w) k made = spent_lawful (with_hands (nodes_of s.variables) h) _ w.page made.holds
@@ -155,12 +162,14 @@ module _ (again : Again) (keeps : KeepsLaw again) where
   queue_gives h steps n = reacting_gives again keeps (construct_for_keeps again keeps) (body_keeps again keeps) given_nodes h steps n
 
   -- a definition that extends an element
-  upgraded_after : (n : ℕ) (m : ℕ) (h : List Hold) (o : Outcome State (Unit {0})) → 2 ≤ n → After (InHand n ∷ InSteps m ∷ h) o → AfterGives one (InHand n ∷ InSteps m ∷ h) (then_do (catch_in o (upgrade_failed n)) (λ _. give n))
+  upgraded_after : (n : ℕ) (m : ℕ) (h : List Hold) (o : Outcome State (Unit {0})) → 2 ≤ n → After (InHand n ∷ InSteps m ∷ h) o →
+      AfterGives one (InHand n ∷ InSteps m ∷ h) (then_do (catch_in o (upgrade_failed n)) (λ _. give n))
   upgraded_after n m h (Goes a s) low k = (gives_give {nodes = one} {h = InHand n ∷ InSteps m ∷ h} n (inl refl, tt)).at s k
   upgraded_after n m h (Throws f s) low k = (gives_give {nodes = one} {h = InHand n ∷ InSteps m ∷ h} n (inl refl, tt)).at _ (failed_after n f (InSteps m ∷ h) s low k)
   upgraded_after n m h (Spent s) low k = k
 
-  extended_then : (d m : ℕ) (h : List Hold) (o : Outcome State ℕ) → AfterMadeIn (InSteps m ∷ h) o → AfterGives one (InSteps m ∷ h) (then_do o (λ n. catch (upgrade again n d) (upgrade_failed n) >> give n))
+  extended_then : (d m : ℕ) (h : List Hold) (o : Outcome State ℕ) → AfterMadeIn (InSteps m ∷ h) o →
+      AfterGives one (InSteps m ∷ h) (then_do o (λ n. catch (upgrade again n d) (upgrade_failed n) >> give n))
   extended_then d m h (Goes n s) k =
       let known = k.1 in
       let held : HoldsIn (InHand n ∷ InSteps m ∷ h) s = take_in (n ∷ []) (InSteps m ∷ h) s (record { low = omega (arith, known.low); high = known.high }, tt) k.0 in
@@ -168,7 +177,8 @@ module _ (again : Again) (keeps : KeepsLaw again) where
   extended_then d m h (Throws f s) k = absurd k
   extended_then d m h (Spent s) k = k
 
-  extended_gives : (local : List ℕ) (is : Option (List ℕ)) (document d m : ℕ) (h : List Hold) → Gives one (InSteps m ∷ h) (create_extended again local is document d)
+  extended_gives : (local : List ℕ) (is : Option (List ℕ)) (document d m : ℕ) (h : List Hold) →
+      Gives one (InSteps m ∷ h) (create_extended again local is document d)
   extended_gives local is document d m h = record {
     at = λ s k. extended_then d m h (on_page (make_in_state local is document Undefined) s) (made_in (InSteps m ∷ h) s (make_in_state local is document Undefined (work_of s)) k
         (made_at local is document Undefined (with_hands (nodes_of s.variables) (InSteps m ∷ h)) s.log (work_of s) (at_work (InSteps m ∷ h) s k)));
@@ -182,10 +192,12 @@ module _ (again : Again) (keeps : KeepsLaw again) where
   failed_gives : (local : List ℕ) (document : ℕ) (f : Fault) (h : List Hold) → Gives one h (create_failed local document f)
   failed_gives local document f h = gives_seq (keeps_plain (Reported f) (reported_plain f)) (gives_page (λ vs l. state_gives local None document Failed))
 
-  defined_gives : (local : List ℕ) (is : Option (List ℕ)) (document d : ℕ) (x : Definition) (m : ℕ) (h : List Hold) → Gives one (InSteps m ∷ h) (create_defined again local is document d x)
+  defined_gives : (local : List ℕ) (is : Option (List ℕ)) (document d : ℕ) (x : Definition) (m : ℕ) (h : List Hold) →
+      Gives one (InSteps m ∷ h) (create_defined again local is document d x)
   defined_gives local is document d x m h = gives_if (is_autonomous x) (gives_catch (fit_gives local document x.class (InSteps m ∷ h)) (λ f. failed_gives local document f (InSteps m ∷ h))) (extended_gives local is document d m h)
 
-  found_gives : (local : List ℕ) (is : Option (List ℕ)) (document : ℕ) (d : Option ℕ) (m : ℕ) (h : List Hold) → Gives one (InSteps m ∷ h) (create_found again local is document d)
+  found_gives : (local : List ℕ) (is : Option (List ℕ)) (document : ℕ) (d : Option ℕ) (m : ℕ) (h : List Hold) →
+      Gives one (InSteps m ∷ h) (create_found again local is document d)
   found_gives local is document None m h = gives_page (λ vs l. state_gives local is document (first_state local is))
   found_gives local is document (Some d) m h = gives_after (keeps_read_page (λ p. definition_at p d)) (λ x. defined_gives local is document d x m h)
 
@@ -209,6 +221,7 @@ module _ (again : Again) (keeps : KeepsLaw again) where
   deed_gives (deeds.Ask word n name) h held = record { at = λ s k. (k, tt) }
   deed_gives (deeds.Let var n) h held = nothing_gives (keeps_variable var n held.0)
 
-  pub operate_gives : (this : Option ℕ) (op : Op) (h : List Hold) → has_steps op ≡ true → All (λ n. IsHeld n h) (maybe this) → Gives given_nodes h (operate again this op)
+  pub operate_gives : (this : Option ℕ) (op : Op) (h : List Hold) → has_steps op ≡ true → All (λ n. IsHeld n h) (maybe this) →
+      Gives given_nodes h (operate again this op)
   operate_gives this op h steps held = gives_bind {nodes = deed_nodes} (gives_look this (λ v. resolve v op) (λ s k. resolved (length s.page.elements) (view this s) op steps (λ operand. view_row h this operand s held k)))
       (λ deed. kept_gives (variable op) (deed_gives deed (with_hands (deed_nodes deed) h) (all_taken (deed_nodes deed) h)))

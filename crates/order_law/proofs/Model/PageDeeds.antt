@@ -79,17 +79,20 @@ candidate_element : (name : List ℕ) (base : Option (List ℕ)) (x : Facts) →
 candidate_element name None x is = left (is_element x.kind) (bytes_eq x.local name) is
 candidate_element name (Some base) x is = left (is_element x.kind) (bytes_eq x.local base) (left (is_element x.kind && bytes_eq x.local base) (has_is_value x.is_value name) is)
 
-candidates_elements : (name : List ℕ) (base : Option (List ℕ)) (f : Trees) (ns : List ℕ) → All (λ n. is_element (kind_at f n) ≡ true) (filter (λ n. is_candidate name base (facts_at f n)) ns)
+candidates_elements : (name : List ℕ) (base : Option (List ℕ)) (f : Trees) (ns : List ℕ) →
+    All (λ n. is_element (kind_at f n) ≡ true) (filter (λ n. is_candidate name base (facts_at f n)) ns)
 candidates_elements name base f [] = tt
 candidates_elements name base f (n ∷ ns) = go (is_candidate name base (facts_at f n)) refl (candidates_elements name base f ns)
   where
-    go : (t : Bool) → is_candidate name base (facts_at f n) ≡ t → All (λ n. is_element (kind_at f n) ≡ true) (filter (λ n. is_candidate name base (facts_at f n)) ns)
+    go : (t : Bool) → is_candidate name base (facts_at f n) ≡ t →
+        All (λ n. is_element (kind_at f n) ≡ true) (filter (λ n. is_candidate name base (facts_at f n)) ns)
         → All (λ n. is_element (kind_at f n) ≡ true) (if t then n ∷ filter (λ n. is_candidate name base (facts_at f n)) ns else filter (λ n. is_candidate name base (facts_at f n)) ns)
     go true is rest = (candidate_element name base (facts_at f n) is, rest)
     go false is rest = rest
 
 -- the forest stays while they are enqueued
-enqueued_at : {h : List Hold} {l : List Event} (f : Trees) (d : ℕ) (ns : List ℕ) → All (λ n. is_element (kind_at f n) ≡ true) ns → KeepsAt (λ g. f ≡ g) h l (for_each ns (enqueue_upgrade d))
+enqueued_at : {h : List Hold} {l : List Event} (f : Trees) (d : ℕ) (ns : List ℕ) → All (λ n. is_element (kind_at f n) ≡ true) ns →
+    KeepsAt (λ g. f ≡ g) h l (for_each ns (enqueue_upgrade d))
 enqueued_at f d [] all = at_done
 enqueued_at f d (n ∷ ns) all = at_seq (upgrade_at d n (λ g same. ap (λ t. is_element (kind_at t n)) (sym same) ∙ all.0)) (enqueued_at f d ns all.1)
 
@@ -104,7 +107,8 @@ candidates_at {h} {l} name base d = record {
     known (Throws x w) f o = o
     known (Spent w) f o = record { holds = o.holds; sound = o.sound; known = tt }
 
-pub define_gives : {h : List Hold} {l : List Event} (name : List ℕ) (class : ℕ) (facts : ClassFacts) (base : Option (List ℕ)) → GivesAt none h l (define_name name class facts base)
+pub define_gives : {h : List Hold} {l : List Event} (name : List ℕ) (class : ℕ) (facts : ClassFacts) (base : Option (List ℕ)) →
+    GivesAt none h l (define_name name class facts base)
 define_gives name class facts base = give_seq_at (give_refuse_at (λ w. may_define w.page.definitions name class base))
     (give_bind_at {nodes = none} (keeps_at (at_read (λ p. length p.definitions)))
     (λ d. give_seq_at (keeps_at (defined_at (record { name = name; local = local_of name base; class = class; facts = facts }))) (give_seq_at (keeps_at (at_where (λ w. w.page.upgrades) (candidates_at name base d))) (give_at d tt))))

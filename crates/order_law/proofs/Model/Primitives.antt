@@ -29,21 +29,26 @@ use Rattle.order_law.proofs.Model.Giving.{none, AfterGivesAt, GivesAt, given_at}
 
 -- upgrades are enqueued at elements
 
-known_element : (q : Trees → Type 0) (h : List Hold) (l : List Event) (n : ℕ) (w : Work) → is_element (kind_at w.page.forest n) ≡ true → HoldsAt q h l w → Known w.page.elements n
+known_element : (q : Trees → Type 0) (h : List Hold) (l : List Event) (n : ℕ) (w : Work) → is_element (kind_at w.page.forest n) ≡ true →
+    HoldsAt q h l w → Known w.page.elements n
 known_element q h l n w is k = let row = element_row w.page.forest (length w.page.elements) w.page.stacks n is k.sound in record { low = row.0; high = row.1 }
 
-pub upgrade_at : {q : Trees → Type 0} {h : List Hold} {l : List Event} (d n : ℕ) → ((f : Trees) → q f → is_element (kind_at f n) ≡ true) → KeepsAt q h l (enqueue_upgrade d n)
+pub upgrade_at : {q : Trees → Type 0} {h : List Hold} {l : List Event} (d n : ℕ) → ((f : Trees) → q f → is_element (kind_at f n) ≡ true) →
+    KeepsAt q h l (enqueue_upgrade d n)
 upgrade_at {q} {h} {l} d n is = record { at = λ w k. enqueue_at q h l n (Upgrade d) w (known_element q h l n w (is w.page.forest k.known) k) refl k }
 
-found_at : {q : Trees → Type 0} {h : List Hold} {l : List Event} (n : ℕ) (d : Option ℕ) → ((f : Trees) → q f → is_element (kind_at f n) ≡ true) → KeepsAt q h l (enqueue_found n d)
+found_at : {q : Trees → Type 0} {h : List Hold} {l : List Event} (n : ℕ) (d : Option ℕ) → ((f : Trees) → q f → is_element (kind_at f n) ≡ true) →
+    KeepsAt q h l (enqueue_found n d)
 found_at n None is = at_done
 found_at n (Some d) is = upgrade_at d n is
 
-pub try_at : {q : Trees → Type 0} {h : List Hold} {l : List Event} (n : ℕ) → ((f : Trees) → q f → is_element (kind_at f n) ≡ true) → KeepsAt q h l (try_upgrade n)
+pub try_at : {q : Trees → Type 0} {h : List Hold} {l : List Event} (n : ℕ) → ((f : Trees) → q f → is_element (kind_at f n) ≡ true) →
+    KeepsAt q h l (try_upgrade n)
 try_at n is = at_where (λ w. w.page.upgrades) (at_bind (at_read (λ p. lookup_for p n)) (λ d. found_at n d is))
 
 -- an element, where it is one
-pub try_element_at : {q : Trees → Type 0} {h : List Hold} {l : List Event} (n : ℕ) → KeepsAt q h l (where_is (λ w. is_element (kind_at w.page.forest n)) (try_upgrade n))
+pub try_element_at : {q : Trees → Type 0} {h : List Hold} {l : List Event} (n : ℕ) →
+    KeepsAt q h l (where_is (λ w. is_element (kind_at w.page.forest n)) (try_upgrade n))
 try_element_at n = at_where_forest (λ t. is_element (kind_at t n)) (try_at n (λ f k. k.0))
 
 -- form owners and disabled states
@@ -70,17 +75,20 @@ others_at changes walk = at_each (filter (λ (c : FormChange). not (is_among c.n
 removed_at : {q : Trees → Type 0} {h : List Hold} {l : List Event} (changes : List FormChange) (was : Bool) (n : ℕ) → KeepsAt q h l (removed changes was n)
 removed_at changes was n = at_seq (turn_at changes n) (at_where (λ w. was && is_custom w.page n) (callback_at n Disconnected))
 
-pub remove_at : {q : Trees → Type 0} {h : List Hold} {l : List Event} (node : ℕ) → ((f : Trees) → IsApart f → q f → q (cut f node)) → KeepsAt q h l (remove node)
+pub remove_at : {q : Trees → Type 0} {h : List Hold} {l : List Event} (node : ℕ) → ((f : Trees) → IsApart f → q f → q (cut f node)) →
+    KeepsAt q h l (remove node)
 remove_at node cuts = at_bind (at_read (λ p. p)) (λ old. at_seq (at_forest (λ f. cut f node) (λ f apart known. (alike_cut f node (apart node), cuts f apart known)))
     (at_bind (at_read (form_changes old)) (λ changes. at_bind (at_read (λ p. order_of p.forest node))
     (λ walk. at_seq (at_each walk (removed_at changes (is_connected_parent old (parent_at old.forest node)))) (others_at changes walk)))))
 
-move_at : {q : Trees → Type 0} {h : List Hold} {l : List Event} (old document node : ℕ) → ((m : ℕ) (f : Trees) → q f → q (with_document m document f)) → KeepsAt q h l (move_to old document node)
+move_at : {q : Trees → Type 0} {h : List Hold} {l : List Event} (old document node : ℕ) →
+    ((m : ℕ) (f : Trees) → q f → q (with_document m document f)) → KeepsAt q h l (move_to old document node)
 move_at old document node moves = at_bind (at_read (λ p. order_of p.forest node))
     (λ walk. at_seq (at_each walk (λ n. at_forest (with_document n document) (λ f apart known. (alike_facts n (λ x. record x { document = document }) (λ x. refl) f, moves n f known))))
     (at_each walk (λ n. at_where (λ w. is_custom w.page n) (callback_at n (Adopted old document)))))
 
-pub adopt_at : {q : Trees → Type 0} {h : List Hold} {l : List Event} (document node : ℕ) → ((f : Trees) → IsApart f → q f → q (cut f node)) → ((m : ℕ) (f : Trees) → q f → q (with_document m document f)) → KeepsAt q h l (adopt document node)
+pub adopt_at : {q : Trees → Type 0} {h : List Hold} {l : List Event} (document node : ℕ) → ((f : Trees) → IsApart f → q f → q (cut f node)) →
+    ((m : ℕ) (f : Trees) → q f → q (with_document m document f)) → KeepsAt q h l (adopt document node)
 adopt_at document node cuts moves = at_seq (at_where (λ w. is_some (parent_at w.page.forest node)) (remove_at node cuts))
     (at_bind (at_read (λ p. document_at p.forest node)) (λ old. at_when (not (old == document)) (move_at old document node moves)))
 
@@ -108,7 +116,8 @@ outside_document p n document m f k =
     let same : times n (with_document m document f) ≡ times n f = alike_facts m (λ x. record x { document = document }) (λ x. refl) f (λ m kind. if m == n then 1 else 0) in
     record { there = let t = k.there in omega (arith, same, t); outside = outside_facts p n m (λ x. record x { document = document }) f ∙ k.outside }
 
-placed_at : {h : List Hold} {l : List Event} (old : Page) (n : ℕ) → KeepsAt Any h l (page.read_page (form_changes old) >>= (λ changes. page.read_page (λ p. order_of p.forest n) >>= (λ walk. for_each walk (inserted changes) >> tell_others changes walk)))
+placed_at : {h : List Hold} {l : List Event} (old : Page) (n : ℕ) →
+    KeepsAt Any h l (page.read_page (form_changes old) >>= (λ changes. page.read_page (λ p. order_of p.forest n) >>= (λ walk. for_each walk (inserted changes) >> tell_others changes walk)))
 placed_at old n = at_bind (at_read (form_changes old)) (λ changes. at_bind (at_read (λ p. order_of p.forest n)) (λ walk. at_seq (at_each walk (inserted_at changes)) (others_at changes walk)))
 
 put_at : (p n : ℕ) (b : Option ℕ) (h : List Hold) (l : List Event) (w : Work) → HoldsAt (Outside p n) h l w → AfterAt Any h l (put_in p n b w)
@@ -144,7 +153,8 @@ insert_gives {h} {l} p n before parent node = record { at = λ w k. go w k (may_
 
 -- attributes
 
-changed_at : {q : Trees → Type 0} {h : List Hold} {l : List Event} (before : Page) (n : ℕ) (name : List ℕ) (old new : Option (List ℕ)) → KeepsAt q h l (handle_attribute_change before n name old new)
+changed_at : {q : Trees → Type 0} {h : List Hold} {l : List Event} (before : Page) (n : ℕ) (name : List ℕ) (old new : Option (List ℕ)) →
+    KeepsAt q h l (handle_attribute_change before n name old new)
 changed_at before n name old new = at_bind (at_read (form_changes before)) (λ changes. at_seq (at_where (λ w. is_custom w.page n) (callback_at n (Attribute name old new))) (others_at changes []))
 
 pub set_at : {h : List Hold} {l : List Event} (n : ℕ) (name value : List ℕ) → KeepsAt Any h l (set_attribute n name value)

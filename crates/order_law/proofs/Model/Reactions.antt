@@ -30,7 +30,8 @@ falling_le l m (InUpgrade n ∷ h) le f = falling_le l m h le f
 falling_le l m (InHand n ∷ h) le f = falling_le l m h le f
 
 -- a queue is opened
-pub opened_holds : (h : List Hold) (l : List Event) (p : Page) → Holds h l p → Holds (InSteps (p.queues.pushed + 1) ∷ h) (l ++ QueueOpened (p.queues.pushed + 1) ∷ []) (with_queues begun p)
+pub opened_holds : (h : List Hold) (l : List Event) (p : Page) → Holds h l p →
+    Holds (InSteps (p.queues.pushed + 1) ∷ h) (l ++ QueueOpened (p.queues.pushed + 1) ∷ []) (with_queues begun p)
 opened_holds h l p k =
     let b = k.book in
     let q = p.queues in
@@ -74,7 +75,8 @@ opened_holds h l p k =
     more w (inr i) = inr i
 
 -- the current queue is popped, and its drain begins
-pub drained_holds : (m : ℕ) (h : List Hold) (l : List Event) (p : Page) → Holds (InSteps m ∷ h) l p → Holds (InDrain m (current_elements p.queues) ∷ h) (l ++ DrainBegun m ∷ []) (with_queues ended p)
+pub drained_holds : (m : ℕ) (h : List Hold) (l : List Event) (p : Page) → Holds (InSteps m ∷ h) l p →
+    Holds (InDrain m (current_elements p.queues) ∷ h) (l ++ DrainBegun m ∷ []) (with_queues ended p)
 drained_holds m h l p k =
     let b = k.book in
     record {
@@ -120,7 +122,8 @@ drained_holds m h l p k =
     pop_opens [] e = absurd (let x : ◌≡◌ {A = List ℕ} [] (m ∷ fillings_of h) = e in cc)
     pop_opens (o ∷ os) e = let x : ◌≡◌ {A = List ℕ} (o.number ∷ map (λ (o : Open). o.number) os) (m ∷ fillings_of h) = e in let y : map (λ (o : Open). o.number) os ≡ fillings_of h = cc in y
 
-    more : (os : List Open) → map (λ (o : Open). o.number) os ≡ m ∷ fillings_of h → (w : Entry) → IsPlaced os p.queues.backup (InSteps m ∷ h) w → IsPlaced (others_of os) p.queues.backup (InDrain m (elements_of os) ∷ h) w
+    more : (os : List Open) → map (λ (o : Open). o.number) os ≡ m ∷ fillings_of h → (w : Entry) → IsPlaced os p.queues.backup (InSteps m ∷ h) w →
+        IsPlaced (others_of os) p.queues.backup (InDrain m (elements_of os) ∷ h) w
     more [] e w i = absurd (let x : ◌≡◌ {A = List ℕ} [] (m ∷ fillings_of h) = e in cc)
     more (o ∷ os) e w (inl (inl i)) = let x : ◌≡◌ {A = List ℕ} (o.number ∷ map (λ (o : Open). o.number) os) (m ∷ fillings_of h) = e in let y : o.number ≡ m = cc in inr (inl (inl (sym y ∙ i.0, i.1)))
     more (o ∷ os) e w (inl (inr i)) = inl i
@@ -128,7 +131,8 @@ drained_holds m h l p k =
     more (o ∷ os) e w (inr (inr i)) = inr (inr i)
 
 -- the first waiting reaction of an element starts
-pub started_holds : (q n r : ℕ) (ns : List ℕ) (x : Reaction) (ws : List (ℕ × Reaction)) (h : List Hold) (l : List Event) (p : Page) → waiting_at p.queues n ≡ (r, x) ∷ ws → Holds (InDrain q ns ∷ h) l p
+pub started_holds : (q n r : ℕ) (ns : List ℕ) (x : Reaction) (ws : List (ℕ × Reaction)) (h : List Hold) (l : List Event) (p : Page) →
+    waiting_at p.queues n ≡ (r, x) ∷ ws → Holds (InDrain q ns ∷ h) l p
     → (w : Entry) × (w.number ≡ r) × (w.element ≡ n) × (w.what ≡ what_of x) × (fits (what_of x) (definition_of p n) ≡ true) × Known p.elements n × Holds (InReaction w false ∷ InDrain q ns ∷ h) (l ++ Started r ∷ []) (with_queues (with_waiting n ws) p)
 started_holds q n r ns x ws h l p is k =
     let b = k.book in
@@ -197,7 +201,8 @@ started_holds q n r ns x ws h l p is k =
     silent (Call name) fit true m = absurd (let d = (k.elements.thrown n m).1 in let x : false ≡ true = sym (ap (λ o. fits (Call name) (option_and_then (slice_get p.definitions) o)) d) ∙ fit in cc)
 
 -- a reaction has ended: an upgrade, or a callback whose line has come
-pub finished_holds : (w : Entry) (called : Bool) (h : List Hold) (l : List Event) (p : Page) → called || not (is_callback w.what) ≡ true → Holds (InReaction w called ∷ h) l p → Holds h (l ++ Finished w.number ∷ []) p
+pub finished_holds : (w : Entry) (called : Bool) (h : List Hold) (l : List Event) (p : Page) → called || not (is_callback w.what) ≡ true →
+    Holds (InReaction w called ∷ h) l p → Holds h (l ++ Finished w.number ∷ []) p
 finished_holds w called h l p whole k =
     let b = k.book in
     record {

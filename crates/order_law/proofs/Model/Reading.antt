@@ -56,7 +56,8 @@ is_line b e =
     counts_up b e && (starts_once b e && (runs_in_order b e && (drops_in_upgrade b e && (closes_empty b e && (ends_innermost b e
     && (begins_upgrade b e && spares_thrown b e))))))
 
-pub line_tests : (b : Book) (e : Event) → is_line b e ≡ true → b.over ≡ false → b.dropping ≡ None → calls_once b e ≡ true → pays b e ≡ true → replies_at_rest b e ≡ true → Tests b e
+pub line_tests : (b : Book) (e : Event) → is_line b e ≡ true → b.over ≡ false → b.dropping ≡ None → calls_once b e ≡ true → pays b e ≡ true →
+    replies_at_rest b e ≡ true → Tests b e
 line_tests b e line over dropping calls pays rest =
     let counts = both_true (counts_up b e) _ line in
     let starts = both_true (starts_once b e) _ counts.1 in
@@ -166,7 +167,8 @@ pub record First (n r : ℕ) (k : CallOrUpgrade) (xs : List (ℕ × CallOrUpgrad
   pub here : told_at n (without r ws) ≡ xs
   pub others : (m : ℕ) → n == m ≡ false → told_at m (without r ws) ≡ told_at m ws
 
-pub first_of : (n r : ℕ) (k : CallOrUpgrade) (xs : List (ℕ × CallOrUpgrade)) (low : ℕ) (ws : List Entry) → Rising low ws → told_at n ws ≡ (r, k) ∷ xs → First n r k xs low ws
+pub first_of : (n r : ℕ) (k : CallOrUpgrade) (xs : List (ℕ × CallOrUpgrade)) (low : ℕ) (ws : List Entry) → Rising low ws →
+    told_at n ws ≡ (r, k) ∷ xs → First n r k xs low ws
 first_of n r k xs low [] rises h = absurd (let e : ◌≡◌ {A = List (ℕ × CallOrUpgrade)} [] ((r, k) ∷ xs) = h in cc)
 first_of n r k xs low (w ∷ ws) rises h = go (w.element == n) refl (first_of n r k xs w.number ws rises.1) h
   where
@@ -177,7 +179,8 @@ first_of n r k xs low (w ∷ ws) rises h = go (w.element == n) refl (first_of n 
         cases true t = let e = eqb-true w.number r t in absurd (omega (arith, e, lt))
         cases false t = refl
 
-    go : (b : Bool) → w.element == n ≡ b → (told_at n ws ≡ (r, k) ∷ xs → First n r k xs w.number ws) → add_if b (w.number, w.what) (told_at n ws) ≡ (r, k) ∷ xs → First n r k xs low (w ∷ ws)
+    go : (b : Bool) → w.element == n ≡ b → (told_at n ws ≡ (r, k) ∷ xs → First n r k xs w.number ws) →
+        add_if b (w.number, w.what) (told_at n ws) ≡ (r, k) ∷ xs → First n r k xs low (w ∷ ws)
     go true t next h =
         let is : w.element ≡ n = eqb-true w.element n t in
         let pair : ◌≡◌ {A = ℕ × CallOrUpgrade} (w.number, w.what) (r, k) = cc in
@@ -254,7 +257,8 @@ pub record ReadsThrow (n : ℕ) (xs : List (ℕ × CallOrUpgrade)) (outer : List
   pub reads : Reads b (throw_lines n xs) book
   pub thrown : Thrown n xs outer b book
 
-pub reads_throw : (n : ℕ) (xs : List (ℕ × CallOrUpgrade)) (outer : List Bracket) (low : ℕ) (b : Book) → told_at n b.waiting ≡ xs → b.brackets ≡ Upgrading n ∷ outer → Rising low b.waiting → goes_on b.dropping (Some n) ≡ true → b.over ≡ false → ReadsThrow n xs outer b
+pub reads_throw : (n : ℕ) (xs : List (ℕ × CallOrUpgrade)) (outer : List Bracket) (low : ℕ) (b : Book) → told_at n b.waiting ≡ xs →
+    b.brackets ≡ Upgrading n ∷ outer → Rising low b.waiting → goes_on b.dropping (Some n) ≡ true → b.over ≡ false → ReadsThrow n xs outer b
 reads_throw n [] outer low b told inside rises drops over =
     record {
       book = after b (UpgradeThrew n);

@@ -86,5 +86,6 @@ readings_whole (l ∷ lines) = go (is_whole_line (reading l)) (reading_whole l) 
     go false e rest = wrong e
 
 -- the session of any lines, each read or refused
-pub readings_lawful : (upgrades : Bool) (settings : Settings) (lines : List (List ℕ)) → Lawful (log_of (run_lines model 1 (map reading lines) (start upgrades settings)))
+pub readings_lawful : (upgrades : Bool) (settings : Settings) (lines : List (List ℕ)) →
+    Lawful (log_of (run_lines model 1 (map reading lines) (start upgrades settings)))
 readings_lawful upgrades settings lines = session_lawful upgrades settings (map reading lines) (readings_whole lines)

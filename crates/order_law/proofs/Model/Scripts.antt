@@ -40,7 +40,8 @@ Stays (Spent s) = ⊥
 with_classes : (s : State) (ks : List Class) → All (λ (k : Class). are_whole k.bodies ≡ true) ks → Rests s → Rests (record s { classes = ks })
 with_classes s ks whole r = record { holds = record { holds = r.holds.holds; notes = r.holds.notes; rest = record { sound = r.holds.rest.sound; named = r.holds.rest.named; whole = whole } }; empty = r.empty }
 
-opened_then : (o : Option ℕ) (f : Class → Class) (s : State) → ((k : Class) → are_whole k.bodies ≡ true → are_whole (f k).bodies ≡ true) → Rests s → Stays ((found o TypeError >>= (λ k. throw_where (λ (s : State). (class_of s k).frozen) NotSupportedError >> give k) >>= (λ k. change_class k f)) s)
+opened_then : (o : Option ℕ) (f : Class → Class) (s : State) → ((k : Class) → are_whole k.bodies ≡ true → are_whole (f k).bodies ≡ true) → Rests s →
+    Stays ((found o TypeError >>= (λ k. throw_where (λ (s : State). (class_of s k).frozen) NotSupportedError >> give k) >>= (λ k. change_class k f)) s)
 opened_then None f s keeps r = r
 opened_then (Some k) f s keeps r = go (class_of s k).frozen
   where
@@ -48,21 +49,25 @@ opened_then (Some k) f s keeps r = go (class_of s k).frozen
     go true = r
     go false = with_classes s (slice_set s.classes k (f (class_of s k))) (all_set (λ (c : Class). are_whole c.bodies ≡ true) s.classes k (f (class_of s k)) (keeps (class_of s k) (class_whole s.classes k r.holds.rest.whole)) r.holds.rest.whole) r
 
-open_stays : (name : List ℕ) (f : Class → Class) (s : State) → ((k : Class) → are_whole k.bodies ≡ true → are_whole (f k).bodies ≡ true) → Rests s → Stays (change_open name f s)
+open_stays : (name : List ℕ) (f : Class → Class) (s : State) → ((k : Class) → are_whole k.bodies ≡ true → are_whole (f k).bodies ≡ true) → Rests s →
+    Stays (change_open name f s)
 open_stays name f s keeps r = opened_then (class_named s.classes name) f s keeps r
 
 add_stays : (name : List ℕ) (s : State) → Rests s → Stays (add_class name s)
 add_stays name s r = go (is_some (class_named s.classes name))
   where
-    go : (t : Bool) → Stays {A = Unit {0}} (then_do (throw_if t NotSupportedError s) (λ _. change (λ (s : State). record s { classes = s.classes ++ new_class name ∷ [] })))
+    go : (t : Bool) →
+        Stays {A = Unit {0}} (then_do (throw_if t NotSupportedError s) (λ _. change (λ (s : State). record s { classes = s.classes ++ new_class name ∷ [] })))
     go true = r
     go false = with_classes s (s.classes ++ new_class name ∷ []) (all_append (λ (c : Class). are_whole c.bodies ≡ true) s.classes (new_class name ∷ []) r.holds.rest.whole (refl, tt)) r
 
-whole_more : (bodies : List (CallName × Act)) (call : CallName) (action : Act) → is_whole action ≡ true → are_whole bodies ≡ true → are_whole (bodies ++ (call, action) ∷ []) ≡ true
+whole_more : (bodies : List (CallName × Act)) (call : CallName) (action : Act) → is_whole action ≡ true → are_whole bodies ≡ true →
+    are_whole (bodies ++ (call, action) ∷ []) ≡ true
 whole_more [] call action new old = ap (λ t. t && true) new
 whole_more (b ∷ bodies) call action new old = go (is_whole b.1) old (λ rest. whole_more bodies call action new rest)
   where
-    go : (t : Bool) → t && are_whole bodies ≡ true → (are_whole bodies ≡ true → are_whole (bodies ++ (call, action) ∷ []) ≡ true) → t && are_whole (bodies ++ (call, action) ∷ []) ≡ true
+    go : (t : Bool) → t && are_whole bodies ≡ true → (are_whole bodies ≡ true → are_whole (bodies ++ (call, action) ∷ []) ≡ true) →
+        t && are_whole (bodies ++ (call, action) ∷ []) ≡ true
     go true old rest = rest old
     go false old rest = absurd (let x : false ≡ true = old in cc)
 
@@ -146,7 +151,8 @@ start_rests upgrades settings = record {
 }
 
 -- the law: of each session from its first line on
-pub session_lawful : (upgrades : Bool) (settings : Settings) (lines : List (Result Said Bad)) → list_all is_whole_line lines ≡ true → Lawful (log_of (run_lines model 1 lines (start upgrades settings)))
+pub session_lawful : (upgrades : Bool) (settings : Settings) (lines : List (Result Said Bad)) → list_all is_whole_line lines ≡ true →
+    Lawful (log_of (run_lines model 1 lines (start upgrades settings)))
 session_lawful upgrades settings lines whole = ends_lawful (run_lines model 1 lines (start upgrades settings)) (lines_end 1 lines (start upgrades settings) (each_whole lines whole) (start_rests upgrades settings))
   where
     each_whole : (ls : List (Result Said Bad)) → list_all is_whole_line ls ≡ true → All (λ l. is_whole_line l ≡ true) ls

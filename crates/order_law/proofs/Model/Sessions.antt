@@ -39,7 +39,8 @@ pub record Replies (e : Event) : Type 0 where
   pub is : (b : Book) → b.brackets ≡ [] → after b e ≡ record b { dropping = None }
 
 -- nothing waits, no bracket is open, and nothing is owed
-reply_tests : (b : Book) (e : Event) → is_line b e ≡ true → calls_once b e ≡ true → b.over ≡ false → b.dropping ≡ None → b.owed ≡ false → b.brackets ≡ [] → b.waiting ≡ [] → Tests b e
+reply_tests : (b : Book) (e : Event) → is_line b e ≡ true → calls_once b e ≡ true → b.over ≡ false → b.dropping ≡ None → b.owed ≡ false →
+    b.brackets ≡ [] → b.waiting ≡ [] → Tests b e
 reply_tests b e line calls over dropping owed brackets waiting = line_tests b e line over dropping calls
     (ap (λ t. not (is_reply e && t)) owed ∙ never (is_reply e)) (ap (λ bs. not (is_reply e) || (is_none bs && is_none b.waiting)) brackets ∙ ap (λ ws. not (is_reply e) || is_none ws) waiting ∙ always (not (is_reply e)))
   where

@@ -72,7 +72,8 @@ sound_alike f g rows stacks same k = record {
   stacked = k.stacked;
 }
 
-pub sound_more : (f g : Trees) (rows : ℕ) (stacks : List (List (Option ℕ))) (kind : NodeKind) → HasMore f g (size f + 1) kind → Sound f rows stacks → Sound g (rows + 1) stacks
+pub sound_more : (f g : Trees) (rows : ℕ) (stacks : List (List (Option ℕ))) (kind : NodeKind) → HasMore f g (size f + 1) kind → Sound f rows stacks →
+    Sound g (rows + 1) stacks
 sound_more f g rows stacks kind more k = record {
   size = more (λ m kind. 1) ∙ ap (λ n. n + 1) k.size;
   some = omega arith;
@@ -112,7 +113,8 @@ sound_rows f rows others stacks e k = subst (λ n. Sound f n stacks) e k
 pub sound_stacks : (f : Trees) (rows : ℕ) (stacks others : List (List (Option ℕ))) → All (All (IsEntry rows)) others → Sound f rows stacks → Sound f rows others
 sound_stacks f rows stacks others all k = record { size = k.size; some = k.some; once = k.once; only = k.only; first = k.first; stacked = all }
 
-pub stack_entries : (rows : ℕ) (stacks : List (List (Option ℕ))) (d : ℕ) → All (All (IsEntry rows)) stacks → All (IsEntry rows) (or_no_entries (slice_get stacks d))
+pub stack_entries : (rows : ℕ) (stacks : List (List (Option ℕ))) (d : ℕ) → All (All (IsEntry rows)) stacks →
+    All (IsEntry rows) (or_no_entries (slice_get stacks d))
 stack_entries rows stacks d all = go (slice_get stacks d) refl
   where
     go : (o : Option (List (Option ℕ))) → slice_get stacks d ≡ o → All (IsEntry rows) (or_no_entries o)
@@ -120,7 +122,8 @@ stack_entries rows stacks d all = go (slice_get stacks d) refl
     go (Some es) is = all_get (All (IsEntry rows)) stacks d es all is
 
 -- an element's number: the first node is the document
-pub element_row : (f : Trees) (rows : ℕ) (stacks : List (List (Option ℕ))) (n : ℕ) → is_element (kind_at f n) ≡ true → Sound f rows stacks → (2 ≤ n) × (n ≤ rows)
+pub element_row : (f : Trees) (rows : ℕ) (stacks : List (List (Option ℕ))) (n : ℕ) → is_element (kind_at f n) ≡ true → Sound f rows stacks →
+    (2 ≤ n) × (n ≤ rows)
 element_row f rows stacks n is k =
     let row = k.only n (element_there f n is) in
     elim (cases_eq n 1) [

@@ -48,21 +48,25 @@ AfterAt q h l (Spent w) = HoldsAt q h l w
 pub record KeepsAt {A : Type 0} (q : Trees → Type 0) (h : List Hold) (l : List Event) (f : Step Work A) : Type 0 where
   pub at : (w : Work) → HoldsAt q h l w → AfterAt q h l (f w)
 
-at_then : {A B : Type 0} (q : Trees → Type 0) (h : List Hold) (l : List Event) (o : Outcome Work A) (k : A → Step Work B) → AfterAt q h l o → ((a : A) → KeepsAt q h l (k a)) → AfterAt q h l (then_do o k)
+at_then : {A B : Type 0} (q : Trees → Type 0) (h : List Hold) (l : List Event) (o : Outcome Work A) (k : A → Step Work B) → AfterAt q h l o →
+    ((a : A) → KeepsAt q h l (k a)) → AfterAt q h l (then_do o k)
 at_then q h l (Goes a w) k o n = (n a).at w o
 at_then q h l (Throws f w) k o n = o
 at_then q h l (Spent w) k o n = o
 
-pub at_bind : {A B : Type 0} {q : Trees → Type 0} {h : List Hold} {l : List Event} {f : Step Work A} {k : A → Step Work B} → KeepsAt q h l f → ((a : A) → KeepsAt q h l (k a)) → KeepsAt q h l (f >>= k)
+pub at_bind : {A B : Type 0} {q : Trees → Type 0} {h : List Hold} {l : List Event} {f : Step Work A} {k : A → Step Work B} → KeepsAt q h l f →
+    ((a : A) → KeepsAt q h l (k a)) → KeepsAt q h l (f >>= k)
 at_bind {q} {h} {l} {f} {k} x n = record { at = λ w o. at_then q h l (f w) k (x.at w o) n }
 
-pub at_seq : {A B : Type 0} {q : Trees → Type 0} {h : List Hold} {l : List Event} {f : Step Work A} {g : Step Work B} → KeepsAt q h l f → KeepsAt q h l g → KeepsAt q h l (f >> g)
+pub at_seq : {A B : Type 0} {q : Trees → Type 0} {h : List Hold} {l : List Event} {f : Step Work A} {g : Step Work B} → KeepsAt q h l f →
+    KeepsAt q h l g → KeepsAt q h l (f >> g)
 at_seq {q} {h} {l} {f} {g} x n = record { at = λ w o. at_then q h l (f w) (λ _. g) (x.at w o) (λ _. n) }
 
 pub at_done : {q : Trees → Type 0} {h : List Hold} {l : List Event} → KeepsAt q h l done
 at_done = record { at = λ w o. o }
 
-pub at_each : {A : Type 0} {q : Trees → Type 0} {h : List Hold} {l : List Event} {f : A → Step Work (Unit {0})} (xs : List A) → ((a : A) → KeepsAt q h l (f a)) → KeepsAt q h l (for_each xs f)
+pub at_each : {A : Type 0} {q : Trees → Type 0} {h : List Hold} {l : List Event} {f : A → Step Work (Unit {0})} (xs : List A) →
+    ((a : A) → KeepsAt q h l (f a)) → KeepsAt q h l (for_each xs f)
 at_each [] n = at_done
 at_each (x ∷ xs) n = at_seq (n x) (at_each xs n)
 
@@ -96,15 +100,18 @@ defined_known h l p n d is k = record { low = low n is; high = high (slice_get p
         within xs i r f le = let t = inside p.elements (n - 1) (or_uncustomized (slice_get p.elements (n - 1))) (e ∙ ap Some (sym (ap or_uncustomized e))) in omega (arith, t, le)
 
 -- an enqueue, with its note
-note_line : (n : ℕ) (x : Reaction) (p : Page) → map event_of (noted n x (with_queues (enqueued n x) p)).notes ≡ map event_of p.notes ++ Enqueued (p.queues.reactions + 1) n (what_of x) (current_of p.queues) ∷ []
+note_line : (n : ℕ) (x : Reaction) (p : Page) →
+    map event_of (noted n x (with_queues (enqueued n x) p)).notes ≡ map event_of p.notes ++ Enqueued (p.queues.reactions + 1) n (what_of x) (current_of p.queues) ∷ []
 note_line n x p = map-append event_of p.notes (record { number = (enqueued n x p.queues).reactions; node = n; what = what_of x; queue = current_of (enqueued n x p.queues) } ∷ [])
     ∙ ap (λ (t : ℕ × ℕ). map event_of p.notes ++ Enqueued t.0 n (what_of x) t.1 ∷ []) (same p.queues.stack refl)
   where
-    same : (os : _) → p.queues.stack ≡ os → ◌≡◌ {A = ℕ × ℕ} ((appended_to os n (with_reaction n x (counted p.queues))).reactions, current_of (appended_to os n (with_reaction n x (counted p.queues)))) (p.queues.reactions + 1, number_of os)
+    same : (os : _) → p.queues.stack ≡ os →
+        ◌≡◌ {A = ℕ × ℕ} ((appended_to os n (with_reaction n x (counted p.queues))).reactions, current_of (appended_to os n (with_reaction n x (counted p.queues)))) (p.queues.reactions + 1, number_of os)
     same [] e = ap (λ os. (p.queues.reactions + 1, number_of os)) e
     same (o ∷ os) e = refl
 
-pub enqueue_at : (q : Trees → Type 0) (h : List Hold) (l : List Event) (n : ℕ) (x : Reaction) (w : Work) → Known w.page.elements n → fits (what_of x) (definition_of w.page n) ≡ true → HoldsAt q h l w → AfterAt q h l (enqueue n x w)
+pub enqueue_at : (q : Trees → Type 0) (h : List Hold) (l : List Event) (n : ℕ) (x : Reaction) (w : Work) → Known w.page.elements n →
+    fits (what_of x) (definition_of w.page n) ≡ true → HoldsAt q h l w → AfterAt q h l (enqueue n x w)
 enqueue_at q h l n x w known fit k = go w.fuel
   where
     go : (fuel : ℕ) → AfterAt q h l (then_do (page.spend_from fuel w) (λ _. page.change_page (with_queues (enqueued n x)) >> page.change_page (noted n x)))
@@ -152,19 +159,22 @@ calm_any h (Throws f s) k = absurd k
 calm_any h (Spent s) k = k
 
 -- a page whose elements, definitions and queues are the same
-pub same_page : (h : List Hold) (l : List Event) (p q : Page) → p.elements ≡ q.elements → p.definitions ≡ q.definitions → p.queues ≡ q.queues → Holds h l p → Holds h l q
+pub same_page : (h : List Hold) (l : List Event) (p q : Page) → p.elements ≡ q.elements → p.definitions ≡ q.definitions → p.queues ≡ q.queues →
+    Holds h l p → Holds h l q
 same_page h l p q e d s r = subst (λ (t : List Element × List Definition × Queues). Holds h l (record q { elements = t.0; definitions = t.1; queues = t.2 })) (let x : ◌≡◌ {A = List Element × List Definition × Queues} (p.elements, p.definitions, p.queues) (q.elements, q.definitions, q.queues) = ap (λ y. (y, p.definitions, p.queues)) e ∙ ap (λ y. (q.elements, y, p.queues)) d ∙ ap (λ y. (q.elements, q.definitions, y)) s in x)
     (record { book = r.book; reads = r.reads; over = r.over; dropping = r.dropping; queues = r.queues; elements = let t = r.elements in record { known = t.known; defined = t.defined; unset = t.unset; upgraded = t.upgraded; thrown = t.thrown; document = t.document; ongoing = t.ongoing } })
 
 -- back in the session: what the variables hold was in hand
-pub came_back : (h : List Hold) (s : State) (w : Work) → All (λ (k : Class). are_whole k.bodies ≡ true) s.classes → HoldsAt Any (with_hands (nodes_of s.variables) h) s.log w → HoldsIn h (with_work w s)
+pub came_back : (h : List Hold) (s : State) (w : Work) → All (λ (k : Class). are_whole k.bodies ≡ true) s.classes →
+    HoldsAt Any (with_hands (nodes_of s.variables) h) s.log w → HoldsIn h (with_work w s)
 came_back h s w whole k = record {
   holds = same_page h (with_work w s).log w.page (with_work w s).page refl refl refl (drop_hands (nodes_of s.variables) h (with_work w s).log w.page k.holds);
   notes = refl;
   rest = record { sound = k.sound; named = hand_rows (nodes_of s.variables) h (with_work w s).log w.page k.holds; whole = whole };
 }
 
-pub back : {A : Type 0} (h : List Hold) (s : State) (o : Outcome Work A) → All (λ (k : Class). are_whole k.bodies ≡ true) s.classes → AfterAt Any (with_hands (nodes_of s.variables) h) s.log o → AfterCalm h (with_outcome o s)
+pub back : {A : Type 0} (h : List Hold) (s : State) (o : Outcome Work A) → All (λ (k : Class). are_whole k.bodies ≡ true) s.classes →
+    AfterAt Any (with_hands (nodes_of s.variables) h) s.log o → AfterCalm h (with_outcome o s)
 back h s (Goes a w) whole k = came_back h s w whole k
 back h s (Throws f w) whole k = k
 back h s (Spent w) whole k = spent_lawful (with_hands (nodes_of s.variables) h) (s.log ++ map event_of w.page.notes) w.page k.holds
@@ -181,14 +191,16 @@ pub at_when : {q : Trees → Type 0} {h : List Hold} {l : List Event} {f : Step 
 at_when true k = k
 at_when false k = at_done
 
-pub at_where : {q : Trees → Type 0} {h : List Hold} {l : List Event} {f : Step Work (Unit {0})} (test : Work → Bool) → KeepsAt q h l f → KeepsAt q h l (where_is test f)
+pub at_where : {q : Trees → Type 0} {h : List Hold} {l : List Event} {f : Step Work (Unit {0})} (test : Work → Bool) → KeepsAt q h l f →
+    KeepsAt q h l (where_is test f)
 at_where {f} test k = record { at = λ w o. (at_when {f = f} (test w) k).at w o }
 
 pub at_read : {A : Type 0} {q : Trees → Type 0} {h : List Hold} {l : List Event} (f : Page → A) → KeepsAt q h l (page.read_page f)
 at_read f = record { at = λ w o. o }
 
 -- steps where a test of the forest holds
-pub at_where_forest : {q : Trees → Type 0} {h : List Hold} {l : List Event} {f : Step Work (Unit {0})} (test : Trees → Bool) → KeepsAt (λ t. (test t ≡ true) × q t) h l f → KeepsAt q h l (where_is (λ w. test w.page.forest) f)
+pub at_where_forest : {q : Trees → Type 0} {h : List Hold} {l : List Event} {f : Step Work (Unit {0})} (test : Trees → Bool) →
+    KeepsAt (λ t. (test t ≡ true) × q t) h l f → KeepsAt q h l (where_is (λ w. test w.page.forest) f)
 at_where_forest {q} {h} {l} {f} test k = record { at = λ w o. go w o (test w.page.forest) refl }
   where
     known : (o : Outcome Work (Unit {0})) → AfterAt (λ t. (test t ≡ true) × q t) h l o → AfterAt q h l o
@@ -201,7 +213,8 @@ at_where_forest {q} {h} {l} {f} test k = record { at = λ w o. go w o (test w.pa
     go w o false is = o
 
 -- a construction stack is given anew
-pub stack_holds : (q : Trees → Type 0) (h : List Hold) (l : List Event) (d : ℕ) (entries : List (Option ℕ)) (w : Work) → All (IsEntry (length w.page.elements)) entries → HoldsAt q h l w → HoldsAt q h l (record w { page = with_stack d entries w.page })
+pub stack_holds : (q : Trees → Type 0) (h : List Hold) (l : List Event) (d : ℕ) (entries : List (Option ℕ)) (w : Work) →
+    All (IsEntry (length w.page.elements)) entries → HoldsAt q h l w → HoldsAt q h l (record w { page = with_stack d entries w.page })
 stack_holds q h l d entries w rows o = record {
   holds = same_page h (l ++ map event_of w.page.notes) w.page (with_stack d entries w.page) refl refl refl o.holds;
   sound = sound_stacks w.page.forest (length w.page.elements) w.page.stacks (slice_set w.page.stacks d entries) (all_set (All (IsEntry (length w.page.elements))) w.page.stacks d entries rows o.sound.stacked) o.sound;
@@ -213,7 +226,9 @@ pub at_stack : {q : Trees → Type 0} {h : List Hold} {l : List Event} (d : ℕ)
 at_stack {q} {h} {l} d entries rows = record { at = λ w o. stack_holds q h l d (entries w.page) w (rows w o) o }
 
 -- a change of the forest that keeps its nodes
-pub forest_holds : (q r : Trees → Type 0) (h : List Hold) (l : List Event) (change : Trees → Trees) → ((f : Trees) → IsApart f → q f → Alike f (change f) × r (change f)) → (w : Work) → HoldsAt q h l w → HoldsAt r h l (record w { page = with_forest change w.page })
+pub forest_holds : (q r : Trees → Type 0) (h : List Hold) (l : List Event) (change : Trees → Trees) →
+    ((f : Trees) → IsApart f → q f → Alike f (change f) × r (change f)) → (w : Work) → HoldsAt q h l w →
+    HoldsAt r h l (record w { page = with_forest change w.page })
 forest_holds q r h l change keeps w o =
     let k = keeps w.page.forest (sound_apart w.page.forest (length w.page.elements) w.page.stacks o.sound) o.known in
     record {
@@ -222,7 +237,8 @@ forest_holds q r h l change keeps w o =
       known = k.1;
     }
 
-pub at_forest : {q : Trees → Type 0} {h : List Hold} {l : List Event} (change : Trees → Trees) → ((f : Trees) → IsApart f → q f → Alike f (change f) × q (change f)) → KeepsAt q h l (page.change_page (with_forest change))
+pub at_forest : {q : Trees → Type 0} {h : List Hold} {l : List Event} (change : Trees → Trees) →
+    ((f : Trees) → IsApart f → q f → Alike f (change f) × q (change f)) → KeepsAt q h l (page.change_page (with_forest change))
 at_forest {q} {h} {l} change keeps = record { at = λ w o. forest_holds q q h l change keeps w o }
 
 -- steps of the session

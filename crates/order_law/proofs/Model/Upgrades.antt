@@ -50,7 +50,8 @@ pub record FitsRow (b : Book) (p : Page) (n : ℕ) (e : Element) : Type 0 where
   pub upgraded : is_one_of n b.upgraded ≡ true → is_upgradable e.state ≡ false
   pub thrown : is_one_of n b.thrown ≡ true → (is_upgradable e.state ≡ false) × (e.definition ≡ None)
 
-pub says_row : (b : Book) (h : List Hold) (p : Page) (n : ℕ) (e : Element) → Known p.elements n → FitsRow b p n e → SaysElements b h p → SaysElements b h (with_element n e p)
+pub says_row : (b : Book) (h : List Hold) (p : Page) (n : ℕ) (e : Element) → Known p.elements n → FitsRow b p n e → SaysElements b h p →
+    SaysElements b h (with_element n e p)
 says_row b h p n e k f s = record {
   known = each_map (λ w. Known p.elements w.element) (λ w. Known (with_element n e p).elements w.element) b.waiting (λ w l. known_row p n w.element e l) s.known;
   defined = all b.waiting f.defined s.defined;
@@ -76,7 +77,8 @@ says_row b h p n e k f s = record {
     there : (m : ℕ) → n == m ≡ false → element_of q m ≡ element_of p m
     there m o = row_other p n m e k o
 
-    one : (w : Entry) → (w.element ≡ n → fits w.what (option_and_then (slice_get p.definitions) e.definition) ≡ true) → fits w.what (definition_of p w.element) ≡ true → fits w.what (definition_of q w.element) ≡ true
+    one : (w : Entry) → (w.element ≡ n → fits w.what (option_and_then (slice_get p.definitions) e.definition) ≡ true) →
+        fits w.what (definition_of p w.element) ≡ true → fits w.what (definition_of q w.element) ≡ true
     one w at_n old = go (n == w.element) refl
       where
         go : (t : Bool) → n == w.element ≡ t → fits w.what (definition_of q w.element) ≡ true
@@ -86,7 +88,8 @@ says_row b h p n e k f s = record {
             ap (λ (x : Element). fits w.what (option_and_then (slice_get p.definitions) x.definition)) same ∙ at_n (sym is)
         go false t = ap (λ (x : Element). fits w.what (option_and_then (slice_get p.definitions) x.definition)) (there w.element t) ∙ old
 
-    all : (ws : List Entry) → Each (λ w. w.element ≡ n → fits w.what (option_and_then (slice_get p.definitions) e.definition) ≡ true) ws → Each (λ w. fits w.what (definition_of p w.element) ≡ true) ws → Each (λ w. fits w.what (definition_of q w.element) ≡ true) ws
+    all : (ws : List Entry) → Each (λ w. w.element ≡ n → fits w.what (option_and_then (slice_get p.definitions) e.definition) ≡ true) ws →
+        Each (λ w. fits w.what (definition_of p w.element) ≡ true) ws → Each (λ w. fits w.what (definition_of q w.element) ≡ true) ws
     all [] f s = tt
     all (w ∷ ws) f s = (one w f.0 s.0, all ws f.1 s.1)
 
@@ -159,7 +162,9 @@ threw_elements n h b p xs s here = record {
     nothing [] z = tt
     nothing (w ∷ ws) z = go (w.element == n) refl z (nothing ws)
       where
-        go : (t : Bool) → w.element == n ≡ t → add_if t (w.number, w.what) (told_at n ws) ≡ [] → (told_at n ws ≡ [] → Each (λ w. w.element ≡ n → fits w.what None ≡ true) ws) → Each (λ w. w.element ≡ n → fits w.what None ≡ true) (w ∷ ws)
+        go : (t : Bool) → w.element == n ≡ t → add_if t (w.number, w.what) (told_at n ws) ≡ [] →
+            (told_at n ws ≡ [] → Each (λ w. w.element ≡ n → fits w.what None ≡ true) ws) →
+            Each (λ w. w.element ≡ n → fits w.what None ≡ true) (w ∷ ws)
         go true t z next = absurd (let x : ◌≡◌ {A = List (ℕ × CallOrUpgrade)} ((w.number, w.what) ∷ told_at n ws) [] = z in cc)
         go false t z next = (λ same. absurd (eqb-false w.element n t same), next z)
 
@@ -185,7 +190,8 @@ each_dropped [] s = ap (λ l. Goes tt (record s { log = l })) (sym (append-nil s
 each_dropped (w ∷ ws) s = each_dropped ws (logged (Dropped w.0) s) ∙ ap (λ l. Goes tt (record s { log = l })) (append_assoc s.log (Dropped w.0 ∷ []) (drop_lines ws))
 
 -- what waits at the element is dropped, and its upgrade has thrown
-pub threw_holds : (n : ℕ) (h : List Hold) (l : List Event) (p : Page) → Holds (InUpgrade n ∷ h) l p → Holds h (l ++ throw_lines n (map told (waiting_at p.queues n))) (with_queues (with_waiting n []) (with_definition n None p))
+pub threw_holds : (n : ℕ) (h : List Hold) (l : List Event) (p : Page) → Holds (InUpgrade n ∷ h) l p →
+    Holds h (l ++ throw_lines n (map told (waiting_at p.queues n))) (with_queues (with_waiting n []) (with_definition n None p))
 threw_holds n h l p k =
     let xs = map told (waiting_at p.queues n) in
     let r = reads_throw n xs (brackets_of h) 0 k.book (k.queues.waits n) k.queues.brackets k.queues.rising (ap (λ o. goes_on o (Some n)) k.dropping) k.over in
@@ -224,7 +230,9 @@ pub both : (b : Bool) → b ≡ true → b ≡ false → ⊥
 both b h k = let x : true ≡ false = sym h ∙ k in cc
 
 -- where no definition is set, only upgrades wait
-pub only_upgrades : (p : Page) (n : ℕ) (d : Option ℕ) (ws : List Entry) → (element_of p n).definition ≡ None → Each (λ w. fits w.what (definition_of p w.element) ≡ true) ws → Each (λ w. w.element ≡ n → fits w.what (option_and_then (slice_get p.definitions) d) ≡ true) ws
+pub only_upgrades : (p : Page) (n : ℕ) (d : Option ℕ) (ws : List Entry) → (element_of p n).definition ≡ None →
+    Each (λ w. fits w.what (definition_of p w.element) ≡ true) ws →
+    Each (λ w. w.element ≡ n → fits w.what (option_and_then (slice_get p.definitions) d) ≡ true) ws
 only_upgrades p n d [] none f = tt
 only_upgrades p n d (w ∷ ws) none f = (λ is. go w.what (sym (ap (λ o. fits w.what (option_and_then (slice_get p.definitions) o)) (ap (λ m. (element_of p m).definition) is ∙ none)) ∙ f.0), only_upgrades p n d ws none f.1)
   where
@@ -232,7 +240,8 @@ only_upgrades p n d (w ∷ ws) none f = (λ is. go w.what (sym (ap (λ o. fits w
     go (Call name) x = absurd (let y : false ≡ true = x in cc)
     go IsUpgrade x = refl
 
-pub up_holds : (n d : ℕ) (h : List Hold) (l : List Event) (p : Page) → Known p.elements n → MayUpgrade n h → is_upgradable (state_of p n) ≡ true → Holds h l p → Holds (InUpgrade n ∷ h) (l ++ UpgradeBegun n ∷ []) (with_state n Failed (with_definition n (Some d) p))
+pub up_holds : (n d : ℕ) (h : List Hold) (l : List Event) (p : Page) → Known p.elements n → MayUpgrade n h → is_upgradable (state_of p n) ≡ true →
+    Holds h l p → Holds (InUpgrade n ∷ h) (l ++ UpgradeBegun n ∷ []) (with_state n Failed (with_definition n (Some d) p))
 up_holds n d h l p known may upgradable k =
     let b = k.book in
     let e : Element = record { state = Failed; definition = Some d } in
@@ -334,7 +343,8 @@ pub rest_row : (n : ℕ) (e : Element) (s : State) → HoldsRest s.page.forest (
 rest_row n e s k = rest_rows s.page.forest (length s.page.elements) (length (with_element n e s.page).elements) s.page.stacks s.variables s.classes (sym (length-set s.page.elements (n - 1) e)) k
 
 -- and what would come next does not
-pub threw_then : {B : Type 0} (n : ℕ) (f : Fault) (h : List Hold) (s : State) (k : Unit {0} → State → Outcome State B) → HoldsIn (InUpgrade n ∷ h) s → After h (then_do (upgrade_threw n f s) k)
+pub threw_then : {B : Type 0} (n : ℕ) (f : Fault) (h : List Hold) (s : State) (k : Unit {0} → State → Outcome State B) → HoldsIn (InUpgrade n ∷ h) s →
+    After h (then_do (upgrade_threw n f s) k)
 threw_then {B} n f h s k held =
     let ws = waiting_at s.page.queues n in
     let t : State = record s { page = with_queues (with_waiting n []) (with_definition n None s.page) } in

@@ -23,7 +23,8 @@ use Rattle.order_law.proofs.Model.Upgrades.{MayUpgrade, up_holds, done_holds, re
 use Rattle.order_law.proofs.Model.Steps.{KeepsAt, Any, AfterCalm, back, at_work, at_seq, at_each, at_done, at_where, at_stack, callback_at, Keeps, keeps_page, keeps_finally}
 
 -- what an upgrade enqueues, and the construction stack
-fill_at : {h : List Hold} {l : List Event} (n d : ℕ) (attributes : List (List ℕ × List ℕ)) → IsHeld n h → KeepsAt Any h l (for_each attributes (enqueue_attribute n) >> (where_is (λ (w : Work). is_connected w.page n) (enqueue_callback n Connected) >> push_construction d n))
+fill_at : {h : List Hold} {l : List Event} (n d : ℕ) (attributes : List (List ℕ × List ℕ)) → IsHeld n h →
+    KeepsAt Any h l (for_each attributes (enqueue_attribute n) >> (where_is (λ (w : Work). is_connected w.page n) (enqueue_callback n Connected) >> push_construction d n))
 fill_at {h} {l} n d attributes held = at_seq (at_each attributes (λ a. callback_at n (Attribute a.0 None (Some a.1)))) (at_seq (at_where (λ w. is_connected w.page n) (callback_at n Connected)) (at_stack d (λ p. Some n ∷ stack_of p d)
     (λ w o. (held_row n h (l ++ map event_of w.page.notes) w.page held o.holds, stack_entries (length w.page.elements) w.page.stacks d o.sound.stacked))))
 
@@ -42,7 +43,8 @@ pop_at : {h : List Hold} {l : List Event} (d : ℕ) → KeepsAt Any h l (pop_con
 pop_at d = at_stack d (λ p. without_last (stack_of p d)) (λ w o. without_entry (length w.page.elements) (stack_of w.page d) (stack_entries (length w.page.elements) w.page.stacks d o.sound.stacked))
 
 -- it is done, or it threw; in both cases it is over. What the constructor does is a premise
-pub upgrade_now_after : (again : Again) (n d : ℕ) (h : List Hold) (s : State) → Known s.page.elements n → MayUpgrade n h → is_upgradable (state_of s.page n) ≡ true → Keeps (InUpgrade n ∷ h) (construct_for again n d) → HoldsIn h s → After h (upgrade_now again n d s)
+pub upgrade_now_after : (again : Again) (n d : ℕ) (h : List Hold) (s : State) → Known s.page.elements n → MayUpgrade n h →
+    is_upgradable (state_of s.page n) ≡ true → Keeps (InUpgrade n ∷ h) (construct_for again n d) → HoldsIn h s → After h (upgrade_now again n d s)
 upgrade_now_after again n d h s known may upgradable constructs k = go (on_page (begin_upgrade n d) t) begun
   where
     g : List Hold
@@ -73,17 +75,20 @@ upgrade_now_after again n d h s known may upgradable constructs k = go (on_page 
     ends (Throws f u) c = absurd c
     ends (Spent u) c = c
 
-    rest : (o : Outcome State (Unit {0})) → After g o → After {A = Unit {0}} h (then_do (catch_in o (upgrade_threw n)) (λ _. on_page (tell_form n) >> (change_page (with_state n Custom) >> log (UpgradeDone n))))
+    rest : (o : Outcome State (Unit {0})) → After g o →
+        After {A = Unit {0}} h (then_do (catch_in o (upgrade_threw n)) (λ _. on_page (tell_form n) >> (change_page (with_state n Custom) >> log (UpgradeDone n))))
     rest (Goes a u) c = ends (on_page (tell_form n) u) (back g u (tell_form n (work_of u)) c.rest.whole ((tell_at n).at (work_of u) (at_work g u c)))
     rest (Throws f u) c = threw_then n f h u (λ _. on_page (tell_form n) >> (change_page (with_state n Custom) >> log (UpgradeDone n))) c
     rest (Spent u) c = c
 
-    go : (o : Outcome State (Unit {0})) → AfterCalm g o → After {A = Unit {0}} h (then_do o (λ _. (λ (u : State). catch_in (finally (construct_for again n d) (on_page (pop_construction d)) u) (upgrade_threw n)) >> (on_page (tell_form n) >> (change_page (with_state n Custom) >> log (UpgradeDone n)))))
+    go : (o : Outcome State (Unit {0})) → AfterCalm g o →
+        After {A = Unit {0}} h (then_do o (λ _. (λ (u : State). catch_in (finally (construct_for again n d) (on_page (pop_construction d)) u) (upgrade_threw n)) >> (on_page (tell_form n) >> (change_page (with_state n Custom) >> log (UpgradeDone n)))))
     go (Goes a u) c = rest (finally (construct_for again n d) (on_page (pop_construction d)) u) ((keeps_finally constructs (keeps_page (λ vs l. pop_at d))).at u c)
     go (Throws f u) c = absurd c
     go (Spent u) c = c
 
-pub upgrade_after : (again : Again) (n d : ℕ) (h : List Hold) (s : State) → Known s.page.elements n → MayUpgrade n h → Keeps (InUpgrade n ∷ h) (construct_for again n d) → HoldsIn h s → After h (upgrade again n d s)
+pub upgrade_after : (again : Again) (n d : ℕ) (h : List Hold) (s : State) → Known s.page.elements n → MayUpgrade n h →
+    Keeps (InUpgrade n ∷ h) (construct_for again n d) → HoldsIn h s → After h (upgrade again n d s)
 upgrade_after again n d h s known may constructs k = go (is_upgradable (state_of s.page n)) refl
   where
     go : (t : Bool) → is_upgradable (state_of s.page n) ≡ t → After {A = Unit {0}} h (when t (upgrade_now again n d) s)
