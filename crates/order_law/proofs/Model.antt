@@ -9,6 +9,7 @@
 -- A new deed on the page is a case of `page_gives` (PageDeeds), another deed one of `deed_gives`, an operation one of `resolved`
 -- (Operations), a command one of `performs` (Sessions), an action of a body one of `act_gives` (Bodies).
 pub mod Reading
+pub mod Weights
 pub mod Forests
 pub mod Sound
 pub mod Invariant

@@ -1,24 +1,21 @@
 -- Changes of a forest, seen by its nodes: which numbers there are, of what kinds, and what stands in the tree of which.
 use Rattle.std.proofs.Common.{◌≡◌, ℕ, ◌+◌, ◌<◌, ◌≤◌, Bool, true, false, [], Option, Some, None, refl, sym, ap, ◌∙◌, arith, inl, inr, if◌then◌else◌, ◌==◌, ◌&&◌}
-use Rattle.std.specs.Prelude.{◌⊎◌}
+use Rattle.std.specs.Prelude.{◌⊎◌, ◌||◌, not}
+use Rattle.ce_base.specs.declared.fault.Fault.{Fault}
+use Rattle.ce_base.specs.declared.fault.Fault.TheVariants.{HierarchyRequestError, NotFoundError}
 use Rattle.std.proofs.lemmas.Bool.Decides.{nat_tests}
 use Rattle.std.proofs.lemmas.Bool.{cases_lt}
 use Rattle.node_trees.specs.declared.kind.NodeKind.{NodeKind}
-use Rattle.node_trees.specs.Facts.{Facts, is_element}
-use Rattle.node_trees.specs.Trees.{Trees, none, tree, single, tree_of, without, place, cut, graft, with_node, with_shadow, with_facts}
+use Rattle.node_trees.specs.Facts.{Facts, is_document, is_element, is_shadow_root, is_text}
+use Rattle.node_trees.specs.Trees.{Trees, none, tree, single, tree_of, without, cut, graft, with_node, with_shadow, with_facts}
 use Rattle.node_trees.specs.Nodes.{weight, times}
 use Rattle.node_trees.specs.Spots.{Spot, spot_in, or_spot, or_no_spot, spot_of, facts_at, kind_at}
-use Rattle.node_trees.specs.Insertion.{may_insert}
+use Rattle.node_trees.specs.Paths.{path, is_among}
+use Rattle.node_trees.specs.Insertion.{may_insert, is_child_or_none, has_element_child}
 use Rattle.element_names.specs.Names.{custom_name}
 use Rattle.element_names.specs.Hosts.{shadow_host}
 use Rattle.std.specs.Str.{chars}
-use Rattle.node_arena.proofs.Sums.{IsApart, weight-join, weight-without, weight-place, weight-put, weight-shadow, times-without}
-use Rattle.node_arena.proofs.Changed.{weight-with}
-use Rattle.node_arena.proofs.Pieces.{spot-absent}
-use Rattle.node_arena.proofs.CutSpots.{without-absent}
-use Rattle.node_arena.proofs.Inside.{found}
-use Rattle.node_arena.proofs.InPath.{path-inside}
-use Rattle.node_arena.proofs.Allowed.{not_inside}
+use Rattle.order_law.proofs.Model.Weights.{IsApart, joined, parted, placed, put_below, hosted, changed, no_spot_there, on_path}
 
 -- the nodes of one forest are those of another, each of its kind
 abbrev pub Alike : Trees → Trees → Type 0
@@ -31,26 +28,26 @@ HasMore f g n kind = (w : ℕ → NodeKind → ℕ) → weight (λ m x. w m x.ki
 pub alike_cut : (f : Trees) (n : ℕ) → times n f ≤ 1 → Alike f (cut f n)
 alike_cut f n one w =
     let v = λ (m : ℕ) (x : Facts). w m x.kind in
-    let placed = weight-place v n (tree_of n f) (without n f) in
-    let parts = weight-without v n f one in
+    let placed = placed v n (tree_of n f) (without n f) in
+    let parts = parted v n f one in
     omega (arith, placed, parts)
 
 pub alike_graft : (f : Trees) (p n : ℕ) (b : Option ℕ) → times n f ≤ 1 → times p (without n f) ≡ 1 → Alike f (graft f p n b)
 alike_graft f p n b one outside w =
     let v = λ (m : ℕ) (x : Facts). w m x.kind in
-    let parts = weight-without v n f one in
-    let put_in = weight-put v p b (tree_of n f) (without n f) (omega (arith, outside)) in
+    let parts = parted v n f one in
+    let put_in = put_below v p b (tree_of n f) (without n f) (omega (arith, outside)) in
     grind (arith, nat_tests, outside, parts, put_in)
 
 pub alike_facts : (n : ℕ) (change : Facts → Facts) → ((x : Facts) → (change x).kind ≡ x.kind) → (f : Trees) → Alike f (with_facts n change f)
-alike_facts n change keeps f w = weight-with n change (λ (m : ℕ) (x : Facts). w m x.kind) (λ x. ap (w n) (keeps x)) f
+alike_facts n change keeps f w = changed (λ (m : ℕ) (x : Facts). w m x.kind) n change (λ x. ap (w n) (keeps x)) f
 
 pub more_node : (n : ℕ) (x : Facts) (f : Trees) → HasMore f (with_node n x f) n x.kind
-more_node n x f w = let all = weight-join (λ (m : ℕ) (y : Facts). w m y.kind) f (single n x) in omega (arith, all)
+more_node n x f w = let all = joined (λ (m : ℕ) (y : Facts). w m y.kind) f (single n x) in omega (arith, all)
 
 pub more_shadow : (host n : ℕ) (x : Facts) (f : Trees) → times host f ≡ 1 → HasMore f (with_shadow host (single n x) f) n x.kind
 more_shadow host n x f one w =
-    let all = weight-shadow (λ (m : ℕ) (y : Facts). w m y.kind) host (single n x) f (omega (arith, one)) in
+    let all = hosted (λ (m : ℕ) (y : Facts). w m y.kind) host (single n x) f (omega (arith, one)) in
     grind (arith, nat_tests, one, all)
 
 -- what is read at a number that is no node's
@@ -64,7 +61,7 @@ reads_element s = is_element (or_no_spot s).facts.kind
 pub element_there : (f : Trees) (n : ℕ) → is_element (kind_at f n) ≡ true → 0 < times n f
 element_there f n is = elim (cases_lt 0 (times n f)) [
   | inl there ↦ there
-  | inr out ↦ absurd (let none : spot_in None None n f ≡ None = spot-absent None None n f (omega arith) in let x : false ≡ true = sym (ap reads_element none) ∙ is in cc)
+  | inr out ↦ absurd (let none : spot_in None None n f ≡ None = no_spot_there None None n f (omega arith) in let x : false ≡ true = sym (ap reads_element none) ∙ is in cc)
 ]
 
 first_or : (a b : Option Spot) → reads_element (or_spot a b) ≡ true → (reads_element a ≡ true) ⊎ (reads_element b ≡ true)
@@ -100,39 +97,33 @@ no_host = refl
 pub host_there : (f : Trees) (n : ℕ) → shadow_host (facts_at f n).local ≡ true → 0 < times n f
 host_there f n is = elim (cases_lt 0 (times n f)) [
   | inl there ↦ there
-  | inr out ↦ absurd (let none : spot_in None None n f ≡ None = spot-absent None None n f (omega arith) in let x : false ≡ true = sym no_host ∙ sym (ap (λ s. shadow_host (or_no_spot s).facts.local) none) ∙ is in cc)
+  | inr out ↦ absurd (let none : spot_in None None n f ≡ None = no_spot_there None None n f (omega arith) in let x : false ≡ true = sym no_host ∙ sym (ap (λ s. shadow_host (or_no_spot s).facts.local) none) ∙ is in cc)
 ]
 
 -- what is outside of the tree of a node
 
+not_inside : (f : Trees) (p n : ℕ) (b : Option ℕ) → may_insert f p n b ≡ None → is_among n (path p f) ≡ false
+not_inside f p n b may = go (is_text (kind_at f p)) (is_among n (path p f)) may
+  where
+    others : Option Fault
+    others =
+        if not (is_child_or_none f p b) then Some NotFoundError
+        else if is_document (kind_at f n) || is_shadow_root (kind_at f n) then Some HierarchyRequestError
+        else if is_text (kind_at f n) && is_document (kind_at f p) then Some HierarchyRequestError
+        else if is_document (kind_at f p) && has_element_child f p then Some HierarchyRequestError
+        else None
+
+    go : (text inside : Bool) → (if text then Some HierarchyRequestError else if inside then Some HierarchyRequestError else others) ≡ None → inside ≡ false
+    go true inside e = absurd (let x : Some HierarchyRequestError ≡ None = e in cc)
+    go false true e = absurd (let x : Some HierarchyRequestError ≡ None = e in cc)
+    go false false e = refl
+
 -- a parent under which the node may be inserted
 pub outside_allowed : (f : Trees) (p n : ℕ) (b : Option ℕ) → IsApart f → times p f ≡ 1 → 0 < times n f → may_insert f p n b ≡ None → times p (without n f) ≡ 1
 outside_allowed f p n b apart one there may = elim (cases_lt 0 (times p (tree_of n f))) [
-  | inl low ↦ absurd (let on = path-inside n p f apart there low in let off = not_inside f p n b may in let x : true ≡ false = sym on ∙ off in cc)
-  | inr out ↦ let parts = times-without p n f (apart n) in omega (arith, one, out, parts)
+  | inl low ↦ absurd (let on = on_path n p f apart low in let off = not_inside f p n b may in let x : true ≡ false = sym on ∙ off in cc)
+  | inr out ↦ let parts = parted (λ j y. if j == p then 1 else 0) n f (apart n) in omega (arith, one, out, parts)
 ]
-
-without_placed : (n : ℕ) (x : Facts) (shadow children f : Trees) → times n f ≡ 0 → without n (place n (tree n x shadow children none) f) ≡ f
-without_placed n x s k none z = grind (arith, nat_tests)
-without_placed n x s k (tree m y shadow children rest) z =
-    grind (
-      arith,
-      nat_tests,
-      without_placed n x s k rest (omega arith),
-      without-absent n shadow (omega arith),
-      without-absent n children (omega arith),
-      without-absent n rest (omega arith),
-    )
-
--- the node's tree taken out leaves the others
-pub without_cut : (f : Trees) (n : ℕ) → IsApart f → 0 < times n f → without n (cut f n) ≡ without n f
-without_cut f n apart there =
-    let it = found None None n f apart there in
-    let parts = times-without n n f (apart n) in
-    let one : times n (tree n it.facts it.shadow it.children none) ≡ times n (tree_of n f) = ap (times n) (sym it.tree_is) in
-    let mine : times n (tree n it.facts it.shadow it.children none) ≡ 1 + (times n it.shadow + (times n it.children + 0)) = grind (arith, nat_tests) in
-    let gone : times n (without n f) ≡ 0 = let most = apart n in omega (arith, parts, one, mine, most) in
-    ap (λ t. without n (place n t (without n f))) it.tree_is ∙ without_placed n it.facts it.shadow it.children (without n f) gone
 
 pub outside_facts : (p n m : ℕ) (change : Facts → Facts) (f : Trees) → times p (without n (with_facts m change f)) ≡ times p (without n f)
 outside_facts p n m change none = refl
@@ -143,5 +134,5 @@ outside_facts p n m change (tree i x shadow children rest) =
       outside_facts p n m change shadow,
       outside_facts p n m change children,
       outside_facts p n m change rest,
-      weight-with m change (λ j y. if j == p then 1 else 0) (λ y. refl) rest,
+      changed (λ j y. if j == p then 1 else 0) m change (λ y. refl) rest,
     )

@@ -9,7 +9,7 @@ use Rattle.node_trees.specs.Orders.{order_of}
 use Rattle.node_trees.specs.Paths.{is_among}
 use Rattle.node_trees.specs.Spots.{kind_at, parent_at, document_at, attribute_at}
 use Rattle.node_trees.specs.Insertion.{may_insert}
-use Rattle.node_arena.proofs.Sums.{IsApart}
+use Rattle.order_law.proofs.Model.Weights.{IsApart, without_cut}
 use Rattle.ce_base.specs.declared.fault.Fault.{Fault}
 use Rattle.ce_algorithms.specs.declared.event.Event.{Event}
 use Rattle.ce_algorithms.specs.Steps.{Outcome, Goes, Throws, Spent, then_do, ◌>>=◌, ◌>>◌, where_is, for_each, throw_any}
@@ -20,7 +20,7 @@ use Rattle.ce_algorithms.specs.Enqueue.{enqueue_found, enqueue_upgrade, try_upgr
 use Rattle.ce_algorithms.specs.FormChanges.{FormChange, form_changes, is_form_associated, tell_owner, tell_disabled, tell_form_change, tell_at_turn, tell_others}
 use Rattle.ce_algorithms.specs.Mutation.{is_connected, is_connected_parent, removed, remove, move_to, adopt, connected_now, inserted, put_in, reference_child, insert, pre_insert}
 use Rattle.ce_algorithms.specs.Attributes.{handle_attribute_change, set_attribute, remove_there, remove_attribute}
-use Rattle.order_law.proofs.Model.Forests.{alike_cut, alike_graft, alike_facts, outside_allowed, without_cut, outside_facts}
+use Rattle.order_law.proofs.Model.Forests.{alike_cut, alike_graft, alike_facts, outside_allowed, outside_facts}
 use Rattle.order_law.proofs.Model.Sound.{sound_apart, element_row}
 use Rattle.order_law.proofs.Model.Invariant.{Hold, Known}
 use Rattle.order_law.proofs.Model.Hands.{IsHeld, held_row}
@@ -109,7 +109,7 @@ pub record Outside (p n : ℕ) (f : Trees) : Type 0 where
 outside_cut : (p n : ℕ) (f : Trees) → IsApart f → Outside p n f → Outside p n (cut f n)
 outside_cut p n f apart k =
     let same : times n (cut f n) ≡ times n f = alike_cut f n (apart n) (λ m kind. if m == n then 1 else 0) in
-    record { there = let t = k.there in omega (arith, same, t); outside = ap (times p) (without_cut f n apart k.there) ∙ k.outside }
+    record { there = let t = k.there in omega (arith, same, t); outside = ap (times p) (without_cut f n apart) ∙ k.outside }
 
 outside_document : (p n document m : ℕ) (f : Trees) → Outside p n f → Outside p n (with_document m document f)
 outside_document p n document m f k =

@@ -9,7 +9,7 @@ use Rattle.node_trees.specs.Trees.{Trees}
 use Rattle.node_trees.specs.Nodes.{weight, size, times}
 use Rattle.node_trees.specs.Spots.{kind_at}
 use Rattle.ce_algorithms.specs.Construction.{or_no_entries}
-use Rattle.node_arena.proofs.Sums.{IsApart}
+use Rattle.order_law.proofs.Model.Weights.{IsApart}
 use Rattle.order_law.proofs.Model.Forests.{Alike, HasMore, one_element, element_there, element_counts}
 
 -- the number of a node

@@ -20,7 +20,7 @@ use Rattle.ce_algorithms.specs.State.{State, Class, event_of, with_work, with_ou
 use Rattle.ce_algorithms.specs.Construction.{with_stack}
 use Rattle.order_law.specs.Law.{Lawful}
 use Rattle.node_trees.specs.Trees.{Trees}
-use Rattle.node_arena.proofs.Sums.{IsApart}
+use Rattle.order_law.proofs.Model.Weights.{IsApart}
 use Rattle.order_law.specs.Whole.{are_whole}
 use Rattle.order_law.proofs.Model.Forests.{Alike}
 use Rattle.order_law.proofs.Model.Sound.{All, all_set, IsEntry, Sound, sound_apart, sound_alike, sound_stacks}
