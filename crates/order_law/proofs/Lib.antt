@@ -9,3 +9,4 @@ pub mod Opens
 pub mod Stands
 pub mod Pushed
 pub mod Ended
+pub mod Model

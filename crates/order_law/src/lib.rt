@@ -5,6 +5,7 @@
 mod laws;
 mod nesting;
 mod samples;
+mod sessions;
 
 pub use laws::{
     each_backup_is_drained, each_drop_is_part_of_a_throw, each_element_is_upgraded_once,
@@ -20,3 +21,4 @@ pub use samples::{
     nests_refuses, replies_at_rest_refuses, runs_in_order_refuses, runs_once_refuses,
     upgrades_once_refuses, worked_logs_are_lawful,
 };
+pub use sessions::{each_script_is_lawful, each_session_is_lawful, steps_are_needed};

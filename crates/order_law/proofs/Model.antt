@@ -1,0 +1,35 @@
+-- That the log of each session is lawful: an induction over what the algorithms do, with what holds between the log and the
+-- state while some of them are suspended (Invariant).
+--
+-- The book, event by event, and a whole run of drops: Reading. The nodes of forests, and that each has its row: Forests, Sound.
+-- Nodes that steps have in hand: Hands. One change of the page, with its event: Rows, Upgrades, Reactions, Closing, Ending, Lines,
+-- Making. Steps on a page: Steps, Giving, Primitives, Nodes, PageDeeds. Steps of a session: Upgrading, Draining, Bodies,
+-- Operations, Sessions, Scripts.
+--
+-- A new deed on the page is a case of `page_gives` (PageDeeds), another deed one of `deed_gives`, an operation one of `resolved`
+-- (Operations), a command one of `performs` (Sessions), an action of a body one of `act_gives` (Bodies).
+pub mod Reading
+pub mod Weights
+pub mod Forests
+pub mod Sound
+pub mod Invariant
+pub mod Hands
+pub mod Rows
+pub mod Upgrades
+pub mod Reactions
+pub mod Closing
+pub mod Ending
+pub mod Steps
+pub mod Giving
+pub mod Primitives
+pub mod Nodes
+pub mod PageDeeds
+pub mod Lines
+pub mod Making
+pub mod Upgrading
+pub mod Draining
+pub mod Bodies
+pub mod Operations
+pub mod Sessions
+pub mod Scripts
+pub mod Readings
