@@ -6,8 +6,11 @@
 mod answers;
 mod calls;
 mod event_line;
+mod laws;
 mod lists;
 mod out;
+mod reading;
+mod refused;
 mod replies;
 mod submissions;
 mod trace;
@@ -17,3 +20,5 @@ mod written;
 pub use ce_algorithms::{Answer, Cause, Event};
 pub use event_line::write_event;
 pub use out::write_out;
+pub use reading::read_event;
+pub use refused::EventRefused;
