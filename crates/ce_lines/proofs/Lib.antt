@@ -1,10 +1,1 @@
-pub mod AnswerLaws
-pub mod CallLaws
-pub mod EventLaws
-pub mod NumberLaws
 pub mod ReadLaws
-pub mod ReplyLaws
-pub mod SubmissionLaws
-pub mod Told
-pub mod TokenLaws
-pub mod TraceLaws

@@ -6,11 +6,9 @@
 mod answers;
 mod calls;
 mod event_line;
-mod laws;
 mod lists;
 mod out;
 mod reading;
-mod refused;
 mod replies;
 mod submissions;
 mod trace;
@@ -19,6 +17,6 @@ mod written;
 
 pub use ce_algorithms::{Answer, Cause, Event};
 pub use event_line::write_event;
+pub use event_reader::EventRefused;
 pub use out::write_out;
 pub use reading::read_event;
-pub use refused::EventRefused;

@@ -1,9 +1,0 @@
--- Why bytes are refused where their tokens are.
-use Rattle.rule_tokens.specs.declared.refused.LineRefused.{LineRefused}
-use Rattle.rule_tokens.specs.declared.refused.LineRefused.TheVariants as line
-use Rattle.ce_lines.specs.declared.refused.EventRefused.{EventRefused}
-use Rattle.ce_lines.specs.declared.refused.EventRefused.TheVariants.{NotAnEvent, NoMemory}
-
-abbrev pub refused_for : LineRefused → EventRefused
-refused_for (line.Bad b) = NotAnEvent
-refused_for line.NoMemory = NoMemory
