@@ -1,6 +1,7 @@
 pub mod AnswerLaws
 pub mod CallLaws
 pub mod EventLaws
+pub mod FitLaws
 pub mod GuessLaws
 pub mod NumberLaws
 pub mod ReplyLaws

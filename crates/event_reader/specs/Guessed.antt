@@ -1,5 +1,5 @@
 -- What is guessed of the text of an event.
-use Rattle.std.specs.Prelude.{◌≡◌, ℕ, List, Option, Some, Result, Ok, Err, ⊤}
+use Rattle.std.specs.Prelude.{◌≡◌, ℕ, List, Some, Result, Ok, Err}
 use Rattle.ce_algorithms.specs.declared.event.Event.{Event}
 use Rattle.ce_algorithms.specs.Text.{event_text}
 use Rattle.event_reader.specs.declared.refused.EventRefused.{EventRefused}

@@ -1,10 +1,11 @@
 // What is answered.
-ghost use Rattle.std.specs.Prelude.{◌≡◌, IfOk};
+ghost use Rattle.std.specs.Prelude.{◌≡◌, IfOk, IfSome};
 ghost use Rattle.event_reader.specs.Answers.{answer_named, answer_of, flags_answer, nodes_answer, or_flags, state_answer, state_named, texts_answer};
+ghost use Rattle.event_reader.specs.IsEvent.{IsAnswer};
 ghost use Rattle.event_reader.specs.Read.{Reads};
 
 use crate::EventRefused;
-use crate::parts::{begins_node, node_in, nodes_of, texts_of};
+use crate::parts::{begins_node, node_in, nodes_of, text_of, texts_of};
 use ce_algorithms::Answer;
 use ce_base::{CustomState, NoMemory, Nodes};
 use rule_tokens::{Token, raised};
@@ -24,7 +25,8 @@ fn state_named(word: &str) -> Option<CustomState>
 }
 
 fn state_answer(word: &str) -> Option<Answer>
-    ensures { result ≡ state_answer (state_named word.now) }
+    ensures same { result ≡ state_answer (state_named word.now) }
+    ensures fits { IfSome result IsAnswer }
 {
     match state_named(word) {
         None => None,
@@ -33,7 +35,8 @@ fn state_answer(word: &str) -> Option<Answer>
 }
 
 fn answer_named(alloc: Global, word: &str) -> Option<Answer>
-    ensures { result ≡ answer_named word.now }
+    ensures same { result ≡ answer_named word.now }
+    ensures fits { IfSome result IsAnswer }
 {
     match word {
         "null" => Some(Answer::Null),
@@ -46,14 +49,16 @@ fn answer_named(alloc: Global, word: &str) -> Option<Answer>
 }
 
 fn flags_answer(alloc: Global, tokens: &[Token]) -> Result<Answer, NoMemory>
-    ensures { IfOk result (λ a. a ≡ flags_answer tokens.now) }
+    ensures same { IfOk result (λ a. a ≡ flags_answer tokens.now) }
+    ensures fits { IfOk result IsAnswer }
 {
     let names = texts_of(alloc, tokens)?;
     Ok(Answer::Raised(raised(names.as_slice())))
 }
 
 fn word_answer(alloc: Global, word: &str, tokens: &[Token]) -> Result<Answer, NoMemory>
-    ensures { IfOk result (λ a. a ≡ or_flags (answer_named word.now) tokens.now) }
+    ensures same { IfOk result (λ a. a ≡ or_flags (answer_named word.now) tokens.now) }
+    ensures fits { IfOk result IsAnswer }
 {
     match answer_named(alloc, word) {
         None => flags_answer(alloc, tokens),
@@ -62,16 +67,18 @@ fn word_answer(alloc: Global, word: &str, tokens: &[Token]) -> Result<Answer, No
 }
 
 fn texts_answer(alloc: Global, tokens: &[Token]) -> Result<Answer, NoMemory>
-    ensures { IfOk result (λ a. a ≡ texts_answer tokens.now) }
+    ensures same { IfOk result (λ a. a ≡ texts_answer tokens.now) }
+    ensures fits { IfOk result IsAnswer }
 {
     match tokens {
-        [t] => Ok(Answer::One(t.text.copy(alloc)?)),
+        [t] => Ok(Answer::One(text_of(alloc, t)?)),
         _ => Ok(Answer::Texts(texts_of(alloc, tokens)?)),
     }
 }
 
 fn nodes_answer(alloc: Global, tokens: &[Token]) -> Result<Answer, NoMemory>
-    ensures { IfOk result (λ a. a ≡ nodes_answer tokens.now) }
+    ensures same { IfOk result (λ a. a ≡ nodes_answer tokens.now) }
+    ensures fits { IfOk result IsAnswer }
 {
     match tokens {
         [t] => Ok(Answer::Node(node_in(t.text.as_str()))),
@@ -80,7 +87,8 @@ fn nodes_answer(alloc: Global, tokens: &[Token]) -> Result<Answer, NoMemory>
 }
 
 pub(crate) fn answer_of(alloc: Global, tokens: &[Token]) -> Result<Answer, EventRefused>
-    ensures { Reads result (answer_of tokens.now) }
+    ensures reads { Reads result (answer_of tokens.now) }
+    ensures fits { IfOk result IsAnswer }
 {
     match tokens {
         [] => Err(EventRefused::NotAnEvent),

@@ -1,10 +1,11 @@
 // Callbacks that start.
-ghost use Rattle.std.specs.Prelude.{◌≡◌};
+ghost use Rattle.std.specs.Prelude.{◌≡◌, IfOk};
 ghost use Rattle.event_reader.specs.Calls.{adopted_of, attribute_of, call_by, call_of, form_associated_of, form_disabled_of, form_state_restore_of, mode_named};
+ghost use Rattle.event_reader.specs.IsEvent.{IsEvent, IsNumber};
 ghost use Rattle.event_reader.specs.Read.{Reads};
 
 use crate::EventRefused;
-use crate::parts::{node_in, node_or_none, text_or_none};
+use crate::parts::{node_in, node_or_none, text_of, text_or_none};
 use ce_algorithms::Event;
 use ce_base::NodeNo;
 use reaction_queue::Mode;
@@ -12,7 +13,9 @@ use rule_tokens::Token;
 use std::alloc::Global;
 
 fn adopted_of(n: NodeNo, tokens: &[Token]) -> Result<Event, EventRefused>
-    ensures { Reads result (adopted_of n tokens.now) }
+    requires { IsNumber n }
+    ensures reads { Reads result (adopted_of n tokens.now) }
+    ensures fits { IfOk result IsEvent }
 {
     match tokens {
         [old, new] => {
@@ -24,11 +27,13 @@ fn adopted_of(n: NodeNo, tokens: &[Token]) -> Result<Event, EventRefused>
 }
 
 fn attribute_of(alloc: Global, n: NodeNo, tokens: &[Token]) -> Result<Event, EventRefused>
-    ensures { Reads result (attribute_of n tokens.now) }
+    requires { IsNumber n }
+    ensures reads { Reads result (attribute_of n tokens.now) }
+    ensures fits { IfOk result IsEvent }
 {
     match tokens {
         [name, old, new] => {
-            let name = name.text.copy(alloc)?;
+            let name = text_of(alloc, name)?;
             let old = text_or_none(alloc, old)?;
             let new = text_or_none(alloc, new)?;
             Ok(Event::Attribute(n, name, old, new))
@@ -38,7 +43,9 @@ fn attribute_of(alloc: Global, n: NodeNo, tokens: &[Token]) -> Result<Event, Eve
 }
 
 fn form_associated_of(n: NodeNo, tokens: &[Token]) -> Result<Event, EventRefused>
-    ensures { Reads result (form_associated_of n tokens.now) }
+    requires { IsNumber n }
+    ensures reads { Reads result (form_associated_of n tokens.now) }
+    ensures fits { IfOk result IsEvent }
 {
     match tokens {
         [form] => Ok(Event::FormAssociated(n, node_or_none(form.text.as_str()))),
@@ -47,7 +54,9 @@ fn form_associated_of(n: NodeNo, tokens: &[Token]) -> Result<Event, EventRefused
 }
 
 fn form_disabled_of(n: NodeNo, tokens: &[Token]) -> Result<Event, EventRefused>
-    ensures { Reads result (form_disabled_of n tokens.now) }
+    requires { IsNumber n }
+    ensures reads { Reads result (form_disabled_of n tokens.now) }
+    ensures fits { IfOk result IsEvent }
 {
     match tokens {
         [word] => Ok(Event::FormDisabled(n, word.text.as_str() == "true")),
@@ -66,19 +75,23 @@ fn mode_named(word: &str) -> Mode
 }
 
 fn form_state_restore_of(alloc: Global, n: NodeNo, tokens: &[Token]) -> Result<Event, EventRefused>
-    ensures { Reads result (form_state_restore_of n tokens.now) }
+    requires { IsNumber n }
+    ensures reads { Reads result (form_state_restore_of n tokens.now) }
+    ensures fits { IfOk result IsEvent }
 {
     match tokens {
         [text, why] => {
             let why = mode_named(why.text.as_str());
-            Ok(Event::FormStateRestore(n, text.text.copy(alloc)?, why))
+            Ok(Event::FormStateRestore(n, text_of(alloc, text)?, why))
         }
         _ => Err(EventRefused::NotAnEvent),
     }
 }
 
 fn call_by(alloc: Global, n: NodeNo, word: &str, rest: &[Token]) -> Result<Event, EventRefused>
-    ensures { Reads result (call_by n word.now rest.now) }
+    requires { IsNumber n }
+    ensures reads { Reads result (call_by n word.now rest.now) }
+    ensures fits { IfOk result IsEvent }
 {
     match word {
         "connected" => Ok(Event::Connected(n)),
@@ -94,7 +107,8 @@ fn call_by(alloc: Global, n: NodeNo, word: &str, rest: &[Token]) -> Result<Event
 }
 
 pub(crate) fn call_of(alloc: Global, tokens: &[Token]) -> Result<Event, EventRefused>
-    ensures { Reads result (call_of tokens.now) }
+    ensures reads { Reads result (call_of tokens.now) }
+    ensures fits { IfOk result IsEvent }
 {
     match tokens {
         [n, word, rest @ ..] => {

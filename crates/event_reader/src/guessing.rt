@@ -1,5 +1,5 @@
 // Reads a line as the event that it must be.
-ghost use Rattle.std.specs.Prelude.{◌≡◌, option_copied};
+ghost use Rattle.std.specs.Prelude.{◌≡◌, IfOk, option_copied};
 ghost use Rattle.ce_algorithms.specs.Text.{event_text};
 ghost use Rattle.ce_algorithms.specs.declared.event.Event.{Event};
 ghost use Rattle.event_reader.specs.Guessed.{IsGuessed};
@@ -16,12 +16,13 @@ use crate::replies::reply_of;
 use crate::submissions::submit_of;
 use crate::traces::trace_of;
 use ce_algorithms::Event;
-use ce_base::Text;
+use ce_base::{NoMemory, Text};
 use rule_tokens::{Token, text_in, tokens_of};
 use std::alloc::Global;
 
 fn event_by(alloc: Global, word: &str, rest: &[Token]) -> Result<Event, EventRefused>
-    ensures { Reads result (event_by word.now rest.now) }
+    ensures reads { Reads result (event_by word.now rest.now) }
+    ensures fits { IfOk result IsEvent }
 {
     match word {
         "call" => call_of(alloc, rest),
@@ -37,7 +38,8 @@ fn event_by(alloc: Global, word: &str, rest: &[Token]) -> Result<Event, EventRef
 }
 
 fn event_of(alloc: Global, tokens: &[Token]) -> Result<Event, EventRefused>
-    ensures { Reads result (event_of tokens.now) }
+    ensures reads { Reads result (event_of tokens.now) }
+    ensures fits { IfOk result IsEvent }
 {
     match tokens {
         [] => Err(EventRefused::NotAnEvent),
@@ -60,12 +62,20 @@ fn class_in(bytes: &[u8]) -> Option<&str>
     text_in(&bytes[10..])
 }
 
+fn construct(alloc: Global, class: &str) -> Result<Event, NoMemory>
+    ensures same { IfOk result (λ e. e ≡ Event.Construct class.now) }
+    ensures fits { IfOk result IsEvent }
+{
+    Ok(Event::Construct(Text::of(alloc, class)?))
+}
+
 #[tactic(auto, unfolding(crate::specs::Reading::guess))]
 fn guess_of(alloc: Global, bytes: &[u8]) -> Result<Event, EventRefused>
-    ensures { Reads result (guess bytes.now) }
+    ensures reads { Reads result (guess bytes.now) }
+    ensures fits { IfOk result IsEvent }
 {
     if let Some(class) = class_in(bytes) {
-        return Ok(Event::Construct(Text::of(alloc, class)?));
+        return Ok(construct(alloc, class)?);
     }
     match tokens_of(alloc, bytes.len(), bytes)? {
         None => Err(EventRefused::NotAnEvent),
@@ -78,6 +88,9 @@ fn guess_of(alloc: Global, bytes: &[u8]) -> Result<Event, EventRefused>
 pub fn guess(alloc: Global, bytes: &[u8]) -> Result<Event, EventRefused>
     // Where they are the text of an event, it is an event with this text.
     ensures only { (e : Event) → IsEvent e → event_text e ≡ bytes.now → IsGuessed bytes.now result }
+
+    // What is guessed is an event.
+    ensures fits { IfOk result IsEvent }
 {
     texts_are_guessed();
     guess_of(alloc, bytes)

@@ -1,5 +1,6 @@
 // The replies of lines.
-ghost use Rattle.std.specs.Prelude.{◌≡◌};
+ghost use Rattle.std.specs.Prelude.{◌≡◌, IfOk};
+ghost use Rattle.event_reader.specs.IsEvent.{IsAnswer, IsEvent};
 ghost use Rattle.event_reader.specs.Read.{Reads};
 ghost use Rattle.event_reader.specs.Replies.{answered_of, bad_named, is_reply_word, replied, reply_by, reply_of, was_bad_of};
 
@@ -27,7 +28,8 @@ fn bad_named(word: &str) -> Option<Bad>
 }
 
 fn was_bad_of(line: u64, tokens: &[Token]) -> Result<Event, EventRefused>
-    ensures { Reads result (was_bad_of line tokens.now) }
+    ensures reads { Reads result (was_bad_of line tokens.now) }
+    ensures fits { IfOk result IsEvent }
 {
     match tokens {
         [word] => match bad_named(word.text.as_str()) {
@@ -39,7 +41,9 @@ fn was_bad_of(line: u64, tokens: &[Token]) -> Result<Event, EventRefused>
 }
 
 fn replied(line: u64, answer: Answer) -> Event
-    ensures { result ≡ replied line answer }
+    requires { IsAnswer answer }
+    ensures same { result ≡ replied line answer }
+    ensures fits { IsEvent result }
 {
     match answer {
         Answer::Node(n) => Event::Gave(line, n),
@@ -48,7 +52,8 @@ fn replied(line: u64, answer: Answer) -> Event
 }
 
 fn answered_of(alloc: Global, line: u64, tokens: &[Token]) -> Result<Event, EventRefused>
-    ensures { Reads result (answered_of line tokens.now) }
+    ensures reads { Reads result (answered_of line tokens.now) }
+    ensures fits { IfOk result IsEvent }
 {
     Ok(replied(line, answer_of(alloc, tokens)?))
 }
@@ -60,7 +65,8 @@ fn is_reply_word(word: &str) -> bool
 }
 
 fn reply_by(alloc: Global, line: u64, word: &str, rest: &[Token]) -> Result<Event, EventRefused>
-    ensures { Reads result (reply_by line word.now rest.now) }
+    ensures reads { Reads result (reply_by line word.now rest.now) }
+    ensures fits { IfOk result IsEvent }
 {
     match word {
         "ok" => Ok(Event::Fine(line)),
@@ -72,7 +78,8 @@ fn reply_by(alloc: Global, line: u64, word: &str, rest: &[Token]) -> Result<Even
 }
 
 pub(crate) fn reply_of(alloc: Global, line: u64, tokens: &[Token]) -> Result<Event, EventRefused>
-    ensures { Reads result (reply_of line tokens.now) }
+    ensures reads { Reads result (reply_of line tokens.now) }
+    ensures fits { IfOk result IsEvent }
 {
     match tokens {
         [] => Err(EventRefused::NotAnEvent),

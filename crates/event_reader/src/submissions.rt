@@ -1,31 +1,37 @@
 // Submissions of forms.
+ghost use Rattle.std.specs.Prelude.{IfOk};
+ghost use Rattle.event_reader.specs.IsEvent.{IsCause, IsEvent, IsNumber};
 ghost use Rattle.event_reader.specs.Read.{Reads};
 ghost use Rattle.event_reader.specs.Submissions.{cause_by, cause_of, get_of, post_of, submit_by, submit_of};
 
 use crate::EventRefused;
-use crate::parts::{node_in, nodes_of};
+use crate::parts::{node_in, nodes_of, text_of};
 use ce_algorithms::{Cause, Event};
 use ce_base::NodeNo;
 use rule_tokens::Token;
 use std::alloc::Global;
 
 fn get_of(alloc: Global, n: NodeNo, tokens: &[Token]) -> Result<Event, EventRefused>
-    ensures { Reads result (get_of n tokens.now) }
+    requires { IsNumber n }
+    ensures reads { Reads result (get_of n tokens.now) }
+    ensures fits { IfOk result IsEvent }
 {
     match tokens {
-        [url] => Ok(Event::SubmitGet(n, url.text.copy(alloc)?)),
+        [url] => Ok(Event::SubmitGet(n, text_of(alloc, url)?)),
         _ => Err(EventRefused::NotAnEvent),
     }
 }
 
 fn post_of(alloc: Global, n: NodeNo, tokens: &[Token]) -> Result<Event, EventRefused>
-    ensures { Reads result (post_of n tokens.now) }
+    requires { IsNumber n }
+    ensures reads { Reads result (post_of n tokens.now) }
+    ensures fits { IfOk result IsEvent }
 {
     match tokens {
         [url, media, body] => {
-            let url = url.text.copy(alloc)?;
-            let media = media.text.copy(alloc)?;
-            let body = body.text.copy(alloc)?;
+            let url = text_of(alloc, url)?;
+            let media = text_of(alloc, media)?;
+            let body = text_of(alloc, body)?;
             Ok(Event::SubmitPost(n, url, media, body))
         }
         _ => Err(EventRefused::NotAnEvent),
@@ -33,7 +39,8 @@ fn post_of(alloc: Global, n: NodeNo, tokens: &[Token]) -> Result<Event, EventRef
 }
 
 fn cause_by(alloc: Global, word: &str, rest: &[Token]) -> Result<Cause, EventRefused>
-    ensures { Reads result (cause_by word.now rest.now) }
+    ensures reads { Reads result (cause_by word.now rest.now) }
+    ensures fits { IfOk result IsCause }
 {
     match word {
         "disconnected" => Ok(Cause::Disconnected),
@@ -48,7 +55,8 @@ fn cause_by(alloc: Global, word: &str, rest: &[Token]) -> Result<Cause, EventRef
 }
 
 fn cause_of(alloc: Global, tokens: &[Token]) -> Result<Cause, EventRefused>
-    ensures { Reads result (cause_of tokens.now) }
+    ensures reads { Reads result (cause_of tokens.now) }
+    ensures fits { IfOk result IsCause }
 {
     match tokens {
         [] => Err(EventRefused::NotAnEvent),
@@ -57,7 +65,9 @@ fn cause_of(alloc: Global, tokens: &[Token]) -> Result<Cause, EventRefused>
 }
 
 fn submit_by(alloc: Global, n: NodeNo, word: &str, rest: &[Token]) -> Result<Event, EventRefused>
-    ensures { Reads result (submit_by n word.now rest.now) }
+    requires { IsNumber n }
+    ensures reads { Reads result (submit_by n word.now rest.now) }
+    ensures fits { IfOk result IsEvent }
 {
     match word {
         "get" => get_of(alloc, n, rest),
@@ -68,7 +78,8 @@ fn submit_by(alloc: Global, n: NodeNo, word: &str, rest: &[Token]) -> Result<Eve
 }
 
 pub(crate) fn submit_of(alloc: Global, tokens: &[Token]) -> Result<Event, EventRefused>
-    ensures { Reads result (submit_of tokens.now) }
+    ensures reads { Reads result (submit_of tokens.now) }
+    ensures fits { IfOk result IsEvent }
 {
     match tokens {
         [n, word, rest @ ..] => {

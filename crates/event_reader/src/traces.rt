@@ -1,5 +1,6 @@
 // The lines of a trace.
-ghost use Rattle.std.specs.Prelude.{◌≡◌};
+ghost use Rattle.std.specs.Prelude.{◌≡◌, IfOk};
+ghost use Rattle.event_reader.specs.IsEvent.{IsEvent, IsNumber};
 ghost use Rattle.event_reader.specs.Read.{Reads};
 ghost use Rattle.event_reader.specs.Traces.{enqueued_of, trace_by, trace_of, what_named};
 
@@ -22,7 +23,9 @@ fn what_named(word: &str) -> Option<CallOrUpgrade>
 }
 
 fn enqueued_of(r: ReactionNo, tokens: &[Token]) -> Result<Event, EventRefused>
-    ensures { Reads result (enqueued_of r tokens.now) }
+    requires { IsNumber r }
+    ensures reads { Reads result (enqueued_of r tokens.now) }
+    ensures fits { IfOk result IsEvent }
 {
     match tokens {
         [n, what, q] => match what_named(what.text.as_str()) {
@@ -38,7 +41,8 @@ fn enqueued_of(r: ReactionNo, tokens: &[Token]) -> Result<Event, EventRefused>
 }
 
 fn trace_by(word: &str, number: &str, rest: &[Token]) -> Result<Event, EventRefused>
-    ensures { Reads result (trace_by word.now number.now rest.now) }
+    ensures reads { Reads result (trace_by word.now number.now rest.now) }
+    ensures fits { IfOk result IsEvent }
 {
     let n = number_in(number.as_bytes());
     match word {
@@ -57,7 +61,8 @@ fn trace_by(word: &str, number: &str, rest: &[Token]) -> Result<Event, EventRefu
 }
 
 pub(crate) fn trace_of(tokens: &[Token]) -> Result<Event, EventRefused>
-    ensures { Reads result (trace_of tokens.now) }
+    ensures reads { Reads result (trace_of tokens.now) }
+    ensures fits { IfOk result IsEvent }
 {
     match tokens {
         [word, number, rest @ ..] => { trace_by(word.text.as_str(), number.text.as_str(), rest) }
