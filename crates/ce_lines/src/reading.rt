@@ -2,7 +2,7 @@
 ghost use Rattle.std.specs.Prelude.{◌≡◌, IfOk, Err};
 ghost use Rattle.std.specs.Str.{bytes_eq};
 ghost use Rattle.ce_algorithms.specs.Text.{event_text};
-ghost use Rattle.event_reader.specs.IsEvent.{IsNoText};
+ghost use Rattle.event_reader.specs.IsEvent.{IsEvent, IsNoText};
 ghost use Rattle.ce_lines.specs.Reading.{IsKept};
 
 use crate::event_line::write_event;
@@ -40,9 +40,13 @@ fn kept(alloc: Global, e: Event, bytes: &[u8]) -> Result<Event, EventRefused>
 
 /// The event that has these bytes as its text: the line of an event, without its line feed. Where several have
 /// it, it is one of them. `NoMemory` comes only where memory was refused, and tells nothing of the bytes.
+#[tactic(auto, using(crate::proofs::ReadLaws::kept_events))]
 pub fn read_event(alloc: Global, bytes: &[u8]) -> Result<Event, EventRefused>
     // The bytes are the text of the event that is read.
     ensures text { IfOk result (λ e. event_text e ≡ bytes.now) }
+
+    // It is an event.
+    ensures value { IfOk result IsEvent }
 
     // Where no event is read, they are the text of none.
     ensures none { result ≡ Err EventRefused.NotAnEvent → IsNoText bytes.now }
