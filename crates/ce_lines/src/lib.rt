@@ -8,6 +8,7 @@ mod calls;
 mod event_line;
 mod lists;
 mod out;
+mod reading;
 mod replies;
 mod submissions;
 mod trace;
@@ -16,4 +17,6 @@ mod written;
 
 pub use ce_algorithms::{Answer, Cause, Event};
 pub use event_line::write_event;
+pub use event_reader::EventRefused;
 pub use out::write_out;
+pub use reading::read_event;

@@ -1,9 +1,9 @@
-// Lines of events, as a transcript has them, and events written to a sink.
+// Lines of events, as a transcript has them, read and written, and events written to a sink.
 mod events;
 mod tables;
 
-use ce_base::{MemSink, NoMemory, Sink, Stop, SureSink, Text};
-use ce_lines::{Event, write_event, write_out};
+use ce_base::{MemSink, NoMemory, NodeNo, Sink, Stop, SureSink, Text};
+use ce_lines::{Event, EventRefused, read_event, write_event, write_out};
 use events::{event, texts};
 use std::alloc::Global;
 use std::process::Abort;
@@ -22,12 +22,34 @@ fn write<K: Sink>(alloc: Global, sink: &mut K, trace: bool, e: Event) -> Result<
     end
 }
 
-// Compares the line of each event of a table.
+// The line of the event that the bytes are read as.
+fn again(alloc: Global, bytes: &[u8]) -> Result<Text, Fail> {
+    let e = read_event(alloc, bytes)?;
+    Ok(line_of(alloc, e)?)
+}
+
+// Why the bytes are not read.
+fn refusal(alloc: Global, bytes: &[u8]) -> Option<EventRefused> {
+    match read_event(alloc, bytes) {
+        Ok(e) => {
+            drop(e);
+            None
+        }
+        Err(refused) => Some(refused),
+    }
+}
+
+// Compares the line of each event of a table, and reads it.
 fn compare(rt: &impl Abort, alloc: Global, table: &str) -> Result<(), Fail> {
     for row in table.lines() {
         let (words, line) = row.split_once(" => ").ok_or("a row")?;
         let text = line_of(alloc, event(alloc, words)?)?;
         assert_eq!(rt; text.as_str(), line, "at {words}");
+        assert_eq!(rt;
+            again(alloc, line.as_bytes())?.as_str(),
+            line,
+            "read at {words}"
+        );
     }
     Ok(())
 }
@@ -131,5 +153,53 @@ fn a_write_fails_and_the_next_line_is_written(rt: HostRuntime) -> Result<(), Fai
     replies(&rt, alloc, &mut sink, 2, true, Err(Stop::WriteFault));
     replies(&rt, alloc, &mut sink, 3, true, Ok(()));
     assert_eq!(rt; str::from_utf8(sink.bytes())?, "1: ok\n3: ok\n");
+    Ok(())
+}
+
+#[test]
+fn each_line_of_a_transcript_is_read(rt: HostRuntime) -> Result<(), Fail> {
+    let alloc = rt.alloc();
+    for line in TRANSCRIPT.lines() {
+        assert_eq!(rt; again(alloc, line.as_bytes())?.as_str(), line);
+    }
+    Ok(())
+}
+
+#[test]
+fn odd_lines_are_read(rt: HostRuntime) -> Result<(), Fail> {
+    let alloc = rt.alloc();
+    for row in ODD.split('|') {
+        assert_eq!(rt; again(alloc, row.as_bytes())?.as_str(), row);
+    }
+    Ok(())
+}
+
+#[test]
+fn a_node_is_a_reply_that_gives_it(rt: HostRuntime) -> Result<(), Fail> {
+    let e = read_event(rt.alloc(), b"3: #7")?;
+    let gives = matches!(&e, Event::Gave(3, NodeNo(7)));
+    drop(e);
+    assert!(rt; gives);
+    Ok(())
+}
+
+#[test]
+fn what_is_no_line_is_refused(rt: HostRuntime) -> Result<(), Fail> {
+    let alloc = rt.alloc();
+    for row in REFUSED.split('|') {
+        assert_eq!(rt;
+            refusal(alloc, row.as_bytes()),
+            Some(EventRefused::NotAnEvent),
+            "at {row}"
+        );
+    }
+    assert_eq!(rt;
+        refusal(alloc, b"construct \xff"),
+        Some(EventRefused::NotAnEvent)
+    );
+    assert_eq!(rt;
+        refusal(alloc, b"log \"\xc3\""),
+        Some(EventRefused::NotAnEvent)
+    );
     Ok(())
 }

@@ -103,7 +103,7 @@ is_raised_name (name ∷ names) (false ∷ fs) flag = is_raised_name names fs fl
 raised_ten : (a b c d e f g h i j : Bool) → raised (raised_names flag_names (a ∷ b ∷ c ∷ d ∷ e ∷ f ∷ g ∷ h ∷ i ∷ j ∷ [])) ≡ a ∷ b ∷ c ∷ d ∷ e ∷ f ∷ g ∷ h ∷ i ∷ j ∷ []
 raised_ten a b c d e f g h i j = simp (is_raised_name, or-false)
 
-raised_back : (fs : List Bool) → length fs ≡ 10 → raised (raised_names flag_names fs) ≡ fs
+pub raised_back : (fs : List Bool) → length fs ≡ 10 → raised (raised_names flag_names fs) ≡ fs
 raised_back (a ∷ b ∷ c ∷ d ∷ e ∷ f ∷ g ∷ h ∷ i ∷ j ∷ []) is = raised_ten a b c d e f g h i j
 raised_back fs is = absurd (omega arith)
 

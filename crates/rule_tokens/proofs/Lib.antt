@@ -7,3 +7,4 @@ pub mod Hex
 pub mod QuoteLaws
 pub mod Utf8
 pub mod SpacedLaws
+pub mod TextLaws

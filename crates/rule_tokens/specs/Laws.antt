@@ -4,8 +4,8 @@ use Rattle.std.specs.List.{list_all}
 use Rattle.rule_tokens.specs.declared.refused.Bad.{Bad}
 use Rattle.rule_tokens.specs.declared.token.Token.{Token}
 use Rattle.rule_tokens.specs.Cases.{ReadsTo, RefusedFor}
-use Rattle.rule_tokens.specs.Flags.{flags}
-use Rattle.rule_tokens.specs.FlagsText.{flags_text}
+use Rattle.rule_tokens.specs.Flags.{flag_names, flags, raised}
+use Rattle.rule_tokens.specs.FlagsText.{flags_text, raised_names}
 use Rattle.rule_tokens.specs.Spaced.{is_bare_byte}
 use Rattle.rule_tokens.specs.Tokens.{tokens_of}
 
@@ -41,3 +41,7 @@ FlagsAreBare = (fs : List Bool) → length fs ≡ 10 → (flags_text fs ≢ []) 
 -- what is read as flags is ten of them
 abbrev pub FlagsAreTen : Type 0
 FlagsAreTen = (t : Token) (fs : List Bool) → flags t ≡ Some fs → length fs ≡ 10
+
+-- the names of those of ten flags that are raised raise them
+abbrev pub FlagsAreNamed : Type 0
+FlagsAreNamed = (fs : List Bool) → length fs ≡ 10 → raised (raised_names flag_names fs) ≡ fs

@@ -1,6 +1,6 @@
 // What holds of what lines say, as the contract of a function that does nothing.
-ghost use Rattle.rule_tokens.specs.Laws.{FlagsAreBare, FlagsAreRead, FlagsAreTen, LinesAreAnswered, SaidIsRead, SaidOnce};
-ghost use Rattle.rule_tokens.specs.Spaced.{WrittenIsRead};
+ghost use Rattle.rule_tokens.specs.Laws.{FlagsAreBare, FlagsAreNamed, FlagsAreRead, FlagsAreTen, LinesAreAnswered, SaidIsRead, SaidOnce};
+ghost use Rattle.rule_tokens.specs.Spaced.{WrittenIsRead, WrittenIsText};
 
 /// A line says one thing at most.
 pub fn a_line_says_one_thing()
@@ -18,10 +18,16 @@ pub fn what_is_written_is_read()
     ensures { WrittenIsRead }
 {}
 
+/// Tokens that are written as a line, with one space between them, are a text.
+pub fn what_is_written_is_text()
+    ensures { WrittenIsText }
+{}
+
 /// The canonical text of validity flags is read as those flags, and can stand in a bare token; what is
-/// read as flags is ten of them.
+/// read as flags is ten of them. The names of those that are raised raise them.
 pub fn flags_are_read()
     ensures read { FlagsAreRead }
     ensures bare { FlagsAreBare }
     ensures ten { FlagsAreTen }
+    ensures named { FlagsAreNamed }
 {}

@@ -17,10 +17,11 @@ mod validity;
 pub use callback::{CallName, CallOrUpgrade};
 pub use laws::{
     a_line_says_one_thing, flags_are_read, lines_are_answered, what_is_written_is_read,
+    what_is_written_is_text,
 };
 pub use operand::{Operand, Val, call_name, class_name, is_word, node, text, value, variable};
 pub use quoting::{push_quoted, quoted};
 pub use refused::{Bad, LineRefused};
 pub use token::{Token, Tokens};
-pub use tokens::tokens_of;
-pub use validity::{flags, push_flags, push_names};
+pub use tokens::{text_in, tokens_of};
+pub use validity::{flags, push_flags, push_names, raised};

@@ -39,7 +39,8 @@ fn has(names: &[Text], flag: &str) -> bool
     names.iter().any(|name| flag == name.as_str())
 }
 
-fn raised(names: &[Text]) -> Flags
+/// The validity flags whose names are among these.
+pub fn raised(names: &[Text]) -> Flags
     ensures { result.0 ≡ raised names.now }
 {
     Flags([

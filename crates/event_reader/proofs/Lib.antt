@@ -1,0 +1,11 @@
+pub mod AnswerLaws
+pub mod CallLaws
+pub mod EventLaws
+pub mod FitLaws
+pub mod GuessLaws
+pub mod NumberLaws
+pub mod ReplyLaws
+pub mod SubmissionLaws
+pub mod Told
+pub mod TokenLaws
+pub mod TraceLaws

@@ -1,0 +1,17 @@
+-- The tokens of an event's line, and what they are read as.
+use Rattle.std.proofs.Common.{◌≡◌, List, Some}
+use Rattle.rule_tokens.specs.declared.token.Token.{Token}
+use Rattle.rule_tokens.specs.Spaced.{AreClean, IsLine, as_line}
+use Rattle.ce_algorithms.specs.declared.event.Event.{Event}
+use Rattle.ce_algorithms.specs.Text.{event_text}
+use Rattle.event_reader.specs.Reading.{event_of}
+
+-- the event's line is these tokens, which are read as an event with the same text
+pub record IsTold (e : Event) : Type 0 where
+  pub tokens : List Token
+  pub line : event_text e ≡ as_line tokens
+  pub clean : AreClean tokens
+  pub begins : IsLine tokens
+  pub other : Event
+  pub read : event_of tokens ≡ Some other
+  pub same : event_text other ≡ event_text e

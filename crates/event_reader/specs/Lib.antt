@@ -1,0 +1,11 @@
+pub mod Answers
+pub mod Calls
+pub mod Guessed
+pub mod IsEvent
+pub mod Parts
+pub mod Read
+pub mod Reading
+pub mod Refused
+pub mod Replies
+pub mod Submissions
+pub mod Traces

@@ -1,0 +1,37 @@
+-- What a line of a trace is read as.
+use Rattle.std.specs.Prelude.{ℕ, codes, if◌then◌else◌, List, [], ◌∷◌, Option, Some, None}
+use Rattle.std.specs.Option.{option_map}
+use Rattle.std.specs.Str.{bytes_eq}
+use Rattle.rule_tokens.specs.Callbacks.{call_named}
+use Rattle.rule_tokens.specs.declared.callback.CallOrUpgrade.{CallOrUpgrade}
+use Rattle.rule_tokens.specs.declared.callback.CallOrUpgrade.TheVariants.{Call, Upgrade}
+use Rattle.rule_tokens.specs.declared.token.Token.{Token}
+use Rattle.ce_algorithms.specs.declared.event.Event.{Event}
+use Rattle.ce_algorithms.specs.declared.event.Event.TheVariants.{QueueOpened, Enqueued, DrainBegun, Started, Finished, Dropped, QueueClosed, UpgradeBegun, UpgradeDone, UpgradeThrew}
+use Rattle.event_reader.specs.Parts.{node_in, number_in}
+
+abbrev pub what_named : List ℕ → Option CallOrUpgrade
+what_named word = if bytes_eq word (codes "upgrade") then Some Upgrade else option_map Call (call_named word)
+
+abbrev pub enqueued_of : ℕ → List Token → Option Event
+enqueued_of r (n ∷ what ∷ q ∷ []) = option_map (λ w. Enqueued r (node_in n.text) w (number_in q.text)) (what_named what.text)
+enqueued_of r ts = None
+
+abbrev pub trace_by : List ℕ → List ℕ → List Token → Option Event
+trace_by word number ts =
+    if bytes_eq word (codes "open") then Some (QueueOpened (number_in number))
+    else (if bytes_eq word (codes "enq") then enqueued_of (number_in number) ts
+    else (if bytes_eq word (codes "drain") then Some (DrainBegun (number_in number))
+    else (if bytes_eq word (codes "start") then Some (Started (number_in number))
+    else (if bytes_eq word (codes "finish") then Some (Finished (number_in number))
+    else (if bytes_eq word (codes "drop") then Some (Dropped (number_in number))
+    else (if bytes_eq word (codes "close") then Some (QueueClosed (number_in number))
+    else (if bytes_eq word (codes "up") then Some (UpgradeBegun (node_in number))
+    else (if bytes_eq word (codes "done") then Some (UpgradeDone (node_in number))
+    else (if bytes_eq word (codes "threw") then Some (UpgradeThrew (node_in number))
+    else None)))))))))
+
+-- a word, a number or a node, and what is behind
+abbrev pub trace_of : List Token → Option Event
+trace_of (word ∷ number ∷ ts) = trace_by word.text number.text ts
+trace_of ts = None

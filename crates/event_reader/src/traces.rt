@@ -1,0 +1,71 @@
+// The lines of a trace.
+ghost use Rattle.std.specs.Prelude.{◌≡◌, IfOk};
+ghost use Rattle.event_reader.specs.IsEvent.{IsEvent, IsNumber};
+ghost use Rattle.event_reader.specs.Read.{Reads};
+ghost use Rattle.event_reader.specs.Traces.{enqueued_of, trace_by, trace_of, what_named};
+
+use crate::EventRefused;
+use crate::parts::{node_in, number_in};
+use ce_algorithms::Event;
+use ce_base::{QueueNo, ReactionNo};
+use rule_tokens::{CallName, CallOrUpgrade, Token};
+
+fn what_named(word: &str) -> Option<CallOrUpgrade>
+    ensures { result ≡ what_named word.now }
+{
+    if word == "upgrade" {
+        return Some(CallOrUpgrade::Upgrade);
+    }
+    match CallName::named(word) {
+        None => None,
+        Some(name) => Some(CallOrUpgrade::Call(name)),
+    }
+}
+
+fn enqueued_of(r: ReactionNo, tokens: &[Token]) -> Result<Event, EventRefused>
+    requires { IsNumber r }
+    ensures reads { Reads result (enqueued_of r tokens.now) }
+    ensures fits { IfOk result IsEvent }
+{
+    match tokens {
+        [n, what, q] => match what_named(what.text.as_str()) {
+            None => Err(EventRefused::NotAnEvent),
+            Some(what) => {
+                let n = node_in(n.text.as_str());
+                let q = QueueNo(number_in(q.text.as_str().as_bytes()));
+                Ok(Event::Enqueued(r, n, what, q))
+            }
+        },
+        _ => Err(EventRefused::NotAnEvent),
+    }
+}
+
+fn trace_by(word: &str, number: &str, rest: &[Token]) -> Result<Event, EventRefused>
+    ensures reads { Reads result (trace_by word.now number.now rest.now) }
+    ensures fits { IfOk result IsEvent }
+{
+    let n = number_in(number.as_bytes());
+    match word {
+        "open" => Ok(Event::QueueOpened(QueueNo(n))),
+        "enq" => enqueued_of(ReactionNo(n), rest),
+        "drain" => Ok(Event::DrainBegun(QueueNo(n))),
+        "start" => Ok(Event::Started(ReactionNo(n))),
+        "finish" => Ok(Event::Finished(ReactionNo(n))),
+        "drop" => Ok(Event::Dropped(ReactionNo(n))),
+        "close" => Ok(Event::QueueClosed(QueueNo(n))),
+        "up" => Ok(Event::UpgradeBegun(node_in(number))),
+        "done" => Ok(Event::UpgradeDone(node_in(number))),
+        "threw" => Ok(Event::UpgradeThrew(node_in(number))),
+        _ => Err(EventRefused::NotAnEvent),
+    }
+}
+
+pub(crate) fn trace_of(tokens: &[Token]) -> Result<Event, EventRefused>
+    ensures reads { Reads result (trace_of tokens.now) }
+    ensures fits { IfOk result IsEvent }
+{
+    match tokens {
+        [word, number, rest @ ..] => { trace_by(word.text.as_str(), number.text.as_str(), rest) }
+        _ => Err(EventRefused::NotAnEvent),
+    }
+}
