@@ -1,10 +1,10 @@
 -- Form owners (HTML Standard, section "Association of controls and forms"), as a function of the trees.
-use Rattle.std.specs.Prelude.{ℕ, Bool, true, false, not, ◌&&◌, ◌||◌, ◌==◌, if◌then◌else◌, List, [], ◌∷◌, ◌++◌, codes, drop, reverse, filter, find, Option, Some, None}
+use Rattle.std.specs.Prelude.{ℕ, Bool, true, false, not, ◌&&◌, ◌||◌, ◌==◌, if◌then◌else◌, List, [], ◌∷◌, ◌++◌, codes, filter, find, Option, Some, None}
 use Rattle.element_names.specs.declared.natives.Native.{Native}
 use Rattle.element_names.specs.declared.natives.Native.TheVariants.{Form, Fieldset, Button, Input, Select, Textarea}
 use Rattle.node_trees.specs.Trees.{Trees, none, tree, is_number}
 use Rattle.node_trees.specs.Spots.{attribute_at}
-use Rattle.node_trees.specs.Paths.{under, is_among, root_at, connected}
+use Rattle.node_trees.specs.Paths.{is_among, root_at, connected}
 use Rattle.node_trees.specs.Orders.{tree_order_of}
 use Rattle.node_trees.specs.Ids.{first_with_id}
 use Rattle.form_controls.specs.Kinds.{native_at, is_a}
@@ -38,16 +38,16 @@ is_submittable f n = is_listed f n && not (is_a Fieldset f.forest n)
 
 -- what is above a node
 
--- the nodes from the root of n's own tree down to n; a shadow tree begins anew (DOM Standard, section "Trees", "inclusive ancestor")
-abbrev pub inclusive_ancestors : ℕ → Trees → List ℕ
-inclusive_ancestors n none = []
-inclusive_ancestors n (tree m x shadow children rest) =
-    if m == n then m ∷ []
-    else inclusive_ancestors n shadow ++ under m (inclusive_ancestors n children) ++ inclusive_ancestors n rest
+-- what is above n, the nearest first, in a list of trees below these nodes; above the root of a shadow tree there is nothing
+abbrev pub ancestors_below : List ℕ → ℕ → Trees → List ℕ
+ancestors_below above n none = []
+ancestors_below above n (tree m x shadow children rest) =
+    if m == n then above
+    else ancestors_below [] n shadow ++ ancestors_below (m ∷ above) n children ++ ancestors_below above n rest
 
--- those above n, the nearest first ("ancestor")
+-- the ancestors of n in its own tree, the nearest first (DOM Standard, section "Trees", "ancestor")
 abbrev pub ancestors : Trees → ℕ → List ℕ
-ancestors forest n = drop 1 (reverse (inclusive_ancestors n forest))
+ancestors forest n = ancestors_below [] n forest
 
 -- the form owner
 

@@ -19,6 +19,6 @@ pub use internals::Internals;
 pub use laws::changes_are_the_differences;
 pub use value::Value;
 pub use worked::{
-    worked_controls, worked_disabled, worked_internals, worked_invalid_controls, worked_owners,
-    worked_validity,
+    worked_controls, worked_disabled, worked_internals, worked_invalid_controls, worked_options,
+    worked_owners, worked_validity,
 };

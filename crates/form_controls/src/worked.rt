@@ -6,14 +6,15 @@ ghost use Rattle.form_controls.specs.Disabled.{is_disabled};
 ghost use Rattle.form_controls.specs.Controls.{set_value};
 ghost use Rattle.form_controls.specs.Checkedness.{is_checked};
 ghost use Rattle.form_controls.specs.Values.{value};
-ghost use Rattle.form_controls.specs.Setting.{is_edit_ignored};
+ghost use Rattle.form_controls.specs.Options.{chosen, options_of};
+ghost use Rattle.form_controls.specs.Setting.{is_choice_ignored, is_edit_ignored, set_chosen};
 ghost use Rattle.form_controls.specs.Internals.{kept_by, may_attach, may_set_validity, may_write, no_flags};
 ghost use Rattle.form_controls.specs.Barred.{will_validate};
 ghost use Rattle.form_controls.specs.Validity.{flags, invalid_controls, message_of};
 ghost use Rattle.form_controls.specs.Worked.Controls as controls;
 ghost use Rattle.form_controls.specs.Worked.Invalid as invalid;
 ghost use Rattle.form_controls.specs.Worked.Kept as kept;
-ghost use Rattle.form_controls.specs.Worked.Legends.{last, legends};
+ghost use Rattle.form_controls.specs.Worked.Legends.{in_shadow, last, legends};
 ghost use Rattle.form_controls.specs.Worked.Owners.{apart, ids, moves, named};
 ghost use Rattle.form_controls.specs.Worked.Told.{disabled_is, owner_is, told_along, with_forest};
 ghost use Rattle.form_controls.specs.Worked.Validity as validity;
@@ -29,6 +30,7 @@ pub fn worked_owners()
         ∷ (record { node = 5; owner = Some (Some 4); disabled = Some true } ∷ []) ∷ [] ∷ [] }
     ensures named { form_owner (with_forest (4 ∷ []) named) 4 ≡ None }
     ensures apart { form_owner (with_forest (5 ∷ []) apart) 5 ≡ Some 4 }
+    ensures in_shadow { form_owner (with_forest [] in_shadow) 7 ≡ None }
 {}
 
 /// The definitions compute: elements that a fieldset disables, but for its first legend.
@@ -37,6 +39,7 @@ pub fn worked_disabled()
         ≡ [] ∷ [] ∷ [] ∷ disabled_is 5 true ∷ disabled_is 5 false ∷ [] ∷ [] ∷ [] ∷ [] ∷ disabled_is 5 true ∷ [] }
     ensures last { is_disabled (with_forest (5 ∷ []) last) 5 ≡ true }
     ensures apart { is_disabled (with_forest (5 ∷ []) apart) 5 ≡ true }
+    ensures in_shadow { is_disabled (with_forest [] in_shadow) 7 ≡ false }
 {}
 
 /// The definitions compute: radio buttons that are cloned, set on and reset, and the values of a textarea and a
@@ -50,6 +53,20 @@ pub fn worked_controls()
     ensures no_edit { is_edit_ignored (with_forest [] controls.disabled_text_area) 6 ≡ true }
     ensures written { value (set_value [] 6 (codes "z") false) controls.disabled_text_area 6 ≡ codes "z" }
     ensures select { value [] controls.select 8 ≡ codes "two words" }
+{}
+
+/// The definitions compute: the options of a select, as they are chosen.
+pub fn worked_options()
+    ensures options { options_of controls.one_option 2 ≡ 3 ∷ 5 ∷ 6 ∷ [] }
+    ensures disabled { is_disabled (with_forest [] controls.one_option) 5 ≡ true }
+    ensures selected { chosen [] controls.one_option 2 ≡ 5 ∷ [] }
+    ensures another { chosen (set_chosen [] controls.one_option 6 true) controls.one_option 2 ≡ 6 ∷ [] }
+    ensures none { chosen kept.none_chosen controls.one_option 2 ≡ 3 ∷ [] }
+    ensures placeholder { flags (with_forest [] controls.one_option) kept.none_chosen [] 2 ≡ kept.missing }
+    ensures both { chosen kept.both_chosen controls.many_options 2 ≡ 5 ∷ 6 ∷ [] }
+    ensures first_is_sent { value kept.both_chosen controls.many_options 2 ≡ codes "a" }
+    ensures nothing_chosen { flags (with_forest [] controls.many_options) kept.none_chosen [] 2 ≡ kept.missing }
+    ensures no_choice { is_choice_ignored (with_forest [] controls.one_option) 5 ≡ true }
 {}
 
 /// The definitions compute: what internals refuse, and what they keep.

@@ -1,7 +1,7 @@
 -- Controls of several kinds.
-use Rattle.std.specs.Prelude.{[], ◌∷◌, codes}
+use Rattle.std.specs.Prelude.{ℕ, List, [], ◌∷◌, codes}
 use Rattle.node_trees.specs.Trees.{Trees}
-use Rattle.form_controls.specs.Worked.Pages.{element, html, text}
+use Rattle.form_controls.specs.Worked.Pages.{element, html, page, text}
 
 -- two radio buttons of one name in a form, both with `checked`
 abbrev pub radios : Trees
@@ -40,3 +40,20 @@ select =
     (element 6 (codes "textarea") ((codes "disabled", []) ∷ [])
     (text 7 (97 ∷ 13 ∷ 10 ∷ 98 ∷ 13 ∷ 99 ∷ []) ∷ [])
     ∷ element 8 (codes "select") [] (element 9 (codes "option") [] (text 10 (codes "  two   words ") ∷ []) ∷ []) ∷ [])
+
+-- a required select: an empty option, a disabled group with an option that has `selected`, and one more
+abbrev pub options : List (List ℕ × List ℕ) → Trees
+options more =
+    page []
+    (element 2 (codes "select") ((codes "required", []) ∷ more)
+    (element 3 (codes "option") [] []
+    ∷ element 4 (codes "optgroup") ((codes "disabled", []) ∷ [])
+    (element 5 (codes "option") ((codes "value", codes "a") ∷ (codes "selected", []) ∷ []) [] ∷ [])
+    ∷ element 6 (codes "option") ((codes "value", codes "b") ∷ []) [] ∷ []) ∷ [])
+
+abbrev pub one_option : Trees
+one_option = options []
+
+-- of which several can be chosen
+abbrev pub many_options : Trees
+many_options = options ((codes "multiple", []) ∷ [])

@@ -6,10 +6,10 @@ use Rattle.form_controls.specs.declared.control.Control.{Control}
 use Rattle.form_controls.specs.declared.internals.Internals.{Internals}
 use Rattle.form_controls.specs.Owners.{Forms}
 use Rattle.form_controls.specs.Controls.{set_value, set_message}
-use Rattle.form_controls.specs.Setting.{set_checked}
+use Rattle.form_controls.specs.Setting.{set_checked, set_chosen}
 use Rattle.form_controls.specs.Resetting.{clone_state, reset_controls}
 use Rattle.form_controls.specs.Internals.{flags_of, no_flags, attach, set_validity, add_state}
-use Rattle.form_controls.specs.Worked.Controls.{radios}
+use Rattle.form_controls.specs.Worked.Controls.{radios, one_option, many_options}
 use Rattle.form_controls.specs.Worked.Told.{with_forest}
 
 -- radio buttons
@@ -52,6 +52,14 @@ two_letters = set_value [] 9 (codes "ab") true
 -- and then an input, and the textarea again
 abbrev pub three_letters : List Control
 three_letters = set_value (set_value two_letters 4 (codes "x") true) 9 (codes "abc") true
+
+-- options
+
+abbrev pub none_chosen : List Control
+none_chosen = set_chosen [] one_option 5 false
+
+abbrev pub both_chosen : List Control
+both_chosen = set_chosen [] many_options 6 true
 
 -- elements that want internals
 
