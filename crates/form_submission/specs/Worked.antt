@@ -2,4 +2,6 @@
 pub mod Button
 pub mod Bodies
 pub mod Groups
+pub mod Causes
+pub mod Entries
 pub mod Kept

@@ -7,4 +7,7 @@ mod plan;
 mod worked;
 
 pub use plan::{Plan, Why};
-pub use worked::{worked_bodies, worked_button, worked_groups, worked_validation};
+pub use worked::{
+    worked_actions, worked_bodies, worked_button, worked_causes, worked_entries, worked_groups,
+    worked_validation,
+};

@@ -1,15 +1,18 @@
 // The definitions compute: forms submitted, each as the contract of a function that does nothing.
 ghost use Rattle.std.specs.Prelude.{◌≡◌, ◌∷◌, [], Some, None, true, false, codes};
-ghost use Rattle.ce_base.specs.declared.fault.Fault.TheVariants.{TypeError};
+ghost use Rattle.ce_base.specs.declared.fault.Fault.TheVariants.{NotFoundError, TypeError};
 ghost use Rattle.form_controls.specs.Worked.Invalid as invalid;
 ghost use Rattle.form_controls.specs.Worked.Kept as controls;
 ghost use Rattle.form_controls.specs.Worked.Told.{with_forest};
 ghost use Rattle.form_submission.specs.declared.plan.Plan.TheVariants.{Get, Post, Blocked};
-ghost use Rattle.form_submission.specs.declared.plan.Why.TheVariants.{Invalid, Boundary};
+ghost use Rattle.form_submission.specs.declared.plan.Why.TheVariants.{Disconnected, Invalid, Dialog, Url, Scheme, Boundary};
+ghost use Rattle.form_submission.specs.EntryList.{entry_list};
 ghost use Rattle.form_submission.specs.Plans.{plan};
 ghost use Rattle.form_submission.specs.Requests.{request_fit};
 ghost use Rattle.form_submission.specs.Worked.Bodies as bodies;
 ghost use Rattle.form_submission.specs.Worked.Button.{rating};
+ghost use Rattle.form_submission.specs.Worked.Causes as causes;
+ghost use Rattle.form_submission.specs.Worked.Entries as entries;
 ghost use Rattle.form_submission.specs.Worked.Groups.{pair, with_charset};
 ghost use Rattle.form_submission.specs.Worked.Kept as kept;
 
@@ -58,4 +61,44 @@ pub fn worked_groups()
     ensures first { plan (with_forest [] pair) kept.first_on [] kept.page (codes "XX") 3 None true ≡ Get (codes "http://page.test/?r=1") }
     ensures reset { plan (with_forest [] with_charset) kept.reset_again [] kept.page (codes "XX") 3 None true
         ≡ Get (codes "http://page.test/?r=2&_Charset_=UTF-8") }
+{}
+
+/// The definitions compute: who gives entries, and which.
+pub fn worked_entries()
+    ensures by_script { entry_list (with_forest (16 ∷ 17 ∷ 18 ∷ []) entries.mixed) [] entries.kept 3 None ≡ entries.given }
+    ensures by_button { entry_list (with_forest (16 ∷ 17 ∷ 18 ∷ []) entries.mixed) [] entries.kept 3 (Some 11) ≡ entries.given_to_button }
+{}
+
+/// The definitions compute: what blocks a submission, the first cause of all, and whose form a button submits.
+#[tactic(auto, unfolding(url::proofs::OnLiterals::url_on_literals))]
+pub fn worked_causes()
+    ensures apart { plan (with_forest [] causes.form_apart) [] [] kept.page (codes "XX") 3 None true ≡ Blocked Disconnected }
+    ensures in_shadow { plan (with_forest [] causes.form_in_shadow) [] [] kept.page (codes "XX") 3 None true ≡ Get (codes "http://page.test/?a=1") }
+    ensures dialog { plan (with_forest [] (causes.form_in_page ((codes "method", codes "Dialog") ∷ (codes "action", codes "http://[") ∷ []) []))
+        [] [] kept.page (codes "XX") 3 None true
+        ≡ Blocked Dialog }
+    ensures url { plan (with_forest [] (causes.form_in_page ((codes "action", codes "http://[") ∷ []) [])) [] [] kept.page (codes "XX") 3 None true
+        ≡ Blocked Url }
+    ensures scheme { plan (with_forest [] (causes.form_in_page ((codes "action", codes "mailto:a@b") ∷ []) [])) [] [] kept.page (codes "XX") 3 None true
+        ≡ Blocked Scheme }
+    ensures fits_not { request_fit (with_forest [] causes.two_forms) 3 (Some 5) ≡ Some NotFoundError }
+    ensures fits { request_fit (with_forest [] causes.two_forms) 6 (Some 5) ≡ None }
+{}
+
+/// The definitions compute: where a submission goes, by the page, the form and the submitter.
+#[tactic(auto, unfolding(url::proofs::OnLiterals::url_on_literals))]
+pub fn worked_actions()
+    ensures own_by_get { plan (with_forest [] (causes.form_in_page [] [])) [] [] causes.full_page (codes "XX") 3 None true
+        ≡ Get (codes "http://page.test/d/e?a=1#top") }
+    ensures own_by_post { plan (with_forest [] (causes.form_in_page ((codes "method", codes "post") ∷ []) [])) [] [] causes.full_page (codes "XX") 3 None true
+        ≡ Post causes.full_page (codes "application/x-www-form-urlencoded") (codes "a=1") }
+    ensures space { plan (with_forest [] (causes.form_in_page ((codes "action", codes " ") ∷ []) [])) [] [] causes.full_page (codes "XX") 3 None true
+        ≡ Get (codes "http://page.test/d/e?a=1") }
+    ensures submitter { plan (with_forest [] (causes.form_in_page ((codes "action", codes "/f") ∷ (codes "method", codes "post") ∷ [])
+        ((codes "formaction", codes "/b#c") ∷ (codes "formmethod", codes "GET") ∷ [])))
+        [] [] causes.full_page (codes "XX") 3 (Some 5) false
+        ≡ Get (codes "http://page.test/b?a=1#c") }
+    ensures submitter_empty { plan (with_forest [] (causes.form_in_page ((codes "action", codes "/f") ∷ []) ((codes "formaction", []) ∷ [])))
+        [] [] causes.full_page (codes "XX") 3 (Some 5) false
+        ≡ Get (codes "http://page.test/d/e?a=1#top") }
 {}
