@@ -7,3 +7,4 @@ pub mod Controls
 pub mod Kept
 pub mod Validity
 pub mod Invalid
+pub mod Corners

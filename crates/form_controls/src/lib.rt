@@ -7,6 +7,7 @@
 mod attach;
 mod change;
 mod control;
+mod corners;
 mod internals;
 mod laws;
 mod value;
@@ -15,6 +16,9 @@ mod worked;
 pub use attach::Attach;
 pub use change::Change;
 pub use control::Control;
+pub use corners::{
+    worked_groups, worked_kinds, worked_limits, worked_nesting, worked_selects, worked_states,
+};
 pub use internals::Internals;
 pub use laws::changes_are_the_differences;
 pub use value::Value;

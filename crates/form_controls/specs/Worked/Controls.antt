@@ -57,3 +57,7 @@ one_option = options []
 -- of which several can be chosen
 abbrev pub many_options : Trees
 many_options = options ((codes "multiple", []) ∷ [])
+
+-- which is disabled as a whole
+abbrev pub disabled_options : Trees
+disabled_options = options ((codes "disabled", []) ∷ [])
