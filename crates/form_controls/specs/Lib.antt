@@ -1,0 +1,17 @@
+pub mod Kinds
+pub mod Owners
+pub mod Disabled
+pub mod Changes
+pub mod Differences
+pub mod Rows
+pub mod Controls
+pub mod Texts
+pub mod Options
+pub mod Checkedness
+pub mod Values
+pub mod Setting
+pub mod Resetting
+pub mod Internals
+pub mod Barred
+pub mod Validity
+pub mod Worked

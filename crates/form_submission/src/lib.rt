@@ -1,0 +1,13 @@
+//! Form submission as definitions: the entry list of a form, what it is as the body of a request, and what a
+//! submission sends or what blocks it (HTML Standard, section "Form submission"). The definitions stand in
+//! `specs/`; the types that they share with code stand here, and the worked examples that they compute.
+#![tactic(auto)]
+
+mod plan;
+mod worked;
+
+pub use plan::{Plan, Why};
+pub use worked::{
+    worked_actions, worked_bodies, worked_button, worked_causes, worked_entries, worked_groups,
+    worked_validation,
+};
