@@ -1,6 +1,6 @@
 // Sessions with the queues: steps with what they give. Nodes, reactions and queues go by their numbers, and a
 // queue that was popped by its place among those that were.
-ghost use Rattle.std.specs.Prelude.{◌≡◌, ◌+◌, ◌<◌, ◌≤◌, length, OnOk};
+ghost use Rattle.std.specs.Prelude.{◌≡◌, ◌+◌, ◌<◌, ◌≤◌};
 
 use crate::rows::{number, same, sides, word};
 use ce_base::{DefNo, NodeNo, Text};
@@ -47,7 +47,9 @@ element 0 => none
 backup => 4
 next 4 => none
 backup => 4
-backup => none";
+backup => none
+end => ok
+element 1 => none";
 
 // The callback of an element enqueues at another one, which stands in the outer queue too: both of its
 // reactions run in the inner queue, and the outer one finds none.
@@ -85,11 +87,10 @@ element 1 => 5
 element 1 => none
 backup => 6";
 
-// The queues, how many are on the stack at least, and those that were popped.
+// The queues, and those that were popped.
 #[derive(Drop)]
 struct Trial {
     queues: Queues,
-    depth: usize,
     popped: Vec<ElementQueue>,
 }
 
@@ -105,11 +106,9 @@ impl Trial {
     fn make(alloc: Global) -> Trial
         ensures reactions { result.queues.reactions ≡ 0 }
         ensures pushed { result.queues.pushed ≡ 0 }
-        ensures depth { result.depth ≡ 0 }
     {
         Trial {
             queues: Queues::make(alloc),
-            depth: 0,
             popped: Vec::new(alloc),
         }
     }
@@ -119,8 +118,6 @@ impl Trial {
         requires { self.old.queues.reactions < 100 }
         ensures reactions { self.new.queues.reactions ≡ self.old.queues.reactions + 1 }
         ensures pushed { self.new.queues.pushed ≡ self.old.queues.pushed }
-        ensures stack { length self.new.queues.stack ≡ length self.old.queues.stack }
-        ensures depth { self.new.depth ≡ self.old.depth }
     {
         let (number, queue) = self.queues.enqueue(alloc, node, Reaction::Connected)?;
         write!(out, "{} {}", number.0, queue.0)?;
@@ -131,8 +128,6 @@ impl Trial {
     fn element(&mut self, rt: &impl Abort, place: usize) -> Option<NodeNo>
         ensures reactions { self.new.queues.reactions ≡ self.old.queues.reactions }
         ensures pushed { self.new.queues.pushed ≡ self.old.queues.pushed }
-        ensures stack { length self.new.queues.stack ≡ length self.old.queues.stack }
-        ensures depth { self.new.depth ≡ self.old.depth }
     {
         assert!(rt; place < self.popped.len());
         let q = &mut self.popped[place];
@@ -146,8 +141,6 @@ impl Trial {
     fn backup(&mut self, rt: &impl Abort) -> Option<NodeNo>
         ensures reactions { self.new.queues.reactions ≡ self.old.queues.reactions }
         ensures pushed { self.new.queues.pushed ≡ self.old.queues.pushed }
-        ensures stack { length self.new.queues.stack ≡ length self.old.queues.stack }
-        ensures depth { self.new.depth ≡ self.old.depth }
     {
         let is_there = self.queues.has_backup();
         let element = self.queues.next_backup();
@@ -159,8 +152,6 @@ impl Trial {
     fn take(&mut self, rt: &impl Abort, step: &str) -> Option<u64>
         ensures reactions { self.new.queues.reactions ≡ self.old.queues.reactions }
         ensures pushed { self.new.queues.pushed ≡ self.old.queues.pushed }
-        ensures stack { length self.new.queues.stack ≡ length self.old.queues.stack }
-        ensures depth { self.new.depth ≡ self.old.depth }
     {
         let n = number(step, 1);
         match word(step, 0) {
@@ -173,24 +164,17 @@ impl Trial {
 
     fn begin(&mut self, alloc: Global, out: &mut String) -> Result<(), Fail>
         requires few_queues { self.old.queues.pushed < 100 }
-        requires deep { self.old.depth ≤ length self.old.queues.stack }
         ensures reactions { self.new.queues.reactions ≡ self.old.queues.reactions }
         ensures pushed { self.new.queues.pushed ≡ self.old.queues.pushed + 1 }
-        ensures depth { OnOk result (self.new.depth ≤ length self.new.queues.stack) }
     {
         let number = self.queues.begin(alloc)?;
-        self.depth = self.depth.saturating_add(1);
         tell(Some(number.0), out)
     }
 
-    fn end(&mut self, rt: &impl Abort, out: &mut String) -> Result<(), Fail>
-        requires { self.old.depth ≤ length self.old.queues.stack }
+    fn end(&mut self, out: &mut String) -> Result<(), Fail>
         ensures reactions { self.new.queues.reactions ≡ self.old.queues.reactions }
         ensures pushed { self.new.queues.pushed ≡ self.old.queues.pushed }
-        ensures depth { OnOk result (self.new.depth ≤ length self.new.queues.stack) }
     {
-        assert!(rt; self.depth > 0);
-        self.depth -= 1;
         self.popped.push(self.queues.end())?;
         out.push_str("ok")?;
         Ok(())
@@ -205,14 +189,12 @@ impl Trial {
     ) -> Result<(), Fail>
         requires few_reactions { self.old.queues.reactions < 100 }
         requires few_queues { self.old.queues.pushed < 100 }
-        requires deep { self.old.depth ≤ length self.old.queues.stack }
         ensures reactions { self.new.queues.reactions ≤ self.old.queues.reactions + 1 }
         ensures pushed { self.new.queues.pushed ≤ self.old.queues.pushed + 1 }
-        ensures depth { OnOk result (self.new.depth ≤ length self.new.queues.stack) }
     {
         match word(step, 0) {
             "begin" => self.begin(alloc, out),
-            "end" => self.end(rt, out),
+            "end" => self.end(out),
             "enqueue" => self.enqueue(alloc, NodeNo(number(step, 1)), out),
             _ => tell(self.take(rt, step), out),
         }
@@ -223,10 +205,8 @@ impl Trial {
 fn take(rt: &impl Abort, alloc: Global, trial: &mut Trial, row: &str) -> Result<(), Fail>
     requires few_reactions { trial.old.queues.reactions < 100 }
     requires few_queues { trial.old.queues.pushed < 100 }
-    requires deep { trial.old.depth ≤ length trial.old.queues.stack }
     ensures reactions { trial.new.queues.reactions ≤ trial.old.queues.reactions + 1 }
     ensures pushed { trial.new.queues.pushed ≤ trial.old.queues.pushed + 1 }
-    ensures depth { OnOk result (trial.new.depth ≤ length trial.new.queues.stack) }
 {
     let (step, want) = sides(row);
     let mut out = String::new(alloc);
@@ -239,7 +219,6 @@ fn take(rt: &impl Abort, alloc: Global, trial: &mut Trial, row: &str) -> Result<
 fn take_all(rt: &impl Abort, alloc: Global, trial: &mut Trial, session: &str) -> Result<(), Fail>
     requires reactions { trial.old.queues.reactions ≡ 0 }
     requires pushed { trial.old.queues.pushed ≡ 0 }
-    requires depth { trial.old.depth ≡ 0 }
 {
     let mut taken: u64 = 0;
     for row in session.lines() {

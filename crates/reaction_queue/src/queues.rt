@@ -68,14 +68,12 @@ impl Queues {
         Ok(number)
     }
 
-    /// Pops the current element queue.
+    /// Pops the current element queue. Where the stack is empty it stays so, and what is given has no elements.
     pub fn end(&mut self) -> ElementQueue
-        requires { 0 < length self.old.stack }
         ensures elements { result ≡ current_elements self.old }
         ensures queues { self.new ≡ ended self.old }
         ensures reactions { self.new.reactions ≡ self.old.reactions }
         ensures pushed { self.new.pushed ≡ self.old.pushed }
-        ensures depth { length self.new.stack + 1 ≡ length self.old.stack }
     {
         self.stack.pop()
     }
