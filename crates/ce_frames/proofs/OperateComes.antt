@@ -49,7 +49,7 @@ stepped_comes queue (Spent s) = comes_ended (Spent s)
 abbrev opened : State → State
 opened s = logged (QueueOpened (s.page.queues.pushed + 1)) (record s { page = with_queues begun s.page })
 
-steps_comes : (steps : Step State Given) → Comes (steps_turn steps) (reacting model steps)
+pub steps_comes : (steps : Step State Given) → Comes (steps_turn steps) (reacting model steps)
 unfolding steps_turn
 steps_comes steps = record { at = λ s. stepped_comes (s.page.queues.pushed + 1) (steps (opened s)) }
 

@@ -1,71 +1,73 @@
--- How a command ends: its fuel, what it performs, the checkpoint, its reply.
-use Rattle.std.proofs.Common.{◌≡◌, ℕ, Bool, List, Option, ap, sym, ◌∙◌, subst}
-use Rattle.std.specs.Prelude.{Result, Err}
+-- A command by its turns comes to what the algorithms come to.
+use Rattle.std.proofs.Common.{◌≡◌, ℕ, Bool, List, [], ◌++◌, map, Some, None, Option, refl, ap, sym, ◌∙◌, subst}
 use Rattle.ce_base.specs.declared.fault.Fault.{Fault}
 use Rattle.ce_base.specs.Outside.{AppendsPart}
 use Rattle.rule_lines.specs.declared.line.Cmd.{Cmd}
 use Rattle.ce_algorithms.specs.declared.event.Event.{Event}
 use Rattle.ce_algorithms.specs.declared.event.Given.{Given}
-use Rattle.ce_algorithms.specs.Drain.{checkpoint}
 use Rattle.ce_algorithms.specs.Model.{model}
-use Rattle.ce_algorithms.specs.Session.{perform, command, reply, log_of}
-use Rattle.ce_algorithms.specs.State.{State, log, logged, spend}
-use Rattle.ce_algorithms.specs.Steps.{Step, Goes, then_do, ◌>>◌, attempt_in}
+use Rattle.ce_algorithms.specs.Session.{command, log_of}
+use Rattle.ce_algorithms.specs.State.{State}
+use Rattle.ce_algorithms.specs.Steps.{Outcome, Goes, Throws, Spent}
 use Rattle.ce_algorithms.specs.Text.{text}
-use Rattle.ce_algorithms.specs.Written.{Did}
-use Rattle.ce_algorithms.proofs.Framed.{Framed, framed_log, framed_seq}
-use Rattle.ce_algorithms.proofs.FramedSteps.{framed_checkpoint}
-use Rattle.ce_algorithms.proofs.Writing.{did_nothing, did_then, did_more, did_part, did_part_none}
-use Rattle.ce_drains.specs.declared.halt.Halt.{Halt}
-use Rattle.ce_drains.specs.Halts.{Comes, Wrote, Writes}
-use Rattle.ce_drains.proofs.HaltLaws.{comes_stopped, wrote_then, wrote_after}
+use Rattle.ce_algorithms.specs.Written.{Did, behind_in}
+use Rattle.ce_algorithms.proofs.Calm.{command-no_throw}
+use Rattle.ce_algorithms.proofs.Writing.{did_through, did_nothing}
+use Rattle.ce_frames.specs.Handing.{dropped, nothing}
+use Rattle.ce_frames.specs.Rest.{outcome_of, rest}
+use Rattle.ce_frames.specs.Loop.{command_turn}
+use Rattle.ce_frames.specs.Turned.{Turned}
+use Rattle.ce_frames.proofs.Joins.{dropped_nothing}
+use Rattle.ce_frames.proofs.Looping.{begun_is}
+use Rattle.ce_machine.specs.declared.frames.Frame.{Frame}
+use Rattle.ce_machine.specs.declared.frames.Came.{Came}
+use Rattle.ce_machine.specs.declared.frames.Came.TheVariants.{Went, Threw, Over}
+use Rattle.ce_machine.specs.Ended.{IsNoFault, end_for}
+use Rattle.ce_machine.specs.Ended as endings
+use Rattle.ce_machine.specs.Frames.{Turns, seen, came_in, over}
 
--- what follows an attempt
-after : ℕ → Result Given Fault → Step State (Unit {0})
-after line result = checkpoint model >> log (reply line result)
+-- what it leaves to come
+begun_over : (frames new : List Frame) (now : Came) (line : ℕ) (c : Cmd) (s s1 : State) → frames ≡ [] → Turns frames new now s1 (command_turn line c s) → over new (came_in now s1) ≡ nothing (command model line c s)
+unfolding over
+begun_over frames new now line c s s1 none h =
+    let t : Turned = command_turn line c s in
+    ap (rest (map seen new)) (ap (λ e. outcome_of e s1) h.end ∙ ap (outcome_of t.end) h.state)
+    ∙ ap (λ l. rest l (outcome_of t.end t.state)) (h.frames ∙ ap (λ l. map seen l ++ t.pushed) none)
+    ∙ begun_is line c s
 
-framed_after : (line : ℕ) (result : Result Given Fault) → Framed (after line result)
-unfolding after
-framed_after line result = framed_seq framed_checkpoint (framed_log (reply line result))
+-- its end
 
--- a command whose fuel was spent, by its attempt and what follows
-at_attempt : (line : ℕ) (c : Cmd) (s0 s1 : State) → Goes tt s1 ≡ spend s0 → then_do (attempt_in (perform model c s1)) (after line) ≡ command model line c s0
-unfolding after
-at_attempt line c s0 s1 e = ap (λ o. then_do o (λ _ s. then_do (attempt_in (perform model c s)) (λ result. checkpoint model >> log (reply line result)))) e
+dropped_behind : (events : List Event) (o : Outcome State Given) → dropped (behind_in events o) ≡ behind_in events (dropped o)
+dropped_behind events (Goes g s) = refl
+dropped_behind events (Throws f s) = refl
+dropped_behind events (Spent s) = refl
 
--- the fuel was not spent
-pub command_unspent : (h : Halt) (t : Bool) (held : Option (List ℕ)) (line : ℕ) (c : Cmd) (s0 s : State) → Comes {A = Unit {0}} (λ _. tt) (Err h) s (spend s0) → Writes {A = Unit {0}} t held held (Err h) s (command model line c s0)
-command_unspent h t held line c s0 s e =
-    comes_stopped {A = Unit {0}} {C = Unit {0}} (λ _. tt) (λ _. tt) h t held held s (spend s0) (λ _ s'. then_do (attempt_in (perform model c s')) (λ result. checkpoint model >> log (reply line result))) e (command model line c s0) did_nothing
+did_dropped : {t : Bool} {h0 h1 : Option (List ℕ)} {o x : Outcome State Given} → Did t h0 h1 o x → Did t h0 h1 (dropped o) (dropped x)
+did_dropped {x} d = did_through dropped d (λ events. dropped_behind events x) did_nothing
 
--- the attempt was stopped
-pub command_stopped : (h : Halt) (t : Bool) (h0 h1 : Option (List ℕ)) (line : ℕ) (c : Cmd) (s0 s1 s : State) → Goes tt s1 ≡ spend s0 → Wrote {A = Result Given Fault} {B = Result Given Fault} t h0 h1 (λ r. r) (Err h) s (attempt_in (perform model c s1)) → Writes {A = Unit {0}} t h0 h1 (Err h) s (command model line c s0)
-command_stopped h t h0 h1 line c s0 s1 s e w =
-    subst (λ o. Writes {A = Unit {0}} t h0 h1 (Err h) s o) (at_attempt line c s0 s1 e) (wrote_then {A = Result Given Fault} {A' = Unit {0}} (λ r. r) (λ _. tt) h t h0 h1 s (attempt_in (perform model c s1)) (after line) w (framed_after line))
+-- the loop's outcome is the command's
+command_did : {t : Bool} {h0 h1 : Option (List ℕ)} {x : Outcome State Given} (frames new : List Frame) (now : Came) (line : ℕ) (c : Cmd) (s s1 : State) → frames ≡ [] → Turns frames new now s1 (command_turn line c s) → Did t h0 h1 (over new (came_in now s1)) x → Did t h0 h1 (command model line c s) (dropped x)
+command_did {t} {h0} {h1} {x} frames new now line c s s1 none h d =
+    subst (λ o. Did t h0 h1 o (dropped x)) (ap dropped (begun_over frames new now line c s s1 none h) ∙ dropped_nothing (command model line c s)) (did_dropped d)
 
--- the checkpoint was stopped
-checkpoint_part : (h : Halt) (t : Bool) (h1 h2 : Option (List ℕ)) (line : ℕ) (result : Result Given Fault) (s2 s : State) → Writes {A = Unit {0}} t h1 h2 (Err h) s (checkpoint model s2) → Writes {A = Unit {0}} t h1 h2 (Err h) s (after line result s2)
-unfolding after
-checkpoint_part h t h1 h2 line result s2 s w = wrote_then {A = Unit {0}} {A' = Unit {0}} (λ _. tt) (λ _. tt) h t h1 h2 s (checkpoint model s2) (λ _. log (reply line result)) w (λ _. framed_log (reply line result))
+pub command_ran : {t : Bool} {h0 h1 : Option (List ℕ)} (frames new : List Frame) (now last : Came) (line : ℕ) (c : Cmd) (s s1 s2 : State) → frames ≡ [] → Turns frames new now s1 (command_turn line c s) → Did t h0 h1 (over new (came_in now s1)) (came_in last s2)
+    → Did t h0 h1 (command model line c s) (endings.outcome_of (end_for last) s2)
+command_ran frames new now (Went g) line c s s1 s2 none h d = command_did frames new now line c s s1 none h d
+command_ran frames new now (Threw f) line c s s1 s2 none h d = let e = command_did frames new now line c s s1 none h d in absurd (command-no_throw line c s s2 f e.events e.same)
+command_ran frames new now Over line c s s1 s2 none h d = command_did frames new now line c s s1 none h d
 
-pub command_checked : (h : Halt) (t : Bool) (h0 h1 h2 : Option (List ℕ)) (line : ℕ) (c : Cmd) (result : Result Given Fault) (s0 s1 s2 s : State) → Goes tt s1 ≡ spend s0 → Did t h0 h1 (attempt_in (perform model c s1)) (Goes result s2) → Writes {A = Unit {0}} t h1 h2 (Err h) s (checkpoint model s2) → Writes {A = Unit {0}} t h0 h2 (Err h) s (command model line c s0)
-command_checked h t h0 h1 h2 line c result s0 s1 s2 s e d w =
-    subst (λ o. Writes {A = Unit {0}} t h0 h2 (Err h) s o) (at_attempt line c s0 s1 e) (wrote_after {A = Unit {0}} (λ _. tt) (Err h) t h0 h1 h2 s2 s result (attempt_in (perform model c s1)) (after line) d (framed_after line result) (checkpoint_part h t h1 h2 line result s2 s w))
+-- none throws
+pub command_is_quiet : {t : Bool} {h0 h1 : Option (List ℕ)} (frames new : List Frame) (now last : Came) (line : ℕ) (c : Cmd) (s s1 s2 : State) → frames ≡ [] → Turns frames new now s1 (command_turn line c s) → Did t h0 h1 (over new (came_in now s1)) (came_in last s2) → IsNoFault last
+command_is_quiet frames new now (Went g) line c s s1 s2 none h d = tt
+command_is_quiet frames new now (Threw f) line c s s1 s2 none h d = let e = command_did frames new now line c s s1 none h d in command-no_throw line c s s2 f e.events e.same
+command_is_quiet frames new now Over line c s s1 s2 none h d = tt
 
--- memory was refused to the reply
-reply_part : (t : Bool) (h1 h2 : Option (List ℕ)) (line : ℕ) (result : Result Given Fault) (s2 s3 : State) → Did t h1 h2 (checkpoint model s2) (Goes tt s3) → AppendsPart h1 h2 (text t (log_of (after line result s2)))
-unfolding after
-reply_part t h1 h2 line result s2 s3 d = did_part_none (λ _. log (reply line result)) d (framed_log (reply line result))
+log_nothing : (o : Outcome State (Unit {0})) → log_of (nothing o) ≡ log_of o
+log_nothing (Goes x s) = refl
+log_nothing (Throws f s) = refl
+log_nothing (Spent s) = refl
 
-pub command_unlogged : (t : Bool) (h0 h1 h2 : Option (List ℕ)) (line : ℕ) (c : Cmd) (result : Result Given Fault) (s0 s1 s2 s3 : State) → Goes tt s1 ≡ spend s0 → Did t h0 h1 (attempt_in (perform model c s1)) (Goes result s2) → Did t h1 h2 (checkpoint model s2) (Goes tt s3) → AppendsPart h0 h2 (text t (log_of (command model line c s0)))
-command_unlogged t h0 h1 h2 line c result s0 s1 s2 s3 e d w =
-    subst (λ o. AppendsPart h0 h2 (text t (log_of o))) (at_attempt line c s0 s1 e) (did_part h2 (after line) d (framed_after line result) (reply_part t h1 h2 line result s2 s3 w))
-
--- the reply was logged
-replied : (t : Bool) (h1 h2 : Option (List ℕ)) (line : ℕ) (result : Result Given Fault) (s2 s3 s4 : State) → Did t h1 h2 (checkpoint model s2) (Goes tt s3) → s4 ≡ logged (reply line result) s3 → Did t h1 h2 (after line result s2) (Goes tt s4)
-unfolding after
-replied t h1 h2 line result s2 s3 s4 d e = did_more (λ _. log (reply line result)) d (framed_log (reply line result)) (ap (Goes tt) (sym e))
-
-pub command_done : (t : Bool) (h0 h1 h2 : Option (List ℕ)) (line : ℕ) (c : Cmd) (result : Result Given Fault) (event : Event) (s0 s1 s2 s3 s4 : State) → Goes tt s1 ≡ spend s0 → Did t h0 h1 (attempt_in (perform model c s1)) (Goes result s2) → Did t h1 h2 (checkpoint model s2) (Goes tt s3) → event ≡ reply line result → s4 ≡ logged event s3 → Did t h0 h2 (command model line c s0) (Goes tt s4)
-command_done t h0 h1 h2 line c result event s0 s1 s2 s3 s4 e d w is l =
-    subst (λ o. Did t h0 h2 o (Goes tt s4)) (at_attempt line c s0 s1 e) (did_then (after line) d (framed_after line result) (replied t h1 h2 line result s2 s3 s4 w (l ∙ ap (λ x. logged x s3) is)))
+-- a front of it was written
+pub command_part : (t : Bool) (h0 h1 : Option (List ℕ)) (frames new : List Frame) (now : Came) (line : ℕ) (c : Cmd) (s s1 : State) → frames ≡ [] → Turns frames new now s1 (command_turn line c s) → AppendsPart h0 h1 (text t (log_of (over new (came_in now s1)))) → AppendsPart h0 h1 (text t (log_of (command model line c s)))
+command_part t h0 h1 frames new now line c s s1 none h p =
+    subst (λ l. AppendsPart h0 h1 (text t l)) (ap log_of (begun_over frames new now line c s s1 none h) ∙ log_nothing (command model line c s)) p

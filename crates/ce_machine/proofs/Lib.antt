@@ -1,5 +1,6 @@
-pub mod ReactLaws
-pub mod GivenLaws
+pub mod TurnLaws
+pub mod BodyLaws
+pub mod PlacedLaws
+pub mod LoopLaws
+pub mod OperateLaws
 pub mod CommandLaws
-pub mod MachineLaws
-pub mod CreateLaws

@@ -1,5 +1,4 @@
 pub mod Ended
-pub mod Given
-pub mod Ready
-pub mod Resolved
-pub mod Settled
+pub mod Frames
+pub mod Turns
+pub mod Placed

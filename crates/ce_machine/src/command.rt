@@ -1,23 +1,24 @@
 // One line of a script, on the state.
-ghost use Rattle.std.specs.Prelude.{◌≡◌, ◌≤◌, Ok, true, IfOk, OnOk, OnErr, IsErrOf};
+ghost use Rattle.std.specs.Prelude.{◌≡◌, ◌≤◌, [], true, IfOk, OnOk, OnErr, IsErrOf};
 ghost use Rattle.ce_base.specs.Faults.{Rose};
 ghost use Rattle.ce_base.specs.Outside.{AppendsPart};
 ghost use Rattle.rule_lines.specs.Acts.{part_of};
 ghost use Rattle.rule_script.specs.Built.{is_built_command, is_built_part};
 ghost use Rattle.ce_algorithms.specs.Model.{model};
-ghost use Rattle.ce_algorithms.specs.Session.{command, class_part, log_of, reply};
+ghost use Rattle.ce_algorithms.specs.Session.{command, class_part, log_of};
 ghost use Rattle.ce_algorithms.specs.Steps.{Goes};
 ghost use Rattle.ce_algorithms.specs.Text.{text};
 ghost use Rattle.ce_algorithms.specs.Written.{Did};
-ghost use Rattle.ce_drains.specs.Halts.{Writes};
-ghost use Rattle.ce_machine.specs.Ended.{outcome_of};
+ghost use Rattle.ce_machine.specs.Ended.{IsNoFault, end_for, outcome_of};
 
 use crate::End;
-use crate::operate::perform;
-use ce_algorithms::{Event, Given};
-use ce_base::{Fault, NoMemory, Refused, Sink, Stop};
-use ce_drains::{Halt, State};
+use crate::frames::Came;
+use crate::looping::run;
+use crate::operate::begin;
+use ce_algorithms::Event;
+use ce_base::{NoMemory, Refused, Sink, Stop};
 use rule_lines::{ClassPart, Cmd};
+use session_state::State;
 use std::alloc::Global;
 
 /// Takes a part of a class, and logs the reply where it is refused.
@@ -37,8 +38,12 @@ pub(crate) fn reply_to_part(
     }
 }
 
-/// Runs a command: one unit of fuel, the operation, the checkpoint, the reply.
-pub(crate) fn run_command<K: Sink>(
+/// Runs a command on the state of a session, and writes what comes of it: its first turn, and then the loop. A
+/// machine runs its commands so; whoever has a state of their own, in which reactions may wait already, calls it.
+///
+/// FuelSpent exactly where the fuel is spent in it. WriteFault only where a write failed; NoMemory where memory
+/// was refused. The state is only dropped after each of the three.
+pub fn run_command<K: Sink>(
     state: &mut State,
     alloc: Global,
     line: u64,
@@ -48,63 +53,27 @@ pub(crate) fn run_command<K: Sink>(
 ) -> Result<End, Stop>
     requires { is_built_command c.now ≡ true }
     ensures ran { IfOk result (λ end. Did trace (K.held sink.old) (K.held sink.new) (command model line c.now state.old) (outcome_of end state.new)) }
+    ensures empty { OnOk result (state.new.log ≡ []) }
     ensures part { OnErr result (AppendsPart (K.held sink.old) (K.held sink.new) (text trace (log_of (command model line c.now state.old)))) }
     ensures later { K.failed sink.old ≤ K.failed sink.new }
     ensures cause { IsErrOf result Stop.WriteFault → Rose (K.failed sink.old) (K.failed sink.new) }
     ensures home { K.home sink.new ≡ K.home sink.old }
     ensures below { K.below sink.old ≤ K.below sink.new }
 {
-    match reply_to_command(state, alloc, line, c, trace, sink) {
-        Ok(()) => Ok(End::Replied),
-        Err(Halt::FuelSpent) => Ok(End::FuelSpent),
-        Err(Halt::NoMemory) => Err(Stop::NoMemory),
-        Err(Halt::WriteFault) => Err(Stop::WriteFault),
-    }
+    let mut frames = Vec::new(alloc);
+    let end = begin(state, alloc, &mut frames, line, c)?;
+    let now = run(state, alloc, &mut frames, end, trace, sink)?;
+    Ok(ended(now))
 }
 
-fn reply_to_command<K: Sink>(
-    state: &mut State,
-    alloc: Global,
-    line: u64,
-    c: &Cmd,
-    trace: bool,
-    sink: &mut K,
-) -> Result<(), Halt>
-    requires { is_built_command c.now ≡ true }
-    ensures ran { Writes trace (K.held sink.old) (K.held sink.new) result state.new (command model line c.now state.old) }
-    ensures later { K.failed sink.old ≤ K.failed sink.new }
-    ensures cause { IsErrOf result Halt.WriteFault → Rose (K.failed sink.old) (K.failed sink.new) }
-    ensures home { K.home sink.new ≡ K.home sink.old }
-    ensures below { K.below sink.old ≤ K.below sink.new }
+// How a command ended. None throws.
+fn ended(now: Came) -> End
+    requires { IsNoFault now }
+    ensures { result ≡ end_for now }
 {
-    state.spend()?;
-    let outcome = perform(state, alloc, c, trace, sink)?;
-    match state.checkpoint(alloc, trace, sink) {
-        Err(halt) => Err(halt),
-        Ok(()) => {
-            state.log(reply(line, outcome))?;
-            Ok(())
-        }
-    }
-}
-
-// The reply to a command that gave something, or threw.
-fn reply(line: u64, outcome: Result<Given, Fault>) -> Event
-    ensures { result ≡ reply line outcome }
-{
-    match outcome {
-        Ok(given) => reply_with(line, given),
-        Err(f) => Event::Threw(line, f),
-    }
-}
-
-fn reply_with(line: u64, given: Given) -> Event
-    ensures { result ≡ reply line (Ok given) }
-{
-    match given {
-        Given::Nothing => Event::Fine(line),
-        Given::Node(n) => Event::Gave(line, n),
-        Given::Answers(a) => Event::Answered(line, a),
-        Given::Ignored => Event::Ignored(line),
+    match now {
+        Came::Went(_) => End::Replied,
+        Came::Over => End::FuelSpent,
+        Came::Threw(_) => unreachable!(),
     }
 }

@@ -2,17 +2,18 @@
 #![tactic(auto)]
 
 mod command;
-mod create;
-mod deeds;
+mod creations;
+mod drains;
 mod end;
-mod fits;
+mod frames;
+mod looping;
 mod machine;
-mod operands;
 mod operate;
-mod questions;
 mod react;
-mod resolve;
+mod reactions;
+mod turns;
 mod writing;
 
+pub use command::run_command;
 pub use end::End;
 pub use machine::Machine;

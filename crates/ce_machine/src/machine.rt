@@ -12,12 +12,13 @@ ghost use Rattle.ce_algorithms.specs.Written.{Did};
 ghost use Rattle.ce_machine.specs.Ended.{outcome_of};
 
 use crate::End;
-use crate::writing::{write_command, write_part, write_refused};
+use crate::command::run_command;
+use crate::writing::{write_part, write_refused};
 use ce_algorithms::Settings;
 use ce_base::{NoMemory, Sink, Stop};
-use ce_drains::State;
 use rule_lines::{ClassPart, Cmd};
 use rule_tokens::Bad;
+use session_state::State;
 use std::alloc::Global;
 use std::marker::Model;
 
@@ -126,7 +127,7 @@ impl Machine {
     {
         let Machine { state } = self;
         let mut state = state;
-        let ran = write_command(&mut *state, alloc, line, &c, trace, sink);
+        let ran = run_command(&mut *state, alloc, line, &c, trace, sink);
         drop(c);
         with_end(state, ran)
     }

@@ -1,62 +1,88 @@
-// The operations at top level: resolved, done in a queue where they react, their variable set.
-ghost use Rattle.std.specs.Prelude.{◌≡◌, ◌≤◌, ◌+◌, ◌<◌, ◌^◌, ℕ, Bool, List, Option, option_copied, true, IfOk, IfSome, OnOk, IsErrOf};
-ghost use Rattle.ce_base.specs.Faults.{Rose};
-ghost use Rattle.node_trees.specs.Nodes.{IsNode};
-ghost use Rattle.rule_lines.specs.declared.line.Cmd.TheVariants as commands;
+// Turns of operations: what they come to is resolved, and done; their variable waits for it.
+ghost use Rattle.std.specs.Prelude.{◌≡◌, ◌+◌, ◌++◌, ◌<◌, ◌^◌, None, Some, option_copied, true, IfOk, OnOk};
 ghost use Rattle.rule_script.specs.Built.{is_built_command, is_built_op};
 ghost use Rattle.ce_algorithms.specs.Deeds.{variable};
 ghost use Rattle.ce_algorithms.specs.Making.{make_document};
-ghost use Rattle.ce_algorithms.specs.Model.{model};
-ghost use Rattle.ce_algorithms.specs.Perform.{gives_node, keep, operate};
-ghost use Rattle.ce_algorithms.specs.Session.{perform};
+ghost use Rattle.ce_algorithms.specs.Perform.{gives_node};
 ghost use Rattle.ce_algorithms.specs.State.{on_page};
-ghost use Rattle.ce_algorithms.specs.Steps.{Goes, attempt_in};
+ghost use Rattle.ce_frames.specs.Loop.{command_turn, perform_turn};
+ghost use Rattle.ce_frames.specs.OperateTurns.{deed_turn, named_turn, operate_turn};
+ghost use Rattle.ce_frames.specs.Turned.{hand_down};
 ghost use Rattle.ce_page.specs.Ends.{Ends};
-ghost use Rattle.ce_drains.specs.Halts.{Wrote};
-ghost use Rattle.ce_machine.specs.Given.{IsThere, kept_as};
+ghost use Rattle.ce_machine.specs.Frames.{Turns, naming};
+ghost use Rattle.ce_operations.specs.Given.{IsThere};
+ghost use Rattle.ce_machine.specs.Placed.{Lasts, StaysPlaced};
+ghost use Rattle.ce_operations.specs.Ready.{IsReady};
 
-use crate::deeds::gives_node;
-use crate::react::{perform_deed, settled};
-use crate::resolve::resolve;
-use ce_algorithms::Given;
-use ce_base::{Fault, NoMemory, NodeNo, Refused, Sink, Text};
-use ce_drains::{Halt, State};
+use crate::frames::{Came, Frame, came_from};
+use crate::react::deed_turn;
+use ce_algorithms::{Deed, Given};
+use ce_base::{NoMemory, Refused, Text};
+use ce_operations::deeds::gives_node;
+use ce_operations::resolve::resolve;
 use ce_page::PageStop;
 use rule_lines::{Cmd, Op};
+use session_state::State;
 use std::alloc::Global;
 
-/// Performs a command, its fault as an answer.
-pub(crate) fn perform<K: Sink>(
+/// A command begins: one unit of fuel, and what it performs.
+pub(crate) fn begin(
     state: &mut State,
     alloc: Global,
+    frames: &mut Vec<Frame>,
+    line: u64,
     c: &Cmd,
-    trace: bool,
-    sink: &mut K,
-) -> Result<Result<Given, Fault>, Halt>
+) -> Result<Came, NoMemory>
+    requires { is_built_command c.now ≡ true }
+    ensures turn { IfOk result (λ now. Turns frames.old.items frames.new.items now state.new (command_turn line c.now state.old)) }
+    ensures placed { OnOk result (StaysPlaced (command_turn line c.now state.old)) }
+{
+    match state.spend() {
+        Ok(()) => {
+            frames.push(Frame::Replying(line))?;
+            let now = perform(state, alloc, frames, c)?;
+            Ok(now)
+        }
+        Err(PageStop::Refused(f)) => Ok(Came::Threw(f)),
+        Err(PageStop::FuelSpent) => Ok(Came::Over),
+        Err(PageStop::NoMemory) => Err(NoMemory),
+    }
+}
+
+// Performs a command.
+#[tactic(auto, unfolding(ce_frames::specs::Loop::perform_turn))]
+fn perform(
+    state: &mut State,
+    alloc: Global,
+    frames: &mut Vec<Frame>,
+    c: &Cmd,
+) -> Result<Came, NoMemory>
     requires built { is_built_command c.now ≡ true }
     requires room { state.old.page.queues.pushed + state.old.fuel + 1 < 2 ^ 64 }
-    ensures ran { Wrote trace (K.held sink.old) (K.held sink.new) (λ r. r) result state.new (attempt_in (perform model c.now state.old)) }
-    ensures later { K.failed sink.old ≤ K.failed sink.new }
-    ensures cause { IsErrOf result Halt.WriteFault → Rose (K.failed sink.old) (K.failed sink.new) }
-    ensures home { K.home sink.new ≡ K.home sink.old }
-    ensures below { K.below sink.old ≤ K.below sink.new }
+    ensures turn { IfOk result (λ now. Turns frames.old.items frames.new.items now state.new (perform_turn c.now state.old)) }
+    ensures placed { OnOk result (StaysPlaced (perform_turn c.now state.old)) }
 {
     match c {
-        Cmd::Both(op) => operate(state, alloc, &None, op, trace, sink),
-        Cmd::Doc { var } => make_document(state, alloc, var),
+        Cmd::Both(op) => operate(state, alloc, frames, op),
+        Cmd::Doc { var } => make_document(state, alloc, frames, var),
         _ => unreachable!(),
     }
 }
 
-// Makes an inert document, and sets a variable to it.
-fn make_document(state: &mut State, alloc: Global, var: &Text) -> Result<Result<Given, Fault>, Halt>
-    ensures ran { (trace : Bool) (held : Option (List ℕ)) → Wrote trace held held (λ r. r) result state.new (attempt_in (perform model (commands.Doc var.now) state.old)) }
-    ensures writes { IsErrOf result Halt.WriteFault → ⊥ }
+// Makes an inert document, for which a variable waits.
+fn make_document(
+    state: &mut State,
+    alloc: Global,
+    frames: &mut Vec<Frame>,
+    var: &Text,
+) -> Result<Came, NoMemory>
+    ensures turn { IfOk result (λ now. Turns frames.old.items frames.new.items now state.new (named_turn (Some var.now) (hand_down (on_page (gives_node make_document))) state.old)) }
+    ensures placed { OnOk result (StaysPlaced (named_turn (Some var.now) (hand_down (on_page (gives_node make_document))) state.old)) }
 {
+    name(alloc, frames, Some(var))?;
     let made = document(state, alloc);
-    let outcome = settled(made)?;
-    let given = keep(state, alloc, Some(var), outcome)?;
-    Ok(given)
+    let now = came_from(made)?;
+    Ok(now)
 }
 
 fn document(state: &mut State, alloc: Global) -> Result<Given, PageStop>
@@ -66,31 +92,61 @@ fn document(state: &mut State, alloc: Global) -> Result<Given, PageStop>
     gives_node(state.make_document(alloc))
 }
 
-/// Performs an operation, where `this` is that node or none, its fault as an answer.
-fn operate<K: Sink>(
+// Performs an operation.
+#[tactic(auto, unfolding(ce_frames::specs::OperateTurns::operate_turn))]
+fn operate(
     state: &mut State,
     alloc: Global,
-    this: &Option<NodeNo>,
+    frames: &mut Vec<Frame>,
     op: &Op,
-    trace: bool,
-    sink: &mut K,
-) -> Result<Result<Given, Fault>, Halt>
+) -> Result<Came, NoMemory>
     requires built { is_built_op op.now ≡ true }
-    requires there { IfSome this.now (IsNode state.old.page.forest) }
     requires room { state.old.page.queues.pushed + state.old.fuel + 1 < 2 ^ 64 }
-    ensures ran { Wrote trace (K.held sink.old) (K.held sink.new) (λ r. r) result state.new (attempt_in (operate model this.now op.now state.old)) }
-    ensures later { K.failed sink.old ≤ K.failed sink.new }
-    ensures cause { IsErrOf result Halt.WriteFault → Rose (K.failed sink.old) (K.failed sink.new) }
-    ensures home { K.home sink.new ≡ K.home sink.old }
-    ensures below { K.below sink.old ≤ K.below sink.new }
+    ensures turn { IfOk result (λ now. Turns frames.old.items frames.new.items now state.new (operate_turn None op.now state.old)) }
+    ensures placed { OnOk result (StaysPlaced (operate_turn None op.now state.old)) }
 {
-    match resolve(state, alloc, this, op) {
-        Err(Refused::Fault(f)) => Ok(Err(f)),
-        Err(Refused::NoMemory) => Err(Halt::NoMemory),
+    match resolve(state, alloc, &None, op) {
+        Err(Refused::Fault(f)) => Ok(Came::Threw(f)),
+        Err(Refused::NoMemory) => Err(NoMemory),
         Ok(deed) => {
-            let outcome = perform_deed(state, alloc, deed, trace, sink)?;
-            let given = keep(state, alloc, variable(op), outcome)?;
-            Ok(given)
+            let now = named(state, alloc, frames, op, deed)?;
+            Ok(now)
+        }
+    }
+}
+
+// Does what an operation came to. Where it gives a node, its variable waits for it.
+fn named(
+    state: &mut State,
+    alloc: Global,
+    frames: &mut Vec<Frame>,
+    op: &Op,
+    deed: Deed,
+) -> Result<Came, NoMemory>
+    requires ready { IsReady state.old.page.forest deed }
+    requires room { state.old.page.queues.pushed + state.old.fuel + 1 < 2 ^ 64 }
+    ensures turn { IfOk result (λ now. Turns frames.old.items frames.new.items now state.new (named_turn (variable op.now) (deed_turn deed) state.old)) }
+    ensures placed { OnOk result (StaysPlaced (named_turn (variable op.now) (deed_turn deed) state.old)) }
+{
+    match name(alloc, frames, variable(op)) {
+        Err(NoMemory) => Err(NoMemory),
+        Ok(()) => {
+            let now = deed_turn(state, alloc, frames, deed)?;
+            Ok(now)
+        }
+    }
+}
+
+// The frame of a variable, where there is one.
+fn name(alloc: Global, frames: &mut Vec<Frame>, var: Option<&Text>) -> Result<(), NoMemory>
+    ensures { OnOk result (frames.new.items ≡ frames.old.items ++ naming (option_copied var.entry)) }
+{
+    match var {
+        None => Ok(()),
+        Some(var) => {
+            let var = var.copy(alloc)?;
+            frames.push(Frame::Naming(var))?;
+            Ok(())
         }
     }
 }
@@ -106,47 +162,5 @@ fn variable(op: &Op) -> Option<&Text>
         Op::Shadow { var, .. } => Some(var),
         Op::Clone { var, .. } => Some(var),
         _ => None,
-    }
-}
-
-// Sets the variable to the node that was given. Where the operation threw, the variable stays.
-fn keep(
-    state: &mut State,
-    alloc: Global,
-    var: Option<&Text>,
-    outcome: Result<Given, Fault>,
-) -> Result<Result<Given, Fault>, NoMemory>
-    requires { IfOk outcome (IsThere state.old.page.forest) }
-    ensures { IfOk result (λ r. Goes r state.new ≡ kept_as (option_copied var.entry) outcome state.old) }
-{
-    match outcome {
-        Err(f) => Ok(Err(f)),
-        Ok(given) => match keep_given(state, alloc, var, &given) {
-            Ok(()) => Ok(Ok(given)),
-            Err(NoMemory) => Err(NoMemory),
-        },
-    }
-}
-
-fn keep_given(
-    state: &mut State,
-    alloc: Global,
-    var: Option<&Text>,
-    given: &Given,
-) -> Result<(), NoMemory>
-    requires { IsThere state.old.page.forest given.now }
-    ensures { OnOk result (Goes tt state.new ≡ keep (option_copied var.entry) given.now state.old) }
-{
-    match var {
-        None => Ok(()),
-        Some(var) => match given {
-            Given::Node(n) => {
-                let var = var.copy(alloc)?;
-                state.set_variable(var, *n)
-            }
-            Given::Nothing => Ok(()),
-            Given::Answers(_) => Ok(()),
-            Given::Ignored => Ok(()),
-        },
     }
 }

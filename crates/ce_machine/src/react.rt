@@ -1,83 +1,139 @@
-// Deeds that react: a queue is pushed, the steps are done, the queue is popped and drained.
-ghost use Rattle.std.specs.Prelude.{◌≡◌, ◌≤◌, ◌+◌, ◌<◌, ◌^◌, true, IfOk, IsErrOf};
-ghost use Rattle.ce_base.specs.Faults.{Rose};
-ghost use Rattle.ce_algorithms.specs.Drain.{reacting};
+// Deeds that react: a queue is pushed, the steps are done, the queue is popped and is to be drained.
+ghost use Rattle.std.specs.Prelude.{◌≡◌, ◌+◌, ◌<◌, ◌^◌, None, IfOk, OnOk};
+ghost use Rattle.ce_algorithms.specs.declared.deed.Deed.TheVariants as deeds;
+ghost use Rattle.ce_algorithms.specs.declared.event.Given.{Given as IsGiven};
 ghost use Rattle.ce_algorithms.specs.Model.{model};
-ghost use Rattle.ce_algorithms.specs.Perform.{perform_deed, steps};
-ghost use Rattle.ce_algorithms.specs.Steps.{attempt_in};
-ghost use Rattle.ce_drains.specs.Halts.{Wrote};
-ghost use Rattle.ce_machine.specs.Given.{IsThere};
-ghost use Rattle.ce_machine.specs.Ready.{IsReady};
-ghost use Rattle.ce_machine.specs.Settled.{settled};
+ghost use Rattle.ce_algorithms.specs.Perform.{steps};
+ghost use Rattle.ce_algorithms.specs.State.{State as IsState};
+ghost use Rattle.ce_algorithms.specs.Steps.{Outcome, attempt_in};
+ghost use Rattle.ce_frames.specs.OperateTurns.{deed_turn, pop_turn, steps_turn};
+ghost use Rattle.ce_frames.specs.Turned.{turn_after};
+ghost use Rattle.ce_page.specs.Ends.{Ends};
+ghost use Rattle.ce_machine.specs.Frames.{Turns};
+ghost use Rattle.ce_operations.specs.Given.{IsThere};
+ghost use Rattle.ce_machine.specs.Placed.{Lasts};
+ghost use Rattle.ce_operations.specs.Ready.{IsReady, IsStill};
 
-use crate::deeds::run;
+use crate::creations::create_named;
+use crate::drains::pop_turn;
+use crate::frames::{Came, Frame, came_from};
 use ce_algorithms::{Deed, Given};
-use ce_base::{Fault, NoMemory, Sink};
-use ce_drains::{Halt, State};
+use ce_base::{NoMemory, NodeNo, QueueNo, Text};
+use ce_operations::deeds::run;
 use ce_page::PageStop;
+use session_state::State;
 use std::alloc::Global;
 
-/// Does a deed, in a queue of its own where it reacts, its fault as an answer.
-pub(crate) fn perform_deed<K: Sink>(
+/// Does a deed. A creation may wait for a construction; the others wait for nothing.
+pub(crate) fn deed_turn(
     state: &mut State,
     alloc: Global,
+    frames: &mut Vec<Frame>,
     deed: Deed,
-    trace: bool,
-    sink: &mut K,
-) -> Result<Result<Given, Fault>, Halt>
+) -> Result<Came, NoMemory>
     requires ready { IsReady state.old.page.forest deed }
     requires room { state.old.page.queues.pushed + state.old.fuel + 1 < 2 ^ 64 }
-    ensures ran { Wrote trace (K.held sink.old) (K.held sink.new) (λ r. r) result state.new (attempt_in (perform_deed model deed state.old)) }
-    ensures there { IfOk result (λ r. IfOk r (IsThere state.new.page.forest)) }
-    ensures later { K.failed sink.old ≤ K.failed sink.new }
-    ensures cause { IsErrOf result Halt.WriteFault → Rose (K.failed sink.old) (K.failed sink.new) }
-    ensures home { K.home sink.new ≡ K.home sink.old }
-    ensures below { K.below sink.old ≤ K.below sink.new }
+    ensures turn { IfOk result (λ now. Turns frames.old.items frames.new.items now state.new (deed_turn deed state.old)) }
+    ensures lasts { OnOk result (Lasts (deed_turn deed state.old)) }
 {
-    if deed.is_reacting() {
-        react(state, alloc, deed, trace, sink)
-    } else {
-        settled(run(state, alloc, deed))
+    match deed {
+        Deed::Create {
+            local,
+            is_value: _,
+            document,
+        } => create_turn(state, alloc, frames, &local, document),
+        deed => still_turn(state, alloc, frames, deed),
     }
 }
 
-fn react<K: Sink>(
+// A creation, in a queue of its own, which waits for it.
+fn create_turn(
     state: &mut State,
     alloc: Global,
-    deed: Deed,
-    trace: bool,
-    sink: &mut K,
-) -> Result<Result<Given, Fault>, Halt>
-    requires ready { IsReady state.old.page.forest deed }
+    frames: &mut Vec<Frame>,
+    name: &Text,
+    document: NodeNo,
+) -> Result<Came, NoMemory>
     requires room { state.old.page.queues.pushed + state.old.fuel + 1 < 2 ^ 64 }
-    ensures ran { Wrote trace (K.held sink.old) (K.held sink.new) (λ r. r) result state.new (attempt_in (reacting model (steps model deed) state.old)) }
-    ensures there { IfOk result (λ r. IfOk r (IsThere state.new.page.forest)) }
-    ensures later { K.failed sink.old ≤ K.failed sink.new }
-    ensures cause { IsErrOf result Halt.WriteFault → Rose (K.failed sink.old) (K.failed sink.new) }
-    ensures home { K.home sink.new ≡ K.home sink.old }
-    ensures below { K.below sink.old ≤ K.below sink.new }
+    ensures turn { IfOk result (λ now. Turns frames.old.items frames.new.items now state.new (deed_turn (deeds.Create name.now None document) state.old)) }
+    ensures lasts { OnOk result (Lasts (deed_turn (deeds.Create name.now None document) state.old)) }
 {
     match state.open_queue(alloc) {
-        Err(NoMemory) => Err(Halt::NoMemory),
-        Ok(number) => {
-            let ran = run(state, alloc, deed);
-            let outcome = settled(ran)?;
-            match state.drain_popped(alloc, number, trace, sink) {
-                Err(halt) => Err(halt),
-                Ok(()) => Ok(outcome),
-            }
+        Err(NoMemory) => Err(NoMemory),
+        Ok(queue) => {
+            frames.push(Frame::Stepping(queue))?;
+            let now = create_named(state, alloc, frames, name, document)?;
+            Ok(now)
         }
     }
 }
 
-/// A step's fault as an answer, and what stops it as a halt.
-pub(crate) fn settled<A: Drop>(outcome: Result<A, PageStop>) -> Result<Result<A, Fault>, Halt>
-    ensures { result ≡ settled outcome }
+// Does a deed that waits for nothing, in a queue of its own where it reacts.
+fn still_turn(
+    state: &mut State,
+    alloc: Global,
+    frames: &mut Vec<Frame>,
+    deed: Deed,
+) -> Result<Came, NoMemory>
+    requires ready { IsReady state.old.page.forest deed }
+    requires still { IsStill deed }
+    requires room { state.old.page.queues.pushed + state.old.fuel + 1 < 2 ^ 64 }
+    ensures turn { IfOk result (λ now. Turns frames.old.items frames.new.items now state.new (deed_turn deed state.old)) }
+    ensures lasts { OnOk result (Lasts (deed_turn deed state.old)) }
 {
-    match outcome {
-        Ok(a) => Ok(Ok(a)),
-        Err(PageStop::Refused(f)) => Ok(Err(f)),
-        Err(PageStop::FuelSpent) => Err(Halt::FuelSpent),
-        Err(PageStop::NoMemory) => Err(Halt::NoMemory),
+    if deed.is_reacting() {
+        let now = react(state, alloc, frames, deed)?;
+        Ok(now)
+    } else {
+        let ran = run(state, alloc, deed);
+        let now = came_from(ran)?;
+        Ok(now)
+    }
+}
+
+fn react(
+    state: &mut State,
+    alloc: Global,
+    frames: &mut Vec<Frame>,
+    deed: Deed,
+) -> Result<Came, NoMemory>
+    requires ready { IsReady state.old.page.forest deed }
+    requires still { IsStill deed }
+    requires room { state.old.page.queues.pushed + state.old.fuel + 1 < 2 ^ 64 }
+    ensures turn { IfOk result (λ now. Turns frames.old.items frames.new.items now state.new (steps_turn (steps model deed) state.old)) }
+    ensures lasts { OnOk result (Lasts (steps_turn (steps model deed) state.old)) }
+{
+    match state.open_queue(alloc) {
+        Err(NoMemory) => Err(NoMemory),
+        Ok(queue) => {
+            let ran = run(state, alloc, deed);
+            let now = stepped(state, frames, queue, ran)?;
+            Ok(now)
+        }
+    }
+}
+
+// The steps have ended.
+fn stepped(
+    state: &mut State,
+    frames: &mut Vec<Frame>,
+    queue: QueueNo,
+    ran: Result<Given, PageStop>,
+) -> Result<Came, NoMemory>
+    requires { IfOk ran (IsThere state.old.page.forest) }
+    ensures turn { (o : Outcome IsState IsGiven) → Ends (λ g. g) ran state.old o → IfOk result (λ now. Turns frames.old.items frames.new.items now state.new (turn_after (attempt_in o) (pop_turn queue))) }
+    ensures lasts { (o : Outcome IsState IsGiven) → Ends (λ g. g) ran state.old o → OnOk result (Lasts (turn_after (attempt_in o) (pop_turn queue))) }
+{
+    match ran {
+        Ok(given) => {
+            let now = pop_turn(state, frames, queue, Ok(given))?;
+            Ok(now)
+        }
+        Err(PageStop::Refused(f)) => {
+            let now = pop_turn(state, frames, queue, Err(f))?;
+            Ok(now)
+        }
+        Err(PageStop::FuelSpent) => Ok(Came::Over),
+        Err(PageStop::NoMemory) => Err(NoMemory),
     }
 }

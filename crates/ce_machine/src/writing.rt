@@ -1,23 +1,21 @@
 // One line of a script on the state, with all that it logs written out.
-ghost use Rattle.std.specs.Prelude.{◌≡◌, ◌≤◌, [], Err, true, IfOk, OnOk, OnErr, IsErrOf};
+ghost use Rattle.std.specs.Prelude.{◌≡◌, ◌≤◌, [], Err, true, OnOk, OnErr, IsErrOf};
 ghost use Rattle.ce_base.specs.Faults.{Rose};
 ghost use Rattle.ce_base.specs.Outside.{AppendsPart};
 ghost use Rattle.rule_lines.specs.Acts.{part_of};
-ghost use Rattle.rule_script.specs.Built.{is_built_command, is_built_part};
+ghost use Rattle.rule_script.specs.Built.{is_built_part};
 ghost use Rattle.ce_algorithms.specs.Model.{model};
-ghost use Rattle.ce_algorithms.specs.Session.{class_part, command, log_of, run_line};
+ghost use Rattle.ce_algorithms.specs.Session.{class_part, log_of, run_line};
 ghost use Rattle.ce_algorithms.specs.Steps.{Goes};
 ghost use Rattle.ce_algorithms.specs.Text.{text};
 ghost use Rattle.ce_algorithms.specs.Written.{Did};
-ghost use Rattle.ce_machine.specs.Ended.{outcome_of};
 
-use crate::End;
-use crate::command::{reply_to_part, run_command};
+use crate::command::reply_to_part;
 use ce_algorithms::Event;
 use ce_base::{Sink, Stop};
-use ce_drains::State;
-use rule_lines::{ClassPart, Cmd};
+use rule_lines::ClassPart;
 use rule_tokens::Bad;
+use session_state::State;
 use std::alloc::Global;
 
 /// Takes a part of a class, and writes the reply where it is refused.
@@ -63,27 +61,4 @@ pub(crate) fn write_refused<K: Sink>(
     state.log(Event::WasBad(line, bad))?;
     state.flush(alloc, trace, sink)?;
     Ok(())
-}
-
-/// Runs a command, and writes what comes of it.
-pub(crate) fn write_command<K: Sink>(
-    state: &mut State,
-    alloc: Global,
-    line: u64,
-    c: &Cmd,
-    trace: bool,
-    sink: &mut K,
-) -> Result<End, Stop>
-    requires { is_built_command c.now ≡ true }
-    ensures ran { IfOk result (λ end. Did trace (K.held sink.old) (K.held sink.new) (command model line c.now state.old) (outcome_of end state.new)) }
-    ensures empty { OnOk result (state.new.log ≡ []) }
-    ensures part { OnErr result (AppendsPart (K.held sink.old) (K.held sink.new) (text trace (log_of (command model line c.now state.old)))) }
-    ensures later { K.failed sink.old ≤ K.failed sink.new }
-    ensures cause { IsErrOf result Stop.WriteFault → Rose (K.failed sink.old) (K.failed sink.new) }
-    ensures home { K.home sink.new ≡ K.home sink.old }
-    ensures below { K.below sink.old ≤ K.below sink.new }
-{
-    let end = run_command(state, alloc, line, c, trace, sink)?;
-    state.flush(alloc, trace, sink)?;
-    Ok(end)
 }

@@ -1,7 +1,7 @@
-//! Tests of what a session does by itself, and of its commands.
+//! Tests of the steps of a session's state, of commands run on it, and of the machine.
 #![tactic(auto)]
 
 #[cfg(test)]
-mod drains;
-#[cfg(test)]
 mod machine;
+#[cfg(test)]
+mod state;

@@ -1,9 +1,0 @@
-pub mod VariableLaws
-pub mod HaltLaws
-pub mod FlushLaws
-pub mod BodyLaws
-pub mod DrainLaws
-pub mod ClassLaws
-pub mod ClassesLaws
-pub mod ConstructLaws
-pub mod PageLaws

@@ -1,6 +1,0 @@
-use Rattle.std.proofs.Common.{◌∙◌}
-use Rattle.ce_drains.proofs.ClassesLaws.{named-within}
-use Rattle.ce_drains.proofs.classes.Classes.named.Goals as goal
-
-pub returns-clause-within : goal.returns-clause-within
-returns-clause-within c = rw (c.copied.ensures ∙ (c.get.ensures.value ∙ c.self.invariant c.args.name.now), ← c.self.view_is) (named-within c.self.inside.items.items c.args.name.now)

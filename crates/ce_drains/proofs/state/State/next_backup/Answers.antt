@@ -1,5 +1,0 @@
-use Rattle.ce_drains.proofs.DrainLaws.{next_backup-first}
-use Rattle.ce_drains.proofs.state.State.next_backup.Goals as goal
-
-pub returns-clause-first : goal.returns-clause-first
-returns-clause-first c = next_backup-first c.next_backup.result _ c.args.self.now c.next_backup.new.self c.self.view_is c.next_backup.ensures.first c.next_backup.ensures.page

@@ -1,5 +1,0 @@
-use Rattle.ce_drains.proofs.DrainLaws.{next_reaction-first}
-use Rattle.ce_drains.proofs.state.State.next_reaction.Goals as goal
-
-pub returns-clause-first : goal.returns-clause-first
-returns-clause-first c = next_reaction-first c.next.result c.args.e _ c.args.self.now c.next.new.self c.self.view_is c.next.ensures.first c.next.ensures.page

@@ -1,8 +1,0 @@
-use Rattle.ce_algorithms.specs.Mutation.{pre_insert}
-use Rattle.ce_machine.proofs.GivenLaws.{page_nothing_ends}
-use Rattle.ce_machine.proofs.deeds.run_on_page.Goals as goal
-
-pub returns-in-Insert-clause-step : goal.returns-in-Insert-clause-step
-returns-in-Insert-clause-step c =
-    rw (c.gives_nothing.ensures, c.in-Insert.is)
-    (page_nothing_ends c.insert.result c.insert.new.self c.args.state.now (pre_insert c.in-Insert.parent c.in-Insert.node c.in-Insert.before) c.insert.ensures.step)

@@ -1,0 +1,160 @@
+// Turns of drains: a popped queue, the backup element queue, and the checkpoint of a command.
+ghost use Rattle.std.specs.Prelude.{◌≡◌, ◌∷◌, Ok, IfOk};
+ghost use Rattle.ce_algorithms.specs.Session.{reply};
+ghost use Rattle.ce_frames.specs.DrainTurns.{backup_turn, check_turn, drain_turn, next_backup_turn};
+ghost use Rattle.ce_frames.specs.OperateTurns.{next_turn, pop_turn};
+ghost use Rattle.ce_machine.specs.Frames.{Turns};
+
+use crate::frames::{Came, Frame, came_of};
+use crate::reactions::start;
+use ce_algorithms::{Event, Given};
+use ce_base::{Fault, NoMemory, NodeNo, QueueNo};
+use reaction_queue::ElementQueue;
+use session_state::State;
+use std::alloc::Global;
+
+/// The steps of an operation have ended: its queue is popped, and is to be drained.
+pub(crate) fn pop_turn(
+    state: &mut State,
+    frames: &mut Vec<Frame>,
+    queue: QueueNo,
+    kept: Result<Given, Fault>,
+) -> Result<Came, NoMemory>
+    ensures { IfOk result (λ now. Turns frames.old.items frames.new.items now state.new (pop_turn queue kept state.old)) }
+{
+    let elements = state.pop_queue();
+    match state.log(Event::DrainBegun(queue)) {
+        Err(NoMemory) => Err(NoMemory),
+        Ok(()) => {
+            let now = next_turn(state, frames, queue, elements, kept)?;
+            Ok(now)
+        }
+    }
+}
+
+// A popped queue goes on with its next element, or is closed.
+fn next_turn(
+    state: &mut State,
+    frames: &mut Vec<Frame>,
+    queue: QueueNo,
+    elements: ElementQueue,
+    kept: Result<Given, Fault>,
+) -> Result<Came, NoMemory>
+    ensures { IfOk result (λ now. Turns frames.old.items frames.new.items now state.new (next_turn queue elements kept state.old)) }
+{
+    let mut elements = elements;
+    match state.next_element(&mut elements) {
+        None => {
+            state.log(Event::QueueClosed(queue))?;
+            Ok(came_of(kept))
+        }
+        Some(next) => {
+            frames.push(Frame::Draining(queue, next, elements, kept))?;
+            Ok(Came::Went(Given::Nothing))
+        }
+    }
+}
+
+/// The next reaction of a popped queue starts, or the queue goes on.
+pub(crate) fn drain_turn(
+    state: &mut State,
+    alloc: Global,
+    frames: &mut Vec<Frame>,
+    queue: QueueNo,
+    e: NodeNo,
+    elements: ElementQueue,
+    kept: Result<Given, Fault>,
+) -> Result<Came, NoMemory>
+    ensures { IfOk result (λ now. Turns frames.old.items frames.new.items now state.new (drain_turn queue (e ∷ elements) kept state.old)) }
+{
+    match state.next_reaction(e) {
+        Some((number, r)) => {
+            frames.push(Frame::Draining(queue, e, elements, kept))?;
+            let now = start(state, alloc, frames, e, number, &r)?;
+            Ok(now)
+        }
+        None => {
+            let now = next_turn(state, frames, queue, elements, kept)?;
+            Ok(now)
+        }
+    }
+}
+
+/// The next reaction of the element at hand starts, or the backup element queue goes on.
+pub(crate) fn backup_turn(
+    state: &mut State,
+    alloc: Global,
+    frames: &mut Vec<Frame>,
+    e: NodeNo,
+) -> Result<Came, NoMemory>
+    ensures { IfOk result (λ now. Turns frames.old.items frames.new.items now state.new (backup_turn e state.old)) }
+{
+    match state.next_reaction(e) {
+        Some((number, r)) => {
+            frames.push(Frame::DrainingBackup(e))?;
+            let now = start(state, alloc, frames, e, number, &r)?;
+            Ok(now)
+        }
+        None => {
+            let now = next_backup_turn(state, frames)?;
+            Ok(now)
+        }
+    }
+}
+
+// The backup element queue goes on with its next element, or its drain is closed.
+fn next_backup_turn(state: &mut State, frames: &mut Vec<Frame>) -> Result<Came, NoMemory>
+    ensures { IfOk result (λ now. Turns frames.old.items frames.new.items now state.new (next_backup_turn state.old.page.queues.backup state.old)) }
+{
+    match state.next_backup() {
+        None => {
+            state.log(Event::QueueClosed(QueueNo(0)))?;
+            Ok(Came::Went(Given::Nothing))
+        }
+        Some(e) => {
+            frames.push(Frame::DrainingBackup(e))?;
+            Ok(Came::Went(Given::Nothing))
+        }
+    }
+}
+
+/// The checkpoint of a command: the backup element queue is drained, where it is not empty, and then comes the
+/// reply.
+pub(crate) fn check_turn(
+    state: &mut State,
+    frames: &mut Vec<Frame>,
+    line: u64,
+    kept: Result<Given, Fault>,
+) -> Result<Came, NoMemory>
+    ensures { IfOk result (λ now. Turns frames.old.items frames.new.items now state.new (check_turn line kept state.old)) }
+{
+    if state.has_backup() {
+        frames.push(Frame::Checking(line, kept))?;
+        state.log(Event::DrainBegun(QueueNo(0)))?;
+        let now = next_backup_turn(state, frames)?;
+        return Ok(now);
+    }
+    state.log(reply(line, kept))?;
+    Ok(Came::Went(Given::Nothing))
+}
+
+/// The reply to a command that gave something, or threw.
+pub(crate) fn reply(line: u64, kept: Result<Given, Fault>) -> Event
+    ensures { result ≡ reply line kept }
+{
+    match kept {
+        Ok(given) => reply_with(line, given),
+        Err(f) => Event::Threw(line, f),
+    }
+}
+
+fn reply_with(line: u64, given: Given) -> Event
+    ensures { result ≡ reply line (Ok given) }
+{
+    match given {
+        Given::Nothing => Event::Fine(line),
+        Given::Node(n) => Event::Gave(line, n),
+        Given::Answers(a) => Event::Answered(line, a),
+        Given::Ignored => Event::Ignored(line),
+    }
+}

@@ -1,0 +1,126 @@
+// What creating an element takes (DOM Standard, section "Interface Element", "create an element").
+ghost use Rattle.std.specs.Prelude.{◌≡◌, ◌≤◌, None, IfOk};
+ghost use Rattle.std.specs.Str.{str_to_ascii_lowercase};
+ghost use Rattle.node_trees.specs.Nodes.{IsNode, size};
+ghost use Rattle.ce_algorithms.specs.Create.{create_failed, fitting, is_no_element, is_unfit};
+ghost use Rattle.ce_algorithms.specs.CreateLater.{first_state, make_undefined};
+ghost use Rattle.ce_algorithms.specs.Enqueue.{lookup_in};
+ghost use Rattle.ce_algorithms.specs.Page.{definition_at};
+ghost use Rattle.ce_algorithms.specs.State.{on_page};
+ghost use Rattle.ce_page.specs.Ends.{Ends};
+ghost use Rattle.ce_operations.specs.Given.{tested};
+
+use ce_algorithms::Event;
+use ce_base::{ClassNo, CustomState, DefNo, Fault, NoMemory, NodeNo, Text};
+use ce_page::{NodeKind, PageStop};
+use element_names::is_custom_name;
+use session_state::State;
+use std::alloc::Global;
+
+/// A name as creation looks it up.
+pub fn lowercased(alloc: Global, name: &Text) -> Result<Text, NoMemory>
+    ensures { IfOk result (λ t. t ≡ str_to_ascii_lowercase name.now) }
+{
+    let lower = name.as_str().to_ascii_lowercase(alloc)?;
+    Text::of(alloc, lower.as_str())
+}
+
+/// The definition that creation by a local name goes by, in a document. None exactly where there is none.
+pub fn lookup(state: &State, local: &str, document: NodeNo) -> Option<DefNo>
+    ensures { result ≡ lookup_in state.now.page document local.now None }
+{
+    state.registry().lookup(document == NodeNo(1), local, None)
+}
+
+/// An element without a definition. FuelSpent exactly where no fuel is left for it; it refuses nothing.
+pub fn create_undefined(
+    state: &mut State,
+    alloc: Global,
+    local: Text,
+    document: NodeNo,
+) -> Result<NodeNo, PageStop>
+    ensures step { Ends (λ n. n) result state.new (on_page (make_undefined local None document) state.old) }
+    ensures made { IfOk result (IsNode state.new.page.forest) }
+{
+    let first = first_state(local.as_str());
+    state.make_in_state(alloc, local, None, document, first)
+}
+
+fn first_state(local: &str) -> CustomState
+    ensures { result ≡ first_state local.now None }
+{
+    if is_custom_name(local) {
+        return CustomState::Undefined;
+    }
+    CustomState::Uncustomized
+}
+
+/// The class of a definition.
+pub fn class_of(state: &State, d: DefNo) -> ClassNo
+    ensures { result ≡ (definition_at state.now.page d).class }
+{
+    match state.registry().at(d) {
+        None => ClassNo(0),
+        Some(x) => x.class,
+    }
+}
+
+/// Why what was constructed does not fit the creation: TypeError where it is no element; NotSupportedError where it
+/// has attributes, children or a parent, is of another document, or has another local name. None exactly where it
+/// fits.
+pub fn misfit(state: &State, local: &str, document: NodeNo, n: NodeNo) -> Option<Fault>
+    requires { IsNode state.now.page.forest n }
+    ensures { tested result n state.now ≡ fitting local.now document n state.now }
+{
+    if is_no_element(state, n) {
+        return Some(Fault::TypeError);
+    }
+    if is_unfit(state, local, document, n) {
+        return Some(Fault::NotSupportedError);
+    }
+    None
+}
+
+fn is_no_element(state: &State, n: NodeNo) -> bool
+    requires { IsNode state.now.page.forest n }
+    ensures { result ≡ is_no_element state.now.page n }
+{
+    match state.tree().kind(n) {
+        NodeKind::Element => false,
+        NodeKind::Document => true,
+        NodeKind::TextNode => true,
+        NodeKind::ShadowRoot => true,
+    }
+}
+
+// It has attributes, children or a parent, is of another document, or has another local name.
+fn is_unfit(state: &State, local: &str, document: NodeNo, n: NodeNo) -> bool
+    requires { IsNode state.now.page.forest n }
+    ensures { result ≡ is_unfit state.now.page local.now document n }
+{
+    let tree = state.tree();
+    tree.attr_count(n) != 0
+        || tree.first_child(n).is_some()
+        || tree.parent(n).is_some()
+        || tree.document(n) != document
+        || tree.local(n) != local
+}
+
+/// A fault of the construction or of the tests is reported, and a new element in state failed is the answer.
+/// FuelSpent exactly where no fuel is left for it; it refuses nothing.
+pub fn create_failed(
+    state: &mut State,
+    alloc: Global,
+    local: Text,
+    document: NodeNo,
+    f: Fault,
+) -> Result<NodeNo, PageStop>
+    ensures step { Ends (λ n. n) result state.new (create_failed local document f state.old) }
+    ensures made { IfOk result (IsNode state.new.page.forest) }
+    ensures grows { size state.old.page.forest ≤ size state.new.page.forest }
+{
+    match state.log(Event::Reported(f)) {
+        Err(NoMemory) => Err(PageStop::NoMemory),
+        Ok(()) => state.make_in_state(alloc, local, None, document, CustomState::Failed),
+    }
+}

@@ -1,0 +1,11 @@
+//! Operations: `resolve` reads and tests the operands of one, and gives the deed that it comes to; `run` does the
+//! steps of a deed on the state of a session. A creation may construct a class, for which its caller waits: `create`
+//! has what it does before and after.
+#![tactic(auto)]
+
+pub mod create;
+pub mod deeds;
+mod fits;
+mod operands;
+mod questions;
+pub mod resolve;

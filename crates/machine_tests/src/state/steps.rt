@@ -1,0 +1,262 @@
+// The steps of a session: rows of words, nodes and classes by their numbers; and commands, by their lines.
+ghost use Rattle.std.specs.Prelude.{◌≡◌};
+ghost use Rattle.node_trees.specs.declared.kind.NodeKind.TheVariants.{Element as ElementKind};
+ghost use Rattle.node_trees.specs.Spots.{kind_at};
+ghost use Rattle.node_trees.specs.Nodes.{IsNode, IsNodeOrNone};
+
+use ce_algorithms::Event;
+use ce_base::{ClassNo, CustomState, MemSink, NodeNo, Text};
+use ce_machine::run_command;
+use node_trees::NodeKind;
+use rule_script::{Line, read_line};
+use session_state::State;
+use std::alloc::Global;
+use std::fmt::{Debug, Write};
+use std::process::Abort;
+use std::test::Fail;
+
+// What a value is, as `Debug` writes it.
+fn told<T: Debug>(alloc: Global, value: &T) -> Result<String, Fail> {
+    let mut out = String::new(alloc);
+    write!(out, "{value:?}")?;
+    Ok(out)
+}
+
+// The first word, and those behind it.
+fn cut(words: &str) -> (&str, &str) {
+    match words.split_once(' ') {
+        Some(sides) => sides,
+        None => (words, ""),
+    }
+}
+
+fn number(word: &str) -> u64 {
+    match word.parse::<u64>() {
+        Ok(n) => n,
+        Err(_) => 0,
+    }
+}
+
+fn text_or_none(alloc: Global, word: &str) -> Result<Option<Text>, Fail> {
+    if word.is_empty() {
+        return Ok(None);
+    }
+    Ok(Some(Text::of(alloc, word)?))
+}
+
+fn node(rt: &impl Abort, state: &State, word: &str) -> NodeNo
+    ensures { IsNode state.now.page.forest result }
+{
+    let n = number(word);
+    assert!(rt; 0 < n && n <= state.tree().count());
+    NodeNo(n)
+}
+
+fn node_or_none(rt: &impl Abort, state: &State, word: &str) -> Option<NodeNo>
+    ensures { IsNodeOrNone state.now.page.forest result }
+{
+    if word.is_empty() {
+        return None;
+    }
+    Some(node(rt, state, word))
+}
+
+fn element(rt: &impl Abort, state: &State, word: &str) -> NodeNo
+    ensures node { IsNode state.now.page.forest result }
+    ensures kind { kind_at state.now.page.forest result ≡ ElementKind }
+{
+    let n = node(rt, state, word);
+    assert!(rt; state.tree().kind(n) == NodeKind::Element);
+    n
+}
+
+fn insert(rt: &impl Abort, alloc: Global, state: &mut State, words: &str) -> Result<String, Fail> {
+    let (parent, words) = cut(words);
+    let (n, before) = cut(words);
+    let parent = node(rt, state, parent);
+    let n = node(rt, state, n);
+    let before = node_or_none(rt, state, before);
+    let end = state.insert(alloc, parent, n, before);
+    told(alloc, &end)
+}
+
+fn remove(rt: &impl Abort, alloc: Global, state: &mut State, words: &str) -> Result<String, Fail> {
+    let (parent, n) = cut(words);
+    let n = node(rt, state, n);
+    let end = state.remove_child(alloc, NodeNo(number(parent)), n);
+    told(alloc, &end)
+}
+
+fn detach(rt: &impl Abort, alloc: Global, state: &mut State, word: &str) -> Result<String, Fail> {
+    let n = node(rt, state, word);
+    let end = state.detach(alloc, n);
+    told(alloc, &end)
+}
+
+fn set(rt: &impl Abort, alloc: Global, state: &mut State, words: &str) -> Result<String, Fail> {
+    let (n, words) = cut(words);
+    let (name, value) = cut(words);
+    let n = element(rt, state, n);
+    let value = Text::of(alloc, value)?;
+    let end = state.set_named(alloc, n, name, value);
+    told(alloc, &end)
+}
+
+fn unset(rt: &impl Abort, alloc: Global, state: &mut State, words: &str) -> Result<String, Fail> {
+    let (n, name) = cut(words);
+    let n = element(rt, state, n);
+    let end = state.remove_named(alloc, n, name);
+    told(alloc, &end)
+}
+
+// A step that may enqueue reactions.
+fn change(rt: &impl Abort, alloc: Global, state: &mut State, row: &str) -> Result<String, Fail> {
+    let (word, words) = cut(row);
+    match word {
+        "insert" => insert(rt, alloc, state, words),
+        "remove" => remove(rt, alloc, state, words),
+        "detach" => detach(rt, alloc, state, words),
+        "set" => set(rt, alloc, state, words),
+        "unset" => unset(rt, alloc, state, words),
+        _ => Err("a change".into()),
+    }
+}
+
+fn make_text(alloc: Global, state: &mut State, words: &str) -> Result<String, Fail> {
+    let (document, chars) = cut(words);
+    let chars = Text::of(alloc, chars)?;
+    let end = state.make_text(alloc, chars, NodeNo(number(document)));
+    told(alloc, &end)
+}
+
+fn make_element(alloc: Global, state: &mut State, words: &str) -> Result<String, Fail> {
+    let (document, local) = cut(words);
+    let document = NodeNo(number(document));
+    let local = Text::of(alloc, local)?;
+    let end = state.make_in_state(alloc, local, None, document, CustomState::Uncustomized);
+    told(alloc, &end)
+}
+
+fn attach_shadow(
+    rt: &impl Abort,
+    alloc: Global,
+    state: &mut State,
+    word: &str,
+) -> Result<String, Fail> {
+    let n = element(rt, state, word);
+    let end = state.attach_shadow(alloc, n);
+    told(alloc, &end)
+}
+
+// A step that makes a node.
+fn make(rt: &impl Abort, alloc: Global, state: &mut State, row: &str) -> Result<String, Fail> {
+    let (word, words) = cut(row);
+    match word {
+        "document" => told(alloc, &state.make_document(alloc)),
+        "text" => make_text(alloc, state, words),
+        "element" => make_element(alloc, state, words),
+        "shadow" => attach_shadow(rt, alloc, state, words),
+        "construct" => told(alloc, &state.construct(alloc, ClassNo(number(words)))),
+        _ => Err("a making".into()),
+    }
+}
+
+fn part(alloc: Global, state: &mut State, row: &str) -> Result<String, Fail> {
+    match read_line(alloc, row.as_bytes()) {
+        Ok(Line::Part(p)) => {
+            let end = state.part(alloc, p);
+            told(alloc, &end)
+        }
+        _ => Err("a part of a class".into()),
+    }
+}
+
+fn define(alloc: Global, state: &mut State, words: &str) -> Result<String, Fail> {
+    let (name, words) = cut(words);
+    let (class, base) = cut(words);
+    let name = Text::of(alloc, name)?;
+    let base = text_or_none(alloc, base)?;
+    let end = state.define_element(alloc, &name, ClassNo(number(class)), &base);
+    told(alloc, &end)
+}
+
+fn set_variable(
+    rt: &impl Abort,
+    alloc: Global,
+    state: &mut State,
+    words: &str,
+) -> Result<String, Fail> {
+    let (name, n) = cut(words);
+    let n = node(rt, state, n);
+    let name = Text::of(alloc, name)?;
+    let end = state.set_variable(name, n);
+    told(alloc, &end)
+}
+
+// A step that changes nothing of the page.
+fn note(rt: &impl Abort, alloc: Global, state: &mut State, row: &str) -> Result<String, Fail> {
+    let (word, words) = cut(row);
+    match word {
+        "spend" => told(alloc, &state.spend()),
+        "log" => told(alloc, &state.log(Event::Fine(number(words)))),
+        "let" => set_variable(rt, alloc, state, words),
+        "define" => define(alloc, state, words),
+        _ => Err("a note".into()),
+    }
+}
+
+fn ask(alloc: Global, state: &State, row: &str) -> Result<String, Fail> {
+    let (word, name) = cut(row);
+    match word {
+        "count" => told(alloc, &state.tree().count()),
+        "defined" => told(alloc, &state.registry().get(name)),
+        "named" => told(alloc, &state.class_named(name)),
+        "get" => told(alloc, &state.variable(name)),
+        _ => Err("a question".into()),
+    }
+}
+
+// What waits first at an element, and the element behind it in the backup element queue.
+fn next(alloc: Global, state: &mut State, row: &str) -> Result<String, Fail> {
+    let (word, n) = cut(row);
+    match word {
+        "next" => told(alloc, &state.next_reaction(NodeNo(number(n)))),
+        _ => told(alloc, &state.next_backup()),
+    }
+}
+
+// Runs a command, by the number of its line and the line, and says how it ends.
+pub(super) fn run_line(
+    alloc: Global,
+    state: &mut State,
+    row: &str,
+    trace: bool,
+    sink: &mut MemSink,
+) -> Result<String, Fail> {
+    let (line, command) = cut(row);
+    match read_line(alloc, command.as_bytes()) {
+        Ok(Line::Command(c)) => {
+            let end = run_command(state, alloc, number(line), &c, trace, sink);
+            told(alloc, &end)
+        }
+        _ => Err("a command".into()),
+    }
+}
+
+// Takes a step, and says how it ends.
+pub(super) fn step(
+    rt: &impl Abort,
+    alloc: Global,
+    state: &mut State,
+    row: &str,
+) -> Result<String, Fail> {
+    let (word, _) = cut(row);
+    match word {
+        "next" | "backup" => next(alloc, state, row),
+        "class" | "has" | "observe" | "on" => part(alloc, state, row),
+        "count" | "defined" | "named" | "get" => ask(alloc, state, row),
+        "spend" | "log" | "let" | "define" => note(rt, alloc, state, row),
+        "document" | "text" | "element" | "shadow" | "construct" => make(rt, alloc, state, row),
+        _ => change(rt, alloc, state, row),
+    }
+}

@@ -1,0 +1,5 @@
+pub mod VariableLaws
+pub mod FlushLaws
+pub mod QueueLaws
+pub mod ConstructLaws
+pub mod PageLaws

@@ -1,0 +1,3 @@
+pub mod Taking
+pub mod Variables
+pub mod Steps

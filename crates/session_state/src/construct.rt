@@ -1,0 +1,184 @@
+// Constructing classes, and defining them.
+ghost use Rattle.std.specs.Prelude.{◌≡◌, ◌<◌, false, length, slice_get, Some, IfOk, IfSome};
+ghost use Rattle.std.specs.Str.{str_to_ascii_lowercase};
+ghost use Rattle.rule_tokens.specs.declared.callback.CallName.TheVariants as calls;
+ghost use Rattle.node_trees.specs.Nodes.{IsNode};
+ghost use Rattle.ce_registry.specs.declared.definition.Definition.{Definition as IsDefinition};
+ghost use Rattle.ce_registry.specs.ClassFacts.{has_call};
+ghost use Rattle.ce_registry.specs.Registry.{by_class, is_autonomous};
+ghost use Rattle.ce_algorithms.specs.Construct.{construct};
+ghost use Rattle.ce_algorithms.specs.Construction.{base_call, is_value_of, make_custom};
+ghost use Rattle.ce_algorithms.specs.Define.{define_name};
+ghost use Rattle.ce_algorithms.specs.Model.{model};
+ghost use Rattle.ce_algorithms.specs.Perform.{define_element};
+ghost use Rattle.ce_algorithms.specs.State.{class_of, on_page};
+ghost use Rattle.ce_page.specs.Ends.{Ends, Does, work};
+ghost use Rattle.session_state.specs.Steps.{GrowsWithin, with_frozen};
+
+use crate::State;
+use crate::state::is_out_of_fuel;
+use ce_algorithms::Event;
+use ce_base::{ClassNo, CustomState, DefNo, Fault, Fuel, NoMemory, NodeNo, Text};
+use ce_page::{Page, PageStop};
+use ce_registry::{ClassFacts, Definition};
+use std::alloc::Global;
+
+impl State {
+    /// Adds a definition of a class, and freezes the class (HTML Standard, section "The
+    /// CustomElementRegistry interface", `define`).
+    pub fn define_element(
+        &mut self,
+        alloc: Global,
+        name: &Text,
+        class: ClassNo,
+        base: &Option<Text>,
+    ) -> Result<(), PageStop>
+        ensures step { Does result self.new (define_element name.now class base.now self.old) }
+    {
+        let _number = self.define_name(alloc, name, class, base)?;
+        self.freeze(class);
+        Ok(())
+    }
+
+    fn define_name(
+        &mut self,
+        alloc: Global,
+        name: &Text,
+        class: ClassNo,
+        base: &Option<Text>,
+    ) -> Result<DefNo, PageStop>
+        ensures step { Ends (λ d. d) result self.new (on_page (define_name name.now class (class_of self.old class).facts base.now) self.old) }
+    {
+        let facts = self.class_facts(alloc, class)?;
+        let name = name.copy(alloc)?;
+        let base = copy_of(alloc, base)?;
+        let outcome = self
+            .page
+            .define_name(alloc, name, class, facts, base, &mut self.fuel);
+        self.after_call(is_out_of_fuel(&outcome))?;
+        outcome
+    }
+
+    // What a definition takes over from a class.
+    fn class_facts(&self, alloc: Global, class: ClassNo) -> Result<ClassFacts, NoMemory>
+        ensures { IfOk result (λ facts. facts ≡ (class_of self.now class).facts) }
+    {
+        match self.classes.get(class) {
+            None => Ok(ClassFacts::make(alloc)),
+            Some(c) => c.facts().copy(alloc),
+        }
+    }
+
+    fn freeze(&mut self, class: ClassNo)
+        ensures frozen { self.new ≡ with_frozen class self.old }
+        ensures page { self.new.page ≡ self.old.page }
+    {
+        self.classes.freeze(class);
+    }
+
+    /// Constructs a class (Web IDL, section "Invoking callback functions", "construct a callback
+    /// function"). Its constructor is the base call, since no class has one of its own yet.
+    pub fn construct(&mut self, alloc: Global, class: ClassNo) -> Result<NodeNo, PageStop>
+        ensures step { Ends (λ n. n) result self.new (construct model class self.old) }
+        ensures plain { has_call calls.Constructor (class_of self.old class).facts.calls ≡ false }
+        ensures made { IfOk result (IsNode self.new.page.forest) }
+    {
+        let name = self.class_name(alloc, class)?;
+        self.log(Event::Construct(name))?;
+        let outcome = base_call(alloc, &mut self.page, &mut self.fuel, class);
+        self.after_call(is_out_of_fuel(&outcome))?;
+        outcome
+    }
+
+    // A class's name.
+    fn class_name(&self, alloc: Global, class: ClassNo) -> Result<Text, NoMemory>
+        ensures name { IfOk result (λ name. name ≡ (class_of self.now class).name) }
+        ensures plain { has_call calls.Constructor (class_of self.now class).facts.calls ≡ false }
+    {
+        match self.classes.get(class) {
+            None => Text::of(alloc, ""),
+            Some(c) => Text::of(alloc, c.name()),
+        }
+    }
+}
+
+// The base call of a constructor: a new element of the class's definition, custom at once. No element waits
+// for its constructor yet.
+fn base_call(
+    alloc: Global,
+    page: &mut Page,
+    fuel: &mut Fuel,
+    class: ClassNo,
+) -> Result<NodeNo, PageStop>
+    ensures step { Ends (λ n. n) result (work page.new fuel.new) (base_call class (work page.old fuel.old)) }
+    ensures within { GrowsWithin page.old page.new fuel.old fuel.new }
+    ensures made { IfOk result (IsNode page.new.forest) }
+{
+    // No element waits for its constructor: the tree's clause says that the page upgrades nothing.
+    let _tree = page.tree();
+    match defined(page, class) {
+        None => Err(PageStop::Refused(Fault::TypeError)),
+        Some(d) => {
+            let x = page.registry().definition(d);
+            let local = x.local.copy(alloc)?;
+            let is_value = is_value_of(alloc, x)?;
+            make_custom(alloc, page, fuel, d, local, is_value)
+        }
+    }
+}
+
+// The definition of a class. None exactly where it has none.
+fn defined(page: &Page, class: ClassNo) -> Option<DefNo>
+    ensures defined { result ≡ by_class page.now.definitions class }
+    ensures within { IfSome result (λ d. d < length page.now.definitions) }
+{
+    page.registry().by_class(class)
+}
+
+// An autonomous custom element has no `is` value.
+fn is_value_of(alloc: Global, d: &Definition) -> Result<Option<Text>, NoMemory>
+    ensures { IfOk result (λ is. is ≡ is_value_of d.now) }
+{
+    if d.local.as_str() == d.name.as_str() {
+        return Ok(None);
+    }
+    Ok(Some(d.name.copy(alloc)?))
+}
+
+// Spends one unit of fuel, and makes an element that is custom at once.
+fn make_custom(
+    alloc: Global,
+    page: &mut Page,
+    fuel: &mut Fuel,
+    d: DefNo,
+    local: Text,
+    is_value: Option<Text>,
+) -> Result<NodeNo, PageStop>
+    ensures step { (x : IsDefinition) → x.local ≡ local → is_value_of x ≡ is_value → Ends (λ n. n) result (work page.new fuel.new) (make_custom d x (work page.old fuel.old)) }
+    ensures within { GrowsWithin page.old page.new fuel.old fuel.new }
+    ensures made { IfOk result (IsNode page.new.forest) }
+{
+    if !fuel.spend() {
+        return Err(PageStop::FuelSpent);
+    }
+    let n = page.make_element(alloc, local, is_value, NodeNo(1))?;
+    page.set_definition(alloc, n, Some(d))?;
+    page.set_state(n, CustomState::Custom);
+    Ok(n)
+}
+
+pub(crate) fn lowercased(alloc: Global, name: &str) -> Result<Text, NoMemory>
+    ensures { IfOk result (λ t. t ≡ str_to_ascii_lowercase name.now) }
+{
+    let lower = name.to_ascii_lowercase(alloc)?;
+    Text::of(alloc, lower.as_str())
+}
+
+pub(crate) fn copy_of(alloc: Global, text: &Option<Text>) -> Result<Option<Text>, NoMemory>
+    ensures { IfOk result (λ copy. copy ≡ text.now) }
+{
+    match text {
+        None => Ok(None),
+        Some(text) => Ok(Some(text.copy(alloc)?)),
+    }
+}
