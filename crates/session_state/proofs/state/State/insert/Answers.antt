@@ -1,5 +1,4 @@
 use Rattle.ce_algorithms.specs.Mutation.{pre_insert}
-use Rattle.session_state.specs.Steps.{after_call}
 use Rattle.session_state.proofs.PageLaws.{page_ends}
 use Rattle.session_state.proofs.state.State.insert.Goals as goal
 
