@@ -18,7 +18,7 @@ use Rattle.ce_algorithms.specs.Construction.{base_call}
 use Rattle.ce_base.specs.declared.custom_state.CustomState.TheVariants.{Precustomized}
 use Rattle.std.specs.Option.{option_and_then}
 use Rattle.ce_algorithms.specs.Page.{Page, Element, element_of, definition_of, definition_at, with_state}
-use Rattle.ce_algorithms.specs.Upgrade.{is_shadow_refused, construct_for}
+use Rattle.ce_algorithms.specs.Upgrade.{is_shadow_refused}
 use Rattle.rule_lines.specs.declared.op.Op.{Op}
 use Rattle.rule_lines.specs.declared.op.Op.TheVariants as ops
 use Rattle.ce_algorithms.specs.State.{State, View, view, Class, Memory, value_of, log, on_page, change_page, spend, spend_from, class_of, change_class, read_page}
