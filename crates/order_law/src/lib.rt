@@ -1,5 +1,5 @@
-//! The law of order over logs, as definitions: what a log may say, without a word of the algorithms. The
-//! definitions stand in `specs/`.
+//! The law of order over logs, as definitions: what a log may say, without a word of the algorithms. And that
+//! the log of each session keeps it. The definitions stand in `specs/`.
 #![tactic(auto)]
 
 mod laws;

@@ -17,7 +17,8 @@ ghost use Rattle.order_law.specs.Whole.{is_whole_line};
 /// any fuel, also where it is spent.
 #[tactic(auto, using(crate::proofs::Model::Readings::readings_lawful))]
 pub fn each_script_is_lawful()
-    ensures { (upgrades : Bool) (settings : Settings) (lines : List (List ℕ)) → Lawful (log_of (run_lines model 1 (map reading lines) (start upgrades settings))) }
+    ensures { (upgrades : Bool) (settings : Settings) (lines : List (List ℕ)) →
+        Lawful (log_of (run_lines model 1 (map reading lines) (start upgrades settings))) }
 {}
 
 /// The same of what lines may say once more of the language is read: of all lines whose operations have their steps in the

@@ -18,7 +18,7 @@ use Rattle.ce_algorithms.specs.Construction.{base_call}
 use Rattle.ce_base.specs.declared.custom_state.CustomState.TheVariants.{Precustomized}
 use Rattle.std.specs.Option.{option_and_then}
 use Rattle.ce_algorithms.specs.Page.{Page, Element, element_of, definition_of, definition_at, with_state}
-use Rattle.ce_algorithms.specs.Upgrade.{is_shadow_refused, construct_for}
+use Rattle.ce_algorithms.specs.Upgrade.{is_shadow_refused}
 use Rattle.rule_lines.specs.declared.op.Op.{Op}
 use Rattle.rule_lines.specs.declared.op.Op.TheVariants as ops
 use Rattle.ce_algorithms.specs.State.{State, View, view, Class, Memory, value_of, log, on_page, change_page, spend, spend_from, class_of, change_class, read_page}
@@ -38,7 +38,7 @@ use Rattle.order_law.proofs.Model.Lines.{Plain, plain_holds, construct_plain, ca
 use Rattle.order_law.proofs.Model.Steps.{Keeps, keeps_bind, keeps_seq, keeps_throw}
 use Rattle.order_law.proofs.Model.Giving.{one, maybe, given_nodes, Gives, gives_bind, gives_after, gives_seq, gives_give, gives_throw, gives_if, gives_catch, gives_look, gives_keeps, gives_page, FoundRows}
 use Rattle.order_law.proofs.Model.Nodes.{base_gives}
-use Rattle.order_law.proofs.Model.Draining.{KeepsLaw, class_whole, whole_actions}
+use Rattle.order_law.proofs.Model.Draining.{KeepsLaw, ConstructsKeep, BodiesKeep, class_whole, whole_actions}
 
 pub keeps_done : {h : List Hold} → Keeps h done
 keeps_done = record { at = λ s o. o }
@@ -202,11 +202,10 @@ module _ (again : Again) (keeps : KeepsLaw again) where
   pub construct_gives : (class : ℕ) (h : List Hold) → Gives one h (construct again class)
   construct_gives class h = record { at = λ s o. (construct_of class (class_of s class) h (class_whole s.classes class o.rest.whole)).at s o }
 
-  pub body_keeps : (class : ℕ) (args : Args) (this : Option ℕ) (actions : List Act) (h : List Hold) → All (λ a. is_whole a ≡ true) actions →
-      All (λ n. IsHeld n h) (maybe this) → Keeps h (body again class args this actions)
+  pub body_keeps : BodiesKeep again
   body_keeps class args this actions h whole held = gives_keeps (body_gives class args this actions h whole held)
 
-  pub construct_for_keeps : (n d : ℕ) (h : List Hold) → Keeps (InUpgrade n ∷ h) (construct_for again n d)
+  pub construct_for_keeps : ConstructsKeep again
   construct_for_keeps n d h =
       keeps_seq (keeps_throw_where (λ (s : State). is_shadow_refused s.page n d) NotSupportedError)
       (keeps_seq (precustomized n h)

@@ -77,10 +77,24 @@ pub record KeepsLaw (again : Again) : Type 0 where
   pub drains : (ns : List ℕ) (q : ℕ) (h : List Hold) (s : State) → HoldsIn (InDrain q ns ∷ h) s → AfterCalm (InDrain q [] ∷ h) (again (DrainRest ns) s)
   pub backups : (s : State) → HoldsIn (InDrain 0 [] ∷ []) s → AfterBackup (again DrainBackup s)
 
-module _ (again : Again) (keeps : KeepsLaw again) (constructs : (n d : ℕ) (h : List Hold) → Keeps (InUpgrade n ∷ h) (construct_for again n d)) (bodies : (class : ℕ) (args : Args) (this : Option ℕ) (actions : List Act) (h : List Hold) → All (λ a. is_whole a ≡ true) actions → All (λ n. IsHeld n h) (maybe this) → Keeps h (body again class args this actions)) where
+-- constructors keep the law under an upgrade
+abbrev pub ConstructsKeep : Again → Type 0
+ConstructsKeep again = (n d : ℕ) (h : List Hold) → Keeps (InUpgrade n ∷ h) (construct_for again n d)
+
+-- bodies keep it whose operations have their steps, where `this` is a node at hand
+abbrev pub BodiesKeep : Again → Type 0
+BodiesKeep again =
+    (class : ℕ) (args : Args) (this : Option ℕ) (actions : List Act) (h : List Hold) → All (λ a. is_whole a ≡ true) actions → All (λ n. IsHeld n h) (maybe this) →
+    Keeps h (body again class args this actions)
+
+module _ (again : Again) (keeps : KeepsLaw again) (constructs : ConstructsKeep again) (bodies : BodiesKeep again) where
   rest_keeps : (n class : ℕ) (x : Reaction) (h : List Hold) → IsHeld n h →
       Keeps h (read (λ (s : State). class_of s class) >>= (λ k. body again class (args_of x) (Some n) (actions_for (what_of x) k.bodies) >> done))
-  rest_keeps n class x h held = record { at = λ s k. (keeps_seq (bodies class (args_of x) (Some n) (actions_for (what_of x) (class_of s class).bodies) h (whole_for (what_of x) (class_of s class).bodies (class_whole s.classes class k.rest.whole)) (held, tt)) (record { at = λ t l. l })).at s k }
+  rest_keeps n class x h held = record {
+    at = λ s k.
+        let whole = whole_for (what_of x) (class_of s class).bodies (class_whole s.classes class k.rest.whole) in
+        (keeps_seq (bodies class (args_of x) (Some n) (actions_for (what_of x) (class_of s class).bodies) h whole (held, tt)) (record { at = λ t l. l })).at s k;
+  }
 
   line_then : {A B : Type 0} (h : List Hold) (o : Outcome State A) (f : Step State B) → After h o → Keeps h f → After h (then_do o (λ _. f))
   line_then h (Goes a s) f o k = k.at s o
@@ -117,7 +131,11 @@ module _ (again : Again) (keeps : KeepsLaw again) (constructs : (n d : ℕ) (h :
       c || not (is_callback w.what) ≡ true → After (InReaction w c ∷ g) o → ((s : State) → HoldsIn g s → AfterCalm g' (next s)) →
       AfterCalm g' (then_do (then_do (catch_in o (λ f. log (Reported f))) (λ _. log (Finished w.number))) (λ _. next))
   report_then w c g g' (Goes a s) next e k n = n (logged (Finished w.number) s) (record { holds = finished_holds w c g s.log s.page e k.holds; notes = k.notes; rest = k.rest })
-  report_then w c g g' (Throws f s) next e k n = n (logged (Finished w.number) (logged (Reported f) s)) (record { holds = finished_holds w c g (s.log ++ Reported f ∷ []) s.page e (plain_holds (Reported f) (InReaction w c ∷ g) s.log s.page (reported_plain f) k.holds); notes = k.notes; rest = k.rest })
+  report_then w c g g' (Throws f s) next e k n = n (logged (Finished w.number) (logged (Reported f) s)) (record {
+    holds = finished_holds w c g (s.log ++ Reported f ∷ []) s.page e (plain_holds (Reported f) (InReaction w c ∷ g) s.log s.page (reported_plain f) k.holds);
+    notes = k.notes;
+    rest = k.rest;
+  })
   report_then w c g g' (Spent s) next e k n = k
 
   calm_done : {A : Type 0} (g : List Hold) (o : Outcome State A) → AfterCalm g o → AfterCalm {A = Unit {0}} g (then_do o (λ _. done))

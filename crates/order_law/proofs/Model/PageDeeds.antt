@@ -23,6 +23,7 @@ use Rattle.ce_algorithms.specs.Enqueue.{enqueue_upgrade}
 use Rattle.ce_algorithms.specs.Clone.{copy_node, copy_below, below, clone}
 use Rattle.ce_algorithms.specs.Define.{with_defined, has_is_value, is_candidate, candidates, upgrade_candidates, define_name}
 use Rattle.ce_algorithms.specs.Perform.{gives_nothing, gives_node, page_steps}
+use Rattle.order_law.proofs.Model.Reading.{both_true}
 use Rattle.order_law.proofs.Model.Sound.{All, all_append, IsEntry, sound_stacks}
 use Rattle.order_law.proofs.Model.Invariant.{Hold}
 use Rattle.order_law.proofs.Model.Hands.{with_hands, IsHeld}
@@ -71,13 +72,9 @@ defined_at {q} {h} {l} d = record {
   };
 }
 
-left : (a b : Bool) → a && b ≡ true → a ≡ true
-left true b t = refl
-left false b t = t
-
 candidate_element : (name : List ℕ) (base : Option (List ℕ)) (x : Facts) → is_candidate name base x ≡ true → is_element x.kind ≡ true
-candidate_element name None x is = left (is_element x.kind) (bytes_eq x.local name) is
-candidate_element name (Some base) x is = left (is_element x.kind) (bytes_eq x.local base) (left (is_element x.kind && bytes_eq x.local base) (has_is_value x.is_value name) is)
+candidate_element name None x is = (both_true (is_element x.kind) (bytes_eq x.local name) is).0
+candidate_element name (Some base) x is = (both_true (is_element x.kind) (bytes_eq x.local base) (both_true (is_element x.kind && bytes_eq x.local base) (has_is_value x.is_value name) is).0).0
 
 candidates_elements : (name : List ℕ) (base : Option (List ℕ)) (f : Trees) (ns : List ℕ) →
     All (λ n. is_element (kind_at f n) ≡ true) (filter (λ n. is_candidate name base (facts_at f n)) ns)

@@ -18,6 +18,7 @@ use Rattle.ce_algorithms.specs.Model.{model}
 use Rattle.ce_algorithms.specs.Session.{run_lines, start, log_of}
 use Rattle.order_law.specs.Law.{Lawful}
 use Rattle.order_law.specs.Whole.{has_steps, is_whole, is_whole_command, is_whole_part, is_whole_said, is_whole_line}
+use Rattle.order_law.proofs.Model.Reading.{both_true}
 use Rattle.order_law.proofs.Model.Scripts.{session_lawful}
 
 wrong : {A : Type 0} → false ≡ true → A
@@ -52,12 +53,8 @@ built_act (acts.Try action) e = wrong e
 built_act (acts.If equal left right action) e = wrong e
 built_act a e = refl
 
-second : (a b : Bool) → a && b ≡ true → b ≡ true
-second true b e = e
-second false b e = wrong e
-
 built_part : (p : Part) → is_built_part p ≡ true → is_whole_part p ≡ true
-built_part (acts.On name call action) e = built_act action (second (is_built_call call) (is_built_act action) e)
+built_part (acts.On name call action) e = built_act action (both_true (is_built_call call) (is_built_act action) e).1
 built_part p e = refl
 
 built_said : (x : Said) → is_built x ≡ true → is_whole_said x ≡ true

@@ -73,7 +73,18 @@ replied e s x r =
     let z = at_rest s.log s.page r.empty k in
     let same : after k.book e ≡ k.book = x.is k.book k.queues.brackets ∙ ap (λ d. record (k.book) { dropping = d }) (sym k.dropping) in
     record {
-      holds = record { holds = record { book = k.book; reads = reads_append blank s.log (e ∷ []) k.book k.book k.reads (subst (Reads k.book (e ∷ [])) same (reads_one k.book e (tested k.book e (x.at k.book k.over k.dropping z.1 k.queues.brackets z.0)))); over = k.over; dropping = k.dropping; queues = k.queues; elements = k.elements }; notes = r.holds.notes; rest = r.holds.rest };
+      holds = record {
+        holds = record {
+          book = k.book;
+          reads = reads_append blank s.log (e ∷ []) k.book k.book k.reads (subst (Reads k.book (e ∷ [])) same (reads_one k.book e (tested k.book e (x.at k.book k.over k.dropping z.1 k.queues.brackets z.0))));
+          over = k.over;
+          dropping = k.dropping;
+          queues = k.queues;
+          elements = k.elements;
+        };
+        notes = r.holds.notes;
+        rest = r.holds.rest;
+      };
       empty = r.empty;
     }
 
@@ -108,7 +119,11 @@ run_keeps (suc n) =
 
 model_keeps : KeepsLaw model
 unfolding model
-model_keeps = record { operates = λ this op h steps held. record { at = λ s k. ((run_keeps (suc (clock s))).operates this op h steps held).at s k }; drains = λ ns q h s k. (run_keeps (suc (clock s))).drains ns q h s k; backups = λ s k. (run_keeps (suc (clock s))).backups s k }
+model_keeps = record {
+  operates = λ this op h steps held. record { at = λ s k. ((run_keeps (suc (clock s))).operates this op h steps held).at s k };
+  drains = λ ns q h s k. (run_keeps (suc (clock s))).drains ns q h s k;
+  backups = λ s k. (run_keeps (suc (clock s))).backups s k;
+}
 
 -- a command, whatever it performs
 command_then : (line : ℕ) (r : Result Given Fault) (o : Outcome State (Unit {0})) → AfterRest o → Ends {A = Unit {0}} (then_do o (λ _. log (reply line r)))

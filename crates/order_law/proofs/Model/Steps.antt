@@ -1,6 +1,6 @@
 -- Steps keep the law: those of a page with its notes, and those of a session.
 use Rattle.std.proofs.Common.{◌≡◌, ℕ, zero, suc, ◌+◌, ◌-◌, ◌<◌, ◌≤◌, Bool, true, false, List, [], ◌∷◌, ◌++◌, length, map, Option, Some, None, refl, sym, ap, ◌∙◌, subst, arith, append_assoc, append-nil}
-use Rattle.std.specs.Prelude.{slice_get, slice_set, ◌&&◌}
+use Rattle.std.specs.Prelude.{slice_get, slice_set}
 use Rattle.std.specs.Option.{option_and_then}
 use Rattle.std.proofs.lemmas.List.{map-append}
 use Rattle.ce_base.specs.declared.fault.Fault.{Fault}
@@ -22,6 +22,7 @@ use Rattle.order_law.specs.Law.{Lawful}
 use Rattle.node_trees.specs.Trees.{Trees}
 use Rattle.order_law.proofs.Model.Weights.{IsApart}
 use Rattle.order_law.specs.Whole.{are_whole}
+use Rattle.order_law.proofs.Model.Reading.{both_true}
 use Rattle.order_law.proofs.Model.Forests.{Alike}
 use Rattle.order_law.proofs.Model.Sound.{All, all_set, IsEntry, Sound, sound_apart, sound_alike, sound_stacks}
 use Rattle.order_law.proofs.Model.Invariant.{Hold, Known, fits, nodes_of, Holds, HoldsIn, After}
@@ -69,6 +70,21 @@ pub at_each : {A : Type 0} {q : Trees → Type 0} {h : List Hold} {l : List Even
     ((a : A) → KeepsAt q h l (f a)) → KeepsAt q h l (for_each xs f)
 at_each [] n = at_done
 at_each (x ∷ xs) n = at_seq (n x) (at_each xs n)
+
+-- a page whose elements, definitions and queues are the same
+pub same_page : (h : List Hold) (l : List Event) (p q : Page) → p.elements ≡ q.elements → p.definitions ≡ q.definitions → p.queues ≡ q.queues →
+    Holds h l p → Holds h l q
+same_page h l p q e d s r = subst (λ (t : List Element × List Definition × Queues). Holds h l (record q { elements = t.0; definitions = t.1; queues = t.2 })) parts (record {
+  book = r.book;
+  reads = r.reads;
+  over = r.over;
+  dropping = r.dropping;
+  queues = r.queues;
+  elements = let t = r.elements in record { known = t.known; defined = t.defined; unset = t.unset; upgraded = t.upgraded; thrown = t.thrown; document = t.document; ongoing = t.ongoing };
+})
+  where
+    parts : ◌≡◌ {A = List Element × List Definition × Queues} (p.elements, p.definitions, p.queues) (q.elements, q.definitions, q.queues)
+    parts = ap (λ y. (y, p.definitions, p.queues)) e ∙ ap (λ y. (q.elements, y, p.queues)) d ∙ ap (λ y. (q.elements, q.definitions, y)) s
 
 -- the page's row of an element with a definition
 defined_known : (h : List Hold) (l : List Event) (p : Page) (n : ℕ) (d : Definition) → definition_of p n ≡ Some d → Holds h l p → Known p.elements n
@@ -118,11 +134,12 @@ enqueue_at q h l n x w known fit k = go w.fuel
     go zero = k
     go (suc fuel) =
         let e = enqueued_holds n x h (l ++ map event_of w.page.notes) w.page known fit k.holds in
-        let lines : (l ++ map event_of w.page.notes) ++ Enqueued (w.page.queues.reactions + 1) n (what_of x) (current_of w.page.queues) ∷ [] ≡ l ++ map event_of (noted n x (with_queues (enqueued n x) w.page)).notes =
-        append_assoc l (map event_of w.page.notes) (Enqueued (w.page.queues.reactions + 1) n (what_of x) (current_of w.page.queues) ∷ []) ∙ ap (λ m. l ++ m) (sym (note_line n x w.page)) in
+        let line = Enqueued (w.page.queues.reactions + 1) n (what_of x) (current_of w.page.queues) in
+        let lines : (l ++ map event_of w.page.notes) ++ line ∷ [] ≡ l ++ map event_of (noted n x (with_queues (enqueued n x) w.page)).notes =
+        append_assoc l (map event_of w.page.notes) (line ∷ []) ∙ ap (λ m. l ++ m) (sym (note_line n x w.page)) in
         let r = subst (λ m. Holds h m (with_queues (enqueued n x) w.page)) lines e in
         record {
-          holds = record { book = r.book; reads = r.reads; over = r.over; dropping = r.dropping; queues = r.queues; elements = let t = r.elements in record { known = t.known; defined = t.defined; unset = t.unset; upgraded = t.upgraded; thrown = t.thrown; document = t.document; ongoing = t.ongoing } };
+          holds = same_page h (l ++ map event_of (noted n x (with_queues (enqueued n x) w.page)).notes) (with_queues (enqueued n x) w.page) (noted n x (with_queues (enqueued n x) w.page)) refl refl refl r;
           sound = k.sound;
           known = k.known;
         }
@@ -135,16 +152,14 @@ callback_at {q} {h} {l} n x = record { at = λ w k. go w k (definition_of w.page
     has (Call name) d t = t
     has IsUpgrade d t = refl
 
-    left : (a b : Bool) → a && b ≡ true → a ≡ true
-    left true b t = refl
-    left false b t = t
-
     go : (w : Work) → HoldsAt q h l w → (o : Option Definition) → definition_of w.page n ≡ o → AfterAt q h l (enqueue_callback n x w)
     go w k None is = subst (λ t. AfterAt q h l (when t (enqueue n x) w)) (sym (ap (λ o. gives_reaction o x) is)) k
     go w k (Some d) is = test (gives_reaction (Some d) x) refl
       where
         test : (t : Bool) → gives_reaction (Some d) x ≡ t → AfterAt q h l (enqueue_callback n x w)
-        test true t = subst (λ t. AfterAt q h l (when t (enqueue n x) w)) (sym (ap (λ o. gives_reaction o x) is ∙ t)) (enqueue_at q h l n x w (defined_known h (l ++ map event_of w.page.notes) w.page n d is k.holds) (ap (λ o. fits (what_of x) o) is ∙ has (what_of x) d (left (has_callback (what_of x) d) (is_observed x d) t)) k)
+        test true t = subst (λ t. AfterAt q h l (when t (enqueue n x) w)) (sym (ap (λ o. gives_reaction o x) is ∙ t))
+            (enqueue_at q h l n x w (defined_known h (l ++ map event_of w.page.notes) w.page n d is k.holds)
+            (ap (λ o. fits (what_of x) o) is ∙ has (what_of x) d (both_true (has_callback (what_of x) d) (is_observed x d) t).0) k)
         test false t = subst (λ t. AfterAt q h l (when t (enqueue n x) w)) (sym (ap (λ o. gives_reaction o x) is ∙ t)) k
 
 -- nothing is thrown
@@ -157,12 +172,6 @@ pub calm_any : {A : Type 0} (h : List Hold) (o : Outcome State A) → AfterCalm 
 calm_any h (Goes a s) k = k
 calm_any h (Throws f s) k = absurd k
 calm_any h (Spent s) k = k
-
--- a page whose elements, definitions and queues are the same
-pub same_page : (h : List Hold) (l : List Event) (p q : Page) → p.elements ≡ q.elements → p.definitions ≡ q.definitions → p.queues ≡ q.queues →
-    Holds h l p → Holds h l q
-same_page h l p q e d s r = subst (λ (t : List Element × List Definition × Queues). Holds h l (record q { elements = t.0; definitions = t.1; queues = t.2 })) (let x : ◌≡◌ {A = List Element × List Definition × Queues} (p.elements, p.definitions, p.queues) (q.elements, q.definitions, q.queues) = ap (λ y. (y, p.definitions, p.queues)) e ∙ ap (λ y. (q.elements, y, p.queues)) d ∙ ap (λ y. (q.elements, q.definitions, y)) s in x)
-    (record { book = r.book; reads = r.reads; over = r.over; dropping = r.dropping; queues = r.queues; elements = let t = r.elements in record { known = t.known; defined = t.defined; unset = t.unset; upgraded = t.upgraded; thrown = t.thrown; document = t.document; ongoing = t.ongoing } })
 
 -- back in the session: what the variables hold was in hand
 pub came_back : (h : List Hold) (s : State) (w : Work) → All (λ (k : Class). are_whole k.bodies ≡ true) s.classes →
