@@ -67,7 +67,7 @@ chosen controls forest select =
 
 -- values
 
--- the characters of the texts below n in its tree, in tree order (DOM Standard, section "Interface Node", "descendant text content")
+-- the characters of the texts below n in its tree, in tree order (DOM Standard, section "Interface Text", "descendant text content")
 abbrev pub text_below : Trees → ℕ → List ℕ
 text_below forest n = concat (map (λ m. (facts_at forest m).chars) (tree_order_of forest n))
 

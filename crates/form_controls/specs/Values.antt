@@ -22,7 +22,7 @@ input_value Checkbox raw attribute = unwrap_or attribute (codes "on")
 input_value Radio raw attribute = unwrap_or attribute (codes "on")
 input_value kind raw attribute = unwrap_or attribute []
 
--- the characters of the texts among the children of n (DOM Standard, section "Interface Node", "child text content")
+-- the characters of the texts among the children of n (DOM Standard, section "Interface Text", "child text content")
 abbrev pub child_text : Trees → ℕ → List ℕ
 child_text forest n = concat (map (λ m. (facts_at forest m).chars) (children_at forest n))
 

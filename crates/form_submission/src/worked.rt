@@ -6,8 +6,10 @@ ghost use Rattle.form_controls.specs.Worked.Kept as controls;
 ghost use Rattle.form_controls.specs.Worked.Told.{with_forest};
 ghost use Rattle.form_submission.specs.declared.plan.Plan.TheVariants.{Get, Post, Blocked};
 ghost use Rattle.form_submission.specs.declared.plan.Why.TheVariants.{Disconnected, Invalid, Dialog, Url, Scheme, Boundary};
-ghost use Rattle.form_submission.specs.EntryList.{entry_list};
-ghost use Rattle.form_submission.specs.Plans.{plan};
+ghost use Rattle.form_submission.specs.Encodings.{is_broken_by};
+ghost use Rattle.form_submission.specs.EntryList.{entry, entry_list};
+ghost use Rattle.form_submission.specs.LineEnds.{with_full_newlines};
+ghost use Rattle.form_submission.specs.Plans.{entry_size, plan};
 ghost use Rattle.form_submission.specs.Requests.{request_fit};
 ghost use Rattle.form_submission.specs.Worked.Bodies as bodies;
 ghost use Rattle.form_submission.specs.Worked.Button.{rating};
@@ -30,6 +32,9 @@ pub fn worked_button()
 pub fn worked_validation()
     ensures invalid { plan (with_forest [] invalid.barred) controls.two_letters [] kept.page (codes "XX") 3 None false
         ≡ Blocked (Invalid (4 ∷ 9 ∷ [])) }
+    ensures by_call { plan (with_forest [] invalid.barred) controls.two_letters [] kept.page (codes "XX") 3 None true
+        ≡ Get (codes "http://page.test/?a=&a=&t=ab") }
+    ensures form_unchecked { plan (with_forest [] causes.form_unchecked) [] [] kept.page (codes "XX") 3 None false ≡ Get (codes "http://page.test/?a=") }
     ensures fits { request_fit (with_forest [] invalid.unchecked) 3 (Some 10) ≡ None }
     ensures unchecked { plan (with_forest [] invalid.unchecked) controls.two_letters [] kept.page (codes "XX") 3 (Some 10) false
         ≡ Get (codes "http://page.test/?a=&a=&t=ab") }
@@ -69,6 +74,15 @@ pub fn worked_entries()
     ensures by_button { entry_list (with_forest (16 ∷ 17 ∷ 18 ∷ []) entries.mixed) [] entries.kept 3 (Some 11) ≡ entries.given_to_button }
 {}
 
+/// The definitions compute: line ends as they are sent, where a boundary occurs, and how an entry counts.
+pub fn worked_texts()
+    ensures line_ends { with_full_newlines kept.line_ends ≡ kept.full_line_ends }
+    ensures in_name { is_broken_by (entry (codes "aXX") [] ∷ []) (codes "XX") ≡ true }
+    ensures in_value { is_broken_by (entry [] [] ∷ entry [] (codes "XaXXb") ∷ []) (codes "XX") ≡ true }
+    ensures in_neither { is_broken_by (entry (codes "X") (codes "X") ∷ entry (codes "x") (codes "Xx") ∷ []) (codes "XX") ≡ false }
+    ensures size { entry_size (entry (codes "ab") (codes "c")) ≡ 4 }
+{}
+
 /// The definitions compute: what blocks a submission, the first cause of all, and whose form a button submits.
 #[tactic(auto, unfolding(url::proofs::OnLiterals::url_on_literals))]
 pub fn worked_causes()
@@ -81,6 +95,8 @@ pub fn worked_causes()
         ≡ Blocked Url }
     ensures scheme { plan (with_forest [] (causes.form_in_page ((codes "action", codes "mailto:a@b") ∷ []) [])) [] [] kept.page (codes "XX") 3 None true
         ≡ Blocked Scheme }
+    ensures https { plan (with_forest [] (causes.form_in_page ((codes "action", codes "https://other.test") ∷ []) [])) [] [] kept.page (codes "XX") 3 None true
+        ≡ Get (codes "https://other.test/?a=1") }
     ensures fits_not { request_fit (with_forest [] causes.two_forms) 3 (Some 5) ≡ Some NotFoundError }
     ensures fits { request_fit (with_forest [] causes.two_forms) 6 (Some 5) ≡ None }
 {}

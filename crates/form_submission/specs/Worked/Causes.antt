@@ -25,6 +25,14 @@ form_apart = html [] (form [] [] ∷ [])
 abbrev pub form_in_shadow : Trees
 form_in_shadow = page (host 2 (codes "p") [] 6 (form [] [] ∷ []) [] ∷ []) []
 
+-- its input is required, and it has `novalidate`
+abbrev pub form_unchecked : Trees
+form_unchecked =
+    html
+    (element 3 (codes "form") ((codes "novalidate", []) ∷ [])
+    (element 4 (codes "input") ((codes "name", codes "a") ∷ (codes "required", []) ∷ []) [] ∷ []) ∷ [])
+    []
+
 -- two forms; the button names the second by its `form` attribute
 abbrev pub two_forms : Trees
 two_forms =

@@ -17,7 +17,7 @@ abbrev pub typed : List ℕ → List ℕ → List (List ℕ × List ℕ)
 typed kind name = (codes "type", kind) ∷ (codes "name", name) ∷ []
 
 -- an empty text, one without a name, one that is disabled, one in a datalist; a checkbox that is checked and one that is not; a button; a
--- select of which two options have `selected`, one of them disabled; a hidden input of the encoding's name; three form-associated custom elements
+-- select of which two options have `selected`, one of them disabled; a hidden input of the encoding's name; three form-associated custom elements; a button that resets, a fieldset, a text of the encoding's name
 abbrev pub mixed : Trees
 mixed =
     html
@@ -35,7 +35,10 @@ mixed =
     ∷ element 15 (codes "input") (typed (codes "hidden") (codes "_CHARSET_")) []
     ∷ element 16 (codes "x-a") [] []
     ∷ element 17 (codes "x-a") [] []
-    ∷ element 18 (codes "x-a") (named (codes "h")) [] ∷ []) ∷ [])
+    ∷ element 18 (codes "x-a") (named (codes "h")) []
+    ∷ element 19 (codes "button") (typed (codes "reset") (codes "i")) []
+    ∷ element 20 (codes "fieldset") (named (codes "j")) []
+    ∷ element 21 (codes "input") ((codes "value", codes "z") ∷ named (codes "_charset_")) [] ∷ []) ∷ [])
     []
 
 -- a text, which wants a name; a list, which wants none; no internals
@@ -52,6 +55,7 @@ given =
     ∷ entry (codes "g") (codes "1")
     ∷ entry (codes "_CHARSET_") (codes "UTF-8")
     ∷ entry [] (codes "y")
+    ∷ entry (codes "_charset_") (codes "z")
     ∷ []
 
 -- the button as the submitter, whose value is empty, stands among them
@@ -63,4 +67,5 @@ given_to_button =
     ∷ entry (codes "g") (codes "1")
     ∷ entry (codes "_CHARSET_") (codes "UTF-8")
     ∷ entry [] (codes "y")
+    ∷ entry (codes "_charset_") (codes "z")
     ∷ []

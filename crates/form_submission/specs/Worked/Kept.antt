@@ -78,3 +78,11 @@ first_on = set_checked (with_forest [] pair) cloned 4 true
 
 abbrev pub reset_again : List Control
 reset_again = reset_controls (with_forest [] with_charset) first_on 3
+
+-- line ends of each kind
+
+abbrev pub line_ends : List ℕ
+line_ends = 97 ∷ 13 ∷ 98 ∷ 10 ∷ 99 ∷ 13 ∷ 10 ∷ 13 ∷ 13 ∷ 10 ∷ 10 ∷ []
+
+abbrev pub full_line_ends : List ℕ
+full_line_ends = lines (codes "a" ∷ codes "b" ∷ codes "c" ∷ [] ∷ [] ∷ [] ∷ [])
