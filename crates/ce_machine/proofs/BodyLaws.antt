@@ -1,8 +1,7 @@
 -- A body of `log`s.
-use Rattle.std.proofs.Common.{◌≡◌, ◌<◌, ◌≤◌, ◌+◌, ℕ, suc, List, [], ◌∷◌, length, get_or, drop, map, Some, Option, refl, ap, sym, ◌∙◌, add-one, drop-cons}
-use Rattle.std.specs.Prelude.{false, Result, Ok, Err}
+use Rattle.std.proofs.Common.{◌≡◌, ◌<◌, ◌≤◌, ◌+◌, ℕ, suc, List, [], ◌∷◌, length, get_or, drop, map, Some, refl, ap, sym, ◌∙◌, add-one, drop-cons}
+use Rattle.std.specs.Prelude.{false, Err}
 use Rattle.std.proofs.lemmas.List.{drop_all}
-use Rattle.ce_base.specs.declared.fault.Fault.{Fault}
 use Rattle.rule_tokens.specs.declared.operand.Val.{Val}
 use Rattle.rule_lines.specs.Acts.{Log}
 use Rattle.ce_algorithms.specs.declared.event.Event.TheVariants.{Logged}
@@ -16,7 +15,7 @@ use Rattle.ce_algorithms.specs.Values.{Args, text_of}
 use Rattle.ce_frames.specs.Frames as waiting
 use Rattle.ce_frames.specs.Handing.{a_result}
 use Rattle.ce_frames.specs.BodyTurns.{act_turn, body_turn}
-use Rattle.ce_frames.specs.Turned.{Turned, Turn, ended, turn_after}
+use Rattle.ce_frames.specs.Turned.{ended, turn_after}
 use Rattle.ce_frames.specs.Turns.{turn_went}
 use Rattle.ce_page.specs.Ends.{Ends, Does}
 use Rattle.ce_page.specs.declared.stop.PageStop.{PageStop}

@@ -1,6 +1,5 @@
 -- A command by its turns comes to what the algorithms come to.
-use Rattle.std.proofs.Common.{◌≡◌, ℕ, Bool, List, [], ◌++◌, map, Some, None, Option, refl, ap, sym, ◌∙◌, subst}
-use Rattle.ce_base.specs.declared.fault.Fault.{Fault}
+use Rattle.std.proofs.Common.{◌≡◌, ℕ, Bool, List, [], ◌++◌, map, Option, refl, ap, ◌∙◌, subst}
 use Rattle.ce_base.specs.Outside.{AppendsPart}
 use Rattle.rule_lines.specs.declared.line.Cmd.{Cmd}
 use Rattle.ce_algorithms.specs.declared.event.Event.{Event}

@@ -1,6 +1,6 @@
 -- The turns of operations and of commands.
-use Rattle.std.proofs.Common.{◌≡◌, ℕ, true, false, Bool, List, [], ◌∷◌, ◌++◌, map, Some, None, Option, refl, ap, sym, ◌∙◌, subst, append-nil}
-use Rattle.std.specs.Prelude.{Result, Ok, Err, IfOk, OnOk, if◌then◌else◌, not}
+use Rattle.std.proofs.Common.{◌≡◌, ℕ, true, false, Bool, List, [], ◌∷◌, ◌++◌, Some, None, Option, refl, ap, sym, ◌∙◌, subst, append-nil}
+use Rattle.std.specs.Prelude.{Result, Ok, Err, IfOk, if◌then◌else◌, not}
 use Rattle.std.specs.Str.{str_to_ascii_lowercase}
 use Rattle.element_names.specs.Names.{local_name}
 use Rattle.ce_base.specs.declared.fault.Fault.{Fault}
@@ -47,7 +47,7 @@ use Rattle.ce_machine.specs.declared.frames.Frame.{Frame}
 use Rattle.ce_machine.specs.declared.frames.Frame.TheVariants.{CreatingFit, Naming, Replying, Stepping}
 use Rattle.ce_machine.specs.declared.frames.Came.{Came}
 use Rattle.ce_machine.specs.declared.frames.Came.TheVariants.{Went, Threw, Over}
-use Rattle.ce_machine.specs.Frames.{Turns, naming, seen, came_in}
+use Rattle.ce_machine.specs.Frames.{Turns, naming, came_in}
 use Rattle.ce_operations.specs.Given.{IsThere, node_of}
 use Rattle.ce_operations.specs.Ready.{IsStill}
 use Rattle.ce_machine.specs.Placed.{IsEndThere, IsKeptThere, Lasts, StaysPlaced}

@@ -15,16 +15,16 @@ use Rattle.ce_algorithms.specs.declared.event.Given.{Given}
 use Rattle.ce_algorithms.specs.declared.event.Given.TheVariants.{Nothing, Node, Answers, Ignored}
 use Rattle.ce_algorithms.specs.Page.{definition_of, with_queues}
 use Rattle.ce_algorithms.specs.Perform.{named}
-use Rattle.ce_algorithms.specs.State.{State, logged, spend_from}
+use Rattle.ce_algorithms.specs.State.{State, logged}
 use Rattle.ce_algorithms.specs.Steps.{Outcome, Goes, Throws, Spent, settle}
 use Rattle.ce_algorithms.specs.Values.{Args}
 use Rattle.ce_frames.specs.Frames as waiting
 use Rattle.ce_frames.specs.Rest as ends
 use Rattle.ce_frames.specs.Rest.{End}
-use Rattle.ce_frames.specs.Turned.{Turned, ended, below, turn_after}
+use Rattle.ce_frames.specs.Turned.{Turned, ended}
 use Rattle.ce_frames.specs.OperateTurns.{next_turn, pop_turn}
 use Rattle.ce_frames.specs.BodyTurns.{body_turn}
-use Rattle.ce_frames.specs.DrainTurns.{call_turn, reaction_turn, taken_turn, drain_turn, next_backup_turn, taken_backup_turn, backup_turn, check_turn, checked_turn}
+use Rattle.ce_frames.specs.DrainTurns.{call_turn, reaction_turn, taken_turn, next_backup_turn, taken_backup_turn, checked_turn}
 use Rattle.ce_frames.specs.Turns.{turn}
 use Rattle.ce_page.specs.Callbacks.{is_callback, are_callbacks, all_callbacks}
 use Rattle.class_table.specs.Bodies.{logs_of}

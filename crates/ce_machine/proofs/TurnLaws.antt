@@ -29,7 +29,7 @@ use Rattle.ce_page.specs.Callbacks.{is_callback}
 use Rattle.class_table.specs.Bodies.{logs_of}
 use Rattle.session_state.specs.Steps.{callee, TakesBackup, TakesReaction}
 use Rattle.ce_machine.specs.declared.frames.Frame.{Frame}
-use Rattle.ce_machine.specs.declared.frames.Frame.TheVariants.{Checking, Draining, DrainingBackup, InReaction, InBody}
+use Rattle.ce_machine.specs.declared.frames.Frame.TheVariants.{Checking, Draining, DrainingBackup, InBody}
 use Rattle.ce_machine.specs.declared.frames.Came.{Came}
 use Rattle.ce_machine.specs.declared.frames.Came.TheVariants.{Went, Threw, Over}
 use Rattle.ce_machine.specs.Frames.{Turns, seen, came_in, came_of, end_of}

@@ -1,7 +1,6 @@
 -- What steps give.
 use Rattle.std.proofs.Common.{◌≡◌, ℕ, refl, sym, ap, subst}
 use Rattle.std.specs.Prelude.{Result, Ok, Err}
-use Rattle.ce_algorithms.specs.declared.event.Given.{Given}
 use Rattle.ce_algorithms.specs.declared.event.Given.TheVariants.{Nothing, Node}
 use Rattle.ce_algorithms.specs.Page.{Work}
 use Rattle.ce_algorithms.specs.Perform.{gives_node, gives_nothing}
