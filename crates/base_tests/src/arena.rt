@@ -64,3 +64,8 @@ fn an_id_names_the_first_element_of_the_tree(rt: HostRuntime) -> Result<(), Fail
 fn a_node_document_is_set_on_one_node(rt: HostRuntime) -> Result<(), Fail> {
     compare(&rt, rt.alloc(), DOCUMENTS)
 }
+
+#[test]
+fn candidates_are_a_part_of_the_order(rt: HostRuntime) -> Result<(), Fail> {
+    compare(&rt, rt.alloc(), CANDIDATES)
+}

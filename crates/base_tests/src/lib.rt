@@ -1,5 +1,5 @@
-//! Tests of the crates below the page, a module a crate; `operands` is the second one of rule_tokens, and `rows` has
-//! what they share.
+//! Tests of the crates below the page, a module a crate; `operands` is the second one of rule_tokens, `arena` has
+//! those of upgrade_walk too, and `rows` has what they share.
 #![tactic(auto)]
 
 #[cfg(test)]
@@ -18,5 +18,7 @@ mod queues;
 mod registry;
 #[cfg(test)]
 mod rows;
+#[cfg(test)]
+mod stacks;
 #[cfg(test)]
 mod tokens;

@@ -163,3 +163,44 @@ node 4 => TextNode "" None "hi" 1 0 0
 node 5 => ShadowRoot "" None "" 6 3 0
 node 6 => Document "" None "" 6 0 0
 order 1 => 1 2 3 5 4"#;
+
+// The elements of an order, and those that a definition may upgrade: of the local name, and of the `is` value where
+// one is given (`-` is none).
+pub(super) const CANDIDATES: &str = r#"element x-a 1 => 7
+element x-a 1 => 8
+built-in p 1 x-p => 9
+built-in p 1 x-q => 10
+element p 1 => 11
+built-in x-a 1 x-p => 12
+element x-a 6 => 13
+element x-a 1 => 14
+root 8 => 15
+candidates 1 x-a - => 
+put 1 2 0 => new 1 2
+put 2 3 0 => new 1 2 3 5
+put 2 7 0 => new 1 2 3 5 7
+put 5 8 0 => new 1 2 3 5 8 15 7
+put 15 9 0 => new 1 2 3 5 8 15 9 7
+put 3 10 0 => new 1 2 3 5 8 15 9 10 7
+put 10 4 0 => new 1 2 3 5 8 15 9 10 4 7
+put 2 11 0 => new 1 2 3 5 8 15 9 10 4 7 11
+put 11 12 0 => new 1 2 3 5 8 15 9 10 4 7 11 12
+put 6 13 0 => new 1 2 3 5 8 15 9 10 4 7 11 12
+walk 1 => 2 3 8 9 10 7 11 12
+walk 3 => 3 8 9 10
+walk 15 => 9
+walk 4 => 
+walk 6 => 13
+walk 14 => 14
+candidates 1 x-a - => 8 7 12
+candidates 1 p - => 9 10 11
+candidates 1 p x-p => 9
+candidates 1 p x-q => 10
+candidates 1 p x- => 
+candidates 1 p '' => 
+candidates 1 x-p x-p => 
+candidates 1 x-a x-p => 12
+candidates 1 x- - => 
+candidates 1 '' - => 
+candidates 6 x-a - => 13
+candidates 5 p x-p => 9"#;

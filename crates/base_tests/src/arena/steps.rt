@@ -4,13 +4,14 @@ ghost use Rattle.node_trees.specs.declared.kind.NodeKind.TheVariants.{Element as
 ghost use Rattle.node_trees.specs.Nodes.{IsNode, IsNodeOrNone};
 ghost use Rattle.node_trees.specs.Spots.{kind_at};
 
-use crate::rows::{number, word};
+use crate::rows::{number, word, word_or_none};
 use ce_base::{Fault, NodeNo, Nodes, Text};
 use node_arena::*;
 use std::alloc::Global;
 use std::fmt::Write;
 use std::process::Abort;
 use std::test::Fail;
+use upgrade_walk::{candidates, walk};
 
 // The node that a word names.
 fn node(rt: &impl Abort, tree: &Tree, step: &str, i: usize) -> NodeNo
@@ -194,6 +195,14 @@ fn children(alloc: Global, tree: &Tree, n: NodeNo, out: &mut String) -> Result<(
     tell_all(&tree.children(alloc, n)?, out)
 }
 
+// candidates DOCUMENT LOCAL IS
+fn upgraded(alloc: Global, tree: &Tree, n: NodeNo, step: &str, out: &mut String) -> Result<(), Fail>
+    requires { IsNode tree.now n }
+{
+    let found = candidates(alloc, tree, n, word(step, 2), word_or_none(step, 3))?;
+    tell_all(&found, out)
+}
+
 // put PARENT NODE BEFORE
 fn put(
     rt: &impl Abort,
@@ -317,6 +326,8 @@ fn read(
         "attribute" => tell_text(tree.attr(n, word(step, 2)), out),
         "first" => tell(number_of(tree.first_with_id(n, word(step, 2))), out),
         "children" => children(alloc, tree, n, out),
+        "walk" => tell_all(&walk(alloc, tree, n)?, out),
+        "candidates" => upgraded(alloc, tree, n, step, out),
         _ => order(alloc, tree, n, out),
     }
 }
