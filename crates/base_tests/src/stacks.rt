@@ -39,6 +39,16 @@ end 0 => Of(NodeNo(5))
 end 0 => Already
 base 0 => Fresh";
 
+fn tell(found: Base, out: &mut String) -> Result<(), Fail> {
+    write!(out, "{found:?}")?;
+    Ok(())
+}
+
+fn tell_done(out: &mut String) -> Result<(), Fail> {
+    out.push_str("ok")?;
+    Ok(())
+}
+
 // A base call, and its entry is popped.
 fn end(rt: &impl Abort, stacks: &mut Stacks, d: DefNo) -> Base {
     let found = stacks.base(d);
@@ -47,11 +57,28 @@ fn end(rt: &impl Abort, stacks: &mut Stacks, d: DefNo) -> Base {
     found
 }
 
+fn push(
+    alloc: Global,
+    stacks: &mut Stacks,
+    d: DefNo,
+    node: NodeNo,
+    out: &mut String,
+) -> Result<(), Fail> {
+    stacks.push(alloc, d, node)?;
+    tell_done(out)
+}
+
 // An element is pushed and popped.
-fn throw(alloc: Global, stacks: &mut Stacks, d: DefNo, node: NodeNo) -> Result<(), Fail> {
+fn throw(
+    alloc: Global,
+    stacks: &mut Stacks,
+    d: DefNo,
+    node: NodeNo,
+    out: &mut String,
+) -> Result<(), Fail> {
     stacks.push(alloc, d, node)?;
     stacks.pop(d);
-    Ok(())
+    tell_done(out)
 }
 
 fn step(
@@ -64,18 +91,11 @@ fn step(
     let d = DefNo(number(step, 1));
     let node = NodeNo(number(step, 2));
     match word(step, 0) {
-        "base" => write!(out, "{:?}", stacks.base(d))?,
-        "end" => write!(out, "{:?}", end(rt, stacks, d))?,
-        "throw" => {
-            throw(alloc, stacks, d, node)?;
-            out.push_str("ok")?
-        }
-        _ => {
-            stacks.push(alloc, d, node)?;
-            out.push_str("ok")?
-        }
+        "base" => tell(stacks.base(d), out),
+        "end" => tell(end(rt, stacks, d), out),
+        "throw" => throw(alloc, stacks, d, node, out),
+        _ => push(alloc, stacks, d, node, out),
     }
-    Ok(())
 }
 
 // Takes a step, and compares what it gives.

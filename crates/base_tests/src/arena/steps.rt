@@ -195,6 +195,12 @@ fn children(alloc: Global, tree: &Tree, n: NodeNo, out: &mut String) -> Result<(
     tell_all(&tree.children(alloc, n)?, out)
 }
 
+fn elements(alloc: Global, tree: &Tree, n: NodeNo, out: &mut String) -> Result<(), Fail>
+    requires { IsNode tree.now n }
+{
+    tell_all(&walk(alloc, tree, n)?, out)
+}
+
 // candidates DOCUMENT LOCAL IS
 fn upgraded(alloc: Global, tree: &Tree, n: NodeNo, step: &str, out: &mut String) -> Result<(), Fail>
     requires { IsNode tree.now n }
@@ -310,6 +316,24 @@ fn attributes(tree: &Tree, n: NodeNo, out: &mut String) -> Result<(), Fail>
     Ok(())
 }
 
+// A step that reads several nodes.
+fn read_nodes(
+    alloc: Global,
+    tree: &Tree,
+    n: NodeNo,
+    step: &str,
+    out: &mut String,
+) -> Result<(), Fail>
+    requires { IsNode tree.now n }
+{
+    match word(step, 0) {
+        "children" => children(alloc, tree, n, out),
+        "walk" => elements(alloc, tree, n, out),
+        "candidates" => upgraded(alloc, tree, n, step, out),
+        _ => order(alloc, tree, n, out),
+    }
+}
+
 // A step that reads.
 fn read(
     rt: &impl Abort,
@@ -325,10 +349,7 @@ fn read(
         "attributes" => attributes(tree, n, out),
         "attribute" => tell_text(tree.attr(n, word(step, 2)), out),
         "first" => tell(number_of(tree.first_with_id(n, word(step, 2))), out),
-        "children" => children(alloc, tree, n, out),
-        "walk" => tell_all(&walk(alloc, tree, n)?, out),
-        "candidates" => upgraded(alloc, tree, n, step, out),
-        _ => order(alloc, tree, n, out),
+        _ => read_nodes(alloc, tree, n, step, out),
     }
 }
 
