@@ -23,7 +23,6 @@ use Rattle.session_state.specs.Steps.{forgotten}
 use Rattle.ce_machine.specs.declared.frames.Frame.{Frame}
 use Rattle.ce_machine.specs.declared.frames.Came.{Came}
 use Rattle.ce_machine.specs.Frames.{Turns, seen, came_in, end_of, left, over}
-use Rattle.ce_machine.specs.Placed.{ArePlaced}
 
 -- one turn
 
@@ -90,7 +89,3 @@ left_forgotten frames s s' is = ap (λ x. work (map seen frames) x) is
 
 pub less_of : (a b c : ℕ) → a < b → b ≡ c → a < c
 less_of a b c h e = omega (arith, h, e)
-
--- what frames hand down is there as before
-pub flushed_placed : (frames : List Frame) (now : Came) (s s' : State) → s' ≡ forgotten s → ArePlaced s.page.forest (map seen frames) (end_of now) → ArePlaced s'.page.forest (map seen frames) (end_of now)
-flushed_placed frames now s s' is h = subst (λ (x : State). ArePlaced x.page.forest (map seen frames) (end_of now)) (sym is) h

@@ -1,17 +1,13 @@
 -- The turns of operations and of commands.
-use Rattle.std.proofs.Common.{◌≡◌, ℕ, true, false, Bool, List, [], ◌∷◌, ◌++◌, Some, None, Option, refl, ap, sym, ◌∙◌, subst, append-nil}
-use Rattle.std.specs.Prelude.{Result, Ok, Err, IfOk, if◌then◌else◌, not}
-use Rattle.std.specs.Str.{str_to_ascii_lowercase}
-use Rattle.element_names.specs.Names.{local_name}
+use Rattle.std.proofs.Common.{◌≡◌, ℕ, true, false, Bool, List, [], ◌∷◌, ◌++◌, Some, None, Option, refl, ap, sym, ◌∙◌, subst}
+use Rattle.std.specs.Prelude.{Result, Ok, Err, IfOk, if◌then◌else◌}
 use Rattle.ce_base.specs.declared.fault.Fault.{Fault}
-use Rattle.ce_base.specs.declared.fault.Fault.TheVariants.{InvalidCharacterError, ReferenceError}
+use Rattle.ce_base.specs.declared.fault.Fault.TheVariants.{ReferenceError}
 use Rattle.rule_tokens.specs.declared.callback.CallName.TheVariants.{Constructor}
 use Rattle.ce_registry.specs.declared.definition.Definition.{Definition}
 use Rattle.ce_registry.specs.ClassFacts.{has_call}
 use Rattle.node_trees.specs.Nodes.{IsNode}
 use Rattle.node_trees.specs.Trees.{Trees}
-use Rattle.rule_lines.specs.declared.line.Cmd.{Cmd}
-use Rattle.rule_lines.specs.declared.op.Op.{Op}
 use Rattle.reaction_queue.specs.Queues.{ended as popped, current_elements}
 use Rattle.ce_algorithms.specs.declared.deed.Deed.{Deed}
 use Rattle.ce_algorithms.specs.declared.deed.Deed.TheVariants as deeds
@@ -19,7 +15,7 @@ use Rattle.ce_algorithms.specs.declared.deed.Deed.TheVariants.{OnPage}
 use Rattle.ce_algorithms.specs.declared.event.Event.TheVariants.{Construct, DrainBegun}
 use Rattle.ce_algorithms.specs.declared.event.Given.{Given}
 use Rattle.ce_algorithms.specs.declared.event.Given.TheVariants.{Node}
-use Rattle.ce_algorithms.specs.Deeds.{is_reacting, resolve, variable}
+use Rattle.ce_algorithms.specs.Deeds.{is_reacting}
 use Rattle.ce_algorithms.specs.Drain.{open_queue}
 use Rattle.ce_algorithms.specs.Model.{model}
 use Rattle.ce_algorithms.specs.Body.{actions_of, body}
@@ -31,23 +27,22 @@ use Rattle.ce_algorithms.specs.Enqueue.{lookup_in}
 use Rattle.ce_algorithms.specs.Page.{definition_at, with_queues}
 use Rattle.ce_algorithms.specs.Perform.{steps}
 use Rattle.ce_algorithms.specs.Perform as algorithms
-use Rattle.ce_algorithms.specs.State.{State, class_of, logged, on_page, spend, view}
-use Rattle.ce_algorithms.specs.Steps.{Step, Outcome, Goes, Throws, Spent, attempt_in, found, give, settle, then_do, throw_if}
+use Rattle.ce_algorithms.specs.State.{State, class_of, logged, on_page}
+use Rattle.ce_algorithms.specs.Steps.{Step, Outcome, Goes, Throws, Spent, attempt_in, found, give, settle, then_do}
 use Rattle.ce_algorithms.specs.Values.{no_args}
 use Rattle.ce_frames.specs.Frames as waiting
-use Rattle.ce_frames.specs.Turned.{Turned, Turn, ended, turn_after, below, hand_down}
-use Rattle.ce_frames.specs.Loop.{command_turn, perform_turn}
+use Rattle.ce_frames.specs.Turned.{Turn, ended, turn_after, below, hand_down}
 use Rattle.ce_frames.specs.ConstructTurns.{begin_body, construct_turn, create_extended_turn, create_found_turn, create_turn, created_turn}
 use Rattle.ce_frames.specs.Turns.{turn_threw, turn_went}
-use Rattle.ce_frames.specs.OperateTurns.{create_named_turn, deed_turn, named_turn, next_turn, operate_turn, pop_turn, steps_turn}
+use Rattle.ce_frames.specs.OperateTurns.{create_named_turn, deed_turn, named_turn, next_turn, pop_turn, steps_turn}
 use Rattle.ce_page.specs.Ends.{Ends}
 use Rattle.ce_page.specs.declared.stop.PageStop.{PageStop}
 use Rattle.ce_operations.proofs.CreateLaws.{found_autonomous}
 use Rattle.ce_machine.specs.declared.frames.Frame.{Frame}
-use Rattle.ce_machine.specs.declared.frames.Frame.TheVariants.{CreatingFit, Naming, Replying, Stepping}
+use Rattle.ce_machine.specs.declared.frames.Frame.TheVariants.{CreatingFit, Stepping}
 use Rattle.ce_machine.specs.declared.frames.Came.{Came}
 use Rattle.ce_machine.specs.declared.frames.Came.TheVariants.{Went, Threw, Over}
-use Rattle.ce_machine.specs.Frames.{Turns, naming, came_in}
+use Rattle.ce_machine.specs.Frames.{Turns, came_in}
 use Rattle.ce_operations.specs.Given.{IsThere, node_of}
 use Rattle.ce_operations.specs.Ready.{IsStill}
 use Rattle.ce_machine.specs.Placed.{IsEndThere, IsKeptThere, Lasts, StaysPlaced}
@@ -78,11 +73,6 @@ next_lasts queue (n ∷ ns) kept s h = record { gives = h; placed = (tt, tt) }
 pop_lasts : (queue : ℕ) (kept : Result Given Fault) (s : State) → IsKeptThere s.page.forest kept → Lasts (pop_turn queue kept s)
 pop_lasts queue kept s h = next_lasts queue (current_elements s.page.queues) kept (logged (DrainBegun queue) (record s { page = with_queues popped s.page })) h
 
--- they went, or threw
-pub stepped_turns : (frames new : List Frame) (now : Came) (queue : ℕ) (kept : Result Given Fault) (s s1 : State) (o : Outcome State Given) → settle kept s ≡ o → Turns frames new now s1 (pop_turn queue kept s) → Turns frames new now s1 (turn_after (attempt_in o) (pop_turn queue))
-stepped_turns frames new now queue (Ok given) s s1 o e h = turns_as frames new now s1 _ _ (ap (λ x. turn_after (attempt_in x) (pop_turn queue)) e) h
-stepped_turns frames new now queue (Err f) s s1 o e h = turns_as frames new now s1 _ _ (ap (λ x. turn_after (attempt_in x) (pop_turn queue)) e) h
-
 pub stepped_lasts : (queue : ℕ) (kept : Result Given Fault) (s : State) (o : Outcome State Given) → settle kept s ≡ o → IsKeptThere s.page.forest kept → Lasts (turn_after (attempt_in o) (pop_turn queue))
 stepped_lasts queue (Ok given) s o e h = subst (λ x. Lasts (turn_after (attempt_in x) (pop_turn queue))) e (pop_lasts queue (Ok given) s h)
 stepped_lasts queue (Err f) s o e h = subst (λ x. Lasts (turn_after (attempt_in x) (pop_turn queue))) e (pop_lasts queue (Err f) s h)
@@ -90,13 +80,6 @@ stepped_lasts queue (Err f) s o e h = subst (λ x. Lasts (turn_after (attempt_in
 pub went_lasts : (ran : Result Given PageStop) (given : Given) (queue : ℕ) (s : State) → ran ≡ Ok given → IfOk ran (IsThere s.page.forest) → (o : Outcome State Given) → Ends (λ g. g) ran s o → Lasts (turn_after (attempt_in o) (pop_turn queue))
 went_lasts (Ok g) given queue s is h o e = stepped_lasts queue (Ok g) s o e h
 went_lasts (Err x) given queue s is h o e = cc
-
--- the fuel was spent in them
-pub stepped_over : (frames : List Frame) (queue : ℕ) (s : State) (o : Outcome State Given) → Spent s ≡ o → Turns frames frames Over s (turn_after (attempt_in o) (pop_turn queue))
-stepped_over frames queue s o e = turns_as frames frames Over s (ended (Spent s)) _ (ap (λ x. turn_after (attempt_in x) (pop_turn queue)) e) (turns_same frames Over s (Spent s) refl)
-
-pub over_lasts : (queue : ℕ) (s : State) (o : Outcome State Given) → Spent s ≡ o → Lasts (turn_after (attempt_in o) (pop_turn queue))
-over_lasts queue s o e = subst (λ x. Lasts (turn_after (attempt_in x) (pop_turn queue))) e (record { gives = tt; placed = tt })
 
 -- their queue was pushed before
 react_is : (queue : ℕ) (step : Step State Given) (s s1 : State) → Goes queue s1 ≡ open_queue s → turn_after (attempt_in (step s1)) (pop_turn queue) ≡ steps_turn step s
@@ -159,27 +142,6 @@ unfolding deed_turn
 create_lasts queue name document s s1 opened h =
     subst (λ (o : Outcome State ℕ). Lasts (turn_after o (λ q. below (waiting.Stepping q) (create_named_turn name None document)))) opened
     (record { gives = h.gives; placed = (h.gives, h.placed) })
-
--- its name was tested
-named_after : Bool → List ℕ → ℕ → Turn
-named_after refused name document s = turn_after (throw_if refused InvalidCharacterError s) (λ _. create_turn (str_to_ascii_lowercase name) None document)
-
-pub name_refused_turns : (frames : List Frame) (name : List ℕ) (document : ℕ) (s : State) → local_name name ≡ false → Turns frames frames (Threw InvalidCharacterError) s (create_named_turn name None document s)
-unfolding named_after
-name_refused_turns frames name document s is = turns_as frames frames (Threw InvalidCharacterError) s (ended (Throws InvalidCharacterError s)) _ (ap (λ b. named_after (not b) name document s) (sym is)) (turns_same frames (Threw InvalidCharacterError) s (Throws InvalidCharacterError s) refl)
-
-pub name_refused_lasts : (name : List ℕ) (document : ℕ) (s : State) → local_name name ≡ false → Lasts (create_named_turn name None document s)
-unfolding named_after
-name_refused_lasts name document s is = subst (λ b. Lasts (named_after (not b) name document s)) (sym is) (record { gives = tt; placed = tt })
-
-pub name_fits_turns : (frames new : List Frame) (now : Came) (name local : List ℕ) (document : ℕ) (s s1 : State) → local_name name ≡ true → local ≡ str_to_ascii_lowercase name → Turns frames new now s1 (create_turn local None document s) → Turns frames new now s1 (create_named_turn name None document s)
-unfolding named_after
-name_fits_turns frames new now name local document s s1 is lower h =
-    turns_as frames new now s1 _ _ (ap (λ l. create_turn l None document s) lower ∙ ap (λ b. named_after (not b) name document s) (sym is)) h
-
-pub name_fits_lasts : (name local : List ℕ) (document : ℕ) (s : State) → local_name name ≡ true → local ≡ str_to_ascii_lowercase name → Lasts (create_turn local None document s) → Lasts (create_named_turn name None document s)
-unfolding named_after
-name_fits_lasts name local document s is lower h = subst Lasts (ap (λ l. create_turn l None document s) lower ∙ ap (λ b. named_after (not b) name document s) (sym is)) h
 
 -- by what was looked up
 pub create_is : (local : List ℕ) (document : ℕ) (d : Option ℕ) (s : State) → d ≡ lookup_in s.page document local None → create_found_turn local None document d s ≡ create_turn local None document s
@@ -251,57 +213,6 @@ construct_is class s plain =
     ∙ alone (on_page (base_call class) (logged (Construct (class_of s class).name) s))
     ∙ ap (λ has. constructor_after has class s) (sym plain)
 
--- a variable waits, where there is one
-pub named_turns : (var : Option (List ℕ)) (frames frames' new : List Frame) (now : Came) (turn : Turn) (s s1 : State) → frames' ≡ frames ++ naming var → Turns frames' new now s1 (turn s) → Turns frames new now s1 (named_turn var turn s)
-named_turns None frames frames' new now turn s s1 pushed h = subst (λ l. Turns l new now s1 (turn s)) (pushed ∙ append-nil frames) h
-named_turns (Some var) frames frames' new now turn s s1 pushed h = turns_below frames frames' new (Naming var) now turn s s s1 pushed refl h
-
 pub named_placed : (var : Option (List ℕ)) (turn : Turn) (s : State) → Lasts (turn s) → StaysPlaced (named_turn var turn s)
 named_placed None turn s h = record { placed = h.placed }
 named_placed (Some var) turn s h = record { placed = (h.gives, h.placed) }
-
--- an operation
-
-after_operands : Op → Result Deed Fault → State → Turned
-after_operands op r s = turn_after (settle r s) (λ deed. named_turn (variable op) (deed_turn deed))
-
-pub operate_throws : (frames : List Frame) (op : Op) (f : Fault) (s : State) → resolve (view None s) op ≡ Err f → Turns frames frames (Threw f) s (operate_turn None op s)
-unfolding after_operands operate_turn
-operate_throws frames op f s is = turns_as frames frames (Threw f) s (ended (Throws f s)) _ (ap (λ r. after_operands op r s) (sym is)) (turns_same frames (Threw f) s (Throws f s) refl)
-
-pub throws_placed : (op : Op) (f : Fault) (s : State) → resolve (view None s) op ≡ Err f → StaysPlaced (operate_turn None op s)
-unfolding after_operands operate_turn
-throws_placed op f s is = subst (λ r. StaysPlaced (after_operands op r s)) (sym is) (record { placed = tt })
-
-pub operate_does : (frames new : List Frame) (now : Came) (op : Op) (deed : Deed) (s s1 : State) → resolve (view None s) op ≡ Ok deed → Turns frames new now s1 (named_turn (variable op) (deed_turn deed) s) → Turns frames new now s1 (operate_turn None op s)
-unfolding after_operands operate_turn
-operate_does frames new now op deed s s1 is h = turns_as frames new now s1 _ _ (ap (λ r. after_operands op r s) (sym is)) h
-
-pub does_placed : (op : Op) (deed : Deed) (s : State) → resolve (view None s) op ≡ Ok deed → StaysPlaced (named_turn (variable op) (deed_turn deed) s) → StaysPlaced (operate_turn None op s)
-unfolding after_operands operate_turn
-does_placed op deed s is h = subst (λ r. StaysPlaced (after_operands op r s)) (sym is) h
-
--- a command
-
-pub command_begins : (frames frames' new : List Frame) (now : Came) (line : ℕ) (c : Cmd) (s s1 s2 : State) → Goes tt s1 ≡ spend s → frames' ≡ frames ++ Replying line ∷ [] → Turns frames' new now s2 (perform_turn c s1) → Turns frames new now s2 (command_turn line c s)
-command_begins frames frames' new now line c s s1 s2 spent pushed h =
-    turns_as frames new now s2 (below (waiting.Replying line) (perform_turn c) s1) _ (ap (λ (o : Outcome State (Unit {0})). turn_after o (λ _. below (waiting.Replying line) (perform_turn c))) spent)
-    (turns_below frames frames' new (Replying line) now (perform_turn c) s1 s1 s2 pushed refl h)
-
-pub begins_placed : (line : ℕ) (c : Cmd) (s s1 : State) → Goes tt s1 ≡ spend s → StaysPlaced (perform_turn c s1) → StaysPlaced (command_turn line c s)
-begins_placed line c s s1 spent h =
-    subst (λ (o : Outcome State (Unit {0})). StaysPlaced (turn_after o (λ _. below (waiting.Replying line) (perform_turn c)))) spent (record { placed = (tt, h.placed) })
-
-pub command_over : (frames : List Frame) (line : ℕ) (c : Cmd) (s s1 : State) → Spent s1 ≡ spend s → Turns frames frames Over s1 (command_turn line c s)
-command_over frames line c s s1 spent =
-    turns_as frames frames Over s1 (ended (Spent s1)) _ (ap (λ (o : Outcome State (Unit {0})). turn_after o (λ _. below (waiting.Replying line) (perform_turn c))) spent) (turns_same frames Over s1 (Spent s1) refl)
-
-pub over_placed : (line : ℕ) (c : Cmd) (s s1 : State) → Spent s1 ≡ spend s → StaysPlaced (command_turn line c s)
-over_placed line c s s1 spent = subst (λ (o : Outcome State (Unit {0})). StaysPlaced (turn_after o (λ _. below (waiting.Replying line) (perform_turn c)))) spent (record { placed = tt })
-
-pub command_threw : (frames : List Frame) (line : ℕ) (c : Cmd) (f : Fault) (s s1 : State) → Throws f s1 ≡ spend s → Turns frames frames (Threw f) s1 (command_turn line c s)
-command_threw frames line c f s s1 spent =
-    turns_as frames frames (Threw f) s1 (ended (Throws f s1)) _ (ap (λ (o : Outcome State (Unit {0})). turn_after o (λ _. below (waiting.Replying line) (perform_turn c))) spent) (turns_same frames (Threw f) s1 (Throws f s1) refl)
-
-pub threw_placed : (line : ℕ) (c : Cmd) (f : Fault) (s s1 : State) → Throws f s1 ≡ spend s → StaysPlaced (command_turn line c s)
-threw_placed line c f s s1 spent = subst (λ (o : Outcome State (Unit {0})). StaysPlaced (turn_after o (λ _. below (waiting.Replying line) (perform_turn c)))) spent (record { placed = tt })

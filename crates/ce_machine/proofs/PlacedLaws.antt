@@ -34,7 +34,7 @@ use Rattle.ce_machine.specs.declared.frames.Came.{Came}
 use Rattle.ce_machine.specs.declared.frames.Came.TheVariants.{Went, Threw, Over}
 use Rattle.ce_machine.specs.Frames.{Turns, seen, end_of}
 use Rattle.ce_operations.specs.Given.{IsThere}
-use Rattle.ce_machine.specs.Placed.{IsEndThere, IsKeptThere, Reaches, Gives, IsNamed, ArePlaced, StaysPlaced, Creates, IfCreating}
+use Rattle.ce_machine.specs.Placed.{IsEndThere, IsKeptThere, Reaches, Gives, IsNamed, ArePlaced, Creates, IfCreating}
 use Rattle.ce_machine.specs.Turns.{body_result}
 use Rattle.ce_machine.proofs.BodyLaws.{body_is}
 
@@ -285,15 +285,3 @@ pub turned_placed : (old frames new : List Frame) (f : Frame) (end now : Came) (
     → ArePlaced s.page.forest (map seen old) (end_of end) → ArePlaced s1.page.forest (map seen new) (end_of now)
 turned_placed old frames new (CreatingFit local document) end now s s1 calls popped h c placed = created_placed old frames new local document end now s.page.forest s1.page.forest popped c placed
 turned_placed old frames new f end now s s1 calls popped h c placed = quick_placed old frames new f end now s s1 tt calls popped h placed
-
--- what is said of a creation, of any frame
-pub if_creating : (f : waiting.Frame) (P : Type 0) → P → IfCreating f P
-if_creating (waiting.CreatingFit local document) P p = p
-if_creating f P p = tt
-
--- a command has begun
-pub begun_placed : (frames new : List Frame) (now : Came) (s : State) (t : Turned) → frames ≡ [] → Turns frames new now s t → StaysPlaced t → ArePlaced s.page.forest (map seen new) (end_of now)
-begun_placed frames new now s t none h k =
-    let at : t.state.page.forest ≡ s.page.forest = sym (ap (λ (x : State). x.page.forest) h.state) in
-    let pushed : t.pushed ≡ map seen new = sym (h.frames ∙ ap (λ l. map seen l ++ t.pushed) none) in
-    subst (λ F. ArePlaced F (map seen new) (end_of now)) at (subst (λ e. ArePlaced t.state.page.forest (map seen new) e) (sym h.end) (subst (λ l. ArePlaced t.state.page.forest l t.end) pushed k.placed))

@@ -30,18 +30,3 @@ wrote_part_event t h0 h h' log i e within is before more =
     append_assoc (text t (take i log)) more.0 (more.1.0 ++ text t rest)
     ∙ (ap (λ l. text t (take i log) ++ l) (sym (append_assoc more.0 more.1.0 (text t rest)) ∙ ap (λ l. l ++ text t rest) more.1.1) ∙ sym whole) in
     (text t (take i log) ++ more.0, (more.1.0 ++ text t rest, joined), Appends-trans h0 h h' (text t (take i log)) more.0 before more.2)
-
--- a log that was written out and forgotten
-pub did_flush : {A : Type 0} (t : Bool) (h h' : Option (List ℕ)) (a : A) (s s' : State) → Appends h h' (text t s.log) → s' ≡ forgotten s → Did t h h' (Goes a s) (Goes a s')
-did_flush t h h' a s s' wrote is = record {
-  events = s.log;
-  written = wrote;
-  same = ap (λ l. Goes a (record s { log = l })) (sym (append-nil s.log)) ∙ ap (λ u. Goes a (behind s.log u)) (sym is);
-}
-
-pub did_flush_spent : {A : Type 0} (t : Bool) (h h' : Option (List ℕ)) (s s' : State) → Appends h h' (text t s.log) → s' ≡ forgotten s → Did {A = A} t h h' (Spent s) (Spent s')
-did_flush_spent t h h' s s' wrote is = record {
-  events = s.log;
-  written = wrote;
-  same = ap (λ l. Spent (record s { log = l })) (sym (append-nil s.log)) ∙ ap (λ u. Spent (behind s.log u)) (sym is);
-}
