@@ -5,7 +5,7 @@ ghost use Rattle.form_controls.specs.declared.value.Value.TheVariants.{Nothing, 
 ghost use Rattle.form_controls.specs.Owners.{controls_of, form_owner};
 ghost use Rattle.form_controls.specs.Disabled.{is_disabled};
 ghost use Rattle.form_controls.specs.Checkedness.{is_checked};
-ghost use Rattle.form_controls.specs.Options.{chosen};
+ghost use Rattle.form_controls.specs.Options.{chosen, is_selected};
 ghost use Rattle.form_controls.specs.Values.{units, value};
 ghost use Rattle.form_controls.specs.Controls.{set_value};
 ghost use Rattle.form_controls.specs.Setting.{is_choice_ignored, set_checked, set_chosen};
@@ -45,7 +45,7 @@ pub fn worked_kinds()
     ensures reset_options { chosen corners.kinds_reset corners.kinds 8 ≡ 9 ∷ [] }
     ensures cloned { value corners.kinds_cloned corners.kinds 7 ≡ codes "w" }
     ensures cloned_flags { flags corners.kinds_forms corners.kinds_cloned [] 7 ≡ no_flags }
-    ensures cloned_option { chosen corners.kinds_cloned corners.kinds 8 ≡ 10 ∷ [] }
+    ensures cloned_option { is_selected corners.kinds_cloned corners.kinds 9 ≡ false }
 {}
 
 /// The definitions compute: which radio buttons are of one group, and what a group lacks.
