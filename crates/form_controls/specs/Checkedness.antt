@@ -2,15 +2,17 @@
 use Rattle.std.specs.Prelude.{ℕ, Bool, ◌&&◌, if◌then◌else◌, List, [], ◌∷◌, codes, filter, bytes_eq, nat_eq, Option, Some, None, unwrap_or}
 use Rattle.std.specs.List.{last_or}
 use Rattle.std.specs.Option.{option_eq}
+use Rattle.element_names.specs.declared.natives.Native.TheVariants.{OptionItem}
 use Rattle.element_names.specs.declared.input_kinds.InputKind.TheVariants.{Radio}
 use Rattle.node_trees.specs.Trees.{Trees, is_number}
 use Rattle.node_trees.specs.Spots.{after, first_of}
 use Rattle.node_trees.specs.Paths.{root_at}
 use Rattle.node_trees.specs.Orders.{tree_order_of}
-use Rattle.form_controls.specs.Kinds.{has_kind, has_attribute, name_of}
+use Rattle.form_controls.specs.Kinds.{is_a, has_kind, has_attribute, name_of}
 use Rattle.form_controls.specs.Owners.{Forms, form_owner}
 use Rattle.form_controls.specs.declared.control.Control.{Control}
 use Rattle.form_controls.specs.Controls.{control_at}
+use Rattle.form_controls.specs.Options.{is_selected}
 use Rattle.form_controls.specs.Texts.{is_empty}
 
 -- groups
@@ -50,3 +52,7 @@ checked_of f controls radio = last_or None (filter (is_flagged controls f.forest
 abbrev pub is_checked : Forms → List Control → ℕ → Bool
 is_checked f controls n =
     if has_kind Radio f.forest n then is_number (checked_of f controls n) n else is_flagged controls f.forest n
+
+-- the flag of a checkbox, a radio button or an option: as it was set, or as its attribute says ("checkedness", "selectedness")
+abbrev pub flagged : List Control → Trees → ℕ → Bool
+flagged controls forest n = if is_a OptionItem forest n then is_selected controls forest n else is_flagged controls forest n

@@ -8,7 +8,7 @@ use Rattle.node_trees.specs.Paths.{is_among}
 use Rattle.form_controls.specs.Kinds.{is_a, has_attribute}
 use Rattle.form_controls.specs.Owners.{Forms, ancestors, is_submittable}
 
--- n has the `disabled` attribute
+-- n has the `disabled` attribute (section "Enabling and disabling form controls: the disabled attribute")
 abbrev pub has_disabled : Trees → ℕ → Bool
 has_disabled forest n = has_attribute forest n (codes "disabled")
 
@@ -40,7 +40,7 @@ is_in_disabled_group forest (Some parent) = is_a Optgroup forest parent && has_d
 abbrev pub is_option_disabled : Trees → ℕ → Bool
 is_option_disabled forest n = has_disabled forest n || is_in_disabled_group forest (parent_at forest n)
 
--- a submittable element or an option is disabled; nothing else is
+-- "disabled": a submittable element or an option; nothing else is
 abbrev pub is_disabled : Forms → ℕ → Bool
 is_disabled f n =
     if is_a OptionItem f.forest n then is_option_disabled f.forest n

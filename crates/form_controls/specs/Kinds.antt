@@ -42,11 +42,11 @@ is_kind kind (Some other) = same_kind kind other
 abbrev pub has_kind : InputKind → Trees → ℕ → Bool
 has_kind kind forest n = is_kind kind (kind_of forest n)
 
--- a text input or a textarea: its value is a text that is edited
+-- a text input or a textarea: its value is a text that is edited (HTML Standard, sections "The input element", "The textarea element")
 abbrev pub is_text_control : Trees → ℕ → Bool
 is_text_control forest n = has_kind Text forest n || is_a Textarea forest n
 
--- a checkbox or a radio button: it has a checkedness
+-- a checkbox or a radio button: it has a checkedness (section "The input element")
 abbrev pub is_tickable : Trees → ℕ → Bool
 is_tickable forest n = has_kind Checkbox forest n || has_kind Radio forest n
 

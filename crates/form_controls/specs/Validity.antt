@@ -56,7 +56,7 @@ is_missing f controls n =
 abbrev pub is_limit : List ℕ → Bool
 is_limit digits = list_all is_ascii_digit digits && nat_lt 0 (length digits) && nat_le (length digits) 9
 
--- one to nine ASCII digits are a limit; any other text is none
+-- "maximum allowed value length", "minimum allowed value length": one to nine ASCII digits are a limit; any other text is none
 abbrev pub limit_in : Option (List ℕ) → Option ℕ
 limit_in None = None
 limit_in (Some digits) = if is_limit digits then Some (digits_value 10 digits) else None
