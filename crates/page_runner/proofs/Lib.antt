@@ -1,6 +1,7 @@
 pub mod LineLaws
 pub mod FeedLaws
 pub mod GivenLaws
+pub mod BlankLaws
 pub mod SittingLaws
 pub mod LoopLaws
 pub mod GatheredLaws

@@ -1,5 +1,5 @@
 -- What a loop over the lines of a feed has done.
-use Rattle.std.proofs.Common.{◌≡◌, ◌≢◌, ◌≤◌, ◌+◌, ℕ, List, [], ◌∷◌, ◌++◌, ◌||◌, length, refl, sym, ap, subst, ◌∙◌, append_assoc, append-nil, arith, length-append, All}
+use Rattle.std.proofs.Common.{◌≡◌, ◌≢◌, ◌≤◌, ◌+◌, ℕ, true, List, [], ◌∷◌, ◌++◌, ◌||◌, length, refl, sym, ap, subst, ◌∙◌, append_assoc, append-nil, arith, length-append, All}
 use Rattle.std.proofs.KnownBytes.{Appends-nil}
 use Rattle.std.specs.declared.option.Option.{Option}
 use Rattle.ce_base.specs.Outside.{AppendsPart}
@@ -13,12 +13,13 @@ use Rattle.ce_machine.specs.Ended.{outcome_of}
 use Rattle.ce_machine.specs.declared.end.End.{End}
 use Rattle.ce_machine.specs.declared.end.End.TheVariants.{Replied, FuelSpent}
 use Rattle.page_runner.specs.Script.{is_bad, readings, run_from}
-use Rattle.page_runner.specs.Feed.{GivesLine}
+use Rattle.page_runner.specs.Feed.{GivesLine, says_nothing}
 use Rattle.page_runner.specs.Ran.{Answered, Drained, answers}
 use Rattle.page_runner.specs.Sitting.{Sitting}
 use Rattle.page_runner.proofs.GivenLaws.{reading_line}
+use Rattle.page_runner.proofs.BlankLaws.{nothing_reads}
 use Rattle.page_runner.proofs.LineLaws.{whole_lines-line, last_part-line, whole_lines-no_feed, last_part-no_feed}
-use Rattle.page_runner.proofs.SittingLaws.{ran_line, answers_same, answered_same, answered_nothing, answered_more, answered_spent, answered_part}
+use Rattle.page_runner.proofs.SittingLaws.{ran_line, answers_same, answered_same, answered_nothing, answered_more, answered_spent, answered_part, or_none}
 use Rattle.ce_algorithms.proofs.FramedSteps.{framed_run_lines}
 use Rattle.ce_algorithms.proofs.Writing.{part_then}
 
@@ -75,6 +76,15 @@ runs_line a s t fed feed feed' line held mid held' runs gives did empty trace nu
       part = runs.part ∙ (ap last_part gives.split ∙ last_part-line gives.whole feed' gives.clean);
       number = omega (arith, runs.number, number, ap length gives.split, length-append gives.whole (10 ∷ feed'));
     }
+
+-- one more line, which says nothing
+pub runs_blank : (a s : Sitting) (fed feed feed' line : List ℕ) (held held' : Option (List ℕ))
+    → RunsOn a s fed feed held held' → GivesLine longest feed feed' line → says_nothing line ≡ true → RunsOn a (record s { line = s.line + 1 }) fed feed' held held'
+runs_blank a s fed feed feed' line held held' runs gives nothing =
+    let reads = nothing_reads line nothing in
+    runs_line a s (record s { line = s.line + 1 }) fed feed feed' line held held' held' runs gives
+    (record { events = []; written = Appends-nil held'; same = ap (λ said. run_line model (s.line + 1) said s.state) reads })
+    runs.done.ran.empty refl refl (sym (ap (λ said. s.bad || is_bad said) reads ∙ or_none s.bad))
 
 -- the fuel is spent in a line
 pub runs_spent : (a s t : Sitting) (fed feed feed' line : List ℕ) (held mid held' : Option (List ℕ))

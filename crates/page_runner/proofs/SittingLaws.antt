@@ -45,7 +45,7 @@ log_of-end FuelSpent s h = h
 has_bad-append : (xs ys : List (List ℕ)) → has_bad (xs ++ ys) ≡ (has_bad xs || has_bad ys)
 has_bad-append xs ys = rw (map-append reading xs ys) (list_any-append is_bad (readings xs) (readings ys))
 
-or_none : (b : Bool) → (b || false) ≡ b
+pub or_none : (b : Bool) → (b || false) ≡ b
 or_none true = refl
 or_none false = refl
 

@@ -1,5 +1,8 @@
 -- What a feed gives of a line.
-use Rattle.std.specs.Prelude.{◌≡◌, ◌≢◌, ℕ, ◌+◌, List, ◌∷◌, ◌++◌, take, All}
+use Rattle.std.specs.Prelude.{◌≡◌, ◌≢◌, ℕ, ◌+◌, Bool, ◌&&◌, nat_le, List, ◌∷◌, ◌++◌, length, take, All}
+use Rattle.std.specs.Str.{chars, is_utf8}
+use Rattle.rule_tokens.specs.Tokens.{is_blank}
+use Rattle.rule_script.specs.Reading.{longest}
 
 -- its first bytes, one more than the limit: a line within it is given whole, and one over it still shows that it is
 unfoldable pub given : ℕ → List ℕ → List ℕ
@@ -11,3 +14,7 @@ pub record GivesLine (limit : ℕ) (old new line : List ℕ) : Type 0 where
   pub clean : All (λ b. b ≢ 10) whole
   pub split : old ≡ whole ++ 10 ∷ new
   pub cut : line ≡ given limit whole
+
+-- the line is read as a blank one
+abbrev pub says_nothing : List ℕ → Bool
+says_nothing line = nat_le (length line) longest && is_utf8 line && is_blank (chars line)

@@ -9,7 +9,7 @@ use std::alloc::Global;
 use std::marker::Model;
 
 // How many bytes a line may have. Of a longer one a byte more is given, which shows that it is too long.
-const LONGEST: usize = 4096;
+pub(crate) const LONGEST: usize = 4096;
 
 /// The bytes that were fed and whose lines were not given back. A contract sees them as a list.
 ///

@@ -3,6 +3,7 @@
 
 mod answers;
 mod ask;
+mod blank;
 mod feed;
 mod lines;
 mod session;

@@ -5,6 +5,7 @@ ghost use Rattle.ce_base.specs.Outside.{AppendsPart};
 ghost use Rattle.ce_algorithms.specs.Lines.{whole_lines};
 ghost use Rattle.page_runner.specs.Ran.{Answered, Drained, answers};
 
+use crate::blank::says_nothing;
 use crate::{Feed, Session};
 use ce_base::{NoMemory, Sink, Stop};
 use ce_machine::End;
@@ -37,6 +38,10 @@ pub(crate) fn run_lines<K: Sink>(
                 return Err(Stop::NoMemory);
             }
         };
+        if says_nothing(line.as_slice()) {
+            session.pass();
+            continue 'lines;
+        }
         let (next, end) = session.line(alloc, line.as_slice(), sink)?;
         session = next;
         if let End::FuelSpent = end {

@@ -62,6 +62,14 @@ impl Session {
         self.bad
     }
 
+    // Passes over a line that says nothing.
+    pub(crate) fn pass(&mut self)
+        requires { self.old.line + 1 < 2 ^ 64 }
+        ensures { self.new ≡ record self.old { line = self.old.line + 1 } }
+    {
+        self.line += 1;
+    }
+
     /// Reads a line, runs it, and writes what comes of it.
     pub fn line<K: Sink>(
         self,
