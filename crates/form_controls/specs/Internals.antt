@@ -1,6 +1,7 @@
 -- What ElementInternals keeps of elements (HTML Standard, section "Element internals").
-use Rattle.std.specs.Prelude.{ℕ, ◌-◌, Bool, false, if◌then◌else◌, not, ◌&&◌, List, [], ◌∷◌, ◌++◌, filter, bytes_eq, Option, Some, None, is_some}
+use Rattle.std.specs.Prelude.{ℕ, ◌-◌, Bool, false, if◌then◌else◌, not, ◌&&◌, List, [], ◌∷◌, ◌++◌, filter, bytes_eq, Option, Some, None, is_some, unwrap_or}
 use Rattle.std.specs.List.{list_any}
+use Rattle.std.specs.Option.{option_or}
 use Rattle.ce_base.specs.declared.fault.Fault.{Fault}
 use Rattle.ce_base.specs.declared.fault.Fault.TheVariants.{TypeError, NotSupportedError}
 use Rattle.ce_base.specs.declared.flags.Flags.{Flags}
@@ -36,13 +37,9 @@ internals_at internals n = row_at None internals (n - 1)
 abbrev pub is_attached : List (Option Internals) → ℕ → Bool
 is_attached internals n = is_some (internals_at internals n)
 
-abbrev pub or_new : Option Internals → Internals
-or_new None = new_internals
-or_new (Some i) = i
-
 -- an element without internals has no value, no state, no flag, no message and no custom states
 abbrev pub kept_by : List (Option Internals) → ℕ → Internals
-kept_by internals n = or_new (internals_at internals n)
+kept_by internals n = unwrap_or (internals_at internals n) new_internals
 
 abbrev pub with_internals : List (Option Internals) → ℕ → Internals → List (Option Internals)
 with_internals internals n i = with_row None internals (n - 1) (Some i)
@@ -76,22 +73,17 @@ may_write internals n associated =
 
 -- a state that is left out is the value
 abbrev pub state_or : Value → Option Value → Value
-state_or value None = value
-state_or value (Some state) = state
+state_or value state = unwrap_or state value
 
 abbrev pub set_form_value : List (Option Internals) → ℕ → Value → Value → List (Option Internals)
 set_form_value internals n value saved = change_internals internals n (λ i. record i { value = value; saved = saved })
 
 -- validity ("setValidity")
 
-abbrev pub or_fault : Option Fault → Option Fault → Option Fault
-or_fault None second = second
-or_fault (Some fault) second = Some fault
-
 -- a flag wants a message
 abbrev pub may_set_validity : List (Option Internals) → ℕ → Bool → Flags → List ℕ → Option Fault
 may_set_validity internals n associated flags message =
-    or_fault (may_write internals n associated) (if is_raised flags && is_empty message then Some TypeError else None)
+    option_or (may_write internals n associated) (if is_raised flags && is_empty message then Some TypeError else None)
 
 -- all flags are set; without one no message is kept
 abbrev pub set_validity : List (Option Internals) → ℕ → Flags → List ℕ → List (Option Internals)

@@ -1,7 +1,7 @@
 -- The options of a select (HTML Standard, sections "The select element", "The option element").
-use Rattle.std.specs.Prelude.{ℕ, Bool, not, if◌then◌else◌, List, [], ◌∷◌, codes, map, filter, find, flat_map, Option, Some, None, unwrap_or, is_some}
+use Rattle.std.specs.Prelude.{ℕ, Bool, not, if◌then◌else◌, List, [], ◌∷◌, codes, map, filter, find, flat_map, Option, Some, None, unwrap_or}
 use Rattle.std.specs.List.{concat, last_or}
-use Rattle.std.specs.Option.{option_to_list}
+use Rattle.std.specs.Option.{option_or, option_to_list}
 use Rattle.element_names.specs.declared.natives.Native.TheVariants.{Select, Optgroup, OptionItem}
 use Rattle.node_trees.specs.Trees.{Trees}
 use Rattle.node_trees.specs.Spots.{facts_at, attribute_at, parent_at, children_at}
@@ -57,7 +57,7 @@ first_enabled forest options = find (λ o. not (is_option_disabled forest o)) op
 
 -- of the flagged options the last; where there is none, of all the first that is not disabled ("selectedness setting algorithm")
 abbrev pub chosen_one : Trees → List ℕ → List ℕ → Option ℕ
-chosen_one forest selected options = if is_some (last_or None selected) then last_or None selected else first_enabled forest options
+chosen_one forest selected options = option_or (last_or None selected) (first_enabled forest options)
 
 -- the chosen options of a select, in tree order: with `multiple` those that are flagged, else at most one
 abbrev pub chosen : List Control → Trees → ℕ → List ℕ
