@@ -37,7 +37,7 @@ impl Stacks {
     }
 
     /// Puts an element last on a definition's construction stack (HTML Standard, section "Upgrades", "upgrade
-    /// an element").
+    /// an element"). `NoMemory` comes only where memory was refused; the stacks are only dropped after it.
     pub fn push(&mut self, alloc: Global, d: DefNo, node: NodeNo) -> Result<(), NoMemory>
         ensures stacks { OnOk result (self.new ≡ pushed d node self.old) }
         ensures stack { OnOk result (stack_of d self.new ≡ Some node ∷ stack_of d self.old) }

@@ -12,6 +12,7 @@ use std::alloc::Global;
 /// The elements that a new definition may upgrade (HTML Standard, section "The CustomElementRegistry
 /// interface", `define`): those among the document's shadow-including inclusive descendants, in
 /// shadow-including tree order, that have this local name and, where `is_value` is given, this `is` value.
+/// `NoMemory` comes only where memory was refused.
 pub fn candidates(
     alloc: Global,
     tree: &Tree,

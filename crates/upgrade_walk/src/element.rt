@@ -11,7 +11,8 @@ use node_arena::Tree;
 use std::alloc::Global;
 
 /// The elements among a node's shadow-including inclusive descendants, in shadow-including tree order (HTML
-/// Standard, section "The CustomElementRegistry interface", `upgrade`).
+/// Standard, section "The CustomElementRegistry interface", `upgrade`). `NoMemory` comes only where memory was
+/// refused.
 pub fn walk(alloc: Global, tree: &Tree, node: NodeNo) -> Result<Nodes, NoMemory>
     requires { IsNode tree.now node }
     ensures elements { IfOk result (λ ns. ns ≡ elements tree.now node) }
