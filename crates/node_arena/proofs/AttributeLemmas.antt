@@ -1,11 +1,16 @@
 -- A list of attributes at the place of a name.
-use Rattle.std.proofs.Common.{◌≡◌, ℕ, suc, ◌<◌, ◌≤◌, List, [], ◌∷◌, ◌++◌, Some, None, true, refl, ap, sym, ◌∙◌, arith, length, take, drop, add-one, get_or}
+use Rattle.std.proofs.Common.{◌≡◌, ℕ, suc, ◌<◌, ◌≤◌, ◌+◌, List, [], ◌∷◌, ◌++◌, Some, None, true, refl, ap, subst, sym, ◌∙◌, arith, length, take, drop, map, add-one, get_or}
 use Rattle.std.proofs.Math.ListN.{set}
+use Rattle.std.proofs.Math.Seq.{map-set_same}
+use Rattle.std.proofs.lemmas.List.{get_or-map, take-map, drop-map, map-append, length-map, take_more}
+use Rattle.std.specs.List.{remove}
 use Rattle.std.proofs.lemmas.Bool.Decides.{nat_tests}
 use Rattle.std.proofs.lemmas.Slice.Eq.{bytes_eq-Decides}
 use Rattle.std.specs.Str.{bytes_eq}
 use Rattle.node_trees.specs.Facts.{value_in, with_value, without_value}
-use Rattle.node_arena.specs.Attributes.{name_place}
+use Rattle.node_arena.specs.Attributes.{name_place, names_of}
+use Rattle.node_arena.specs.Names.{place, is_once}
+use Rattle.node_arena.proofs.FinderLemmas.{once_next, place_once}
 
 same_name : (a b : List ℕ) → bytes_eq a b ≡ true → a ≡ b
 same_name a b e = (bytes_eq-Decides a b).0 e
@@ -49,3 +54,42 @@ module _ (name : List ℕ) (xs : List (List ℕ × List ℕ)) (i : ℕ) (at : i 
       let it = with_value-place name value xs d (omega arith) in
       let same : d ≡ get_or xs (name_place name xs) d = rw at at is in
       rw (at, e) (ap (λ v. set xs (name_place name xs) (v.0, value)) same ∙ it)
+
+-- ---- the names alone
+
+pub name_place-names : (name : List ℕ) (xs : List (List ℕ × List ℕ)) → name_place name xs ≡ place name (names_of xs)
+name_place-names name [] = refl
+name_place-names name (x ∷ xs) = grind (arith, name_place-names name xs)
+
+pub names-length : (xs : List (List ℕ × List ℕ)) → length (names_of xs) ≡ length xs
+names-length xs = length-map xs (λ a. a.0)
+
+pub names-set : (xs : List (List ℕ × List ℕ)) (i : ℕ) (d : List ℕ × List ℕ) (new : List ℕ) → d ≡ get_or xs i d → names_of (set xs i (d.0, new)) ≡ names_of xs
+names-set xs i d new is = map-set_same (λ (a : List ℕ × List ℕ). a.0) xs i (d.0, new) d (ap (λ a. a.0) is)
+
+pub names-remove : (xs : List (List ℕ × List ℕ)) (i : ℕ) → names_of (remove xs i) ≡ remove (names_of xs) i
+names-remove xs i =
+    let first = λ (a : List ℕ × List ℕ). a.0 in
+    map-append first (take i xs) (drop (suc i) xs) ∙ (ap (λ l. l ++ map first (drop (suc i) xs)) (sym (take-map first i xs)) ∙ ap (λ l. take i (map first xs) ++ l) (sym (drop-map first (suc i) xs)))
+
+pub names-push : (xs : List (List ℕ × List ℕ)) (name value : List ℕ) → names_of (xs ++ (name, value) ∷ []) ≡ names_of xs ++ name ∷ []
+names-push xs name value = map-append (λ (a : List ℕ × List ℕ). a.0) xs ((name, value) ∷ [])
+
+-- a name that stands once stands at its place
+pub place_at : (xs : List (List ℕ × List ℕ)) (i : ℕ) (d : List ℕ × List ℕ) → is_once (names_of xs) ≡ true → i < length xs → i ≡ place (get_or xs i d).0 (names_of xs)
+place_at xs i d once lt =
+    let here = place_once (names_of xs) i d.0 once (omega (arith, names-length xs, lt)) in
+    sym (rw (get_or-map (λ (a : List ℕ × List ℕ). a.0) xs i d d.0 lt) at here)
+
+-- one name more
+module _ (xs : List (List ℕ × List ℕ)) (i : ℕ) (d : List ℕ × List ℕ) (lt : i < length xs) (is : d ≡ get_or xs i d) where
+  first_at : get_or (names_of xs) i d.0 ≡ d.0
+  first_at = get_or-map (λ (a : List ℕ × List ℕ). a.0) xs i d d.0 lt ∙ sym (ap (λ (a : List ℕ × List ℕ). a.0) is)
+
+  pub names-next : take (i + 1) (names_of xs) ≡ take i (names_of xs) ++ d.0 ∷ []
+  names-next = take_more (names_of xs) i d.0 (omega (arith, names-length xs, lt)) ∙ ap (λ n. take i (names_of xs) ++ n ∷ []) first_at
+
+  pub new-next : is_once (names_of xs) ≡ true → length (take i (names_of xs)) ≤ place d.0 (take i (names_of xs))
+  new-next once =
+      let P : List ℕ → Type 0 = λ n. length (take i (names_of xs)) ≤ place n (take i (names_of xs)) in
+      subst P first_at (once_next (names_of xs) i d.0 once (omega (arith, names-length xs, lt)))

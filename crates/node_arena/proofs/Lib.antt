@@ -39,6 +39,7 @@ pub mod UpLemmas
 pub mod WalkLemmas
 pub mod NumberLemmas
 pub mod AttributeLemmas
+pub mod FinderLemmas
 pub mod StandsLemmas
 pub mod GetLemmas
 pub mod ForestLemmas

@@ -5,3 +5,5 @@ pub mod Seen
 pub mod NodeRows
 pub mod Walks
 pub mod Attributes
+pub mod Names
+pub mod Found

@@ -16,6 +16,7 @@ use ce_base::{NoMemory, NodeNo, Text};
 use std::alloc::Global;
 
 fn set_attribute(
+    alloc: Global,
     nodes: &mut [Node],
     node: NodeNo,
     name: Text,
@@ -27,7 +28,7 @@ fn set_attribute(
     ensures err { OnErr result (rows nodes.new ≡ rows nodes.old) }
 {
     let at = index_of(node);
-    let old = nodes[at].attributes.set(name, value)?;
+    let old = nodes[at].attributes.set(alloc, name, value)?;
     Ok(old)
 }
 
@@ -81,7 +82,7 @@ impl Tree {
     /// Element", "set an attribute value"). One that is there keeps its place, another comes last.
     pub fn set_attr(
         &mut self,
-        _alloc: Global,
+        alloc: Global,
         node: NodeNo,
         name: Text,
         value: Text,
@@ -93,7 +94,7 @@ impl Tree {
         ensures size { size self.new ≡ size self.old }
         ensures err { OnErr result (self.new ≡ self.old) }
     {
-        set_attribute(&mut self.nodes, node, name, value)
+        set_attribute(alloc, &mut self.nodes, node, name, value)
     }
 
     /// Takes an attribute of an element away and answers its value (DOM Standard, section "Interface

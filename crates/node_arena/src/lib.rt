@@ -7,6 +7,7 @@ mod ancestors;
 mod attributes;
 mod children;
 mod facts;
+mod finder;
 mod ids;
 mod insertion;
 mod making;

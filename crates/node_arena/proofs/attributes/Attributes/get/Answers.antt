@@ -6,10 +6,10 @@ use Rattle.std.specs.Prelude.{Some}
 
 pub returns-then-at-len : goal.returns-then-at-len
 returns-then-at-len c =
-    let at : c.place_of-at.result ≡ name_place c.args.name.now c.self.inside.items.items = c.place_of-at.ensures.place ∙ ap (name_place c.args.name.now) c.deref.ensures.value in
-    ap Some c.as_str.ensures ∙ rw (sym c.self.view_is) (value_there c.args.name.now c.self.inside.items.items c.place_of-at.result at c.index.result.now (omega (arith, c.if-at-len.true, c.len.ensures, c.self.inside.items.ok.0)) c.index.ensures)
+    let at : c.place-at.result ≡ name_place c.args.name.now c.self.inside.items.items = rw (← c.self.view_is) at c.place-at.ensures.place in
+    ap Some c.as_str.ensures ∙ rw (sym c.self.view_is) (value_there c.args.name.now c.self.inside.items.items c.place-at.result at c.index.result.now (omega (arith, c.if-at-len.true, c.len.ensures, c.self.inside.items.ok.0)) c.index.ensures)
 
 pub returns : goal.returns
 returns c =
-    let at : c.place_of-at.result ≡ name_place c.args.name.now c.self.inside.items.items = c.place_of-at.ensures.place ∙ ap (name_place c.args.name.now) c.deref.ensures.value in
+    let at : c.place-at.result ≡ name_place c.args.name.now c.self.inside.items.items = rw (← c.self.view_is) at c.place-at.ensures.place in
     rw (sym c.self.view_is) (sym (value_in-absent c.args.name.now c.self.inside.items.items (omega (arith, at, c.if-at-len.false, c.len.ensures, c.self.inside.items.ok.0))))
