@@ -1,5 +1,5 @@
 // A class, as the lines of a script made it.
-ghost use Rattle.std.specs.Prelude.{◌≡◌, ◌++◌, ◌∷◌, ◌<◌, [], true, false, map, length, IfOk, IfSome, OnOk};
+ghost use Rattle.std.specs.Prelude.{◌≡◌, ◌++◌, ◌∷◌, ◌<◌, [], true, false, map, length, All, IfOk, IfSome, OnOk};
 ghost use Rattle.rule_lines.specs.Acts.{Log};
 ghost use Rattle.rule_script.specs.Built.{is_built_call};
 ghost use Rattle.rule_tokens.specs.declared.callback.CallName.TheVariants as calls;
@@ -8,10 +8,11 @@ ghost use Rattle.ce_algorithms.specs.Body.{actions_of};
 ghost use Rattle.ce_algorithms.specs.Parts.{change_facts, with_body, with_has, with_observed};
 ghost use Rattle.ce_algorithms.specs.State.{new_class};
 ghost use Rattle.ce_algorithms.specs.Values.{text_of};
-ghost use Rattle.class_table.specs.Bodies.{bodies_of, logs_of};
+ghost use Rattle.class_table.specs.Bodies.{logs_of};
+ghost use Rattle.class_table.specs.Places.{values_at};
 
 use crate::args::Args;
-use ce_algorithms::same_call;
+use crate::places::Places;
 use ce_base::{NoMemory, Text, Texts};
 use ce_registry::ClassFacts;
 use rule_lines::Vals;
@@ -19,13 +20,15 @@ use rule_tokens::CallName;
 use std::alloc::Global;
 use std::marker::Model;
 
-/// A class: what its definition takes over from it, and the bodies of its callbacks, which log values. So
-/// far it has no constructor of its own, and nothing changes its counter and its kept text.
+/// A class: what its definition takes over from it, and the bodies of its callbacks, which log values: all
+/// in the order of their lines, and of each callback the places of its own. So far it has no constructor of its
+/// own, and nothing changes its counter and its kept text.
 #[derive(Drop)]
 pub struct Class {
     name: Text,
     facts: ClassFacts,
     bodies: Vec<(CallName, Vals)>,
+    places: Places,
     frozen: bool,
 }
 
@@ -37,6 +40,7 @@ impl Model for Class {
     ghost use Rattle.ce_registry.specs.ClassFacts.{has_call};
     ghost use Rattle.ce_algorithms.specs.State.{Class as IsClass, blank_memory};
     ghost use Rattle.class_table.specs.Bodies.{bodies_of};
+    ghost use Rattle.class_table.specs.Places.{AreListed};
 
     ghost Value = { IsClass };
 
@@ -44,7 +48,7 @@ impl Model for Class {
 
     ghost view = { λ c. record { name = c.name; facts = c.facts; bodies = bodies_of c.bodies.items; frozen = c.frozen; memory = blank_memory } };
 
-    ghost invariant = { λ c. has_call Constructor c.facts.calls ≡ false };
+    ghost invariant = { λ c. (has_call Constructor c.facts.calls ≡ false) × AreListed c.places c.bodies.items };
 }
 
 impl Class {
@@ -56,6 +60,7 @@ impl Class {
             name,
             facts: ClassFacts::make(alloc),
             bodies: Vec::new(alloc),
+            places: Places::make(alloc),
             frozen: false,
         }
     }
@@ -104,8 +109,15 @@ impl Class {
         ensures name { self.new.name ≡ self.old.name }
     {
         self.add_call(call);
+        let place = self.bodies.len();
         self.bodies.push((call, vals))?;
-        Ok(())
+        match self.places.push(call, place) {
+            Ok(()) => Ok(()),
+            Err(NoMemory) => {
+                self.bodies.truncate(place);
+                Err(NoMemory)
+            }
+        }
     }
 
     /// The class observes these attribute names too.
@@ -120,7 +132,7 @@ impl Class {
     pub fn actions(&self, alloc: Global, call: CallName) -> Result<Actions, NoMemory>
         ensures { IfOk result (λ a. logs_of a ≡ actions_of call self.now.bodies) }
     {
-        actions_in(alloc, call, &self.bodies)
+        actions_at(alloc, &self.bodies, self.places.of(call))
     }
 
     /// The texts that values name in one of its bodies.
@@ -165,18 +177,18 @@ impl Actions {
     }
 }
 
-fn actions_in(
+// The actions at these places.
+fn actions_at(
     alloc: Global,
-    call: CallName,
     bodies: &[(CallName, Vals)],
+    places: &[usize],
 ) -> Result<Actions, NoMemory>
-    ensures { IfOk result (λ a. logs_of a ≡ actions_of call (bodies_of bodies.now)) }
+    requires { All (λ i. i < length bodies.now) places.now }
+    ensures { IfOk result (λ a. a ≡ map (values_at bodies.now) places.now) }
 {
     let mut items = Vec::new(alloc);
-    for b in bodies {
-        if same_call(b.0, call) {
-            items.push(b.1.copy(alloc)?)?;
-        }
+    for i in places {
+        items.push(bodies[*i].1.copy(alloc)?)?;
     }
     Ok(Actions { items })
 }

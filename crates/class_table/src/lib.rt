@@ -5,6 +5,7 @@
 mod args;
 mod class;
 mod classes;
+mod places;
 
 pub use args::Args;
 pub use class::{Actions, Class};
