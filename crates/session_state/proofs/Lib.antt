@@ -1,4 +1,5 @@
 pub mod VariableLaws
+pub mod PlaceLaws
 pub mod FlushLaws
 pub mod QueueLaws
 pub mod ConstructLaws
