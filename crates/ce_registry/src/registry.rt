@@ -114,8 +114,9 @@ impl Registry {
         }
     }
 
-    // Why a definition is refused, the first reason that holds.
-    fn refusal(&self, name: &str, class: ClassNo, base: Option<&str>) -> Option<Fault>
+    /// Why `define` would refuse a definition: the fault of the first reason that holds. None exactly where it
+    /// would add it.
+    pub fn refusal(&self, name: &str, class: ClassNo, base: Option<&str>) -> Option<Fault>
         ensures { result ≡ may_define self.now name.now class (option_copied base.entry) }
     {
         if !is_custom_name(name) {

@@ -5,7 +5,7 @@ ghost use Rattle.rule_tokens.specs.declared.callback.CallName.TheVariants as cal
 ghost use Rattle.node_trees.specs.Nodes.{IsNode};
 ghost use Rattle.ce_registry.specs.declared.definition.Definition.{Definition as IsDefinition};
 ghost use Rattle.ce_registry.specs.ClassFacts.{has_call};
-ghost use Rattle.ce_registry.specs.Registry.{by_class, is_autonomous};
+ghost use Rattle.ce_registry.specs.Registry.{by_class, is_autonomous, may_define};
 ghost use Rattle.ce_algorithms.specs.Construct.{construct};
 ghost use Rattle.ce_algorithms.specs.Construction.{base_call, is_value_of, make_custom};
 ghost use Rattle.ce_algorithms.specs.Define.{define_name};
@@ -49,6 +49,11 @@ impl State {
     ) -> Result<DefNo, PageStop>
         ensures step { Ends (λ d. d) result self.new (on_page (define_name name.now class (class_of self.old class).facts base.now) self.old) }
     {
+        // A refused definition copies nothing of its class.
+        if let Some(fault) = self.refusal(name, class, base) {
+            self.after_call(false)?;
+            return Err(PageStop::Refused(fault));
+        }
         let facts = self.class_facts(alloc, class)?;
         let name = name.copy(alloc)?;
         let base = copy_of(alloc, base)?;
@@ -57,6 +62,14 @@ impl State {
             .define_name(alloc, name, class, facts, base, &mut self.fuel);
         self.after_call(is_out_of_fuel(&outcome))?;
         outcome
+    }
+
+    // Why a definition of a class would be refused.
+    fn refusal(&self, name: &Text, class: ClassNo, base: &Option<Text>) -> Option<Fault>
+        ensures { result ≡ may_define self.now.page.definitions name.now class base.now }
+    {
+        let base = base.as_ref().map(|t| t.as_str());
+        self.registry().refusal(name.as_str(), class, base)
     }
 
     // What a definition takes over from a class.
