@@ -7,6 +7,8 @@ mod arena;
 #[cfg(test)]
 mod base;
 #[cfg(test)]
+mod bodies;
+#[cfg(test)]
 mod kinds;
 #[cfg(test)]
 mod names;

@@ -8,7 +8,7 @@ use std::process::Abort;
 use std::test::Fail;
 
 // The token that a row names: what stands behind a quote was quoted.
-fn token(alloc: Global, row: &str) -> Result<Token, Fail> {
+pub(crate) fn token(alloc: Global, row: &str) -> Result<Token, Fail> {
     let (quoted, text) = match row.strip_prefix('"') {
         Some(text) => (true, text),
         None => (false, row),

@@ -11,8 +11,8 @@ ghost use Rattle.ce_algorithms.specs.Values.{text_of};
 ghost use Rattle.class_table.specs.Bodies.{logs_of};
 ghost use Rattle.class_table.specs.Places.{values_at};
 
-use crate::args::Args;
 use crate::places::Places;
+use behaviours::{Args, Memory};
 use ce_base::{NoMemory, Text, Texts};
 use ce_registry::ClassFacts;
 use rule_lines::Vals;
@@ -140,7 +140,8 @@ impl Class {
         ensures { IfOk result (λ ts. ts ≡ map (text_of self.now.memory args.now) vals.now) }
     {
         let _frozen = self.frozen;
-        args.texts(alloc, vals)
+        let memory = Memory::blank(alloc)?;
+        args.texts(alloc, &memory, vals)
     }
 }
 

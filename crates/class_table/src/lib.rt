@@ -2,11 +2,9 @@
 //! callbacks, with the texts that values name in them.
 #![tactic(auto)]
 
-mod args;
 mod class;
 mod classes;
 mod places;
 
-pub use args::Args;
 pub use class::{Actions, Class};
 pub use classes::Classes;

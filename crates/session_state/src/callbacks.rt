@@ -13,9 +13,10 @@ ghost use Rattle.session_state.specs.Steps.{callee};
 
 use crate::State;
 use crate::construct::copy_of;
+use behaviours::{Args, Memory};
 use ce_algorithms::Event;
 use ce_base::{ClassNo, NoMemory, NodeNo, Texts};
-use class_table::{Actions, Args};
+use class_table::Actions;
 use reaction_queue::Reaction;
 use rule_lines::Vals;
 use rule_tokens::CallOrUpgrade;
@@ -82,7 +83,10 @@ impl State {
         ensures { IfOk result (λ ts. ts ≡ map (text_of (class_of self.now class).memory args.now) vals.now) }
     {
         match self.classes.get(class) {
-            None => args.texts(alloc, vals),
+            None => {
+                let memory = Memory::blank(alloc)?;
+                args.texts(alloc, &memory, vals)
+            }
             Some(c) => c.texts(alloc, args, vals),
         }
     }

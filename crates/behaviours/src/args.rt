@@ -1,10 +1,10 @@
 // The arguments of a callback, as texts.
 ghost use Rattle.std.specs.Prelude.{◌≡◌, List, ℕ, [], map, option_map, IfOk};
 ghost use Rattle.reaction_queue.specs.Queues.{or_empty};
-ghost use Rattle.ce_algorithms.specs.Values.{args_of, no_args, text_of};
-ghost use Rattle.ce_algorithms.specs.State.{blank_memory};
+ghost use Rattle.ce_algorithms.specs.Values.{args_of, fixed_value, no_args, text_of};
 ghost use Rattle.ce_algorithms.specs.Text as text;
 
+use crate::Memory;
 use ce_base::{NoMemory, NodeNo, Text, Texts};
 use reaction_queue::{Mode, Reaction};
 use rule_lines::Vals;
@@ -15,9 +15,12 @@ use std::marker::Model;
 /// The texts of a callback's arguments.
 #[derive(Drop)]
 pub struct Args {
-    first: Text,
-    second: Text,
-    third: Text,
+    /// `@1`.
+    pub first: Text,
+    /// `@2`.
+    pub second: Text,
+    /// `@3`.
+    pub third: Text,
 }
 
 impl Model for Args {
@@ -77,29 +80,36 @@ impl Args {
         })
     }
 
-    // The text that a value names, where the class's counter is 0 and its kept text is empty.
-    fn text(&self, alloc: Global, v: &Val) -> Result<Text, NoMemory>
-        ensures { IfOk result (λ t. t ≡ text_of blank_memory self.now v.now) }
+    /// The text that a value names, by what the class remembers.
+    pub fn text(&self, alloc: Global, memory: &Memory, v: &Val) -> Result<Text, NoMemory>
+        ensures { IfOk result (λ t. t ≡ text_of memory.now self.now v.now) }
     {
         match v {
             Val::Fixed(t) => t.copy(alloc),
-            Val::Count => Text::of(alloc, "0"),
-            Val::Kept => Text::of(alloc, ""),
+            Val::Count => memory.count(alloc),
+            Val::Kept => memory.kept().copy(alloc),
             Val::First => self.first.copy(alloc),
             Val::Second => self.second.copy(alloc),
             Val::Third => self.third.copy(alloc),
         }
     }
 
-    /// The texts that the values name, where the class's counter is 0 and its kept text is empty.
-    pub fn texts(&self, alloc: Global, vals: &Vals) -> Result<Texts, NoMemory>
-        ensures { IfOk result (λ ts. ts ≡ map (text_of blank_memory self.now) vals.now) }
+    /// The texts that the values name, by what the class remembers.
+    pub fn texts(&self, alloc: Global, memory: &Memory, vals: &Vals) -> Result<Texts, NoMemory>
+        ensures { IfOk result (λ ts. ts ≡ map (text_of memory.now self.now) vals.now) }
     {
         let mut texts = Texts::make(alloc);
         for v in vals.as_slice() {
-            texts.push(alloc, self.text(alloc, v)?)?;
+            texts.push(alloc, self.text(alloc, memory, v)?)?;
         }
         Ok(texts)
+    }
+
+    /// The value as the text that it names.
+    pub(crate) fn value(&self, alloc: Global, memory: &Memory, v: &Val) -> Result<Val, NoMemory>
+        ensures { IfOk result (λ x. x ≡ fixed_value memory.now self.now v.now) }
+    {
+        Ok(Val::Fixed(self.text(alloc, memory, v)?))
     }
 }
 

@@ -1,0 +1,5 @@
+pub mod Behaviours
+pub mod Bodies
+pub mod Resume
+pub mod Next
+pub mod Turns
