@@ -9,10 +9,11 @@ ghost use Rattle.ce_machine.specs.Frames.{came_in, came_of};
 ghost use Rattle.ce_operations.specs.Given.{IsThere};
 ghost use Rattle.ce_machine.specs.Placed.{IsEndThere};
 
+use behaviours::Args;
 use ce_algorithms::Given;
 use ce_base::{ClassNo, Fault, NoMemory, NodeNo, QueueNo, ReactionNo, Text};
 use ce_page::PageStop;
-use class_table::{Actions, Args};
+use class_table::Actions;
 use reaction_queue::ElementQueue;
 
 /// What waits for an outcome from above, and goes on with it.

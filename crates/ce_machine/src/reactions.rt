@@ -13,10 +13,11 @@ ghost use Rattle.ce_machine.specs.Frames.{Turns};
 ghost use Rattle.ce_machine.specs.Turns.{body_result, callback_turn, log_step};
 
 use crate::frames::{Came, Frame};
+use behaviours::Args;
 use ce_algorithms::{Event, Given};
 use ce_base::{ClassNo, NoMemory, NodeNo, ReactionNo};
 use ce_page::PageStop;
-use class_table::{Actions, Args};
+use class_table::Actions;
 use reaction_queue::Reaction;
 use rule_lines::Vals;
 use session_state::State;

@@ -13,9 +13,10 @@ use crate::creations::{failed_turn, fit_turn};
 use crate::drains::{backup_turn, check_turn, drain_turn, pop_turn, reply};
 use crate::frames::{Came, Frame, came_from};
 use crate::reactions::{run_body, tell};
+use behaviours::Args;
 use ce_algorithms::{Event, Given};
 use ce_base::{ClassNo, Fault, NoMemory, NodeNo, ReactionNo, Text};
-use class_table::{Actions, Args};
+use class_table::Actions;
 use session_state::State;
 use std::alloc::Global;
 
