@@ -222,7 +222,11 @@ fn tell_next(next: &Next, out: &mut String) -> Result<(), Fail> {
             tell_guard(*guarded, out)
         }
         Next::Return { value, guarded } => {
-            out.push_str(if value.is_some() { "return this" } else { "return" })?;
+            out.push_str(if value.is_some() {
+                "return this"
+            } else {
+                "return"
+            })?;
             tell_guard(*guarded, out)
         }
         Next::Throw { fault, guarded } => {
