@@ -1,5 +1,5 @@
 -- No algorithm reads the log, where what it calls again reads none.
-use Rattle.std.proofs.Common.{ℕ, Bool, List, [], ◌∷◌, Option, Some, None, refl}
+use Rattle.std.proofs.Common.{ℕ, List, [], ◌∷◌, Option, Some, None, refl}
 use Rattle.ce_base.specs.declared.fault.Fault.{Fault}
 use Rattle.rule_tokens.specs.declared.callback.CallName.TheVariants.{Constructor}
 use Rattle.rule_tokens.specs.declared.operand.Operand.{Operand}
@@ -16,7 +16,7 @@ use Rattle.ce_algorithms.specs.declared.deed.Deed.TheVariants as deeds
 use Rattle.ce_algorithms.specs.declared.deed.Deed.TheVariants.{OnPage}
 use Rattle.ce_algorithms.specs.declared.event.Given.{Given}
 use Rattle.ce_algorithms.specs.declared.event.Given.TheVariants.{Nothing, Node, Answers, Ignored}
-use Rattle.ce_algorithms.specs.Steps.{Step, give}
+use Rattle.ce_algorithms.specs.Steps.{Step}
 use Rattle.ce_algorithms.specs.Page.{with_queues}
 use Rattle.ce_algorithms.specs.CreateLater.{make_undefined}
 use Rattle.ce_algorithms.specs.State.{State, Class, class_of}
@@ -25,7 +25,7 @@ use Rattle.ce_algorithms.specs.Values.{Args, no_args, text_of}
 use Rattle.ce_algorithms.specs.Body.{Flow, Next, Ended, on_flow, told, returned, caught, holds, act, body, actions_of}
 use Rattle.ce_algorithms.specs.Construct.{base_alone, constructor_body, construct}
 use Rattle.ce_algorithms.specs.Upgrade.{construct_for, drop_reactions, upgrade_threw, upgrade_now, upgrade}
-use Rattle.ce_algorithms.specs.Drain.{log_call, call_back, call_defined, run_reaction, react, drain, open_queue, pop_queue, drain_popped, reacting, with_backup, drain_backup}
+use Rattle.ce_algorithms.specs.Drain.{log_call, call_back, call_defined, run_reaction, react, drain, open_queue, pop_queue, drain_popped, reacting, with_backup, drain_first, drain_backup}
 use Rattle.ce_algorithms.specs.Create.{construct_fit, create_failed, upgrade_failed, create_extended, create_defined, create_found, create}
 use Rattle.ce_algorithms.specs.Perform.{create_named, define_element, gives_nothing, gives_node, page_steps, steps, perform_deed, keep, kept, operate}
 use Rattle.ce_algorithms.specs.Deeds.{resolve, is_reacting, variable}
@@ -173,8 +173,12 @@ module _ (again : Again) (below : (call : Call) → Framed (again call)) where
   pub reacting_framed : {A : Type 0} {steps : Step State A} → Framed steps → Framed (reacting again steps)
   reacting_framed h = framed_bind framed_open_queue (λ number. framed_finally h (drain_popped_framed number))
 
+  drain_first_framed : (elements : List ℕ) → Framed (drain_first again elements)
+  drain_first_framed [] = framed_done
+  drain_first_framed (n ∷ ns) = framed_seq (framed_change_page (with_queues (with_backup ns))) (framed_seq (drain_framed (n ∷ [])) (framed_seq (below DrainBackup) framed_done))
+
   pub drain_backup_framed : Framed (drain_backup again)
-  drain_backup_framed = framed_bind (framed_read_page (λ p. p.queues.backup)) (λ elements. framed_list elements _ _ framed_done (λ n ns. framed_seq (framed_change_page (with_queues (with_backup ns))) (framed_seq (drain_framed (n ∷ [])) (framed_seq (below DrainBackup) framed_done))))
+  drain_backup_framed = framed_bind (framed_read_page (λ p. p.queues.backup)) drain_first_framed
 
   -- creation
 

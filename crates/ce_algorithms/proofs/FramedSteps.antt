@@ -1,5 +1,5 @@
 -- The lines read no log.
-use Rattle.std.proofs.Common.{◌≡◌, ℕ, ◌+◌, Bool, true, false, List, [], ◌∷◌, None, Some}
+use Rattle.std.proofs.Common.{◌≡◌, ℕ, ◌+◌, List, [], ◌∷◌, None, Some}
 use Rattle.std.specs.Prelude.{Result, Ok, Err}
 use Rattle.ce_base.specs.declared.fault.Fault.{Fault}
 use Rattle.rule_lines.specs.Acts.{Part, On, Has, Observe, Associate, DisableShadow, DisableInternals, Said, Blank, Command, Declares}
@@ -9,9 +9,7 @@ use Rattle.rule_lines.specs.declared.line.Cmd.TheVariants.{Both, Doc}
 use Rattle.rule_tokens.specs.declared.refused.Bad.{Bad}
 use Rattle.ce_algorithms.specs.declared.event.Event.{Event}
 use Rattle.ce_algorithms.specs.declared.event.Event.TheVariants.{Threw}
-use Rattle.ce_algorithms.specs.Steps.{Step, done}
 use Rattle.ce_algorithms.specs.State.{State, Class}
-use Rattle.reaction_queue.specs.ElementQueues.{is_empty}
 use Rattle.ce_algorithms.specs.Drain.{drain_all_backup, checkpoint}
 use Rattle.ce_algorithms.specs.Making.{make_document}
 use Rattle.ce_algorithms.specs.Model.{model}
@@ -19,7 +17,7 @@ use Rattle.ce_algorithms.specs.Perform.{gives_node}
 use Rattle.ce_algorithms.specs.Parts.{add_class, change_open, part}
 use Rattle.ce_algorithms.specs.Session.{perform, command, part_reply, class_part, run_line, run_lines}
 use Rattle.ce_algorithms.specs.Written.{behind, behind_in}
-use Rattle.ce_algorithms.proofs.Framed.{Framed, framed_steps, framed_give, framed_done, framed_log, framed_bind, framed_seq, framed_read_page, framed_on_page}
+use Rattle.ce_algorithms.proofs.Framed.{Framed, framed_steps, framed_give, framed_done, framed_log, framed_seq, framed_on_page}
 use Rattle.ce_algorithms.proofs.FramedLevels.{framed_kept}
 use Rattle.ce_algorithms.proofs.FramedDrain.{framed_drain_backup, framed_operate}
 
@@ -31,11 +29,7 @@ framed_drain_all_backup = search (framed_steps, framed_drain_backup) depth 12
 
 -- the checkpoint
 pub framed_checkpoint : Framed (checkpoint model)
-framed_checkpoint = framed_bind (framed_read_page (λ p. is_empty p.queues.backup)) go
-  where
-    go : (empty : Bool) → Framed (elim empty as (λ _. Step State (Unit {0})) [ true ↦ done | false ↦ drain_all_backup model ])
-    go true = framed_done
-    go false = framed_drain_all_backup
+framed_checkpoint = search (framed_steps, framed_drain_all_backup) depth 12
 
 -- what a command performs
 pub framed_perform : (c : Cmd) → Framed (perform model c)

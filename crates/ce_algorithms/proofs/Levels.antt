@@ -1,5 +1,5 @@
 -- Each algorithm calls the others again only at a lower clock.
-use Rattle.std.proofs.Common.{◌≡◌, ℕ, suc, ◌+◌, ◌<◌, ◌≤◌, Bool, List, [], ◌∷◌, length, Option, Some, None, refl, ap, ◌∙◌, arith}
+use Rattle.std.proofs.Common.{◌≡◌, ℕ, suc, ◌+◌, ◌<◌, ◌≤◌, List, [], ◌∷◌, length, Option, Some, None, refl, ap, ◌∙◌, arith}
 use Rattle.ce_base.specs.declared.fault.Fault.{Fault}
 use Rattle.rule_tokens.specs.declared.callback.CallName.TheVariants.{Constructor}
 use Rattle.rule_tokens.specs.declared.operand.Operand.{Operand}
@@ -16,7 +16,7 @@ use Rattle.ce_algorithms.specs.declared.deed.Deed.TheVariants as deeds
 use Rattle.ce_algorithms.specs.declared.deed.Deed.TheVariants.{OnPage}
 use Rattle.ce_algorithms.specs.declared.event.Given.{Given}
 use Rattle.ce_algorithms.specs.declared.event.Given.TheVariants.{Nothing, Node, Answers, Ignored}
-use Rattle.ce_algorithms.specs.Steps.{Step, ◌>>◌, give, done}
+use Rattle.ce_algorithms.specs.Steps.{Step, ◌>>◌, done}
 use Rattle.ce_algorithms.specs.Page.{with_queues}
 use Rattle.ce_algorithms.specs.State.{State, Class, change_page, class_of, spend}
 use Rattle.ce_algorithms.specs.Calls.{Call, Operate, DrainRest, DrainBackup, Again}
@@ -24,7 +24,7 @@ use Rattle.ce_algorithms.specs.Values.{Args, no_args, text_of}
 use Rattle.ce_algorithms.specs.Body.{Flow, Next, Ended, on_flow, told, returned, caught, holds, act, body, actions_of}
 use Rattle.ce_algorithms.specs.Construct.{base_alone, constructor_body, construct}
 use Rattle.ce_algorithms.specs.Upgrade.{construct_for, drop_reactions, upgrade_threw, upgrade_now, upgrade}
-use Rattle.ce_algorithms.specs.Drain.{log_call, call_back, call_defined, run_reaction, react, drain, open_queue, pop_queue, drain_popped, reacting, with_backup, drain_backup}
+use Rattle.ce_algorithms.specs.Drain.{log_call, call_back, call_defined, run_reaction, react, drain, open_queue, pop_queue, drain_popped, reacting, with_backup, drain_taken, drain_first, drain_backup}
 use Rattle.ce_algorithms.specs.Create.{construct_fit, create_failed, upgrade_failed, create_extended, create_defined, create_found, create}
 use Rattle.ce_algorithms.specs.Perform.{create_named, define_element, gives_nothing, gives_node, steps, perform_deed, keep, kept, operate}
 use Rattle.ce_algorithms.specs.Deeds.{resolve, is_reacting, variable}
@@ -132,7 +132,7 @@ module _ (b : ℕ) (f g : Again) (below : (call : Call) → Tied b (f call) (g c
   construct_tied k = search (tied_steps, constructor_body_tied) depth 12
 
   construct_for_tied : (n d : ℕ) → Tied (suc b) (construct_for f n d) (construct_for g n d)
-  construct_for_tied n d = search (tied_steps, light_state, construct_tied) depth 14
+  construct_for_tied n d = search (tied_steps, light_state, construct_tied) depth 16
 
   upgrade_now_tied : (n d : ℕ) → Tied (suc b) (upgrade_now f n d) (upgrade_now g n d)
   upgrade_now_tied n d = search (tied_steps, keeps_begin_upgrade Lower lower, construct_for_tied, keeps_pop_construction Lower lower, tied_upgrade_threw, keeps_tell_form Lower lower, light_state) depth 16
@@ -184,14 +184,13 @@ module _ (b : ℕ) (f g : Again) (below : (call : Call) → Tied b (f call) (g c
   drain_backup_tied = record { at = λ s lt. go s lt s.page.queues.backup refl }
     where
       go : (s : State) → clock s < suc b → (ns : List ℕ) → s.page.queues.backup ≡ ns → Tame (clock s)
-          ((elim ns as (λ _. Step State (Unit {0})) [ [] ↦ done | n ∷ ns' ↦ change_page (with_queues (with_backup ns')) >> (drain f (n ∷ []) >> (f DrainBackup >> done)) ]) s)
-          ((elim ns as (λ _. Step State (Unit {0})) [ [] ↦ done | n ∷ ns' ↦ change_page (with_queues (with_backup ns')) >> (drain g (n ∷ []) >> (g DrainBackup >> done)) ]) s)
+          (drain_first f ns s) (drain_first g ns s)
       go s lt [] eq = record { same = refl; low = omega arith }
       go s lt (n ∷ ns) eq =
           let t : State = record s { page = with_queues (with_backup ns) s.page } in
           let j : length s.page.queues.backup ≡ length ns + 1 = ap length eq ∙ omega arith in
           let low : clock t + 1 ≤ clock s = omega (arith, j) in
-          let rest : Tied b (drain f (n ∷ []) >> (f DrainBackup >> done)) (drain g (n ∷ []) >> (g DrainBackup >> done)) = tied_seq (tied_down (drain_tied (n ∷ []))) (tied_seq (below DrainBackup) tied_done) in
+          let rest : Tied b (drain_taken f n) (drain_taken g n) = tied_seq (tied_down (drain_tied (n ∷ []))) (tied_seq (below DrainBackup) tied_done) in
           tame_le (clock t) (clock s) _ _ (omega (arith, low)) (rest.at t (omega (arith, low, lt)))
 
   -- creation

@@ -1,5 +1,5 @@
 -- The texts that an action's values name in the body of a class.
-use Rattle.std.specs.Prelude.{ℕ, List, [], Option, option_map}
+use Rattle.std.specs.Prelude.{ℕ, List, [], option_map}
 use Rattle.std.specs.Fmt.{decimal}
 use Rattle.rule_tokens.specs.declared.operand.Val.{Val}
 use Rattle.rule_tokens.specs.declared.operand.Val.TheVariants.{Fixed, Count, Kept, First, Second, Third}

@@ -10,6 +10,7 @@ use Rattle.ce_algorithms.specs.Steps.{Goes, Throws, Spent, Step, Outcome, then_d
 use Rattle.ce_algorithms.specs.Construction.{pop_construction}
 use Rattle.ce_algorithms.specs.State.{State}
 use Rattle.ce_algorithms.specs.Values.{Args}
+use Rattle.ce_algorithms.specs.Calls.{DrainBackup}
 use Rattle.ce_algorithms.specs.Body.{Flow, Next, Ended, told_next, on_flow, body}
 use Rattle.ce_algorithms.specs.Upgrade.{upgrade_ends}
 use Rattle.ce_algorithms.specs.Create.{fitting}
@@ -19,7 +20,7 @@ use Rattle.ce_algorithms.specs.Session.{reply_to}
 use Rattle.ce_algorithms.specs.Written.{behind_in}
 use Rattle.ce_algorithms.proofs.Framed.{Framed, framed_steps, framed_give, framed_done, framed_log, framed_throw, framed_seq, framed_throw_if, framed_found, framed_on_page, then_do_behind, catch_behind, finally_behind, attempt_behind}
 use Rattle.ce_algorithms.proofs.FramedLevels.{framed_told, framed_caught, framed_keep, framed_create_failed, framed_upgrade_failed, framed_upgrade_threw}
-use Rattle.ce_algorithms.proofs.FramedDrain.{framed_body, framed_drain, framed_drain_popped, framed_drain_backup}
+use Rattle.ce_algorithms.proofs.FramedDrain.{framed_model, framed_body, framed_drain, framed_drain_popped}
 use Rattle.ce_algorithms.proofs.FramedSteps.{framed_checkpoint}
 use Rattle.ce_frames.specs.Frames.{Frame, Replying, Checking, DrainingBackup, Naming, Stepping, Draining, InReaction, CreatingFit, CreatingExtended, Upgrading, Constructing, InBody}
 use Rattle.ce_frames.specs.Handing.{node_in, given_of, dropped, numbered}
@@ -61,7 +62,7 @@ framed_reply_to : (line : ℕ) (result : Result Given Fault) → Framed (reply_t
 framed_reply_to line result = framed_seq framed_checkpoint (framed_log _)
 
 framed_backup_on : (n : ℕ) → Framed (backup_on n)
-framed_backup_on n = framed_seq (framed_drain (n ∷ [])) (framed_seq framed_drain_backup (framed_log _))
+framed_backup_on n = framed_seq (framed_seq (framed_drain (n ∷ [])) (framed_seq (framed_model DrainBackup) framed_done)) (framed_log _)
 
 framed_settle : (kept : Result Given Fault) → Framed (settle kept)
 framed_settle (Ok given) = framed_give given

@@ -2,7 +2,7 @@
 use Rattle.std.proofs.Common.{◌≡◌, ℕ, List, Option, Some, None, refl, ap, sym, ◌∙◌}
 use Rattle.ce_base.specs.declared.custom_state.CustomState.TheVariants.{Precustomized}
 use Rattle.ce_base.specs.declared.fault.Fault.{Fault}
-use Rattle.ce_base.specs.declared.fault.Fault.TheVariants.{NotSupportedError, TypeError}
+use Rattle.ce_base.specs.declared.fault.Fault.TheVariants.{TypeError}
 use Rattle.rule_tokens.specs.declared.callback.CallName.TheVariants.{Constructor}
 use Rattle.rule_lines.specs.Acts.{Act}
 use Rattle.ce_registry.specs.declared.definition.Definition.{Definition}
@@ -11,7 +11,7 @@ use Rattle.ce_registry.specs.Registry.{is_autonomous}
 use Rattle.ce_algorithms.specs.declared.event.Event.TheVariants.{Construct, UpgradeBegun, UpgradeThrew}
 use Rattle.ce_algorithms.specs.declared.event.Given.{Given}
 use Rattle.ce_algorithms.specs.declared.event.Given.TheVariants.{Nothing, Node, Answers, Ignored}
-use Rattle.ce_algorithms.specs.Steps.{Step, Outcome, Goes, Throws, Spent, then_do, give, throw_where, catch_in, attempt_in}
+use Rattle.ce_algorithms.specs.Steps.{Step, Outcome, Goes, Throws, Spent, then_do, give, catch_in, attempt_in}
 use Rattle.ce_algorithms.specs.Page.{with_state, state_of, definition_at, with_definition}
 use Rattle.ce_algorithms.specs.Enqueue.{lookup_in}
 use Rattle.ce_algorithms.specs.Construction.{base_call, stack_of, with_stack, without_last}
@@ -19,7 +19,7 @@ use Rattle.ce_algorithms.specs.State.{State, Class, class_of, logged, on_page, w
 use Rattle.ce_algorithms.specs.Values.{Args, no_args}
 use Rattle.ce_algorithms.specs.Body.{actions_of, body}
 use Rattle.ce_algorithms.specs.Construct.{base_alone, constructor_body, construct}
-use Rattle.ce_algorithms.specs.Upgrade.{is_shadow_refused, is_upgradable, begin_upgrade, same_node, construct_for, upgrade_now, upgrade, upgrade_threw, upgrade_ends, drop_reactions}
+use Rattle.ce_algorithms.specs.Upgrade.{is_upgradable, begin_upgrade, same_node, construct_class, construct_for, upgrade_now, upgrade, upgrade_threw, upgrade_ends, drop_reactions}
 use Rattle.ce_algorithms.specs.Create.{create_extended, create_found, create, fitting, create_failed}
 use Rattle.ce_algorithms.specs.Perform.{gives_node}
 use Rattle.ce_algorithms.specs.Model.{model}
@@ -66,29 +66,13 @@ construct_comes class = record { at = λ s. (constructor_comes class (class_of s
 
 -- upgrades
 
--- the class is constructed, and then its result is tested
-constructs_for : ℕ → ℕ → Step State ℕ
-constructs_for n d s =
-    then_do (throw_where (λ (t : State). is_shadow_refused t.page n d) NotSupportedError s)
-    (λ _ t. construct model (definition_at t.page d).class (record t { page = with_state n Precustomized t.page }))
-
-constructs_tested : (n d : ℕ) (s : State) → then_do (constructs_for n d s) (same_node n) ≡ construct_for model n d s
-unfolding constructs_for
-constructs_tested n d s =
-    then_assoc (throw_where (λ (t : State). is_shadow_refused t.page n d) NotSupportedError s)
-    (λ _ t. construct model (definition_at t.page d).class (record t { page = with_state n Precustomized t.page })) (same_node n)
-
-construct_for_comes : (n d : ℕ) → Comes (construct_for_turn n d) (λ s. a_node (constructs_for n d s))
-unfolding constructs_for
+construct_for_comes : (n d : ℕ) → Comes (construct_for_turn n d) (λ s. a_node (construct_class model n d s))
 construct_for_comes n d =
     comes_then _ _ _ (λ _. record { at = λ s. (construct_comes (definition_at s.page d).class).at (record s { page = with_state n Precustomized s.page }) })
 
 upgrading_comes : (n d : ℕ) → Comes (below (Upgrading n d) (construct_for_turn n d)) (λ s. nothing (upgraded n d (construct_for model n d s)))
 unfolding after
-upgrading_comes n d =
-    comes_below (Upgrading n d) (construct_for_comes n d)
-    (λ s. ap (λ o. nothing (upgraded n d (then_do o (same_node n)))) (numbered_node (constructs_for n d s))
-    ∙ ap (λ o. nothing (upgraded n d o)) (constructs_tested n d s))
+upgrading_comes n d = comes_below (Upgrading n d) (construct_for_comes n d) (λ s. ap (λ o. nothing (upgraded n d (then_do o (same_node n)))) (numbered_node (construct_class model n d s)))
 
 upgrade_now_comes : (n d : ℕ) → Comes (upgrade_now_turn n d) (λ s. nothing (upgrade_now model n d s))
 upgrade_now_comes n d = record { at = λ s. go (on_page (begin_upgrade n d) (logged (UpgradeBegun n) s)) }

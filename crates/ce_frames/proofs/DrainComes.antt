@@ -1,5 +1,5 @@
 -- The turns of reactions and of their queues come to what the algorithms come to.
-use Rattle.std.proofs.Common.{◌≡◌, ℕ, Bool, true, false, List, [], ◌∷◌, Option, Some, None, refl, ap, sym, ◌∙◌}
+use Rattle.std.proofs.Common.{not, ◌≡◌, ℕ, List, [], ◌∷◌, Option, Some, None, refl, ap, sym, ◌∙◌}
 use Rattle.std.specs.Prelude.{Result}
 use Rattle.ce_base.specs.declared.fault.Fault.{Fault}
 use Rattle.reaction_queue.specs.declared.reaction.Reaction.{Reaction}
@@ -11,14 +11,14 @@ use Rattle.ce_registry.specs.declared.definition.Definition.{Definition}
 use Rattle.ce_algorithms.specs.declared.event.Event.TheVariants.{DrainBegun, Started, QueueClosed}
 use Rattle.ce_algorithms.specs.declared.event.Given.{Given}
 use Rattle.ce_algorithms.specs.declared.event.Given.TheVariants.{Nothing}
-use Rattle.ce_algorithms.specs.Steps.{Step, Outcome, Goes, Throws, Spent, then_do, ◌>>◌, give, done, settle}
+use Rattle.ce_algorithms.specs.Steps.{when, Step, Outcome, Goes, Throws, Spent, then_do, ◌>>◌, give, done, settle}
 use Rattle.ce_algorithms.specs.Page.{with_queues, definition_of}
 use Rattle.ce_algorithms.specs.State.{State, class_of, log, logged, change_page}
 use Rattle.ce_algorithms.specs.Calls.{DrainRest, DrainBackup}
 use Rattle.ce_algorithms.specs.Values.{args_of}
 use Rattle.ce_algorithms.specs.Body.{body}
 use Rattle.ce_algorithms.specs.Upgrade.{upgrade}
-use Rattle.ce_algorithms.specs.Drain.{log_call, actions_for, call_back, call_defined, run_reaction, react, drain, with_backup, drain_backup, drain_all_backup}
+use Rattle.ce_algorithms.specs.Drain.{log_call, actions_for, call_back, call_defined, run_reaction, react, drain, drain_first, with_backup, drain_backup, drain_all_backup}
 use Rattle.ce_algorithms.specs.Model.{model}
 use Rattle.ce_algorithms.specs.Session.{reply, reply_to}
 use Rattle.ce_algorithms.proofs.Steady.{model_level}
@@ -113,12 +113,6 @@ drain_at n ns waiting =
           (react model n w >> (model (DrainRest (n ∷ ns)) >> done))
     ]
 
--- by what is in the backup element queue
-abbrev backup_at : List ℕ → Step State (Unit {0})
-backup_at elements =
-    elim elements as
-    (λ _. Step State (Unit {0})) [ [] ↦ done | n ∷ ns ↦ change_page (with_queues (with_backup ns)) >> (drain model (n ∷ []) >> (model DrainBackup >> done)) ]
-
 -- a popped element queue
 
 taken_comes : (queue n : ℕ) (ns : List ℕ) (kept : Result Given Fault) (waiting : List (ℕ × Reaction)) (s : State)
@@ -138,47 +132,39 @@ drain_comes queue (n ∷ ns) kept = record { at = λ s. taken_comes queue n ns k
 
 -- the backup element queue
 
-next_backup_comes : (elements : List ℕ) (s : State) → comes (next_backup_turn elements s) ≡ nothing (then_do (backup_at elements s) (λ _. log (QueueClosed 0)))
+next_backup_comes : (elements : List ℕ) (s : State) → comes (next_backup_turn elements s) ≡ nothing (then_do (drain_first model elements s) (λ _. log (QueueClosed 0)))
 unfolding after
 next_backup_comes [] s = comes_ended (Goes Nothing (logged (QueueClosed 0) s))
 next_backup_comes (n ∷ ns) s =
-    let t : State = record s { page = with_queues (with_backup ns) s.page } in
-    let o : Outcome State (Unit {0}) = drain model (n ∷ []) t in
-    comes_with_below (DrainingBackup n) _ ∙ ap (after (DrainingBackup n)) (comes_ended (Goes Nothing t))
-    ∙ ap (λ x. nothing x)
-    (then_same o (λ _ u. then_do (drain_backup model u) (λ _. log (QueueClosed 0)))
-    (λ _ u. then_do ((model DrainBackup >> done) u) (λ _. log (QueueClosed 0)))
-    (λ _ u. ap (λ x. then_do x (λ _. log (QueueClosed 0))) (sym (backup_rest u)))
-    ∙ sym (then_assoc o (λ _. model DrainBackup >> done) (λ _. log (QueueClosed 0))))
+    comes_with_below (DrainingBackup n) _ ∙ ap (after (DrainingBackup n)) (comes_ended (Goes Nothing (record s { page = with_queues (with_backup ns) s.page })))
 
 taken_backup_comes : (n : ℕ) (waiting : List (ℕ × Reaction)) (s : State)
-    → comes (taken_backup_turn n waiting s) ≡ nothing (then_do (drain_at n [] waiting s) (λ _. drain_backup model >> log (QueueClosed 0)))
+    → comes (taken_backup_turn n waiting s) ≡ nothing (then_do (then_do (drain_at n [] waiting s) (λ _. model DrainBackup >> done)) (λ _. log (QueueClosed 0)))
 unfolding after
-taken_backup_comes n [] s = next_backup_comes s.page.queues.backup s
+taken_backup_comes n [] s = next_backup_comes s.page.queues.backup s ∙ ap (λ x. nothing (then_do x (λ _. log (QueueClosed 0)))) (sym (backup_rest s))
 taken_backup_comes n (w ∷ ws) s =
     let o : Outcome State (Unit {0}) = react model n w (taken n ws s) in
     take_comes (DrainingBackup n) n w ws s
-    ∙ ap (λ x. nothing x) (nothing_then o (backup_on n) ∙ drained o (n ∷ []) (drain_backup model >> log (QueueClosed 0)))
+    ∙ ap (λ x. nothing x) (nothing_then o (backup_on n)
+    ∙ sym (then_assoc o (λ _ t. then_do (drain model (n ∷ []) t) (λ _. model DrainBackup >> done)) (λ _. log (QueueClosed 0)))
+    ∙ ap (λ x. then_do x (λ _. log (QueueClosed 0))) (drained o (n ∷ []) (model DrainBackup >> done)))
 
 pub backup_comes : (n : ℕ) → Comes (backup_turn n) (λ s. nothing (backup_on n s))
 backup_comes n = record { at = λ s. taken_backup_comes n (waiting_at s.page.queues n) s }
 
 -- the checkpoint
 
-abbrev check_at : Bool → Step State (Unit {0})
-check_at empty = elim empty as (λ _. Step State (Unit {0})) [ true ↦ done | false ↦ drain_all_backup model ]
-
 checked_comes : (line : ℕ) (kept : Result Given Fault) (elements : List ℕ) (s : State) → s.page.queues.backup ≡ elements
-    → comes (checked_turn line kept elements s) ≡ nothing (then_do (check_at (is_empty elements) s) (λ _. log (reply line kept)))
+    → comes (checked_turn line kept elements s) ≡ nothing (then_do (when (not (is_empty elements)) (drain_all_backup model) s) (λ _. log (reply line kept)))
 unfolding after
 checked_comes line kept [] s is = comes_ended (Goes Nothing (logged (reply line kept) s))
 checked_comes line kept (n ∷ ns) s is =
     let t : State = logged (DrainBegun 0) s in
-    let o : Outcome State (Unit {0}) = then_do (backup_at (n ∷ ns) t) (λ _. log (QueueClosed 0)) in
+    let o : Outcome State (Unit {0}) = then_do (drain_first model (n ∷ ns) t) (λ _. log (QueueClosed 0)) in
     comes_with_below (Checking line kept) _ ∙ ap (after (Checking line kept)) (next_backup_comes (n ∷ ns) t)
     ∙ ap (λ x. nothing x)
     (nothing_then o (log (reply line kept))
-    ∙ ap (λ xs. then_do (then_do (backup_at xs t) (λ _. log (QueueClosed 0))) (λ _. log (reply line kept))) (sym is))
+    ∙ ap (λ xs. then_do (then_do (drain_first model xs t) (λ _. log (QueueClosed 0))) (λ _. log (reply line kept))) (sym is))
 
 pub check_comes : (line : ℕ) (kept : Result Given Fault) → Comes (check_turn line kept) (λ s. nothing (reply_to model line kept s))
 check_comes line kept = record { at = λ s. checked_comes line kept s.page.queues.backup s refl ∙ refl }

@@ -1,5 +1,5 @@
 -- What the algorithms still do after each frame's wait, in their own words.
-use Rattle.std.specs.Prelude.{ℕ, Bool, true, false, List, [], ◌∷◌, Option, Some, Result}
+use Rattle.std.specs.Prelude.{ℕ, Bool, true, false, List, Option, Some, Result}
 use Rattle.ce_base.specs.declared.fault.Fault.{Fault}
 use Rattle.ce_base.specs.declared.fault.Fault.TheVariants.{ReferenceError}
 use Rattle.rule_lines.specs.Acts.{Act}
@@ -11,7 +11,7 @@ use Rattle.ce_algorithms.specs.State.{State, log, on_page}
 use Rattle.ce_algorithms.specs.Values.{Args}
 use Rattle.ce_algorithms.specs.Body.{Flow, told_next, caught, on_flow, body}
 use Rattle.ce_algorithms.specs.Upgrade.{same_node, upgrade_threw, upgrade_ends}
-use Rattle.ce_algorithms.specs.Drain.{drain, drain_and_close, drain_popped, drain_backup}
+use Rattle.ce_algorithms.specs.Drain.{drain_and_close, drain_popped, drain_taken}
 use Rattle.ce_algorithms.specs.Create.{fitting, create_failed, upgrade_failed}
 use Rattle.ce_algorithms.specs.Perform.{named}
 use Rattle.ce_algorithms.specs.Model.{model}
@@ -24,8 +24,7 @@ use Rattle.ce_frames.specs.Handing.{nothing, a_node, a_result, dropped, numbered
 -- the backup element queue, from an element that was taken from it on: it is drained, and closed
 abbrev pub backup_on : ℕ → Step State (Unit {0})
 backup_on n = do
-  drain model (n ∷ [])
-  drain_backup model
+  drain_taken model n
   log (QueueClosed 0)
 
 -- a popped element queue, from these elements on: it is drained and closed, and then comes what the steps gave, or their fault
