@@ -14,9 +14,10 @@ use Rattle.ce_algorithms.specs.Drain.{open_queue, with_backup}
 use Rattle.ce_algorithms.proofs.Low.{with_waiting_load}
 use Rattle.ce_frames.specs.Frames.{Frame}
 use Rattle.ce_frames.specs.Work.{weight, elements_in, potential}
+use Rattle.ce_frames.specs.Whole.{state_in}
 use Rattle.ce_frames.specs.Turned.{Turned, Turn, turn_after, ◌>>=◌, ◌>>◌, hand_down, go_on, with_below, below, when_turn}
 use Rattle.ce_frames.specs.Turned as turned
-use Rattle.ce_frames.proofs.Falls.{state_in, Falls, falls_give, logged_potential}
+use Rattle.ce_frames.proofs.Falls.{Falls, falls_give, logged_potential}
 
 unfoldable pub cost : Turned → ℕ
 cost t = potential t.state + sum_by weight t.pushed

@@ -14,6 +14,7 @@ use Rattle.ce_algorithms.specs.State.{State, Class, View, view, look, log, logge
 use Rattle.ce_algorithms.proofs.PageSteps.{Keeps, Closed, work_in}
 use Rattle.ce_algorithms.proofs.Low.{lower, with_waiting_load}
 use Rattle.ce_frames.specs.Work.{elements_in, places, potential_of, potential}
+use Rattle.ce_frames.specs.Whole.{state_in}
 
 -- primitives of the page
 
@@ -50,12 +51,6 @@ sinks = record {
   spent = λ k w is. omega (arith, is);
   enqueued = enqueued_sinks;
 }
-
--- the state where a step ended
-abbrev pub state_in : {A : Type 0} → Outcome State A → State
-state_in (Goes a s) = s
-state_in (Throws f s) = s
-state_in (Spent s) = s
 
 outcome_sinks : {A : Type 0} (s : State) (o : Outcome Work A) → Sinks (work_of s) (work_in o) → potential (state_in (with_outcome o s)) ≤ potential s
 unfolding potential

@@ -14,3 +14,5 @@ pub mod TurnCosts
 pub mod Looping
 pub mod Behind
 pub mod Moves
+pub mod Wholes
+pub mod BlindSteps

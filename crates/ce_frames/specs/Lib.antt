@@ -11,3 +11,4 @@ pub mod DrainTurns
 pub mod Turns
 pub mod Loop
 pub mod Places
+pub mod Whole
