@@ -16,3 +16,4 @@ pub mod Behind
 pub mod Moves
 pub mod Wholes
 pub mod BlindSteps
+pub mod BlindTurns
