@@ -17,3 +17,4 @@ pub mod Moves
 pub mod Wholes
 pub mod BlindSteps
 pub mod BlindTurns
+pub mod BlindParts
