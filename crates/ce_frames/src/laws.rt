@@ -1,5 +1,6 @@
 // What holds of frames: statements, each proved as the contract of a function that does nothing.
-ghost use Rattle.std.specs.Prelude.{◌≡◌, ◌<◌, ℕ, List, ◌++◌, ◌∷◌, [], None, Option, Some, map, slice_get, slice_set};
+ghost use Rattle.std.specs.Prelude.{◌≡◌, ◌<◌, ℕ, List, ◌++◌, ◌∷◌, [], None, Option, Some, length, map, slice_get, slice_set};
+ghost use Rattle.ce_base.specs.declared.fault.Fault.{Fault};
 ghost use Rattle.rule_tokens.specs.declared.callback.CallName.{CallName};
 ghost use Rattle.rule_lines.specs.Acts.{Act};
 ghost use Rattle.rule_lines.specs.declared.line.Cmd.{Cmd};
@@ -14,10 +15,11 @@ ghost use Rattle.ce_frames.specs.Frames.{Frame};
 ghost use Rattle.ce_frames.specs.Handing.{nothing};
 ghost use Rattle.ce_frames.specs.After.{after};
 ghost use Rattle.ce_frames.specs.Places.{Behaviour, Body, Held, Homes, IsTopmost, NoneOf, Place, Stands, Wait, held_in, holding, home_of, seen};
-ghost use Rattle.ce_frames.specs.Rest.{End, outcome_of, rest};
+ghost use Rattle.ce_frames.specs.Rest.{End, Over, Threw, Went, outcome_of, rest};
 ghost use Rattle.ce_frames.specs.Work.{work};
 ghost use Rattle.ce_frames.specs.Turned.{left, to_come};
 ghost use Rattle.ce_frames.specs.Turns.{turn};
+ghost use Rattle.ce_frames.specs.Whole.{CatchesBlind, GoesBlind, whole, whole_turned};
 ghost use Rattle.ce_frames.specs.Loop.{command_turn, looped};
 
 /// The machine is the model: a command, by the loop over frames, comes to what the algorithms come to, whether
@@ -80,4 +82,19 @@ pub fn a_behaviour_is_in_one_place()
         → Stands homes frames bs → Stands homes (frames ++ Wait f ∷ []) bs }
     ensures waited { (homes : Homes) (frames : List Held) (bs : List Behaviour) (f : Frame)
         → Stands homes (frames ++ Wait f ∷ []) bs → Stands homes frames bs }
+{}
+
+/// What classes do and remember may be kept beside a state that has none of it. A frame that was given something
+/// reads it only to drain a queue or to go on with a body; one that is handed a fault, only where a body caught
+/// the fault; and at the end of a session none does. All other turns do the same over the bare state, and leave
+/// as many classes as there were.
+pub fn what_waits_reads_no_behaviour()
+    ensures went { (f : Frame) (given : Given) (bs : List Behaviour) (s : State) → GoesBlind f
+        → turn f (Went given) (whole bs s) ≡ whole_turned bs (turn f (Went given) s) }
+    ensures threw { (f : Frame) (x : Fault) (bs : List Behaviour) (s : State) → CatchesBlind f
+        → turn f (Threw x) (whole bs s) ≡ whole_turned bs (turn f (Threw x) s) }
+    ensures over { (f : Frame) (bs : List Behaviour) (s : State) → turn f Over (whole bs s) ≡ whole_turned bs (turn f Over s) }
+    ensures went_classes { (f : Frame) (given : Given) (s : State) → GoesBlind f → length (turn f (Went given) s).state.classes ≡ length s.classes }
+    ensures threw_classes { (f : Frame) (x : Fault) (s : State) → CatchesBlind f → length (turn f (Threw x) s).state.classes ≡ length s.classes }
+    ensures over_classes { (f : Frame) (s : State) → length (turn f Over s).state.classes ≡ length s.classes }
 {}
