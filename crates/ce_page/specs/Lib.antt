@@ -1,5 +1,6 @@
 pub mod Ends
 pub mod Callbacks
 pub mod Parts
+pub mod Rows
 pub mod Numbers
 pub mod Loose

@@ -1,5 +1,5 @@
 // New nodes, and what they are as custom elements.
-ghost use Rattle.std.specs.Prelude.{◌≡◌, ◌+◌, None, IfOk, OnOk};
+ghost use Rattle.std.specs.Prelude.{◌≡◌, ◌+◌, ◌<◌, None, IfOk, OnOk};
 ghost use Rattle.node_trees.specs.declared.kind.NodeKind.TheVariants.{Document, Element as ElementKind, ShadowRoot};
 ghost use Rattle.node_trees.specs.Facts.{blank, new_element, new_text};
 ghost use Rattle.node_trees.specs.Trees.{single, with_node, with_shadow};
@@ -30,7 +30,7 @@ impl Page {
     }
 
     /// Makes an element, uncustomized and without a definition (DOM Standard, section "Interface Element",
-    /// "create an element internal").
+    /// "create an element internal"). Node 1 is the page's document, so its number is above 1.
     pub fn make_element(
         &mut self,
         alloc: Global,
@@ -43,6 +43,7 @@ impl Page {
         ensures made { IfOk result (IsNode self.new.forest) }
         ensures nodes { OnOk result (size self.new.forest ≡ size self.old.forest + 1) }
         ensures numbers { SameNumbers self.old self.new }
+        ensures later { IfOk result (λ n. 1 < n) }
     {
         let n = self.tree.make_element(alloc, local, is_value, document)?;
         self.elements.push(Element::uncustomized())?;
@@ -95,13 +96,15 @@ impl Page {
         }
     }
 
-    /// Sets or clears the definition of an element, and tells nobody.
+    /// Sets or clears the definition of an element, and tells nobody. Node 1 is the page's document, so an
+    /// element's number is above 1.
     pub fn set_definition(
         &mut self,
         _alloc: Global,
         n: NodeNo,
         d: Option<DefNo>,
     ) -> Result<(), NoMemory>
+        requires { 1 < n }
         ensures page { OnOk result (self.new ≡ with_definition n d self.old) }
         ensures numbers { SameNumbers self.old self.new }
     {

@@ -29,6 +29,7 @@ impl Model for Page {
     ghost use Rattle.ce_algorithms.specs.Page.{Page as PageState};
     ghost use Rattle.ce_page.specs.Parts.{empty_stacks};
     ghost use Rattle.ce_page.specs.Callbacks.{all_callbacks};
+    ghost use Rattle.ce_page.specs.Rows.{HasRows};
     ghost use Rattle.std.specs.Coded.{codes};
     ghost use Rattle.node_trees.specs.TreesCode.{trees_code};
 
@@ -46,7 +47,7 @@ impl Model for Page {
       notes = p.notes.items;
     } };
 
-    ghost invariant = { λ p. all_callbacks p.queues.waiting ≡ true };
+    ghost invariant = { λ p. (all_callbacks p.queues.waiting ≡ true) × HasRows p.elements.items p.tree };
 }
 
 impl Page {

@@ -1,5 +1,6 @@
 // What is read of a page.
-ghost use Rattle.std.specs.Prelude.{◌≡◌, not, option_copied};
+ghost use Rattle.std.specs.Prelude.{◌≡◌, not, option_copied, IfSome};
+ghost use Rattle.node_trees.specs.Nodes.{IsNode};
 ghost use Rattle.ce_algorithms.specs.Page.{element_of, state_of, definition_of, is_custom};
 ghost use Rattle.reaction_queue.specs.ElementQueues.{is_empty};
 ghost use Rattle.ce_page.specs.Callbacks.{IsPlain};
@@ -46,9 +47,11 @@ impl Page {
         }
     }
 
-    /// The definition of a node, itself. None exactly where the node has none that was given.
+    /// The definition of a node, itself. None exactly where the node has none that was given. What has a
+    /// definition is a node that was made.
     pub fn definition_of(&self, n: NodeNo) -> Option<&Definition>
-        ensures { option_copied result ≡ definition_of self.now n }
+        ensures definition { option_copied result ≡ definition_of self.now n }
+        ensures made { IfSome result (λ d. IsNode self.now.forest n) }
     {
         match self.definition(n) {
             None => None,
