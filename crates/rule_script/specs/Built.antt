@@ -1,10 +1,7 @@
 -- What is built already. A line that says something else is refused as later.
 use Rattle.std.specs.Prelude.{Bool, true, false, ◌&&◌, None}
-use Rattle.std.specs.List.{list_all}
 use Rattle.rule_tokens.specs.declared.callback.CallName.{CallName}
 use Rattle.rule_tokens.specs.declared.callback.CallName.TheVariants as calls
-use Rattle.rule_tokens.specs.declared.operand.Val.{Val}
-use Rattle.rule_tokens.specs.declared.operand.Val.TheVariants as values
 use Rattle.rule_lines.specs.declared.line.Cmd.{Cmd}
 use Rattle.rule_lines.specs.declared.line.Cmd.TheVariants as commands
 use Rattle.rule_lines.specs.declared.ask_word.AskWord.{AskWord}
@@ -14,14 +11,6 @@ use Rattle.rule_lines.specs.declared.op.Op.TheVariants as ops
 use Rattle.rule_lines.specs.Acts.{Act, Part, Said, Blank, Command, Declares}
 use Rattle.rule_lines.specs.Acts as acts
 
--- the texts, and the arguments of a callback
-abbrev pub is_built_value : Val → Bool
-is_built_value (values.Fixed text) = true
-is_built_value values.First = true
-is_built_value values.Second = true
-is_built_value values.Third = true
-is_built_value _ = false
-
 -- the attributes, the parent and the children of a node can be asked
 abbrev pub is_built_word : AskWord → Bool
 is_built_word words.Attr = true
@@ -29,7 +18,8 @@ is_built_word words.Parent = true
 is_built_word words.Kids = true
 is_built_word _ = false
 
--- making nodes, inserting and removing them, attributes, definitions without `extends`, variables, questions
+-- making nodes without `is`, inserting and removing them, attributes with any values, definitions without `extends`,
+-- variables, and the questions above
 abbrev pub is_built_op : Op → Bool
 is_built_op (ops.Create var local None document) = true
 is_built_op (ops.MakeText var chars document) = true
@@ -45,23 +35,28 @@ is_built_op (ops.Ask word target name) = is_built_word word
 is_built_op (ops.Let var target) = true
 is_built_op _ = false
 
+-- at top level: the operations that are built, and `doc`
 abbrev pub is_built_command : Cmd → Bool
 is_built_command (commands.Both op) = is_built_op op
 is_built_command (commands.Doc var) = true
 is_built_command _ = false
 
--- `log`
+-- in a body: the operations that are built, also inside `try` and `if`, and each other action but `super`, with any values
 abbrev pub is_built_act : Act → Bool
-is_built_act (acts.Log vals) = list_all is_built_value vals
-is_built_act _ = false
+is_built_act (acts.Both op) = is_built_op op
+is_built_act (acts.Try act) = is_built_act act
+is_built_act (acts.If equal left right act) = is_built_act act
+is_built_act acts.Super = false
+is_built_act _ = true
 
+-- the callbacks that are told of an insertion, a removal and an attribute; not the constructor
 abbrev pub is_built_call : CallName → Bool
 is_built_call calls.Connected = true
 is_built_call calls.Disconnected = true
 is_built_call calls.Attribute = true
 is_built_call _ = false
 
--- these callbacks and their bodies, and observed names
+-- classes, these callbacks, the actions above in their bodies, and observed names
 abbrev pub is_built_part : Part → Bool
 is_built_part (acts.Class name) = true
 is_built_part (acts.On class call act) = is_built_call call && is_built_act act

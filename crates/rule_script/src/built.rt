@@ -1,23 +1,10 @@
 // What is built already.
 ghost use Rattle.std.specs.Prelude.{◌≡◌};
-ghost use Rattle.std.specs.List.{list_all};
 ghost use Rattle.rule_lines.specs.Acts.{act_of, line_of, part_of};
-ghost use Rattle.rule_script.specs.Built.{is_built, is_built_act, is_built_call, is_built_command, is_built_op, is_built_part, is_built_value, is_built_word};
+ghost use Rattle.rule_script.specs.Built.{is_built, is_built_act, is_built_call, is_built_command, is_built_op, is_built_part, is_built_word};
 
 use rule_lines::{Action, AskWord, ClassPart, Cmd, Line, Op};
-use rule_tokens::{CallName, Val};
-
-fn is_built_value(value: &Val) -> bool
-    ensures { result ≡ is_built_value value.now }
-{
-    matches!(value, Val::Fixed(_) | Val::First | Val::Second | Val::Third)
-}
-
-fn are_built_values(values: &[Val]) -> bool
-    ensures { result ≡ list_all is_built_value values.now }
-{
-    values.iter().all(|v| is_built_value(v))
-}
+use rule_tokens::CallName;
 
 fn is_built_op(op: &Op) -> bool
     ensures { result ≡ is_built_op op.now }
@@ -62,8 +49,12 @@ fn is_built_action(action: &Action) -> bool
     ensures { result ≡ is_built_act (act_of action.now) }
 {
     match action {
-        Action::Log(vals) => are_built_values(vals.as_slice()),
-        _ => false,
+        Action::Both(op) => is_built_op(op),
+        Action::Try(inner) => is_built_action(inner),
+        Action::If { then, .. } => is_built_action(then),
+        Action::Super => false,
+        Action::Log(_) | Action::Return(_) | Action::Throw(_) | Action::Bump | Action::Keep(_) =>
+            true,
     }
 }
 

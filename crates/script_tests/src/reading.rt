@@ -320,6 +320,19 @@ observe A "k"
 observe A K "a b"
 on A attribute : log "x" @1 @2 @3
 on A attribute :  log log
+on A attribute : log @count
+on A attribute : log x @kept
+on A attribute : try log x
+on A attribute : setattr this k v
+on A attribute : setattr this k @kept
+on A connected : append $a $b
+on A connected : try return $a
+on A connected : if eq @count 3 : keep @1
+on A connected : if ne "" @kept : try if eq @1 @2 : create $e x-a in $d
+on A disconnected : bump
+on A disconnected : throw @3
+on A disconnected : return
+on A disconnected : ask kids this
 define "x-a" A
 define X-Ä  A
 create $a "x-a"
@@ -351,6 +364,7 @@ user autofill $e @4
 > Place
 log x
 on A attribute : super
+on A connected : super
 user reset this
 > Escape
 text $t "a\q"
@@ -361,12 +375,16 @@ text $t "a"b
 create $a p is x-b
 define x-a A extends p
 on A adopted : log x
+on A adopted : append $a $b
 on A constructor : log x
-on A connected : append $a $b
-on A attribute : log @count
-on A attribute : log x @kept
-on A attribute : try log x
-on A attribute : setattr this k v
+on A constructor : super
+on A constructor : return $a
+on A connected : clone $a $b
+on A connected : try new $a A
+on A connected : if eq a a : try upgrade $a
+on A connected : ask state $a
+on A connected : create $a p is x-b
+on A connected : define x-a A extends p
 has A constructor
 associate A
 new $a A

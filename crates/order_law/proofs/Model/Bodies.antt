@@ -18,7 +18,7 @@ use Rattle.ce_algorithms.specs.Construction.{base_call}
 use Rattle.ce_base.specs.declared.custom_state.CustomState.TheVariants.{Precustomized}
 use Rattle.std.specs.Option.{option_and_then}
 use Rattle.ce_algorithms.specs.Page.{Page, Element, element_of, definition_of, definition_at, with_state}
-use Rattle.ce_algorithms.specs.Upgrade.{is_shadow_refused}
+use Rattle.ce_algorithms.specs.Upgrade.{is_shadow_refused, construct_class}
 use Rattle.rule_lines.specs.declared.op.Op.{Op}
 use Rattle.rule_lines.specs.declared.op.Op.TheVariants as ops
 use Rattle.ce_algorithms.specs.State.{State, View, view, Class, Memory, value_of, log, on_page, change_page, spend, spend_from, class_of, change_class, read_page}
@@ -205,8 +205,10 @@ module _ (again : Again) (keeps : KeepsLaw again) where
   pub body_keeps : BodiesKeep again
   body_keeps class args this actions h whole held = gives_keeps (body_gives class args this actions h whole held)
 
-  pub construct_for_keeps : ConstructsKeep again
-  construct_for_keeps n d h =
+  construct_class_keeps : (n d : ℕ) (h : List Hold) → Keeps (InUpgrade n ∷ h) (construct_class again n d)
+  construct_class_keeps n d h =
       keeps_seq (keeps_throw_where (λ (s : State). is_shadow_refused s.page n d) NotSupportedError)
-      (keeps_seq (precustomized n h)
-      (keeps_bind (keeps_read_page (λ p. (definition_at p d).class)) (λ class. keeps_bind (gives_keeps (construct_gives class (InUpgrade n ∷ h))) (λ result. keeps_throw_if (not (result == n)) TypeError))))
+      (keeps_seq (precustomized n h) (keeps_bind (keeps_read_page (λ p. (definition_at p d).class)) (λ class. gives_keeps (construct_gives class (InUpgrade n ∷ h)))))
+
+  pub construct_for_keeps : ConstructsKeep again
+  construct_for_keeps n d h = keeps_bind (construct_class_keeps n d h) (λ result. keeps_throw_if (not (result == n)) TypeError)

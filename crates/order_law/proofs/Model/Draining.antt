@@ -13,7 +13,7 @@ use Rattle.reaction_queue.specs.Queues.{waiting_at, with_waiting, begun, ended, 
 use Rattle.reaction_queue.specs.Reactions.{what_of}
 use Rattle.ce_registry.specs.declared.definition.Definition.{Definition}
 use Rattle.ce_algorithms.specs.declared.event.Event.TheVariants.{Started, Finished, Reported, QueueOpened, QueueClosed, DrainBegun}
-use Rattle.ce_algorithms.specs.Steps.{Step, Outcome, Goes, Throws, Spent, then_do, ◌>>=◌, ◌>>◌, give, done, throw, read, catch_in, finally_in}
+use Rattle.ce_algorithms.specs.Steps.{Step, Outcome, Goes, Throws, Spent, then_do, ◌>>=◌, ◌>>◌, give, done, when, throw, read, catch_in, finally_in}
 use Rattle.ce_algorithms.specs.Page.{definition_of, with_queues}
 use Rattle.ce_algorithms.specs.State.{State, Class, log, logged, change_page, class_of, or_new_class}
 use Rattle.ce_algorithms.specs.Calls.{Again, Operate, DrainRest, DrainBackup}
@@ -229,6 +229,6 @@ module _ (again : Again) (keeps : KeepsLaw again) (constructs : ConstructsKeep a
       empty (n ∷ ns) e = absurd (let x : false ≡ true = e in cc)
 
       go : (t : Bool) (ns : List ℕ) → s.page.queues.backup ≡ ns → is_empty ns ≡ t →
-          AfterRest ((elim t as (λ _. Step State (Unit {0})) [ true ↦ done | false ↦ drain_all_backup again ]) s)
+          AfterRest (when (not t) (drain_all_backup again) s)
       go true ns b e = (k, b ∙ empty ns e)
       go false ns b e = close_then (drain_backup again (logged (DrainBegun 0) s)) (backup_after (logged (DrainBegun 0) s) (record { holds = checkpoint_holds s.log s.page k.holds; notes = k.notes; rest = k.rest }))

@@ -48,9 +48,9 @@ built_command (commands.Both op) e = built_op op e
 built_command c e = refl
 
 built_act : (a : Act) → is_built_act a ≡ true → is_whole a ≡ true
-built_act (acts.Both op) e = wrong e
-built_act (acts.Try action) e = wrong e
-built_act (acts.If equal left right action) e = wrong e
+built_act (acts.Both op) e = built_op op e
+built_act (acts.Try action) e = built_act action e
+built_act (acts.If equal left right action) e = built_act action e
 built_act a e = refl
 
 built_part : (p : Part) → is_built_part p ≡ true → is_whole_part p ≡ true
