@@ -1,5 +1,5 @@
 // Actions of a body, up to one that needs more than what the class remembers and the fuel.
-ghost use Rattle.std.specs.Prelude.{◌≡◌, drop, map, IfOk};
+ghost use Rattle.std.specs.Prelude.{◌≡◌, ◌≤◌, drop, map, IfOk};
 ghost use Rattle.ce_base.specs.declared.fault.Fault.TheVariants.{UserThrow};
 ghost use Rattle.rule_lines.specs.Acts.{Both, Log, act_of};
 ghost use Rattle.ce_algorithms.specs.Body.{actions_of, holds};
@@ -26,6 +26,7 @@ pub(crate) fn resume_in(
 ) -> Result<Next, NoMemory>
     ensures resumed { IfOk result (λ next. resumed_to next memory.new fuel.new (drop at.new.index (actions_of at.new.call bodies.now)) ≡ resumed args.now (drop at.old.index (actions_of at.old.call bodies.now)) memory.old fuel.old) }
     ensures call { at.new.call ≡ at.old.call }
+    ensures less { fuel.new ≤ fuel.old }
 {
     while let Some(action) = bodies.get(at.call, at.index) {
         if !fuel.spend() {
@@ -51,7 +52,8 @@ fn act(
     args: &Args,
     fuel: &mut Fuel,
 ) -> Result<Option<Next>, NoMemory>
-    ensures { IfOk result (λ next. acted_to next memory.new fuel.new ≡ acted args.now guarded (act_of action.now) memory.old fuel.old) }
+    ensures acted { IfOk result (λ next. acted_to next memory.new fuel.new ≡ acted args.now guarded (act_of action.now) memory.old fuel.old) }
+    ensures less { fuel.new ≤ fuel.old }
 {
     match action {
         Action::Bump => {

@@ -1,5 +1,5 @@
 // Behaviours: what classes do, and what they remember.
-ghost use Rattle.std.specs.Prelude.{◌≡◌, IfOk, OnOk};
+ghost use Rattle.std.specs.Prelude.{◌≡◌, ◌≤◌, IfOk, OnErr, OnOk};
 ghost use Rattle.rule_lines.specs.Acts.{act_of};
 ghost use Rattle.behaviours.specs.Behaviours.{left_at, new_behaviour, with_action};
 ghost use Rattle.behaviours.specs.Next.{resumed_to};
@@ -47,7 +47,8 @@ impl Behaviour {
 
     /// Puts an action behind the others of its callback's body.
     pub(crate) fn extend(&mut self, call: CallName, action: Action) -> Result<(), NoMemory>
-        ensures { OnOk result (self.new ≡ with_action call (act_of action) self.old) }
+        ensures extended { OnOk result (self.new ≡ with_action call (act_of action) self.old) }
+        ensures same { OnErr result (self.new ≡ self.old) }
     {
         self.bodies.push(call, action)
     }
@@ -63,8 +64,9 @@ impl Behaviour {
         fuel: &mut Fuel,
     ) -> Result<Next, NoMemory>
         ensures resumed { IfOk result (λ next. resumed_to next self.new.memory fuel.new (left_at self.new at.new) ≡ resumed args.now (left_at self.old at.old) self.old.memory fuel.old) }
-        ensures bodies { OnOk result (self.new.bodies ≡ self.old.bodies) }
-        ensures call { OnOk result (at.new.call ≡ at.old.call) }
+        ensures bodies { self.new.bodies ≡ self.old.bodies }
+        ensures call { at.new.call ≡ at.old.call }
+        ensures less { fuel.new ≤ fuel.old }
     {
         resume_in(&self.bodies, &mut self.memory, alloc, at, args, fuel)
     }

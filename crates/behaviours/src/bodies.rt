@@ -1,5 +1,5 @@
 // The bodies of a class's callbacks.
-ghost use Rattle.std.specs.Prelude.{◌≡◌, ◌+◌, ◌^◌, ◌<◌, ◌++◌, ◌∷◌, [], drop, if◌then◌else◌, is_ok, slice_get, IfSome, MatchOption, OnOk};
+ghost use Rattle.std.specs.Prelude.{◌≡◌, ◌+◌, ◌^◌, ◌<◌, ◌++◌, ◌∷◌, [], drop, if◌then◌else◌, is_ok, slice_get, IfSome, MatchOption, OnErr, OnOk};
 ghost use Rattle.rule_lines.specs.Acts.{act_of};
 ghost use Rattle.ce_algorithms.specs.Body.{actions_of};
 ghost use Rattle.ce_registry.specs.ClassFacts.{place_of};
@@ -86,7 +86,8 @@ impl Bodies {
 
     /// Puts an action behind the others of its callback.
     pub(crate) fn push(&mut self, call: CallName, action: Action) -> Result<(), NoMemory>
-        ensures { OnOk result (self.new ≡ self.old ++ (call, act_of action) ∷ []) }
+        ensures pushed { OnOk result (self.new ≡ self.old ++ (call, act_of action) ∷ []) }
+        ensures same { OnErr result (self.new ≡ self.old) }
     {
         let place = self.lines.len();
         self.lines.push((call, action))?;

@@ -1,5 +1,5 @@
 // Homes of behaviours.
-ghost use Rattle.std.specs.Prelude.{◌≡◌, ◌<◌, ◌++◌, ◌∷◌, [], None, Some, true, is_some, length, slice_set, IfOk, OnOk};
+ghost use Rattle.std.specs.Prelude.{◌≡◌, ◌<◌, ◌++◌, ◌∷◌, [], None, Some, true, is_some, length, slice_set, IfOk, OnErr, OnOk};
 ghost use Rattle.rule_lines.specs.Acts.{act_of};
 ghost use Rattle.ce_frames.specs.Places.{home_of};
 ghost use Rattle.behaviours.specs.Behaviours.{extended_at, new_behaviour};
@@ -43,6 +43,7 @@ impl Homes {
     pub fn add(&mut self, alloc: Global) -> Result<ClassNo, NoMemory>
         ensures number { IfOk result (λ k. k ≡ length self.old) }
         ensures added { OnOk result (self.new ≡ self.old ++ Some new_behaviour ∷ []) }
+        ensures same { OnErr result (self.new ≡ self.old) }
     {
         let class = ClassNo(self.items.len() as u64);
         self.put(Behaviour::make(alloc)?)?;
@@ -50,7 +51,8 @@ impl Homes {
     }
 
     fn put(&mut self, b: Behaviour) -> Result<(), NoMemory>
-        ensures { OnOk result (self.new ≡ self.old ++ Some b ∷ []) }
+        ensures added { OnOk result (self.new ≡ self.old ++ Some b ∷ []) }
+        ensures same { OnErr result (self.new ≡ self.old) }
     {
         self.items.push(Some(b))?;
         Ok(())
@@ -65,7 +67,8 @@ impl Homes {
         action: Action,
     ) -> Result<(), NoMemory>
         requires { is_some (home_of self.old class) ≡ true }
-        ensures { OnOk result (self.new ≡ extended_at class call (act_of action) self.old) }
+        ensures extended { OnOk result (self.new ≡ extended_at class call (act_of action) self.old) }
+        ensures same { OnErr result (self.new ≡ self.old) }
     {
         match &mut self.items[class.0 as usize] {
             None => unreachable!(),

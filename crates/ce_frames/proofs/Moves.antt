@@ -16,6 +16,15 @@ last_has b p [] h = h
 last_has b p (x ∷ []) h = h.1
 last_has b p (x ∷ y ∷ ps) h = last_has b p (y ∷ ps) h.1
 
+-- where all places are empty, one more is
+last_more : (p : Option Behaviour) (ps : List (Option Behaviour)) → OnlyLast None (p ∷ ps) → OnlyLast None (p ∷ (ps ++ None ∷ []))
+last_more p [] h = (h, refl)
+last_more p (q ∷ ps) h = (h.0, last_more q ps h.1)
+
+last_less : (p h : Option Behaviour) (ps : List (Option Behaviour)) → OnlyLast None (p ∷ (ps ++ h ∷ [])) → OnlyLast None (p ∷ ps)
+last_less p h [] e = e.0
+last_less p h (q ∷ ps) e = (e.0, last_less q h ps e.1)
+
 -- what the last place had goes on to a new last place
 last_on : (b p : Option Behaviour) (ps : List (Option Behaviour)) → OnlyLast b (ps ++ p ∷ []) → OnlyLast b (ps ++ None ∷ p ∷ [])
 last_on b p [] h = (refl, h)
@@ -310,6 +319,41 @@ changed homes frames bs k p q b c s =
         ≡ places_of j (frames ++ Body k p (Some b) ∷ []) = places_else j k q (Some c) frames other ∙ sym (places_else j k p (Some b) frames other) in
         subst (λ a. OnlyLast a (home_of homes j ∷ places_of j (frames ++ Body k q (Some c) ∷ []))) (sym (set_other bs k j c (eqb-false k j other)))
         (subst (λ l. OnlyLast (slice_get bs j) (home_of homes j ∷ l)) (sym same) (s.one j))
+
+-- a body of a class that is not there has nothing
+pub unknown_begins : (homes : Homes) (frames : List Held) (bs : List Behaviour) (k : ℕ) (p : Place) → slice_get bs k ≡ None
+    → Stands homes frames bs → Stands homes (frames ++ Body k p None ∷ []) bs
+unknown_begins homes frames bs k p unknown s =
+    record { each = s.each; one = each_class (λ j. OnlyLast (slice_get bs j) (home_of homes j ∷ places_of j (frames ++ Body k p None ∷ []))) k here others }
+  where
+    here : OnlyLast (slice_get bs k) (home_of homes k ∷ places_of k (frames ++ Body k p None ∷ []))
+    here =
+        subst (λ o. OnlyLast o (home_of homes k ∷ places_of k (frames ++ Body k p None ∷ []))) (sym unknown)
+        (subst (λ l. OnlyLast None (home_of homes k ∷ l)) (sym (places_own k p None frames))
+        (last_more (home_of homes k) (places_of k frames) (subst (λ o. OnlyLast o (home_of homes k ∷ places_of k frames)) unknown (s.one k))))
+
+    others : (j : ℕ) → k == j ≡ false → OnlyLast (slice_get bs j) (home_of homes j ∷ places_of j (frames ++ Body k p None ∷ []))
+    others j other = subst (λ l. OnlyLast (slice_get bs j) (home_of homes j ∷ l)) (sym (places_else j k p None frames other)) (s.one j)
+
+pub unknown_ends : (homes : Homes) (frames : List Held) (bs : List Behaviour) (k : ℕ) (p : Place) (h : Option Behaviour) → slice_get bs k ≡ None
+    → Stands homes (frames ++ Body k p h ∷ []) bs → Stands homes frames bs
+unknown_ends homes frames bs k p h unknown s =
+    record { each = s.each; one = each_class (λ j. OnlyLast (slice_get bs j) (home_of homes j ∷ places_of j frames)) k here others }
+  where
+    here : OnlyLast (slice_get bs k) (home_of homes k ∷ places_of k frames)
+    here =
+        subst (λ o. OnlyLast o (home_of homes k ∷ places_of k frames)) (sym unknown)
+        (last_less (home_of homes k) h (places_of k frames)
+        (subst (λ l. OnlyLast None (home_of homes k ∷ l)) (places_own k p h frames)
+        (subst (λ o. OnlyLast o (home_of homes k ∷ places_of k (frames ++ Body k p h ∷ []))) unknown (s.one k))))
+
+    others : (j : ℕ) → k == j ≡ false → OnlyLast (slice_get bs j) (home_of homes j ∷ places_of j frames)
+    others j other = subst (λ l. OnlyLast (slice_get bs j) (home_of homes j ∷ l)) (places_else j k p h frames other) (s.one j)
+
+-- a body of such a class stands anywhere
+pub unknown_stays : (homes : Homes) (frames : List Held) (bs : List Behaviour) (k : ℕ) (p q : Place) (h : Option Behaviour) → slice_get bs k ≡ None
+    → Stands homes (frames ++ Body k p h ∷ []) bs → Stands homes (frames ++ Body k q None ∷ []) bs
+unknown_stays homes frames bs k p q h unknown s = unknown_begins homes frames bs k q unknown (unknown_ends homes frames bs k p h unknown s)
 
 -- frames of no body come and go
 places_wait : (k : ℕ) (frames : List Held) (f : Frame) → places_of k (frames ++ Wait f ∷ []) ≡ places_of k frames

@@ -1,3 +1,4 @@
 pub mod CallbackLemmas
 pub mod DefineLemmas
 pub mod LooseLemmas
+pub mod RowLemmas

@@ -4,6 +4,7 @@ use Rattle.reaction_queue.specs.declared.reaction.Reaction.{Reaction}
 use Rattle.reaction_queue.specs.declared.reaction.Reaction.TheVariants.{Upgrade, Connected, Disconnected, Adopted, Attribute, FormAssociated, FormDisabled, FormReset, FormStateRestore}
 use Rattle.ce_algorithms.specs.Page.{Page}
 use Rattle.ce_page.specs.Parts.{empty_stacks}
+use Rattle.ce_page.specs.Rows.{HasRows}
 
 abbrev pub is_callback : Reaction → Bool
 is_callback (Upgrade d) = false
@@ -26,8 +27,9 @@ abbrev pub all_callbacks : List (List (ℕ × Reaction)) → Bool
 all_callbacks [] = true
 all_callbacks (l ∷ ls) = are_callbacks l && all_callbacks ls
 
--- what holds of each page while elements that are there already are not upgraded
+-- what holds of each page while elements that are there already are not upgraded; and of its rows
 pub record IsPlain (p : Page) : Type 0 where
   pub callbacks : all_callbacks p.queues.waiting ≡ true
   pub upgrades : p.upgrades ≡ false
   pub stacks : p.stacks ≡ empty_stacks p.definitions
+  pub rows : HasRows p.elements p.forest

@@ -1,0 +1,12 @@
+pub mod Settled
+pub mod ChainLaws
+pub mod TopLaws
+pub mod BuiltLaws
+pub mod SpendLaws
+pub mod PushLaws
+pub mod Tops
+pub mod BeginLaws
+pub mod ResumeLaws
+pub mod EndLaws
+pub mod ClassLaws
+pub mod BodyCalls

@@ -1,0 +1,47 @@
+-- A body that stops at an action has spent fuel.
+use Rattle.std.proofs.Common.{◌≡◌, ℕ, zero, suc, ◌<◌, ◌≤◌, Bool, true, false, List, [], ◌∷◌, Option, Some, None, refl, ap, sym, subst, arith}
+use Rattle.std.specs.Prelude.{if◌then◌else◌}
+use Rattle.rule_lines.specs.Acts.{Act, Both, Log, Super, Return, Throw, Bump, Keep, Try, If}
+use Rattle.ce_algorithms.specs.Body.{holds}
+use Rattle.ce_algorithms.specs.State.{Memory}
+use Rattle.ce_algorithms.specs.Values.{Args, text_of}
+use Rattle.behaviours.specs.Resume.{Stop, acted, spending, goes_on, stop_or, resumed}
+use Rattle.behaviours.specs.declared.next.Next.{Next}
+use Rattle.behaviours.specs.Next.{stop_of}
+use Rattle.frame_stack.specs.Resumes.{IsDoing, Resumes, resumed_of}
+use Rattle.frame_stack.specs.Stacked.{Stacked, behaviours_of}
+
+same : (n : ℕ) → n ≤ n
+same n = omega arith
+
+acted_falls : (args : Args) (guarded : Bool) (a : Act) (memory : Memory) (fuel : ℕ) → (acted args guarded a memory fuel).fuel ≤ fuel
+acted_falls args guarded (Both op) memory fuel = same fuel
+acted_falls args guarded (Log vals) memory fuel = same fuel
+acted_falls args guarded Super memory fuel = same fuel
+acted_falls args guarded (Return operand) memory fuel = same fuel
+acted_falls args guarded (Throw val) memory fuel = same fuel
+acted_falls args guarded Bump memory fuel = same fuel
+acted_falls args guarded (Keep val) memory fuel = same fuel
+acted_falls args guarded (Try a) memory zero = same 0
+acted_falls args guarded (Try a) memory (suc n) = let h = acted_falls args true a memory n in omega (arith, h)
+acted_falls args guarded (If equal l r a) memory fuel = go (holds equal (text_of memory args l) (text_of memory args r)) fuel (acted_falls args guarded a memory)
+  where
+    go : (b : Bool) (fuel : ℕ) → ((n : ℕ) → (acted args guarded a memory n).fuel ≤ n) → (if b then spending memory fuel (acted args guarded a memory) else goes_on memory fuel).fuel ≤ fuel
+    go true zero on = same 0
+    go true (suc n) on = let h = on n in omega (arith, h)
+    go false fuel on = same fuel
+
+spends : (args : Args) (actions : List Act) (memory : Memory) (fuel : ℕ) → IsDoing (resumed args actions memory fuel).stop → (resumed args actions memory fuel).fuel < fuel
+spends args [] memory fuel h = absurd h
+spends args (a ∷ actions) memory zero h = absurd h
+spends args (a ∷ actions) memory (suc n) h =
+    go (acted args false a memory n).stop (acted args false a memory n).memory (acted args false a memory n).fuel (acted_falls args false a memory n) (spends args actions) h
+  where
+    go : (o : Option Stop) (m : Memory) (f : ℕ) → f ≤ n → ((m : Memory) (f : ℕ) → IsDoing (resumed args actions m f).stop → (resumed args actions m f).fuel < f)
+        → IsDoing (stop_or o m f actions (resumed args actions)).stop → (stop_or o m f actions (resumed args actions)).fuel < suc n
+    go None m f le rest h = let r = rest m f h in omega (arith, le, r)
+    go (Some stop) m f le rest h = omega (arith, le)
+
+pub resumes_spends : (old new : Stacked) (before after : ℕ) (next : Next) → Resumes old new before after next → IsDoing (stop_of next) → after < before
+resumes_spends old new before after next r h =
+    subst (λ n. n < before) (sym r.fuel) (spends r.body.args r.body.actions _ before (subst IsDoing r.stop h))

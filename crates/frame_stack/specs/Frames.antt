@@ -1,0 +1,53 @@
+-- What the frames of the code stand for.
+use Rattle.std.specs.Prelude.{◌≡◌, ℕ, Bool, true, false, not, ◌∷◌, Option, Some, None}
+use Rattle.rule_tokens.specs.declared.callback.CallName.{CallName}
+use Rattle.ce_algorithms.specs.Values.{Args}
+use Rattle.ce_frames.specs.Frames.{Frame}
+use Rattle.ce_frames.specs.Frames as frames
+use Rattle.ce_frames.specs.Places.{Held, Place, Wait, Body}
+use Rattle.frame_stack.specs.declared.waiting.Waiting.{Waiting}
+use Rattle.frame_stack.specs.declared.waiting.Waiting.TheVariants.{Replying, Checking, DrainingBackup, Naming, Stepping, Draining, InReaction, CreatingFit}
+
+abbrev pub waiting_of : Waiting → Frame
+waiting_of (Replying line) = frames.Replying line
+waiting_of (Checking line kept) = frames.Checking line kept
+waiting_of (DrainingBackup n) = frames.DrainingBackup n
+waiting_of (Naming var) = frames.Naming var
+waiting_of (Stepping queue) = frames.Stepping queue
+waiting_of (Draining queue n elements kept) = frames.Draining queue (n ∷ elements) kept
+waiting_of (InReaction number) = frames.InReaction number
+waiting_of (CreatingFit local document) = frames.CreatingFit local document
+
+-- the frame of a body
+abbrev pub is_body : Held → Bool
+is_body (Wait f) = false
+is_body (Body class place held) = true
+
+-- there is a frame, and it is of no body
+abbrev pub is_waiting : Option Held → Bool
+is_waiting None = false
+is_waiting (Some f) = not (is_body f)
+
+-- no body is kept without a place for its behaviour
+abbrev pub IsPlain : Held → Type 0
+IsPlain (Wait f) = (w : Waiting) × (Wait f ≡ Wait (waiting_of w))
+IsPlain (Body class place held) = Unit {0}
+
+-- what `this` is there
+abbrev pub this_in : Held → Option ℕ
+this_in (Wait f) = None
+this_in (Body class place held) = place.this
+
+-- its action stands in a `try`
+abbrev pub guarded_in : Held → Bool
+guarded_in (Wait f) = false
+guarded_in (Body class place held) = place.guarded
+
+-- the class of a body
+abbrev pub class_in : Held → ℕ
+class_in (Wait f) = 0
+class_in (Body class place held) = class
+
+-- where a body begins
+abbrev pub first_place : CallName → Args → Option ℕ → Place
+first_place call args this = record { call = call; index = 0; args = args; this = this; guarded = false }

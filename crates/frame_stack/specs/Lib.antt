@@ -1,0 +1,9 @@
+pub mod Frames
+pub mod Kinds
+pub mod Chains
+pub mod Stacked
+pub mod Order
+pub mod Moves
+pub mod Resumes
+pub mod Changes
+pub mod Sessions
