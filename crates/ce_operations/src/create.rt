@@ -41,6 +41,7 @@ pub fn create_undefined(
 ) -> Result<NodeNo, PageStop>
     ensures step { Ends (λ n. n) result state.new (on_page (make_undefined local None document) state.old) }
     ensures made { IfOk result (IsNode state.new.page.forest) }
+    ensures grows { size state.old.page.forest ≤ size state.new.page.forest }
 {
     let first = first_state(local.as_str());
     state.make_in_state(alloc, local, None, document, first)

@@ -1,6 +1,6 @@
 // The steps of deeds, in the queue that is open.
-ghost use Rattle.std.specs.Prelude.{◌≡◌, true, IfOk};
-ghost use Rattle.node_trees.specs.Nodes.{IsNode};
+ghost use Rattle.std.specs.Prelude.{◌≡◌, ◌≤◌, true, IfOk};
+ghost use Rattle.node_trees.specs.Nodes.{IsNode, size};
 ghost use Rattle.rule_script.specs.Built.{is_built_word};
 ghost use Rattle.ce_algorithms.specs.declared.deed.Deed.TheVariants as deeds;
 ghost use Rattle.ce_algorithms.specs.Model.{model};
@@ -24,6 +24,7 @@ pub fn run(state: &mut State, alloc: Global, deed: Deed) -> Result<Given, PageSt
     requires still { IsStill deed }
     ensures step { Ends (λ g. g) result state.new (steps model deed state.old) }
     ensures there { IfOk result (IsThere state.new.page.forest) }
+    ensures grows { size state.old.page.forest ≤ size state.new.page.forest }
 {
     match deed {
         Deed::Create { .. } => unreachable!(),
@@ -42,6 +43,7 @@ pub fn run_on_page(state: &mut State, alloc: Global, what: PageDeed) -> Result<G
     requires { IsReadyOnPage state.old.page.forest what }
     ensures step { Ends (λ g. g) result state.new (on_page (page_steps what) state.old) }
     ensures there { IfOk result (IsThere state.new.page.forest) }
+    ensures grows { size state.old.page.forest ≤ size state.new.page.forest }
 {
     match what {
         PageDeed::MakeText { chars, document } => {
@@ -108,6 +110,7 @@ fn set(state: &mut State, var: Text, n: NodeNo) -> Result<Given, PageStop>
     requires { IsNode state.old.page.forest n }
     ensures step { Ends (λ g. g) result state.new (steps model (deeds.Let var n) state.old) }
     ensures there { IfOk result (IsThere state.new.page.forest) }
+    ensures grows { size state.old.page.forest ≤ size state.new.page.forest }
 {
     state.set_variable(var, n)?;
     Ok(Given::Nothing)

@@ -6,6 +6,6 @@
 pub mod create;
 pub mod deeds;
 mod fits;
-mod operands;
+pub mod operands;
 mod questions;
 pub mod resolve;

@@ -1,5 +1,5 @@
 // Operands: the nodes, classes and texts that an action names, where `this` is that node or none.
-ghost use Rattle.std.specs.Prelude.{◌≡◌, IfOk, IfSome};
+ghost use Rattle.std.specs.Prelude.{◌≡◌, map, IfOk, IfSome};
 ghost use Rattle.node_trees.specs.declared.kind.NodeKind.TheVariants.{Element as ElementKind};
 ghost use Rattle.node_trees.specs.Nodes.{IsNode};
 ghost use Rattle.node_trees.specs.Spots.{kind_at};
@@ -9,8 +9,9 @@ ghost use Rattle.ce_algorithms.specs.Values.{fixed_text};
 
 use crate::fits::fits;
 use ce_algorithms::Fit;
-use ce_base::{ClassNo, Fault, NoMemory, NodeNo, Text};
+use ce_base::{ClassNo, Fault, NoMemory, NodeNo, Text, Texts};
 use ce_page::NodeKind;
+use rule_lines::Vals;
 use rule_tokens::{Operand, Val};
 use session_state::State;
 use std::alloc::Global;
@@ -126,4 +127,15 @@ pub fn copy_of(alloc: Global, text: &Option<Text>) -> Result<Option<Text>, NoMem
         None => Ok(None),
         Some(text) => Ok(Some(text.copy(alloc)?)),
     }
+}
+
+/// The texts of values that were fixed.
+pub fn fixed_texts(alloc: Global, vals: &Vals) -> Result<Texts, NoMemory>
+    ensures { IfOk result (λ ts. ts ≡ map fixed_text vals.now) }
+{
+    let mut texts = Texts::make(alloc);
+    for v in vals.as_slice() {
+        texts.push(alloc, fixed_text(alloc, v)?)?;
+    }
+    Ok(texts)
 }

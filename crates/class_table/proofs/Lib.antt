@@ -1,3 +1,2 @@
 pub mod ClassLaws
 pub mod ClassesLaws
-pub mod PlacesLaws

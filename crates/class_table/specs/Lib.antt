@@ -1,3 +1,1 @@
-pub mod Bodies
 pub mod Classes
-pub mod Places

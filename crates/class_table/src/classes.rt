@@ -1,14 +1,12 @@
 // The classes of a session.
 ghost use Rattle.std.specs.Prelude.{◌≡◌, ◌<◌, ◌++◌, ◌∷◌, [], true, None, Some, length, option_copied, slice_get, IfSome, OnOk};
-ghost use Rattle.rule_lines.specs.Acts.{Log};
 ghost use Rattle.rule_script.specs.Built.{is_built_call};
-ghost use Rattle.ce_algorithms.specs.Parts.{change_facts, with_body, with_has, with_observed};
+ghost use Rattle.ce_algorithms.specs.Parts.{change_facts, with_has, with_observed};
 ghost use Rattle.ce_algorithms.specs.State.{Class as IsClass, class_named, new_class};
 ghost use Rattle.class_table.specs.Classes.{changed, frozen_class};
 
 use crate::class::Class;
 use ce_base::{ClassNo, NoMemory, Text, Texts};
-use rule_lines::Vals;
 use rule_tokens::CallName;
 use std::alloc::Global;
 use std::collections::BTreeMap;
@@ -105,15 +103,6 @@ impl Classes {
         ensures { self.new ≡ changed k (change_facts (with_has call)) self.old }
     {
         self.items[k.0 as usize].add_call(call);
-    }
-
-    /// A class has the callback, and a `log` of the values comes last in its body.
-    pub fn add_log(&mut self, k: ClassNo, call: CallName, vals: Vals) -> Result<(), NoMemory>
-        requires call { is_built_call call ≡ true }
-        requires within { k < length self.old }
-        ensures { OnOk result (self.new ≡ changed k (with_body call (Log vals)) self.old) }
-    {
-        self.items[k.0 as usize].add_log(call, vals)
     }
 
     /// A class observes these attribute names too.

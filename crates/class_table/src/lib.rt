@@ -1,10 +1,9 @@
-//! The classes of a script, as its lines make them: what a definition takes over from each, and the bodies of its
-//! callbacks, with the texts that values name in them.
+//! The classes of a script, as its lines make them: their names, what a definition takes over from each, and
+//! whether one has it. What a class does and remembers is kept apart.
 #![tactic(auto)]
 
 mod class;
 mod classes;
-mod places;
 
-pub use class::{Actions, Class};
+pub use class::Class;
 pub use classes::Classes;

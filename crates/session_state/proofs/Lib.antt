@@ -4,3 +4,4 @@ pub mod FlushLaws
 pub mod QueueLaws
 pub mod ConstructLaws
 pub mod PageLaws
+pub mod PartLaws

@@ -1,5 +1,6 @@
 -- Steps of the session's state that the definitions do not name.
 use Rattle.std.specs.Prelude.{◌≡◌, ◌≤◌, ◌<◌, ◌+◌, ◌^◌, ℕ, Bool, true, false, List, [], ◌∷◌, Option, None, Some, Result, Ok, Err}
+use Rattle.rule_tokens.specs.declared.callback.CallName.{CallName}
 use Rattle.node_trees.specs.Nodes.{size}
 use Rattle.reaction_queue.specs.declared.reaction.Reaction.{Reaction}
 use Rattle.reaction_queue.specs.Queues.{waiting_at, with_waiting}
@@ -7,6 +8,7 @@ use Rattle.ce_registry.specs.declared.definition.Definition.{Definition}
 use Rattle.ce_algorithms.specs.declared.event.Event.TheVariants.{FuelLine}
 use Rattle.ce_algorithms.specs.Drain.{with_backup}
 use Rattle.ce_algorithms.specs.Page.{Page, with_queues}
+use Rattle.ce_algorithms.specs.Parts.{change_facts, with_has}
 use Rattle.ce_algorithms.specs.State.{State, with_work, work_of, logged}
 use Rattle.ce_page.specs.declared.stop.PageStop.{PageStop}
 use Rattle.ce_page.specs.declared.stop.PageStop.TheVariants.{Refused, FuelSpent, NoMemory}
@@ -36,6 +38,10 @@ forgotten s = record s { log = [] }
 -- a definition has the class
 abbrev pub with_frozen : ℕ → State → State
 with_frozen k s = record s { classes = changed k frozen_class s.classes }
+
+-- a class has the callback
+abbrev pub with_call_at : ℕ → CallName → State → State
+with_call_at k call s = record s { classes = changed k (change_facts (with_has call)) s.classes }
 
 -- the class whose callback a reaction of an element runs, where the element has a definition
 abbrev pub callee : Option Definition → Option ℕ

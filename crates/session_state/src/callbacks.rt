@@ -1,31 +1,31 @@
 // Callbacks: whose they are, their lines, their bodies.
-ghost use Rattle.std.specs.Prelude.{◌≡◌, map, true, IfOk, OnOk};
-ghost use Rattle.reaction_queue.specs.Reactions.{what_of};
-ghost use Rattle.ce_algorithms.specs.declared.event.Event.TheVariants.{Logged};
-ghost use Rattle.ce_algorithms.specs.Drain.{actions_for, log_call};
+ghost use Rattle.std.specs.Prelude.{◌≡◌, ◌+◌, ◌<◌, ◌^◌, true, IfOk, IfSome, OnOk};
+ghost use Rattle.node_trees.specs.Nodes.{IsNode};
+ghost use Rattle.behaviours.specs.Next.{stop_of};
+ghost use Rattle.ce_algorithms.specs.Drain.{log_call};
 ghost use Rattle.ce_algorithms.specs.Page.{definition_of};
-ghost use Rattle.ce_algorithms.specs.State.{class_of, log, logged};
+ghost use Rattle.ce_algorithms.specs.State.{log};
 ghost use Rattle.ce_algorithms.specs.Steps.{Goes};
-ghost use Rattle.ce_algorithms.specs.Values.{text_of};
 ghost use Rattle.ce_page.specs.Callbacks.{is_callback};
-ghost use Rattle.class_table.specs.Bodies.{logs_of};
+ghost use Rattle.frame_stack.specs.Resumes.{IsBuiltStop, IsDoing, Resumes};
+ghost use Rattle.frame_stack.specs.Stacked.{HasBody, frames_of};
 ghost use Rattle.session_state.specs.Steps.{callee};
 
 use crate::State;
 use crate::construct::copy_of;
-use behaviours::{Args, Memory};
+use behaviours::Next;
 use ce_algorithms::Event;
-use ce_base::{ClassNo, NoMemory, NodeNo, Texts};
-use class_table::Actions;
+use ce_base::{ClassNo, NoMemory, NodeNo};
+use frame_stack::Stack;
 use reaction_queue::Reaction;
-use rule_lines::Vals;
-use rule_tokens::CallOrUpgrade;
 use std::alloc::Global;
 
 impl State {
-    /// The class of an element's definition. None exactly where it has none.
+    /// The class of an element's definition. None exactly where it has none. What has one is a node that was
+    /// made.
     pub fn callee(&self, e: NodeNo) -> Option<ClassNo>
-        ensures { result ≡ callee (definition_of self.now.page e) }
+        ensures class { result ≡ callee (definition_of self.now.page e) }
+        ensures made { IfSome result (λ class. IsNode self.now.page.forest e) }
     {
         match self.page.definition_of(e) {
             None => None,
@@ -43,52 +43,16 @@ impl State {
         Ok(())
     }
 
-    /// The actions of the callback that a reaction calls.
-    pub fn actions(&self, alloc: Global, class: ClassNo, r: &Reaction) -> Result<Actions, NoMemory>
-        requires { is_callback r.now ≡ true }
-        ensures { IfOk result (λ a. logs_of a ≡ actions_for (what_of r.now) (class_of self.now class).bodies) }
+    /// Runs the body on top of a stack up to its next stop, on the fuel of the session.
+    pub fn resume(&mut self, alloc: Global, stack: &mut Stack) -> Result<Next, NoMemory>
+        requires { HasBody (frames_of stack.old) }
+        ensures resumed { IfOk result (λ next. Resumes stack.old stack.new self.old.fuel self.new.fuel next) }
+        ensures built { IfOk result (λ next. IsBuiltStop (stop_of next)) }
+        ensures rest { self.new ≡ record self.old { fuel = self.new.fuel } }
+        ensures spent { IfOk result (λ next. IsDoing (stop_of next) → self.new.fuel < self.old.fuel) }
+        ensures room { IfOk result (λ next. IsDoing (stop_of next) → self.new.page.queues.pushed + self.new.fuel + 1 < 2 ^ 64) }
     {
-        match self.classes.get(class) {
-            None => Ok(Actions::make(alloc)),
-            Some(c) => match r.what() {
-                CallOrUpgrade::Call(call) => c.actions(alloc, call),
-                CallOrUpgrade::Upgrade => unreachable!(),
-            },
-        }
-    }
-
-    /// Logs the texts that values name in a body of a class.
-    pub fn log_values(
-        &mut self,
-        alloc: Global,
-        class: ClassNo,
-        args: &Args,
-        vals: &Vals,
-    ) -> Result<(), NoMemory>
-        ensures logged { OnOk result (self.new ≡ logged (Logged (map (text_of (class_of self.old class).memory args.now) vals.now)) self.old) }
-        ensures page { OnOk result (self.new.page ≡ self.old.page) }
-    {
-        let texts = self.texts(alloc, class, args, vals)?;
-        self.log(Event::Logged(texts))?;
-        Ok(())
-    }
-
-    fn texts(
-        &self,
-        alloc: Global,
-        class: ClassNo,
-        args: &Args,
-        vals: &Vals,
-    ) -> Result<Texts, NoMemory>
-        ensures { IfOk result (λ ts. ts ≡ map (text_of (class_of self.now class).memory args.now) vals.now) }
-    {
-        match self.classes.get(class) {
-            None => {
-                let memory = Memory::blank(alloc)?;
-                args.texts(alloc, &memory, vals)
-            }
-            Some(c) => c.texts(alloc, args, vals),
-        }
+        stack.resume(alloc, &mut self.fuel)
     }
 }
 

@@ -1,8 +1,8 @@
 // Constructing classes, and defining them.
-ghost use Rattle.std.specs.Prelude.{◌≡◌, ◌<◌, false, length, slice_get, Some, IfOk, IfSome};
+ghost use Rattle.std.specs.Prelude.{◌≡◌, ◌≤◌, ◌<◌, false, length, slice_get, Some, IfOk, IfSome};
 ghost use Rattle.std.specs.Str.{str_to_ascii_lowercase};
 ghost use Rattle.rule_tokens.specs.declared.callback.CallName.TheVariants as calls;
-ghost use Rattle.node_trees.specs.Nodes.{IsNode};
+ghost use Rattle.node_trees.specs.Nodes.{IsNode, size};
 ghost use Rattle.ce_registry.specs.declared.definition.Definition.{Definition as IsDefinition};
 ghost use Rattle.ce_registry.specs.ClassFacts.{has_call};
 ghost use Rattle.ce_registry.specs.Registry.{by_class, is_autonomous, may_define};
@@ -34,6 +34,7 @@ impl State {
         base: &Option<Text>,
     ) -> Result<(), PageStop>
         ensures step { Does result self.new (define_element name.now class base.now self.old) }
+        ensures grows { size self.old.page.forest ≤ size self.new.page.forest }
     {
         let _number = self.define_name(alloc, name, class, base)?;
         self.freeze(class);
@@ -48,6 +49,7 @@ impl State {
         base: &Option<Text>,
     ) -> Result<DefNo, PageStop>
         ensures step { Ends (λ d. d) result self.new (on_page (define_name name.now class (class_of self.old class).facts base.now) self.old) }
+        ensures grows { size self.old.page.forest ≤ size self.new.page.forest }
     {
         // A refused definition copies nothing of its class.
         if let Some(fault) = self.refusal(name, class, base) {
@@ -95,6 +97,7 @@ impl State {
         ensures step { Ends (λ n. n) result self.new (construct model class self.old) }
         ensures plain { has_call calls.Constructor (class_of self.old class).facts.calls ≡ false }
         ensures made { IfOk result (IsNode self.new.page.forest) }
+        ensures grows { size self.old.page.forest ≤ size self.new.page.forest }
     {
         let name = self.class_name(alloc, class)?;
         self.log(Event::Construct(name))?;

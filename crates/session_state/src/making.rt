@@ -18,6 +18,7 @@ impl State {
     pub fn make_document(&mut self, alloc: Global) -> Result<NodeNo, PageStop>
         ensures step { Ends (λ n. n) result self.new (on_page make_document self.old) }
         ensures made { IfOk result (IsNode self.new.page.forest) }
+        ensures grows { size self.old.page.forest ≤ size self.new.page.forest }
     {
         let outcome = make_document(alloc, &mut self.page, &mut self.fuel);
         self.after_call(is_out_of_fuel(&outcome))?;
@@ -33,6 +34,7 @@ impl State {
     ) -> Result<NodeNo, PageStop>
         ensures step { Ends (λ n. n) result self.new (on_page (make_text chars document) self.old) }
         ensures made { IfOk result (IsNode self.new.page.forest) }
+        ensures grows { size self.old.page.forest ≤ size self.new.page.forest }
     {
         let outcome = make_text(alloc, &mut self.page, &mut self.fuel, chars, document);
         self.after_call(is_out_of_fuel(&outcome))?;

@@ -1,29 +1,42 @@
 // The parts of classes.
-ghost use Rattle.std.specs.Prelude.{◌≡◌, ◌<◌, true, length, IfOk};
-ghost use Rattle.rule_lines.specs.Acts.{part_of, act_of};
+ghost use Rattle.std.specs.Prelude.{◌≡◌, ◌<◌, [], true, length, IfOk};
+ghost use Rattle.rule_lines.specs.Acts.{act_of, part_of};
 ghost use Rattle.rule_script.specs.Built.{is_built_act, is_built_call, is_built_part};
-ghost use Rattle.ce_algorithms.specs.Parts.{part, add_class, open_class, change_facts, change_open, with_body, with_has, with_observed};
-ghost use Rattle.session_state.specs.Taking.{Names, Takes};
+ghost use Rattle.ce_algorithms.specs.Parts.{add_class, change_facts, change_open, open_class, part, with_body, with_has, with_observed};
+ghost use Rattle.frame_stack.specs.Sessions.{ArePaired, session};
+ghost use Rattle.session_state.specs.Steps.{with_call_at};
+ghost use Rattle.session_state.specs.Taking.{Counts, Names, Rests, Takes};
 
 use crate::State;
-use ce_base::{ClassNo, Fault, Refused, Text, Texts};
+use ce_base::{ClassNo, Fault, NoMemory, Refused, Text, Texts};
+use frame_stack::Stack;
 use rule_lines::{Action, ClassPart};
 use rule_tokens::CallName;
 use std::alloc::Global;
 
 impl State {
-    /// Takes a part of a class. It spends no fuel.
-    pub fn part(&mut self, alloc: Global, p: ClassPart) -> Result<(), Refused>
-        requires { is_built_part (part_of p) ≡ true }
-        ensures { Takes result self.new (part (part_of p) self.old) }
+    /// Takes a part of a class. What it says of the class's behaviour goes to the stack, on which no frame lies. It
+    /// spends no fuel.
+    pub fn part(
+        &mut self,
+        alloc: Global,
+        stack: &mut Stack,
+        p: ClassPart,
+    ) -> Result<(), Refused>
+        requires built { is_built_part (part_of p) ≡ true }
+        requires rest { stack.old.frames ≡ [] }
+        requires paired { ArePaired stack.old self.old }
+        ensures taken { Takes result (session stack.new self.new) (part (part_of p) (session stack.old self.old)) }
+        ensures rest { Rests result (stack.new.frames ≡ []) }
+        ensures paired { Rests result (ArePaired stack.new self.new) }
     {
         match p {
-            ClassPart::Class(name) => self.add_class(alloc, name),
+            ClassPart::Class(name) => self.add_class(alloc, stack, name),
             ClassPart::On {
                 class,
                 call,
                 action,
-            } => self.add_action(&class, call, action),
+            } => self.add_action(alloc, stack, &class, call, action),
             ClassPart::Has { class, call } => self.add_call(&class, call),
             ClassPart::Observe { class, names } => self.observe(alloc, &class, &names),
             ClassPart::Associate(_) => unreachable!(),
@@ -31,9 +44,34 @@ impl State {
             ClassPart::DisableInternals(_) => unreachable!(),
         }
     }
+}
 
-    fn add_class(&mut self, alloc: Global, name: Text) -> Result<(), Refused>
-        ensures { Takes result self.new (add_class name self.old) }
+// What the parts do.
+impl State {
+    fn add_class(
+        &mut self,
+        alloc: Global,
+        stack: &mut Stack,
+        name: Text,
+    ) -> Result<(), Refused>
+        requires rest { stack.old.frames ≡ [] }
+        requires paired { ArePaired stack.old self.old }
+        ensures taken { Takes result (session stack.new self.new) (add_class name (session stack.old self.old)) }
+        ensures rest { Rests result (stack.new.frames ≡ []) }
+        ensures paired { Rests result (ArePaired stack.new self.new) }
+    {
+        match self.new_class(alloc, name) {
+            Err(refused) => Err(refused),
+            Ok(()) => {
+                stack.add_class(alloc)?;
+                Ok(())
+            }
+        }
+    }
+
+    fn new_class(&mut self, alloc: Global, name: Text) -> Result<(), Refused>
+        ensures taken { Takes result self.new (add_class name self.old) }
+        ensures count { Counts result (length self.old.classes) (length self.new.classes) }
     {
         if self.classes.named(name.as_str()).is_some() {
             return Err(Refused::Fault(Fault::NotSupportedError));
@@ -58,26 +96,44 @@ impl State {
         }
     }
 
-    fn add_action(&mut self, class: &Text, call: CallName, action: Action) -> Result<(), Refused>
+    fn add_action(
+        &mut self,
+        alloc: Global,
+        stack: &mut Stack,
+        class: &Text,
+        call: CallName,
+        action: Action,
+    ) -> Result<(), Refused>
         requires call { is_built_call call ≡ true }
         requires action { is_built_act (act_of action) ≡ true }
-        ensures { Takes result self.new (change_open class.now (with_body call (act_of action)) self.old) }
+        requires rest { stack.old.frames ≡ [] }
+        requires paired { ArePaired stack.old self.old }
+        ensures taken { Takes result (session stack.new self.new) (change_open class.now (with_body call (act_of action)) (session stack.old self.old)) }
+        ensures rest { Rests result (stack.new.frames ≡ []) }
+        ensures paired { Rests result (ArePaired stack.new self.new) }
     {
-        let k = self.open_class(class.as_str())?;
-        match action {
-            Action::Log(vals) => {
-                self.classes.add_log(k, call, vals)?;
-                Ok(())
+        match self.open_class(class.as_str()) {
+            Err(f) => {
+                drop(action);
+                Err(Refused::Fault(f))
             }
-            Action::Both(_) => unreachable!(),
-            Action::Super => unreachable!(),
-            Action::Return(_) => unreachable!(),
-            Action::Throw(_) => unreachable!(),
-            Action::Bump => unreachable!(),
-            Action::Keep(_) => unreachable!(),
-            Action::Try(_) => unreachable!(),
-            Action::If { .. } => unreachable!(),
+            Ok(k) => {
+                self.call_added(k, call);
+                match stack.extend(alloc, k, call, action) {
+                    Err(NoMemory) => Err(Refused::NoMemory),
+                    Ok(()) => Ok(()),
+                }
+            }
         }
+    }
+
+    // The class has the callback.
+    fn call_added(&mut self, k: ClassNo, call: CallName)
+        requires call { is_built_call call ≡ true }
+        requires within { k < length self.old.classes }
+        ensures { self.new ≡ with_call_at k call self.old }
+    {
+        self.classes.add_call(k, call);
     }
 
     fn add_call(&mut self, class: &Text, call: CallName) -> Result<(), Refused>

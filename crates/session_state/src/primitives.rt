@@ -1,8 +1,8 @@
 // The primitives of the page, as steps of a session.
-ghost use Rattle.std.specs.Prelude.{◌≡◌, ◌+◌, ◌<◌, ◌^◌};
+ghost use Rattle.std.specs.Prelude.{◌≡◌, ◌≤◌, ◌+◌, ◌<◌, ◌^◌};
 ghost use Rattle.std.specs.Str.{str_to_ascii_lowercase};
 ghost use Rattle.node_trees.specs.declared.kind.NodeKind.TheVariants.{Element as ElementKind};
-ghost use Rattle.node_trees.specs.Nodes.{IsNode, IsNodeOrNone};
+ghost use Rattle.node_trees.specs.Nodes.{IsNode, IsNodeOrNone, size};
 ghost use Rattle.node_trees.specs.Spots.{kind_at};
 ghost use Rattle.ce_algorithms.specs.Attributes.{remove_attribute};
 ghost use Rattle.ce_algorithms.specs.Mutation.{pre_insert};
@@ -33,6 +33,7 @@ impl State {
         requires node { IsNode self.old.page.forest node }
         requires before { IsNodeOrNone self.old.page.forest before }
         ensures step { Does result self.new (on_page (pre_insert parent node before) self.old) }
+        ensures grows { size self.old.page.forest ≤ size self.new.page.forest }
     {
         let outcome = self
             .page
@@ -51,6 +52,7 @@ impl State {
     ) -> Result<(), PageStop>
         requires { IsNode self.old.page.forest node }
         ensures step { Does result self.new (on_page (remove_child parent node) self.old) }
+        ensures grows { size self.old.page.forest ≤ size self.new.page.forest }
     {
         let outcome = remove_child(alloc, &mut self.page, &mut self.fuel, parent, node);
         self.after_call(is_out_of_fuel(&outcome))?;
@@ -61,6 +63,7 @@ impl State {
     pub fn detach(&mut self, alloc: Global, node: NodeNo) -> Result<(), PageStop>
         requires { IsNode self.old.page.forest node }
         ensures step { Does result self.new (on_page (detach node) self.old) }
+        ensures grows { size self.old.page.forest ≤ size self.new.page.forest }
     {
         let outcome = detach(alloc, &mut self.page, &mut self.fuel, node);
         self.after_call(is_out_of_fuel(&outcome))?;
@@ -79,6 +82,7 @@ impl State {
         requires node { IsNode self.old.page.forest n }
         requires element { kind_at self.old.page.forest n ≡ ElementKind }
         ensures step { Does result self.new (on_page (set_named n name.now value) self.old) }
+        ensures grows { size self.old.page.forest ≤ size self.new.page.forest }
     {
         let outcome = set_named(alloc, &mut self.page, &mut self.fuel, n, name, value);
         self.after_call(is_out_of_fuel(&outcome))?;
@@ -91,6 +95,7 @@ impl State {
         requires node { IsNode self.old.page.forest n }
         requires element { kind_at self.old.page.forest n ≡ ElementKind }
         ensures step { Does result self.new (on_page (remove_attribute n (str_to_ascii_lowercase name.now)) self.old) }
+        ensures grows { size self.old.page.forest ≤ size self.new.page.forest }
     {
         let outcome = remove_named(alloc, &mut self.page, &mut self.fuel, n, name);
         self.after_call(is_out_of_fuel(&outcome))?;

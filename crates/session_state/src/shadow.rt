@@ -1,7 +1,7 @@
 // Attaching a shadow root.
-ghost use Rattle.std.specs.Prelude.{◌≡◌, ℕ, option_copied, IfOk};
+ghost use Rattle.std.specs.Prelude.{◌≡◌, ◌≤◌, ℕ, option_copied, IfOk};
 ghost use Rattle.node_trees.specs.declared.kind.NodeKind.TheVariants.{Element as ElementKind};
-ghost use Rattle.node_trees.specs.Nodes.{IsNode};
+ghost use Rattle.node_trees.specs.Nodes.{IsNode, size};
 ghost use Rattle.node_trees.specs.Spots.{kind_at, shadow_at};
 ghost use Rattle.ce_algorithms.specs.Enqueue.{lookup_for};
 ghost use Rattle.ce_algorithms.specs.Making.{make_shadow_root};
@@ -27,6 +27,7 @@ impl State {
         requires element { kind_at self.old.page.forest n ≡ ElementKind }
         ensures step { Ends (λ n. n) result self.new (on_page (attach_shadow n) self.old) }
         ensures made { IfOk result (IsNode self.new.page.forest) }
+        ensures grows { size self.old.page.forest ≤ size self.new.page.forest }
     {
         let outcome = attach_shadow(alloc, &mut self.page, &mut self.fuel, n);
         self.after_call(is_out_of_fuel(&outcome))?;

@@ -1,0 +1,13 @@
+use Rattle.ce_algorithms.specs.Parts.{change_facts, change_open, with_has, with_observed}
+use Rattle.ce_frames.proofs.BlindParts.{facts_blind}
+use Rattle.frame_stack.specs.Stacked.{behaviours_of}
+use Rattle.session_state.proofs.PartLaws.{blind_takes}
+use Rattle.session_state.proofs.state.State.part.Goals as goal
+
+pub returns-in-Has-clause-taken : goal.returns-in-Has-clause-taken
+returns-in-Has-clause-taken c =
+    rw c.in-Has.is (blind_takes (change_open c.in-Has.class (change_facts (with_has c.in-Has.call))) (behaviours_of c.args.stack.now) c.args.self.now c.add_call.new.self c.add_call.result (facts_blind c.in-Has.class (with_has c.in-Has.call)) c.add_call.ensures)
+
+pub returns-in-Observe-clause-taken : goal.returns-in-Observe-clause-taken
+returns-in-Observe-clause-taken c =
+    rw c.in-Observe.is (blind_takes (change_open c.in-Observe.class (change_facts (with_observed c.in-Observe.names))) (behaviours_of c.args.stack.now) c.args.self.now c.observe.new.self c.observe.result (facts_blind c.in-Observe.class (with_observed c.in-Observe.names)) c.observe.ensures)
