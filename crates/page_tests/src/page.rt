@@ -255,30 +255,32 @@ fn a_node_has_a_state_and_a_definition(rt: HostRuntime) -> Result<(), Fail> {
 
 const BACKUP: &str = "> define x-a 0 - connected
 0
-> custom 1 0
+> element p
+#2
+> custom 2 0
 ok
-> enqueue 1 formReset
+> enqueue 2 formReset
 ok
-> enqueue 1 upgrade
+> enqueue 2 upgrade
 ok
 > fuel
 5
 > has-backup
 false
-> enqueue 1 connected
+> enqueue 2 connected
 ok
-enqueued 1 #1 connected 0
+enqueued 1 #2 connected 0
 > fuel
 4
 > has-backup
 true
 > next-backup
-#1
+#2
 > next-backup
 null
-> drop 1
+> drop 2
 1
-> drop 1
+> drop 2
 null
 ";
 
@@ -289,14 +291,16 @@ fn without_a_queue_the_backup_queue_takes_the_element(rt: HostRuntime) -> Result
 
 const CURRENT: &str = "> define x-a 0 - connected
 0
-> custom 1 0
+> element p
+#2
+> custom 2 0
 ok
-> within 1 connected
-1 #1
-enqueued 1 #1 connected 1
+> within 2 connected
+1 #2
+enqueued 1 #2 connected 1
 > has-backup
 false
-> next 1
+> next 2
 1 connected
 ";
 

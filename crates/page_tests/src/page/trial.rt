@@ -88,7 +88,7 @@ impl Trial {
     ) -> Result<String, Fail> {
         match word(step, 0) {
             "define" => self.defining(alloc, step),
-            "custom" | "failed" | "upgrade" => self.customizing(alloc, step),
+            "custom" | "failed" | "upgrade" => self.customizing(rt, alloc, step),
             "enqueue" | "within" => self.enqueuing(alloc, step),
             "next" | "drop" | "next-backup" => self.taking(alloc, step),
             "stands" | "owner" => self.placed(rt, alloc, step),
@@ -141,12 +141,12 @@ impl Trial {
     }
 
     // custom NODE DEFINITION, failed NODE DEFINITION, upgrade NODE
-    fn customizing(&mut self, alloc: Global, step: &str) -> Result<String, Fail> {
+    fn customizing(&mut self, rt: &impl Abort, alloc: Global, step: &str) -> Result<String, Fail> {
         let n = NodeNo(number(step, 1));
         let d = DefNo(number(step, 2));
         let end = match word(step, 0) {
-            "custom" => self.customize(alloc, n, d, CustomState::Custom),
-            "failed" => self.customize(alloc, n, d, CustomState::Failed),
+            "custom" => self.customize(rt, alloc, n, d, CustomState::Custom),
+            "failed" => self.customize(rt, alloc, n, d, CustomState::Failed),
             _ => self.page.try_upgrade(alloc, n, &mut self.fuel),
         };
         ended(alloc, end)
@@ -249,14 +249,16 @@ impl Trial {
             .define_name(alloc, name, class, facts, base, &mut self.fuel)
     }
 
-    // A node gets a definition and a state.
+    // An element gets a definition and a state.
     fn customize(
         &mut self,
+        rt: &impl Abort,
         alloc: Global,
         n: NodeNo,
         d: DefNo,
         state: CustomState,
     ) -> Result<(), PageStop> {
+        assert!(rt; 1 < n.0);
         self.page.set_definition(alloc, n, Some(d))?;
         self.page.set_state(n, state);
         Ok(())
