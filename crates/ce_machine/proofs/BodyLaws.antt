@@ -1,82 +1,460 @@
--- A body of `log`s.
-use Rattle.std.proofs.Common.{◌≡◌, ◌<◌, ◌≤◌, ◌+◌, ℕ, suc, List, [], ◌∷◌, length, get_or, drop, map, Some, refl, ap, sym, ◌∙◌, add-one, drop-cons}
-use Rattle.std.specs.Prelude.{false, Err}
-use Rattle.std.proofs.lemmas.List.{drop_all}
+-- Turns of bodies, of the whole session.
+use Rattle.std.proofs.Common.{◌≡◌, ℕ, zero, suc, ◌<◌, ◌≤◌, Bool, true, false, List, [], ◌∷◌, ◌++◌, length, map, Option, Some, None, refl, ap, sym, ◌∙◌, subst, arith, length-set}
+use Rattle.std.specs.Prelude.{Result, Ok, Err, IfOk, OnOk, IfSome, IfNone, slice_get, slice_set, ◌⊎◌}
+use Rattle.std.proofs.Common.{inl, inr}
+use Rattle.std.proofs.lemmas.Bool.{cases_lt}
+use Rattle.std.proofs.lemmas.Option.{slice_get_past}
+use Rattle.ce_base.specs.declared.fault.Fault.{Fault}
+use Rattle.ce_base.specs.declared.memory.NoMemory.{NoMemory}
+use Rattle.node_trees.specs.Nodes.{IsNode, size}
+use Rattle.node_trees.specs.Trees.{Trees}
+use Rattle.rule_tokens.specs.declared.operand.Operand.{Operand}
+use Rattle.rule_tokens.specs.declared.operand.Operand.TheVariants.{Doc, This, Variable}
 use Rattle.rule_tokens.specs.declared.operand.Val.{Val}
-use Rattle.rule_lines.specs.Acts.{Log}
-use Rattle.ce_algorithms.specs.declared.event.Event.TheVariants.{Logged}
+use Rattle.rule_lines.specs.declared.op.Op.{Op}
+use Rattle.rule_lines.specs.Acts.{Act, Both, Log}
+use Rattle.behaviours.proofs.Resumes.{body_resumes}
+use Rattle.behaviours.specs.declared.next.Next.{Next}
+use Rattle.behaviours.specs.Next.{stop_of}
+use Rattle.behaviours.specs.Resume.{Doing, OutOfFuel, Resumed, Returning, Stop, Throwing, resumed}
+use Rattle.behaviours.specs.Turns.{remembering, resumed_turn, stop_turn}
+use Rattle.ce_algorithms.specs.Body.{Ended, caught, told}
+use Rattle.ce_algorithms.specs.declared.event.Event.TheVariants.{Caught, FuelLine, Logged}
 use Rattle.ce_algorithms.specs.declared.event.Given.{Given}
-use Rattle.ce_algorithms.specs.declared.event.Given.TheVariants.{Node}
-use Rattle.ce_algorithms.specs.Body.{act, body, on_flow, told}
-use Rattle.ce_algorithms.specs.Model.{model}
-use Rattle.ce_algorithms.specs.State.{State, class_of, log, spend}
-use Rattle.ce_algorithms.specs.Steps.{Outcome, Goes, Throws, Spent, then_do}
-use Rattle.ce_algorithms.specs.Values.{Args, text_of}
-use Rattle.ce_frames.specs.Frames as waiting
-use Rattle.ce_frames.specs.Handing.{a_result}
-use Rattle.ce_frames.specs.BodyTurns.{act_turn, body_turn}
-use Rattle.ce_frames.specs.Turned.{ended, turn_after}
-use Rattle.ce_frames.specs.Turns.{turn_went}
-use Rattle.ce_page.specs.Ends.{Ends, Does}
-use Rattle.ce_page.specs.declared.stop.PageStop.{PageStop}
-use Rattle.ce_page.specs.declared.stop.PageStop.TheVariants.{Refused, FuelSpent, NoMemory}
-use Rattle.class_table.specs.Bodies.{logs_of}
-use Rattle.ce_machine.specs.Turns.{body_result, log_step}
+use Rattle.ce_algorithms.specs.declared.event.Given.TheVariants.{Answers, Ignored, Node, Nothing}
+use Rattle.ce_algorithms.specs.Operands.{node}
+use Rattle.ce_algorithms.specs.State.{Class, Memory, State, class_of, logged, view}
+use Rattle.ce_algorithms.specs.Steps.{Goes, Outcome, Spent, Throws, give, settle, then_do}
+use Rattle.ce_algorithms.specs.Values.{Args, fixed_text}
+use Rattle.ce_frames.specs.After.{guard}
+use Rattle.ce_frames.specs.BodyTurns.{body_turn, flow_turn}
+use Rattle.ce_frames.specs.Frames.{Frame, InBody}
+use Rattle.ce_frames.specs.Handing.{given_of}
+use Rattle.ce_frames.specs.OperateTurns.{operate_turn}
+use Rattle.ce_frames.specs.Places.{Behaviour}
+use Rattle.ce_frames.specs.Rest as ends
+use Rattle.ce_frames.specs.Turned.{Turn, Turned, ended, turn_after, with_below}
+use Rattle.ce_frames.specs.Turns.{turn}
+use Rattle.ce_frames.specs.Whole.{joined, whole, whole_in}
+use Rattle.ce_frames.proofs.Wholes.{found_joined, missing_joined, remembering_joined}
+use Rattle.frame_stack.specs.Resumes.{Proceeds, Resumes, is_guarded, resumed_of}
+use Rattle.frame_stack.specs.Sessions.{ArePaired, session}
+use Rattle.frame_stack.specs.Stacked.{Stacked, HasBody, Running, behaviour_at, behaviours_of, below_top, frames_of, guarded_of, in_body, or_new, this_of, top_of}
+use Rattle.frame_stack.proofs.TopLaws.{below_push, top_below, top_push}
+use Rattle.ce_machine.specs.Blind.{BlindAt}
+use Rattle.ce_machine.specs.Bodies.{GoesOn, StopsAt, acting_turn, answer, frame_on_top, given_node, or_constructing, running_turn, stopped_turn}
+use Rattle.ce_machine.specs.declared.came.Came.{Came}
+use Rattle.ce_machine.specs.declared.came.Came.TheVariants.{Went, Threw, Over}
+use Rattle.ce_machine.specs.Placed.{StaysPlaced}
+use Rattle.ce_machine.specs.Turns.{Turns, came_in}
+use Rattle.ce_machine.proofs.SessionLaws.{lifted, lifted_stays, session_is}
+use Rattle.ce_machine.proofs.TurnLaws.{turns_as, turns_ended, turns_pushed}
 
--- one turn of the definitions is the whole body
-pub body_is : (class : ℕ) (args : Args) (this : ℕ) (logs : List (List Val)) (s : State) → body_turn class args (Some this) (logs_of logs) s ≡ ended (body_result class args this logs s)
-unfolding body_turn act_turn
-body_is class args this [] s = refl
-body_is class args this (vals ∷ logs) s = go (body_is class args this logs) (spend s)
-  where
-    go : ((t : State) → body_turn class args (Some this) (logs_of logs) t ≡ ended (body_result class args this logs t)) → (o : Outcome State (Unit {0})) → turn_after o (λ _. act_turn class args (Some this) false (logs_of logs) (λ next. body_turn class args next (logs_of logs)) (Log vals))
-        ≡ ended (a_result (then_do o (λ _ t. then_do (act model class args (Some this) (Log vals) t) (on_flow (λ next. body model class args next (logs_of logs))))))
-    go rest (Goes x t) = rest _
-    go rest (Throws f t) = refl
-    go rest (Spent t) = refl
+-- the frame on top
 
--- what was given is told, and the body runs
-pub body_runs : (class : ℕ) (args : Args) (this : ℕ) (logs : List (List Val)) (given : Given) (s s1 : State) (o : Outcome State Given) → Goes tt s1 ≡ told given s → o ≡ body_result class args this logs s1
-    → ended o ≡ turn_went (waiting.InBody class args (Some this) false (logs_of logs)) given s
-body_runs class args this logs given s s1 o tells is =
-    ap ended is ∙ sym (body_is class args this logs s1) ∙ ap (λ (x : Outcome State (Unit {0})). turn_after x (λ _. body_turn class args (Some this) (logs_of logs))) tells
+pub on_top : (stack : Stacked) (b : HasBody (frames_of stack)) → frame_on_top stack ≡ in_body b.body
+on_top stack b = ap or_constructing b.top
 
--- an action, and those behind it
-body_steps : (class : ℕ) (args : Args) (this : ℕ) (vals : List Val) (logs : List (List Val)) (s : State) → body_result class args this (vals ∷ logs) s ≡ then_do (log_step class args vals s) (λ _. body_result class args this logs)
-body_steps class args this vals logs s = go (spend s)
-  where
-    go : (o : Outcome State (Unit {0})) → a_result (then_do o (λ _ t. then_do (act model class args (Some this) (Log vals) t) (on_flow (λ next. body model class args next (logs_of logs)))))
-        ≡ then_do (then_do o (λ _ t. log (Logged (map (text_of (class_of t class).memory args) vals)) t)) (λ _. body_result class args this logs)
-    go (Goes x t) = refl
-    go (Throws f t) = refl
-    go (Spent t) = refl
+pub popped_body : (stack : Stacked) (b : HasBody (frames_of stack)) → frames_of stack ≡ below_top (frames_of stack) ++ frame_on_top stack ∷ []
+popped_body stack b = top_below (frames_of stack) (in_body b.body) b.top ∙ ap (λ (f : Frame). below_top (frames_of stack) ++ f ∷ []) (sym (on_top stack b))
 
-body_at : (class : ℕ) (args : Args) (this : ℕ) (logs : List (List Val)) (i : ℕ) (vals : List Val) (s : State) → i < length logs → vals ≡ get_or logs i vals
-    → body_result class args this (drop i logs) s ≡ then_do (log_step class args vals s) (λ _. body_result class args this (drop (i + 1) logs))
-body_at class args this logs i vals s within is =
-    ap (λ (l : List (List Val)). body_result class args this l s) (drop-cons logs i vals within ∙ ap (λ x. x ∷ drop (suc i) logs) (sym is))
-    ∙ body_steps class args this vals (drop (suc i) logs) s
-    ∙ ap (λ n. then_do (log_step class args vals s) (λ _. body_result class args this (drop n logs))) (sym (add-one i))
+-- a turn that is the same on top, written otherwise
+top_as : (stack : Stacked) (b : HasBody (frames_of stack)) (f g : Frame → Turn) (s t : State) → f (in_body b.body) s ≡ g (in_body b.body) t → f (frame_on_top stack) s ≡ g (frame_on_top stack) t
+top_as stack b f g s t e = ap (λ (x : Frame). f x s) (on_top stack b) ∙ e ∙ sym (ap (λ (x : Frame). g x t) (on_top stack b))
 
--- an action has run
-pub body_next : (class : ℕ) (args : Args) (this : ℕ) (logs : List (List Val)) (i : ℕ) (vals : List Val) (s s1 : State) (o : Outcome State Given) → i < length logs → vals ≡ get_or logs i vals → body_result class args this (drop i logs) s ≡ o
-    → Goes tt s1 ≡ log_step class args vals s → body_result class args this (drop (i + 1) logs) s1 ≡ o
-body_next class args this logs i vals s s1 o within is before step =
-    ap (λ (x : Outcome State (Unit {0})). then_do x (λ _. body_result class args this (drop (i + 1) logs))) step ∙ sym (body_at class args this logs i vals s within is) ∙ before
+-- the body has ended
 
--- it stopped
-pub body_stops : (stop : PageStop) (class : ℕ) (args : Args) (this : ℕ) (logs : List (List Val)) (i : ℕ) (vals : List Val) (s s1 : State) (o : Outcome State Given) → i < length logs → vals ≡ get_or logs i vals → body_result class args this (drop i logs) s ≡ o
-    → Does {A = Unit {0}} (Err stop) s1 (log_step class args vals s) → Ends {A = Given} (λ g. g) (Err stop) s1 o
-body_stops stop class args this logs i vals s s1 o within is before ends = go stop ends
-  where
-    on : (x : Outcome State (Unit {0})) → x ≡ log_step class args vals s → then_do x (λ _. body_result class args this (drop (i + 1) logs)) ≡ o
-    on x e = ap (λ (x : Outcome State (Unit {0})). then_do x (λ _. body_result class args this (drop (i + 1) logs))) e ∙ sym (body_at class args this logs i vals s within is) ∙ before
+abbrev pub forest_in : Outcome State Given → Trees
+forest_in (Goes given s) = s.page.forest
+forest_in (Throws f s) = s.page.forest
+forest_in (Spent s) = s.page.forest
 
-    go : (stop : PageStop) → Does {A = Unit {0}} (Err stop) s1 (log_step class args vals s) → Ends {A = Given} (λ g. g) (Err stop) s1 o
-    go (Refused f) e = on (Throws f s1) e
-    go FuelSpent e = on (Spent s1) e
-    go NoMemory e = tt
+stays_in : (F : Trees) (o : Outcome State Given) → forest_in o ≡ F → StaysPlaced F (ended o)
+stays_in F (Goes given s) same = let n = ap size same in record { grows = omega (arith, n); placed = tt }
+stays_in F (Throws f s) same = let n = ap size same in record { grows = omega (arith, n); placed = tt }
+stays_in F (Spent s) same = let n = ap size same in record { grows = omega (arith, n); placed = tt }
 
--- no action is left
-pub body_ends : (class : ℕ) (args : Args) (this : ℕ) (logs : List (List Val)) (i : ℕ) (s : State) (o : Outcome State Given) → length logs ≤ i → body_result class args this (drop i logs) s ≡ o → Goes (Node this) s ≡ o
-body_ends class args this logs i s o past before = ap (λ (l : List (List Val)). body_result class args this l s) (sym (drop_all i logs past)) ∙ before
+pub stays_ended : (F : Trees) (o : Outcome State Given) (t : Turned) → forest_in o ≡ F → ended o ≡ t → StaysPlaced F t
+stays_ended F o t same e = subst (StaysPlaced F) e (stays_in F o same)
+
+-- with no fuel left
+
+spent_is : (old : Stacked) (b : HasBody (frames_of old)) (s : State) → ended (Spent (logged FuelLine (session old s))) ≡ stopped_turn OutOfFuel (frame_on_top old) (session old s)
+spent_is old b s = sym (ap (λ (f : Frame). stopped_turn OutOfFuel f (session old s)) (on_top old b))
+
+pub spent_turns : (old new : Stacked) (s s1 : State) → HasBody (frames_of old) → frames_of new ≡ below_top (frames_of old) → behaviours_of new ≡ behaviours_of old → s1 ≡ logged FuelLine s
+    → Turns (below_top (frames_of old)) (frames_of new) Over (session new s1) (stopped_turn OutOfFuel (frame_on_top old) (session old s))
+spent_turns old new s s1 b fs same is =
+    turns_ended (below_top (frames_of old)) (frames_of new) Over (session new s1) (Spent (logged FuelLine (session old s))) _ fs (ap (λ (t : State). Spent t) (session_is old new s1 (logged FuelLine s) same is)) (spent_is old b s)
+
+pub spent_stays : (old : Stacked) (s : State) → HasBody (frames_of old) → StaysPlaced s.page.forest (stopped_turn OutOfFuel (frame_on_top old) (session old s))
+spent_stays old s b = stays_ended s.page.forest (Spent (logged FuelLine (session old s))) _ refl (spent_is old b s)
+
+-- by a fault
+
+thrown_is : (old : Stacked) (b : HasBody (frames_of old)) (s : State) (f : Fault) (guarded : Bool) → guarded ≡ false → ended (Throws f (session old s)) ≡ stopped_turn (Throwing f guarded) (frame_on_top old) (session old s)
+thrown_is old b s f guarded off =
+    ap (λ (g : Bool). stopped_turn (Throwing f g) (in_body b.body) (session old s)) (sym off) ∙ sym (ap (λ (x : Frame). stopped_turn (Throwing f guarded) x (session old s)) (on_top old b))
+
+pub thrown_turns : (old new : Stacked) (s : State) (f : Fault) (guarded : Bool) → HasBody (frames_of old) → guarded ≡ false → frames_of new ≡ below_top (frames_of old) → behaviours_of new ≡ behaviours_of old
+    → Turns (below_top (frames_of old)) (frames_of new) (Threw f) (session new s) (stopped_turn (Throwing f guarded) (frame_on_top old) (session old s))
+thrown_turns old new s f guarded b off fs same =
+    turns_ended (below_top (frames_of old)) (frames_of new) (Threw f) (session new s) (Throws f (session old s)) _ fs (ap (λ (t : State). Throws f t) (session_is old new s s same refl)) (thrown_is old b s f guarded off)
+
+pub thrown_stays : (old : Stacked) (s : State) (f : Fault) (guarded : Bool) → HasBody (frames_of old) → guarded ≡ false → StaysPlaced s.page.forest (stopped_turn (Throwing f guarded) (frame_on_top old) (session old s))
+thrown_stays old s f guarded b off = stays_ended s.page.forest (Throws f (session old s)) _ refl (thrown_is old b s f guarded off)
+
+-- what it returns
+
+answer_same : (this : Option ℕ) (bs : List Behaviour) (s : State) (value : Option Operand) → answer this (whole bs s) value ≡ answer this s value
+answer_same this bs s None = refl
+answer_same this bs s (Some Doc) = refl
+answer_same this bs s (Some This) = refl
+answer_same this bs s (Some (Variable name)) = refl
+
+abbrev returning : ℕ → Args → Option ℕ → List Act → Bool → State → Result ℕ Fault → Turned
+returning class args this left guarded s x = turn_after (guard guarded this (then_do (settle x s) (λ n. give (Ended (Some n))))) (flow_turn (λ next. body_turn class args next left))
+
+goes_by : (class : ℕ) (args : Args) (this : Option ℕ) (left : List Act) (guarded : Bool) (s : State) (given : Given) (x : Result ℕ Fault) → given_node x ≡ Ok given → ended (Goes given s) ≡ returning class args this left guarded s x
+goes_by class args this left true s given (Ok n) h = let e : Node n ≡ given = cc in ap (λ (g : Given). ended (Goes g s)) (sym e)
+goes_by class args this left false s given (Ok n) h = let e : Node n ≡ given = cc in ap (λ (g : Given). ended (Goes g s)) (sym e)
+goes_by class args this left guarded s given (Err f) h = absurd (let e : given_node (Err f) ≡ Ok given = h in cc)
+
+ok_same : (x y : Given) → ◌≡◌ {A = Result Given Fault} (Ok x) (Ok y) → x ≡ y
+ok_same x y e = cc
+
+answer_goes : (class : ℕ) (args : Args) (this : Option ℕ) (left : List Act) (value : Option Operand) (guarded : Bool) (s : State) (given : Given) → answer this s value ≡ Ok given → ended (Goes given s) ≡ stop_turn class args this left (Returning value guarded) s
+answer_goes class args this left None true s given h = ap (λ (g : Given). ended (Goes g s)) (sym (ok_same (given_of this) given h))
+answer_goes class args this left None false s given h = ap (λ (g : Given). ended (Goes g s)) (sym (ok_same (given_of this) given h))
+answer_goes class args this left (Some operand) guarded s given h = goes_by class args this left guarded s given (node (view this s) operand) h
+
+throws_by : (class : ℕ) (args : Args) (this : Option ℕ) (left : List Act) (guarded : Bool) (s : State) (f : Fault) (x : Result ℕ Fault) → given_node x ≡ Err f → stop_turn class args this left (Throwing f guarded) s ≡ returning class args this left guarded s x
+throws_by class args this left guarded s f (Ok n) h = absurd (let e : given_node (Ok n) ≡ Err f = h in cc)
+throws_by class args this left guarded s f (Err g) h = let e : g ≡ f = cc in ap (λ (y : Fault). stop_turn class args this left (Throwing y guarded) s) (sym e)
+
+answer_throws : (class : ℕ) (args : Args) (this : Option ℕ) (left : List Act) (value : Option Operand) (guarded : Bool) (s : State) (f : Fault) → answer this s value ≡ Err f → stop_turn class args this left (Throwing f guarded) s ≡ stop_turn class args this left (Returning value guarded) s
+answer_throws class args this left None guarded s f h = absurd (let e : answer this s None ≡ Err f = h in cc)
+answer_throws class args this left (Some operand) guarded s f h = throws_by class args this left guarded s f (node (view this s) operand) h
+
+answer_on : (old : Stacked) (b : HasBody (frames_of old)) (s : State) (this : Option ℕ) (value : Option Operand) (r : Result Given Fault) → this ≡ this_of (top_of (frames_of old)) → answer this s value ≡ r → answer b.body.this (session old s) value ≡ r
+answer_on old b s this value r is h =
+    answer_same b.body.this (behaviours_of old) s value ∙ ap (λ (t : Option ℕ). answer t s value) (sym (is ∙ ap this_of b.top)) ∙ h
+
+pub returned_is : (old : Stacked) (b : HasBody (frames_of old)) (s : State) (this : Option ℕ) (value : Option Operand) (guarded : Bool) (given : Given) → this ≡ this_of (top_of (frames_of old)) → answer this s value ≡ Ok given
+    → ended (Goes given (session old s)) ≡ stopped_turn (Returning value guarded) (frame_on_top old) (session old s)
+returned_is old b s this value guarded given is h =
+    answer_goes b.body.class b.body.args b.body.this b.body.actions value guarded (session old s) given (answer_on old b s this value (Ok given) is h)
+    ∙ sym (ap (λ (x : Frame). stopped_turn (Returning value guarded) x (session old s)) (on_top old b))
+
+pub returned_throws : (old : Stacked) (b : HasBody (frames_of old)) (s : State) (this : Option ℕ) (value : Option Operand) (guarded : Bool) (f : Fault) → this ≡ this_of (top_of (frames_of old)) → answer this s value ≡ Err f
+    → stopped_turn (Throwing f guarded) (frame_on_top old) (session old s) ≡ stopped_turn (Returning value guarded) (frame_on_top old) (session old s)
+returned_throws old b s this value guarded f is h =
+    top_as old b (stopped_turn (Throwing f guarded)) (stopped_turn (Returning value guarded)) (session old s) (session old s)
+    (answer_throws b.body.class b.body.args b.body.this b.body.actions value guarded (session old s) f (answer_on old b s this value (Err f) is h))
+
+pub returned_turns : (old new : Stacked) (s : State) (this : Option ℕ) (value : Option Operand) (guarded : Bool) (given : Given) → HasBody (frames_of old) → this ≡ this_of (top_of (frames_of old)) → answer this s value ≡ Ok given
+    → frames_of new ≡ below_top (frames_of old) → behaviours_of new ≡ behaviours_of old → Turns (below_top (frames_of old)) (frames_of new) (Went given) (session new s) (stopped_turn (Returning value guarded) (frame_on_top old) (session old s))
+returned_turns old new s this value guarded given b is h fs same =
+    turns_ended (below_top (frames_of old)) (frames_of new) (Went given) (session new s) (Goes given (session old s)) _ fs (ap (λ (t : State). Goes given t) (session_is old new s s same refl)) (returned_is old b s this value guarded given is h)
+
+pub returned_stays : (old : Stacked) (s : State) (this : Option ℕ) (value : Option Operand) (guarded : Bool) (given : Given) → HasBody (frames_of old) → this ≡ this_of (top_of (frames_of old)) → answer this s value ≡ Ok given
+    → StaysPlaced s.page.forest (stopped_turn (Returning value guarded) (frame_on_top old) (session old s))
+returned_stays old s this value guarded given b is h = stays_ended s.page.forest (Goes given (session old s)) _ refl (returned_is old b s this value guarded given is h)
+
+-- the body goes on
+
+-- behind an event that was logged
+logged_goes_on : (old : Stacked) (s s1 t : State) (f : Frame → Turn) → HasBody (frames_of old) → ArePaired old s → s1 ≡ t → t.classes ≡ s.classes → t.page ≡ s.page → t.fuel ≡ s.fuel → running_turn (frame_on_top old) (session old t) ≡ f (frame_on_top old) (session old s) → GoesOn old old s s1 f
+logged_goes_on old s s1 t f b paired is classes page fuel same = record {
+  body = b;
+  below = refl;
+  this = refl;
+  same = ap (λ (x : State). running_turn (frame_on_top old) (session old x)) is ∙ same;
+  paired = ap length (ap (λ (x : State). x.classes) is ∙ classes) ∙ paired;
+  forest = ap (λ (x : State). x.page.forest) is ∙ ap (λ p. p.forest) page;
+  fuel = let e = ap (λ (x : State). x.fuel) is in omega (arith, e, fuel);
+}
+
+-- a fault was caught
+pub caught_goes_on : (old : Stacked) (s s1 : State) (f : Fault) (guarded : Bool) → HasBody (frames_of old) → ArePaired old s → guarded ≡ true → s1 ≡ logged (Caught f) s → GoesOn old old s s1 (stopped_turn (Throwing f guarded))
+caught_goes_on old s s1 f guarded b paired on is =
+    logged_goes_on old s s1 (logged (Caught f) s) (stopped_turn (Throwing f guarded)) b paired is refl refl refl
+    (top_as old b running_turn (stopped_turn (Throwing f guarded)) (session old (logged (Caught f) s)) (session old s) (ap (λ (g : Bool). stopped_turn (Throwing f g) (in_body b.body) (session old s)) (sym on)))
+
+-- texts were written
+pub log_goes_on : (old : Stacked) (s s1 : State) (vals : List Val) → HasBody (frames_of old) → ArePaired old s → s1 ≡ logged (Logged (map fixed_text vals)) s → GoesOn old old s s1 (acting_turn (Log vals))
+log_goes_on old s s1 vals b paired is =
+    logged_goes_on old s s1 (logged (Logged (map fixed_text vals)) s) (acting_turn (Log vals)) b paired is refl refl refl
+    (top_as old b running_turn (acting_turn (Log vals)) (session old (logged (Logged (map fixed_text vals)) s)) (session old s) refl)
+
+pub goes_on_as : (old new : Stacked) (s s1 : State) (f g : Frame → Turn) → f (frame_on_top old) (session old s) ≡ g (frame_on_top old) (session old s) → GoesOn old new s s1 f → GoesOn old new s s1 g
+goes_on_as old new s s1 f g e h = record { body = h.body; below = h.below; this = h.this; same = h.same ∙ e; paired = h.paired; forest = h.forest; fuel = h.fuel }
+
+pub goes_on_here : (old : Stacked) (s : State) → HasBody (frames_of old) → ArePaired old s → GoesOn old old s s running_turn
+goes_on_here old s b paired = record { body = b; below = refl; this = refl; same = refl; paired = paired; forest = refl; fuel = omega arith }
+
+pub goes_on_then : (first mid last : Stacked) (s t u : State) (f : Frame → Turn) → GoesOn first mid s t running_turn → GoesOn mid last t u f → f (frame_on_top mid) (session mid t) ≡ running_turn (frame_on_top mid) (session mid t) → GoesOn first last s u running_turn
+goes_on_then first mid last s t u f a b e = record {
+  body = b.body;
+  below = b.below ∙ a.below;
+  this = b.this ∙ a.this;
+  same = b.same ∙ e ∙ a.same;
+  paired = b.paired;
+  forest = b.forest ∙ a.forest;
+  fuel = let x = a.fuel in let y = b.fuel in omega (arith, x, y);
+}
+
+-- what `this` is stays a node
+pub this_there : (old new : Stacked) (s t : State) → this_of (top_of (frames_of new)) ≡ this_of (top_of (frames_of old)) → t.page.forest ≡ s.page.forest → IfSome (this_of (top_of (frames_of old))) (IsNode s.page.forest) → IfSome (this_of (top_of (frames_of new))) (IsNode t.page.forest)
+this_there old new s t this forest h =
+    subst (λ (F : Trees). IfSome (this_of (top_of (frames_of new))) (IsNode F)) (sym forest) (subst (λ (o : Option ℕ). IfSome o (IsNode s.page.forest)) (sym this) h)
+
+-- an operation runs above it
+
+this_grows : (F G : Trees) (o : Option ℕ) → size F ≤ size G → IfSome o (IsNode F) → IfSome o (IsNode G)
+this_grows F G None le h = tt
+this_grows F G (Some n) le h = record { low = h.low; high = let x = h.high in omega (arith, x, le) }
+
+acting_is : (old : Stacked) (b : HasBody (frames_of old)) (s : State) (this : Option ℕ) (op : Op) → this ≡ this_of (top_of (frames_of old)) → with_below (in_body b.body) (operate_turn this op (session old s)) ≡ acting_turn (Both op) (frame_on_top old) (session old s)
+acting_is old b s this op is =
+    ap (λ (t : Option ℕ). with_below (in_body b.body) (operate_turn t op (session old s))) (is ∙ ap this_of b.top)
+    ∙ sym (ap (λ (x : Frame). acting_turn (Both op) x (session old s)) (on_top old b))
+
+pub operation_turns : (old new : Stacked) (s s1 : State) (now : Came) (this : Option ℕ) (op : Op) → HasBody (frames_of old) → this ≡ this_of (top_of (frames_of old)) → BlindAt (operate_turn this op) s
+    → Turns (frames_of old) (frames_of new) now s1 (operate_turn this op s) → behaviours_of new ≡ behaviours_of old → Turns (below_top (frames_of old)) (frames_of new) now (session new s1) (acting_turn (Both op) (frame_on_top old) (session old s))
+operation_turns old new s s1 now this op b is blind h same =
+    turns_as (below_top (frames_of old)) (frames_of new) now (session new s1) _ _ (acting_is old b s this op is)
+    (turns_pushed (below_top (frames_of old)) (frames_of old) (frames_of new) (in_body b.body) now (session new s1) (operate_turn this op (session old s)) (top_below (frames_of old) (in_body b.body) b.top)
+    (lifted (operate_turn this op) old new (frames_of old) (frames_of new) now s s1 blind h same))
+
+pub operation_ok : (old new : Stacked) (s s1 : State) (this : Option ℕ) (op : Op) (r : Result Came NoMemory) → HasBody (frames_of old) → this ≡ this_of (top_of (frames_of old)) → OnOk r (BlindAt (operate_turn this op) s)
+    → IfOk r (λ (now : Came). Turns (frames_of old) (frames_of new) now s1 (operate_turn this op s)) → OnOk r (behaviours_of new ≡ behaviours_of old)
+    → IfOk r (λ (now : Came). Turns (below_top (frames_of old)) (frames_of new) now (session new s1) (acting_turn (Both op) (frame_on_top old) (session old s)))
+operation_ok old new s s1 this op (Ok now) b is blind h same = operation_turns old new s s1 now this op b is blind h same
+operation_ok old new s s1 this op (Err x) b is blind h same = tt
+
+pub operation_stays : (old : Stacked) (s : State) (this : Option ℕ) (op : Op) → HasBody (frames_of old) → this ≡ this_of (top_of (frames_of old)) → IfSome (this_of (top_of (frames_of old))) (IsNode s.page.forest) → BlindAt (operate_turn this op) s
+    → StaysPlaced s.page.forest (operate_turn this op s) → StaysPlaced s.page.forest (acting_turn (Both op) (frame_on_top old) (session old s))
+operation_stays old s this op b is there blind h =
+    let k = lifted_stays (operate_turn this op) old s.page.forest s blind h in
+    subst (StaysPlaced s.page.forest) (acting_is old b s this op is)
+    (record { grows = k.grows; placed = (this_grows s.page.forest (operate_turn this op (session old s)).state.page.forest b.body.this k.grows (subst (λ (o : Option ℕ). IfSome o (IsNode s.page.forest)) (ap this_of b.top) there), k.placed) })
+
+-- where a body has stopped, it goes on
+
+there_at : (bs : List Behaviour) (k : ℕ) → k < length bs → slice_get bs k ≡ Some (behaviour_at k bs)
+there_at [] k h = absurd (omega (arith, h))
+there_at (b ∷ bs) zero h = refl
+there_at (b ∷ bs) (suc k) h = there_at bs k (omega (arith, h))
+
+set_past : {X : Type 0} (xs : List X) (k : ℕ) (x : X) → length xs ≤ k → slice_set xs k x ≡ xs
+set_past [] k x h = refl
+set_past (y ∷ xs) zero x h = absurd (omega (arith, h))
+set_past (y ∷ xs) (suc k) x h = ap (λ l. y ∷ l) (set_past xs k x (omega (arith, h)))
+
+-- a body without actions
+idle_body : (class : ℕ) (args : Args) (this : Option ℕ) (t : State) → stop_turn class args this [] (Returning None false) t ≡ body_turn class args this [] t
+unfolding body_turn
+idle_body class args this t = refl
+
+module _ (old new : Stacked) (s s1 : State) (next : Next) (h : Resumes old new s.fuel s1.fuel next) (paired : ArePaired old s) (is : s1 ≡ record s { fuel = s1.fuel }) where
+  abbrev r : Running
+  r = h.body
+
+  abbrev bs : List Behaviour
+  bs = behaviours_of old
+
+  abbrev came : Resumed
+  came = resumed_of r bs s.fuel
+
+  abbrev mine : Behaviour
+  mine = behaviour_at r.class bs
+
+  abbrev old_body : HasBody (frames_of old)
+  old_body = record { body = r; top = h.top }
+
+  new_top : top_of (frames_of new) ≡ Some (in_body (record r { guarded = is_guarded (stop_of next); actions = came.left }))
+  new_top = ap top_of h.frames ∙ top_push (below_top (frames_of old)) _
+
+  abbrev new_body : HasBody (frames_of new)
+  new_body = record { body = record r { guarded = is_guarded (stop_of next); actions = came.left }; top = new_top }
+
+  -- what the class remembers, and the fuel, are those of the new session
+  session_new : session new s1 ≡ whole (slice_set bs r.class (record mine { memory = came.memory })) (record s { fuel = came.fuel })
+  session_new =
+      ap (λ (l : List Behaviour). whole l s1) h.behaviours
+      ∙ ap (whole (slice_set bs r.class (record mine { memory = came.memory }))) (is ∙ ap (λ (n : ℕ). record s { fuel = n }) h.fuel)
+
+  remembers : (r.class < length bs) → remembering r.class came.memory came.fuel (session old s) ≡ session new s1
+  remembers within =
+      ap (λ (l : List Class). record s { fuel = came.fuel; classes = l }) (remembering_joined s.classes bs r.class mine came.memory (there_at bs r.class within)) ∙ sym session_new
+
+  stops : stop_turn r.class r.args r.this came.left came.stop (session new s1) ≡ stopped_turn (stop_of next) (frame_on_top new) (session new s1)
+  stops =
+      ap (λ (x : Stop). stop_turn r.class r.args r.this came.left x (session new s1)) (sym h.stop)
+      ∙ sym (ap (λ (f : Frame). stopped_turn (stop_of next) f (session new s1)) (on_top new new_body))
+
+  runs : running_turn (frame_on_top old) (session old s) ≡ body_turn r.class r.args r.this r.actions (session old s)
+  runs = ap (λ (f : Frame). running_turn f (session old s)) (on_top old old_body)
+
+  same_within : r.class < length bs → stopped_turn (stop_of next) (frame_on_top new) (session new s1) ≡ running_turn (frame_on_top old) (session old s)
+  same_within within =
+      sym (runs
+      ∙ body_resumes r.class r.args r.this r.actions (session old s) _ (found_joined s.classes bs r.class mine paired (there_at bs r.class within))
+      ∙ ap (stop_turn r.class r.args r.this came.left came.stop) (remembers within)
+      ∙ stops)
+
+  -- a class that is not there does nothing
+
+  idle_came : length bs ≤ r.class → came ≡ record { stop = Returning None false; memory = mine.memory; fuel = s.fuel; left = [] }
+  idle_came past = ap (λ (l : List Act). resumed r.args l mine.memory s.fuel) (h.idle past)
+
+  idle_session : length bs ≤ r.class → session new s1 ≡ session old s
+  idle_session past =
+      session_new
+      ∙ ap (λ (l : List Behaviour). whole l (record s { fuel = came.fuel })) (set_past bs r.class (record mine { memory = came.memory }) past)
+      ∙ ap (λ (x : Resumed). whole bs (record s { fuel = x.fuel })) (idle_came past)
+
+  same_past : length bs ≤ r.class → stopped_turn (stop_of next) (frame_on_top new) (session new s1) ≡ running_turn (frame_on_top old) (session old s)
+  same_past past =
+      sym stops
+      ∙ ap (stop_turn r.class r.args r.this came.left came.stop) (idle_session past)
+      ∙ ap (λ (x : Resumed). stop_turn r.class r.args r.this x.left x.stop (session old s)) (idle_came past)
+      ∙ idle_body r.class r.args r.this (session old s)
+      ∙ ap (λ (l : List Act). body_turn r.class r.args r.this l (session old s)) (sym (h.idle past))
+      ∙ sym runs
+
+  pub stops_at : StopsAt old new s s1 (stop_of next)
+  stops_at = record {
+    body = new_body;
+    below = ap below_top h.frames ∙ below_push (below_top (frames_of old)) _;
+    this = ap this_of new_top ∙ sym (ap this_of h.top);
+    same = by_class (cases_lt r.class (length bs));
+    guarded = ap guarded_of new_top;
+    paired = ap (λ (x : State). length x.classes) is ∙ paired ∙ sym (ap length h.behaviours ∙ length-set bs r.class (record mine { memory = came.memory }));
+  }
+    where
+      by_class : (r.class < length bs) ⊎ (length bs ≤ r.class) → stopped_turn (stop_of next) (frame_on_top new) (session new s1) ≡ running_turn (frame_on_top old) (session old s)
+      by_class (inl within) = same_within within
+      by_class (inr past) = same_past past
+
+-- what is done where it has stopped is what it does
+
+pub stops_turns : (old mid : Stacked) (s s1 t : State) (stop : Stop) (new : List Frame) (o : Option Came) → StopsAt old mid s s1 stop
+    → IfSome o (λ (now : Came). Turns (below_top (frames_of mid)) new now t (stopped_turn stop (frame_on_top mid) (session mid s1))) → IfSome o (λ (now : Came). Turns (below_top (frames_of old)) new now t (running_turn (frame_on_top old) (session old s)))
+stops_turns old mid s s1 t stop new o k h =
+    subst (λ (u : Turned). IfSome o (λ (now : Came). Turns (below_top (frames_of old)) new now t u)) k.same
+    (subst (λ (l : List Frame). IfSome o (λ (now : Came). Turns l new now t (stopped_turn stop (frame_on_top mid) (session mid s1)))) k.below h)
+
+pub stops_stays : (old mid : Stacked) (s s1 : State) (stop : Stop) (o : Option Came) → StopsAt old mid s s1 stop → s1 ≡ record s { fuel = s1.fuel }
+    → IfSome o (λ (now : Came). StaysPlaced s1.page.forest (stopped_turn stop (frame_on_top mid) (session mid s1))) → IfSome o (λ (now : Came). StaysPlaced s.page.forest (running_turn (frame_on_top old) (session old s)))
+stops_stays old mid s s1 stop o k is h =
+    subst (λ (F : Trees). IfSome o (λ (now : Came). StaysPlaced F (running_turn (frame_on_top old) (session old s)))) (ap (λ (x : State). x.page.forest) is)
+    (subst (λ (u : Turned). IfSome o (λ (now : Came). StaysPlaced s1.page.forest u)) k.same h)
+
+pub stops_goes_on : (old mid new : Stacked) (s s1 t : State) (stop : Stop) (o : Option Came) → StopsAt old mid s s1 stop → s1 ≡ record s { fuel = s1.fuel } → IfNone o (s1.fuel < s.fuel) → IfNone o (GoesOn mid new s1 t (stopped_turn stop)) → IfNone o (GoesOn old new s t running_turn)
+stops_goes_on old mid new s s1 t stop (Some now) k is less h = tt
+stops_goes_on old mid new s s1 t stop None k is less h = record {
+  body = h.body;
+  below = h.below ∙ k.below;
+  this = h.this ∙ k.this;
+  same = h.same ∙ k.same;
+  paired = h.paired;
+  forest = h.forest ∙ ap (λ (x : State). x.page.forest) is;
+  fuel = let x = h.fuel in omega (arith, x, less);
+}
+
+pub stops_spends : (s s1 : State) (next : Next) (stop : Stop) (o : Option Came) → stop_of next ≡ stop → (Proceeds (stop_of next) → s1.fuel < s.fuel) → IfNone o (Proceeds stop) → IfNone o (s1.fuel < s.fuel)
+stops_spends s s1 next stop (Some now) is spends h = tt
+stops_spends s s1 next stop None is spends h = spends (subst Proceeds (sym is) h)
+
+pub then_spends : (mid new : Stacked) (s s1 t : State) (f : Frame → Turn) (o : Option Came) → IfNone o (GoesOn mid new s1 t f) → IfNone o (s1.fuel < s.fuel) → IfNone o (t.fuel < s.fuel)
+then_spends mid new s s1 t f (Some now) h less = tt
+then_spends mid new s s1 t f None h less = let x = h.fuel in omega (arith, x, less)
+
+pub none_goes_on_as : (o : Option Came) (old new : Stacked) (s s1 : State) (f g : Frame → Turn) → f (frame_on_top old) (session old s) ≡ g (frame_on_top old) (session old s) → IfNone o (GoesOn old new s s1 f) → IfNone o (GoesOn old new s s1 g)
+none_goes_on_as (Some now) old new s s1 f g e h = tt
+none_goes_on_as None old new s s1 f g e h = goes_on_as old new s s1 f g e h
+
+pub always : (o : Option Came) → IfNone o (Unit {0})
+always None = tt
+always (Some now) = tt
+
+-- an action stands in a `try` if its frame says so
+pub acts_as : (mid : Stacked) (b : HasBody (frames_of mid)) (action : Act) (guarded : Bool) (t : State) → guarded_of (top_of (frames_of mid)) ≡ guarded → acting_turn action (frame_on_top mid) t ≡ stopped_turn (Doing action guarded) (frame_on_top mid) t
+acts_as mid b action guarded t is =
+    top_as mid b (acting_turn action) (stopped_turn (Doing action guarded)) t t (ap (λ (g : Bool). stopped_turn (Doing action g) (in_body b.body) t) (sym (ap guarded_of b.top) ∙ is))
+
+-- what it waited for has ended
+
+-- it has gone well
+told_whole : (given : Given) (bs : List Behaviour) (s s1 : State) → Goes tt s1 ≡ told given s → Goes tt (whole bs s1) ≡ told given (whole bs s)
+told_whole Nothing bs s s1 e = ap (whole_in bs) e
+told_whole (Node n) bs s s1 e = ap (whole_in bs) e
+told_whole (Answers a) bs s s1 e = ap (whole_in bs) e
+told_whole Ignored bs s s1 e = ap (whole_in bs) e
+
+abbrev classes_of : Outcome State (Unit {0}) → List Class
+classes_of (Goes x t) = t.classes
+classes_of (Throws f t) = t.classes
+classes_of (Spent t) = t.classes
+
+told_classes : (given : Given) (s s1 : State) → Goes tt s1 ≡ told given s → s1.classes ≡ s.classes
+told_classes Nothing s s1 e = let i : s1 ≡ s = cc in ap (λ (x : State). x.classes) i
+told_classes (Node n) s s1 e = let i : s1 ≡ s = cc in ap (λ (x : State). x.classes) i
+told_classes (Answers a) s s1 e = ap classes_of e
+told_classes Ignored s s1 e = let i : s1 ≡ s = cc in ap (λ (x : State). x.classes) i
+
+pub told_paired : (old : Stacked) (given : Given) (s s1 : State) → Goes tt s1 ≡ told given s → ArePaired old s → ArePaired old s1
+told_paired old given s s1 e paired = ap length (told_classes given s s1 e) ∙ paired
+
+pub went_is : (old : Stacked) (b : HasBody (frames_of old)) (s s1 : State) (given : Given) → Goes tt s1 ≡ told given s → running_turn (frame_on_top old) (session old s1) ≡ turn (frame_on_top old) (ends.Went given) (session old s)
+unfolding turn
+went_is old b s s1 given e =
+    top_as old b running_turn (λ (f : Frame). turn f (ends.Went given)) (session old s1) (session old s)
+    (ap (λ (o : Outcome State (Unit {0})). turn_after o (λ _. body_turn b.body.class b.body.args b.body.this b.body.actions)) (told_whole given (behaviours_of old) s s1 e))
+
+-- it has thrown
+pub threw_is : (old : Stacked) (b : HasBody (frames_of old)) (s : State) (f : Fault) → false ≡ guarded_of (top_of (frames_of old)) → ended (Throws f (session old s)) ≡ turn (frame_on_top old) (ends.Threw f) (session old s)
+unfolding turn
+threw_is old b s f off =
+    ap (λ (g : Bool). turn (InBody b.body.class b.body.args b.body.this g b.body.actions) (ends.Threw f) (session old s)) (off ∙ ap guarded_of b.top)
+    ∙ sym (ap (λ (x : Frame). turn x (ends.Threw f) (session old s)) (on_top old b))
+
+pub caught_is : (old : Stacked) (b : HasBody (frames_of old)) (s s1 : State) (f : Fault) → true ≡ guarded_of (top_of (frames_of old)) → s1 ≡ logged (Caught f) s → running_turn (frame_on_top old) (session old s1) ≡ turn (frame_on_top old) (ends.Threw f) (session old s)
+unfolding turn
+caught_is old b s s1 f on is =
+    top_as old b running_turn (λ (x : Frame). turn x (ends.Threw f)) (session old s1) (session old s)
+    (ap (λ (t : State). body_turn b.body.class b.body.args b.body.this b.body.actions (session old t)) is
+    ∙ ap (λ (g : Bool). turn (InBody b.body.class b.body.args b.body.this g b.body.actions) (ends.Threw f) (session old s)) (on ∙ ap guarded_of b.top))
+
+-- the session has ended
+pub over_is : (old : Stacked) (s : State) → ended (Spent (session old s)) ≡ turn (frame_on_top old) ends.Over (session old s)
+unfolding turn
+over_is old s = refl
+
+pub over_turns : (old new : Stacked) (s : State) → frames_of new ≡ below_top (frames_of old) → behaviours_of new ≡ behaviours_of old → Turns (below_top (frames_of old)) (frames_of new) Over (session new s) (turn (frame_on_top old) ends.Over (session old s))
+over_turns old new s fs same =
+    turns_ended (below_top (frames_of old)) (frames_of new) Over (session new s) (Spent (session old s)) _ fs (ap (λ (t : State). Spent t) (session_is old new s s same refl)) (over_is old s)
+
+pub over_stays : (old : Stacked) (s : State) → StaysPlaced s.page.forest (turn (frame_on_top old) ends.Over (session old s))
+over_stays old s = stays_ended s.page.forest (Spent (session old s)) _ refl (over_is old s)
+
+pub threw_turns : (old new : Stacked) (s : State) (f : Fault) → HasBody (frames_of old) → false ≡ guarded_of (top_of (frames_of old)) → frames_of new ≡ below_top (frames_of old) → behaviours_of new ≡ behaviours_of old
+    → Turns (below_top (frames_of old)) (frames_of new) (Threw f) (session new s) (turn (frame_on_top old) (ends.Threw f) (session old s))
+threw_turns old new s f b off fs same =
+    turns_ended (below_top (frames_of old)) (frames_of new) (Threw f) (session new s) (Throws f (session old s)) _ fs (ap (λ (t : State). Throws f t) (session_is old new s s same refl)) (threw_is old b s f off)
+
+pub threw_stays : (old : Stacked) (s : State) (f : Fault) → HasBody (frames_of old) → false ≡ guarded_of (top_of (frames_of old)) → StaysPlaced s.page.forest (turn (frame_on_top old) (ends.Threw f) (session old s))
+threw_stays old s f b off = stays_ended s.page.forest (Throws f (session old s)) _ refl (threw_is old b s f off)
+
+-- a turn of the same body, written otherwise
+
+pub some_turns_as : (o : Option Came) (under new : List Frame) (s : State) (t u : Turned) → t ≡ u → IfSome o (λ (now : Came). Turns under new now s t) → IfSome o (λ (now : Came). Turns under new now s u)
+some_turns_as o under new s t u e h = subst (λ (x : Turned). IfSome o (λ (now : Came). Turns under new now s x)) e h
+
+pub some_stays_as : (o : Option Came) (F : Trees) (t u : Turned) → t ≡ u → IfSome o (λ (now : Came). StaysPlaced F t) → IfSome o (λ (now : Came). StaysPlaced F u)
+some_stays_as o F t u e h = subst (λ (x : Turned). IfSome o (λ (now : Came). StaysPlaced F x)) e h
+
+pub running_stays : (F : Trees) (t u : Turned) (G : Trees) → t ≡ u → G ≡ F → StaysPlaced G t → StaysPlaced F u
+running_stays F t u G e same h = subst (λ (x : Trees). StaysPlaced x u) same (subst (StaysPlaced G) e h)

@@ -1,6 +1,8 @@
 pub mod TurnLaws
+pub mod SessionLaws
+pub mod DrainLaws
 pub mod BodyLaws
+pub mod OperateLaws
 pub mod PlacedLaws
 pub mod LoopLaws
-pub mod OperateLaws
 pub mod CommandLaws

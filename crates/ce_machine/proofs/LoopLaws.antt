@@ -1,6 +1,5 @@
 -- What the loop keeps: what is still to come stands behind events whose text was written.
-use Rattle.std.proofs.Common.{◌≡◌, ◌<◌, ℕ, Bool, List, [], ◌∷◌, ◌++◌, length, map, Option, refl, ap, sym, ◌∙◌, subst, arith}
-use Rattle.std.proofs.lemmas.List.{map-append}
+use Rattle.std.proofs.Common.{◌≡◌, ◌<◌, ℕ, Bool, true, false, List, [], ◌∷◌, ◌++◌, length, map, Option, refl, ap, sym, ◌∙◌, subst, arith}
 use Rattle.std.specs.Io.KnownBytes.{Appends}
 use Rattle.ce_base.specs.Outside.{AppendsPart}
 use Rattle.ce_algorithms.specs.declared.event.Given.{Given}
@@ -11,7 +10,6 @@ use Rattle.ce_algorithms.specs.Text.{text}
 use Rattle.ce_algorithms.specs.Written.{Did}
 use Rattle.ce_algorithms.proofs.Growth.{Grows, log_of-behind}
 use Rattle.ce_algorithms.proofs.Writing.{did_through, part_through, part_grows}
-use Rattle.ce_frames.specs.Frames as waiting
 use Rattle.ce_frames.specs.Rest.{End, outcome_of, rest}
 use Rattle.ce_frames.specs.Turned.{Turned}
 use Rattle.ce_frames.specs.Turns.{turn}
@@ -19,54 +17,58 @@ use Rattle.ce_frames.specs.Work.{potential, work}
 use Rattle.ce_frames.proofs.Behind.{rest_forgotten}
 use Rattle.ce_frames.proofs.TurnComes.{turn_leaves}
 use Rattle.ce_frames.proofs.TurnCosts.{turn_lowers}
+use Rattle.frame_stack.specs.Sessions.{ArePaired, session}
+use Rattle.frame_stack.specs.Stacked.{Stacked, frames_of}
+use Rattle.reaction_queue.specs.ElementQueues.{is_empty}
 use Rattle.session_state.specs.Steps.{forgotten}
-use Rattle.ce_machine.specs.declared.frames.Frame.{Frame}
-use Rattle.ce_machine.specs.declared.frames.Came.{Came}
-use Rattle.ce_machine.specs.Frames.{Turns, seen, came_in, end_of, left, over}
+use Rattle.ce_frames.specs.Frames.{Frame}
+use Rattle.ce_machine.specs.declared.came.Came.{Came}
+use Rattle.ce_machine.specs.Turns.{Turns, came_in, end_of, left, over}
 
 -- one turn
 
 -- what is still to come stays
-pub turned_rest : (old frames new : List Frame) (f : Frame) (end now : Came) (s s1 : State) → old ≡ frames ++ f ∷ [] → Turns frames new now s1 (turn (seen f) (end_of end) s) → over new (came_in now s1) ≡ over old (came_in end s)
+pub turned_rest : (old new : Stacked) (under : List Frame) (f : Frame) (end now : Came) (s s1 : State) → frames_of old ≡ under ++ f ∷ [] → Turns under (frames_of new) now s1 (turn f (end_of end) s) → over new (came_in now s1) ≡ over old (came_in end s)
 unfolding over
-turned_rest old frames new f end now s s1 popped h =
-    let t : Turned = turn (seen f) (end_of end) s in
-    ap (rest (map seen new)) (ap (λ e. outcome_of e s1) h.end ∙ ap (outcome_of t.end) h.state)
+turned_rest old new under f end now s s1 popped h =
+    let t : Turned = turn f (end_of end) s in
+    ap (rest (frames_of new)) (ap (λ e. outcome_of e s1) h.end ∙ ap (outcome_of t.end) h.state)
     ∙ ap (λ l. rest l (outcome_of t.end t.state)) h.frames
-    ∙ turn_leaves (map seen frames) (seen f) (end_of end) s
-    ∙ ap (λ l. rest l (outcome_of (end_of end) s)) (sym (ap (map seen) popped ∙ map-append seen frames (f ∷ [])))
+    ∙ turn_leaves under f (end_of end) s
+    ∙ ap (λ l. rest l (outcome_of (end_of end) s)) (sym popped)
 
 -- what is left to do falls
-pub turned_left : (old frames new : List Frame) (f : Frame) (end now : Came) (s s1 : State) → old ≡ frames ++ f ∷ [] → Turns frames new now s1 (turn (seen f) (end_of end) s) → left new s1 < left old s
+pub turned_left : (old new : Stacked) (under : List Frame) (f : Frame) (end now : Came) (s s1 : State) → frames_of old ≡ under ++ f ∷ [] → Turns under (frames_of new) now s1 (turn f (end_of end) s) → left new s1 < left old s
 unfolding left
-turned_left old frames new f end now s s1 popped h =
-    let t : Turned = turn (seen f) (end_of end) s in
-    let a : work (map seen new) s1 ≡ work (map seen frames ++ t.pushed) t.state = ap (λ l. work l s1) h.frames ∙ ap (work (map seen frames ++ t.pushed)) h.state in
-    let b : work (map seen old) s ≡ work (map seen frames ++ seen f ∷ []) s = ap (λ l. work l s) (ap (map seen) popped ∙ map-append seen frames (f ∷ [])) in
-    let c = turn_lowers (map seen frames) (seen f) (end_of end) s in
+turned_left old new under f end now s s1 popped h =
+    let t : Turned = turn f (end_of end) s in
+    let a : work (frames_of new) s1 ≡ work (under ++ t.pushed) t.state = ap (λ l. work l s1) h.frames ∙ ap (work (under ++ t.pushed)) h.state in
+    let b : work (frames_of old) s ≡ work (under ++ f ∷ []) s = ap (λ l. work l s) popped in
+    let c = turn_lowers under f (end_of end) s in
     omega (arith, a, b, c)
 
 -- the log is written out
 
-flush_did : {t : Bool} {h0 h1 h2 : Option (List ℕ)} {o : Outcome State Given} (frames : List waiting.Frame) (end : End) (s : State) → Did t h0 h1 o (rest frames (outcome_of end s)) → Appends h1 h2 (text t s.log) → Did t h0 h2 o (rest frames (outcome_of end (forgotten s)))
+flush_did : {t : Bool} {h0 h1 h2 : Option (List ℕ)} {o : Outcome State Given} (frames : List Frame) (end : End) (s : State) → Did t h0 h1 o (rest frames (outcome_of end s)) → Appends h1 h2 (text t s.log) → Did t h0 h2 o (rest frames (outcome_of end (forgotten s)))
 flush_did {t} {h0} {h1} {h2} {o} frames end s d w =
     let more : Did t h1 h2 (rest frames (outcome_of end s)) (rest frames (outcome_of end (forgotten s))) = record { events = s.log; written = w; same = rest_forgotten frames end s } in
     did_through (λ x. x) d (λ events. refl) more
 
-flush_part : {t : Bool} {h0 h1 : Option (List ℕ)} {o : Outcome State Given} (h2 : Option (List ℕ)) (frames : List waiting.Frame) (end : End) (s : State) → Did t h0 h1 o (rest frames (outcome_of end s)) → AppendsPart h1 h2 (text t s.log) → AppendsPart h0 h2 (text t (log_of o))
+flush_part : {t : Bool} {h0 h1 : Option (List ℕ)} {o : Outcome State Given} (h2 : Option (List ℕ)) (frames : List Frame) (end : End) (s : State) → Did t h0 h1 o (rest frames (outcome_of end s)) → AppendsPart h1 h2 (text t s.log) → AppendsPart h0 h2 (text t (log_of o))
 flush_part {t} {h0} {h1} {o} h2 frames end s d p =
     let grows : Grows s.log (log_of (rest frames (outcome_of end s))) = record { more = log_of (rest frames (outcome_of end (forgotten s))); is = sym (ap log_of (rest_forgotten frames end s) ∙ log_of-behind s.log (rest frames (outcome_of end (forgotten s)))) } in
     part_through h2 (λ x. x) d (λ events. refl) (part_grows t h1 h2 grows p)
 
 -- what was logged is written out
-pub flushed : {t : Bool} {h0 h1 h2 : Option (List ℕ)} {o : Outcome State Given} (frames : List Frame) (now : Came) (s s' : State) → Did t h0 h1 o (over frames (came_in now s)) → Appends h1 h2 (text t s.log) → s' ≡ forgotten s → Did t h0 h2 o (over frames (came_in now s'))
+pub flushed : {t : Bool} {h0 h1 h2 : Option (List ℕ)} {o : Outcome State Given} (stack : Stacked) (now : Came) (s s' : State) → Did t h0 h1 o (over stack (came_in now (session stack s))) → Appends h1 h2 (text t s.log) → s' ≡ forgotten s → Did t h0 h2 o (over stack (came_in now (session stack s')))
 unfolding over
-flushed {t} {h0} {h1} {h2} {o} frames now s s' d w is = subst (λ x. Did t h0 h2 o (rest (map seen frames) (outcome_of (end_of now) x))) (sym is) (flush_did (map seen frames) (end_of now) s d w)
+flushed {t} {h0} {h1} {h2} {o} stack now s s' d w is =
+    subst (λ x. Did t h0 h2 o (rest (frames_of stack) (outcome_of (end_of now) (session stack x)))) (sym is) (flush_did (frames_of stack) (end_of now) (session stack s) d w)
 
 -- a front of it was
-pub flushed_part : {t : Bool} {h0 h1 : Option (List ℕ)} {o : Outcome State Given} (h2 : Option (List ℕ)) (frames : List Frame) (now : Came) (s : State) → Did t h0 h1 o (over frames (came_in now s)) → AppendsPart h1 h2 (text t s.log) → AppendsPart h0 h2 (text t (log_of o))
+pub flushed_part : {t : Bool} {h0 h1 : Option (List ℕ)} {o : Outcome State Given} (h2 : Option (List ℕ)) (stack : Stacked) (now : Came) (s : State) → Did t h0 h1 o (over stack (came_in now (session stack s))) → AppendsPart h1 h2 (text t s.log) → AppendsPart h0 h2 (text t (log_of o))
 unfolding over
-flushed_part h2 frames now s d p = flush_part h2 (map seen frames) (end_of now) s d p
+flushed_part h2 stack now s d p = flush_part h2 (frames_of stack) (end_of now) (session stack s) d p
 
 -- a turn leaves it
 pub turned_did : {t : Bool} {h0 h1 : Option (List ℕ)} {o p q : Outcome State Given} → Did t h0 h1 o p → q ≡ p → Did t h0 h1 o q
@@ -74,18 +76,25 @@ turned_did {t} {h0} {h1} {o} d same = subst (λ y. Did t h0 h1 o y) (sym same) d
 
 -- no frame is left
 
-pub empty_items : (xs : List Frame) → length xs ≡ 0 → xs ≡ []
-empty_items [] h = refl
-empty_items (x ∷ xs) h = absurd (omega (arith, h))
+pub some_frames : (l : List Frame) → is_empty l ≡ false → 0 < length l
+some_frames [] h = absurd (let e : true ≡ false = h in cc)
+some_frames (f ∷ l) h = omega arith
 
-pub ended_did : {t : Bool} {h0 h1 : Option (List ℕ)} {o : Outcome State Given} (frames : List Frame) (x : Outcome State Given) → frames ≡ [] → Did t h0 h1 o (over frames x) → Did t h0 h1 o x
+pub no_frames : (l : List Frame) → is_empty l ≡ true → l ≡ []
+no_frames [] h = refl
+no_frames (f ∷ l) h = absurd (let e : false ≡ true = h in cc)
+
+pub ended_did : {t : Bool} {h0 h1 : Option (List ℕ)} {o : Outcome State Given} (stack : Stacked) (x : Outcome State Given) → frames_of stack ≡ [] → Did t h0 h1 o (over stack x) → Did t h0 h1 o x
 unfolding over rest
-ended_did {t} {h0} {h1} {o} frames x none d = subst (λ l. Did t h0 h1 o (rest (map seen l) x)) none d
+ended_did {t} {h0} {h1} {o} stack x none d = subst (λ l. Did t h0 h1 o (rest l x)) none d
 
 -- what was logged does not count
-pub left_forgotten : (frames : List Frame) (s s' : State) → s' ≡ forgotten s → left frames s' ≡ left frames s
+pub left_forgotten : (stack : Stacked) (s s' : State) → s' ≡ forgotten s → left stack (session stack s') ≡ left stack (session stack s)
 unfolding left potential
-left_forgotten frames s s' is = ap (λ x. work (map seen frames) x) is
+left_forgotten stack s s' is = ap (λ x. work (frames_of stack) (session stack x)) is
+
+pub paired_forgotten : (stack : Stacked) (s s' : State) → s' ≡ forgotten s → ArePaired stack s → ArePaired stack s'
+paired_forgotten stack s s' is paired = ap (λ (x : State). length x.classes) is ∙ paired
 
 pub less_of : (a b c : ℕ) → a < b → b ≡ c → a < c
 less_of a b c h e = omega (arith, h, e)

@@ -1,12 +1,19 @@
 -- The turns of operations and of commands.
-use Rattle.std.proofs.Common.{◌≡◌, ℕ, true, false, Bool, List, [], ◌∷◌, ◌++◌, Some, None, Option, refl, ap, sym, ◌∙◌, subst}
-use Rattle.std.specs.Prelude.{Result, Ok, Err, IfOk, if◌then◌else◌}
+use Rattle.std.proofs.Common.{◌≡◌, ℕ, true, false, Bool, List, [], ◌∷◌, ◌++◌, Some, None, Option, ◌≤◌, refl, ap, sym, ◌∙◌, subst, arith}
+use Rattle.std.specs.Prelude.{Result, Ok, Err, IfOk, if◌then◌else◌, length, not}
+use Rattle.std.specs.Str.{str_to_ascii_lowercase}
 use Rattle.ce_base.specs.declared.fault.Fault.{Fault}
-use Rattle.ce_base.specs.declared.fault.Fault.TheVariants.{ReferenceError}
+use Rattle.ce_base.specs.declared.fault.Fault.TheVariants.{ReferenceError, InvalidCharacterError}
+use Rattle.ce_base.specs.declared.fault.Refused.{Refused as RefusedWith}
+use Rattle.ce_base.specs.declared.fault.Refused.TheVariants.{Fault as IsFault}
+use Rattle.element_names.specs.Names.{local_name}
+use Rattle.rule_lines.specs.declared.line.Cmd.{Cmd}
+use Rattle.rule_lines.specs.declared.line.Cmd.TheVariants.{Both, Doc}
+use Rattle.rule_lines.specs.declared.op.Op.{Op}
 use Rattle.rule_tokens.specs.declared.callback.CallName.TheVariants.{Constructor}
 use Rattle.ce_registry.specs.declared.definition.Definition.{Definition}
 use Rattle.ce_registry.specs.ClassFacts.{has_call}
-use Rattle.node_trees.specs.Nodes.{IsNode}
+use Rattle.node_trees.specs.Nodes.{IsNode, size}
 use Rattle.node_trees.specs.Trees.{Trees}
 use Rattle.reaction_queue.specs.Queues.{ended as popped, current_elements}
 use Rattle.ce_algorithms.specs.declared.deed.Deed.{Deed}
@@ -15,7 +22,8 @@ use Rattle.ce_algorithms.specs.declared.deed.Deed.TheVariants.{OnPage}
 use Rattle.ce_algorithms.specs.declared.event.Event.TheVariants.{Construct, DrainBegun}
 use Rattle.ce_algorithms.specs.declared.event.Given.{Given}
 use Rattle.ce_algorithms.specs.declared.event.Given.TheVariants.{Node}
-use Rattle.ce_algorithms.specs.Deeds.{is_reacting}
+use Rattle.ce_algorithms.specs.Deeds.{is_reacting, resolve, variable}
+use Rattle.ce_algorithms.specs.Making.{make_document}
 use Rattle.ce_algorithms.specs.Drain.{open_queue}
 use Rattle.ce_algorithms.specs.Model.{model}
 use Rattle.ce_algorithms.specs.Body.{actions_of, body}
@@ -27,36 +35,42 @@ use Rattle.ce_algorithms.specs.Enqueue.{lookup_in}
 use Rattle.ce_algorithms.specs.Page.{definition_at, with_queues}
 use Rattle.ce_algorithms.specs.Perform.{steps}
 use Rattle.ce_algorithms.specs.Perform as algorithms
-use Rattle.ce_algorithms.specs.State.{State, class_of, logged, on_page}
+use Rattle.ce_algorithms.specs.State.{State, class_of, logged, look, on_page, spend, view}
 use Rattle.ce_algorithms.specs.Steps.{Step, Outcome, Goes, Throws, Spent, attempt_in, found, give, settle, then_do}
 use Rattle.ce_algorithms.specs.Values.{no_args}
 use Rattle.ce_frames.specs.Frames as waiting
-use Rattle.ce_frames.specs.Turned.{Turn, ended, turn_after, below, hand_down}
+use Rattle.ce_frames.specs.Loop.{command_turn, perform_turn}
+use Rattle.ce_frames.specs.Turned.{Turn, Turned, ended, turn_after, below, hand_down}
+use Rattle.ce_frames.specs.Whole.{whole, whole_turned}
+use Rattle.ce_frames.proofs.BlindSteps.{blind_open_queue, blind_spend, look_blind}
+use Rattle.ce_frames.proofs.BlindTurns.{blind_below, blind_node, blind_page, construct_blind, construct_classes, deed_turn_blind}
 use Rattle.ce_frames.specs.ConstructTurns.{begin_body, construct_turn, create_extended_turn, create_found_turn, create_turn, created_turn}
 use Rattle.ce_frames.specs.Turns.{turn_threw, turn_went}
-use Rattle.ce_frames.specs.OperateTurns.{create_named_turn, deed_turn, named_turn, next_turn, pop_turn, steps_turn}
+use Rattle.ce_frames.specs.OperateTurns.{create_named_turn, deed_turn, named_turn, next_turn, operate_turn, pop_turn, steps_turn}
 use Rattle.ce_page.specs.Ends.{Ends}
 use Rattle.ce_page.specs.declared.stop.PageStop.{PageStop}
 use Rattle.ce_operations.proofs.CreateLaws.{found_autonomous}
-use Rattle.ce_machine.specs.declared.frames.Frame.{Frame}
-use Rattle.ce_machine.specs.declared.frames.Frame.TheVariants.{CreatingFit, Stepping}
-use Rattle.ce_machine.specs.declared.frames.Came.{Came}
-use Rattle.ce_machine.specs.declared.frames.Came.TheVariants.{Went, Threw, Over}
-use Rattle.ce_machine.specs.Frames.{Turns, came_in}
+use Rattle.ce_frames.specs.Frames.{Frame}
+use Rattle.ce_machine.specs.declared.came.Came.{Came}
+use Rattle.ce_machine.specs.declared.came.Came.TheVariants.{Went, Threw, Over}
+use Rattle.ce_machine.specs.Blind.{BlindAt}
+use Rattle.ce_machine.specs.Turns.{Turns, came_in}
 use Rattle.ce_operations.specs.Given.{IsThere, node_of}
+use Rattle.ce_operations.specs.Resolved.{Resolves}
 use Rattle.ce_operations.specs.Ready.{IsStill}
 use Rattle.ce_machine.specs.Placed.{IsEndThere, IsKeptThere, Lasts, StaysPlaced}
+use Rattle.ce_machine.proofs.SessionLaws.{after_at, below_at, blind_at, spent_at, tested_at, throws_at}
 use Rattle.ce_machine.proofs.TurnLaws.{turns_as, turns_below, turns_same}
 
 -- what a step has come to, which waits for nothing
 
-came_lasts_in : (now : Came) (s : State) → IsEndThere s.page.forest now → Lasts (ended (came_in now s))
-came_lasts_in (Went given) s h = record { gives = h; placed = tt }
-came_lasts_in (Threw f) s h = record { gives = tt; placed = tt }
-came_lasts_in Over s h = record { gives = tt; placed = tt }
+came_lasts_in : (F : Trees) (now : Came) (s : State) → size F ≤ size s.page.forest → IsEndThere s.page.forest now → Lasts F (ended (came_in now s))
+came_lasts_in F (Went given) s le h = record { grows = le; gives = h; placed = tt }
+came_lasts_in F (Threw f) s le h = record { grows = le; gives = tt; placed = tt }
+came_lasts_in F Over s le h = record { grows = le; gives = tt; placed = tt }
 
-pub down_lasts : (now : Came) (s : State) (o : Outcome State Given) → came_in now s ≡ o → IsEndThere s.page.forest now → Lasts (ended o)
-down_lasts now s o is h = subst (λ x. Lasts (ended x)) is (came_lasts_in now s h)
+pub down_lasts : (F : Trees) (now : Came) (s : State) (o : Outcome State Given) → came_in now s ≡ o → size F ≤ size s.page.forest → IsEndThere s.page.forest now → Lasts F (ended o)
+down_lasts F now s o is le h = subst (λ x. Lasts F (ended x)) is (came_lasts_in F now s le h)
 
 -- a node that a step gave
 pub node_there : (r : Result ℕ PageStop) (F : Trees) → IfOk r (IsNode F) → IfOk (node_of r) (IsThere F)
@@ -65,21 +79,21 @@ node_there (Err x) F h = tt
 
 -- steps and their queue
 
-next_lasts : (queue : ℕ) (es : List ℕ) (kept : Result Given Fault) (s : State) → IsKeptThere s.page.forest kept → Lasts (next_turn queue es kept s)
-next_lasts queue [] (Ok given) s h = record { gives = h; placed = tt }
-next_lasts queue [] (Err f) s h = record { gives = tt; placed = tt }
-next_lasts queue (n ∷ ns) kept s h = record { gives = h; placed = (tt, tt) }
+next_lasts : (F : Trees) (queue : ℕ) (es : List ℕ) (kept : Result Given Fault) (s : State) → size F ≤ size s.page.forest → IsKeptThere s.page.forest kept → Lasts F (next_turn queue es kept s)
+next_lasts F queue [] (Ok given) s le h = record { grows = le; gives = h; placed = tt }
+next_lasts F queue [] (Err f) s le h = record { grows = le; gives = tt; placed = tt }
+next_lasts F queue (n ∷ ns) kept s le h = record { grows = le; gives = h; placed = (tt, tt) }
 
-pop_lasts : (queue : ℕ) (kept : Result Given Fault) (s : State) → IsKeptThere s.page.forest kept → Lasts (pop_turn queue kept s)
-pop_lasts queue kept s h = next_lasts queue (current_elements s.page.queues) kept (logged (DrainBegun queue) (record s { page = with_queues popped s.page })) h
+pop_lasts : (F : Trees) (queue : ℕ) (kept : Result Given Fault) (s : State) → size F ≤ size s.page.forest → IsKeptThere s.page.forest kept → Lasts F (pop_turn queue kept s)
+pop_lasts F queue kept s le h = next_lasts F queue (current_elements s.page.queues) kept (logged (DrainBegun queue) (record s { page = with_queues popped s.page })) le h
 
-pub stepped_lasts : (queue : ℕ) (kept : Result Given Fault) (s : State) (o : Outcome State Given) → settle kept s ≡ o → IsKeptThere s.page.forest kept → Lasts (turn_after (attempt_in o) (pop_turn queue))
-stepped_lasts queue (Ok given) s o e h = subst (λ x. Lasts (turn_after (attempt_in x) (pop_turn queue))) e (pop_lasts queue (Ok given) s h)
-stepped_lasts queue (Err f) s o e h = subst (λ x. Lasts (turn_after (attempt_in x) (pop_turn queue))) e (pop_lasts queue (Err f) s h)
+stepped_lasts : (F : Trees) (queue : ℕ) (kept : Result Given Fault) (s : State) (o : Outcome State Given) → settle kept s ≡ o → size F ≤ size s.page.forest → IsKeptThere s.page.forest kept → Lasts F (turn_after (attempt_in o) (pop_turn queue))
+stepped_lasts F queue (Ok given) s o e le h = subst (λ x. Lasts F (turn_after (attempt_in x) (pop_turn queue))) e (pop_lasts F queue (Ok given) s le h)
+stepped_lasts F queue (Err f) s o e le h = subst (λ x. Lasts F (turn_after (attempt_in x) (pop_turn queue))) e (pop_lasts F queue (Err f) s le h)
 
-pub went_lasts : (ran : Result Given PageStop) (given : Given) (queue : ℕ) (s : State) → ran ≡ Ok given → IfOk ran (IsThere s.page.forest) → (o : Outcome State Given) → Ends (λ g. g) ran s o → Lasts (turn_after (attempt_in o) (pop_turn queue))
-went_lasts (Ok g) given queue s is h o e = stepped_lasts queue (Ok g) s o e h
-went_lasts (Err x) given queue s is h o e = cc
+pub went_lasts : (ran : Result Given PageStop) (given : Given) (queue : ℕ) (s : State) → ran ≡ Ok given → IfOk ran (IsThere s.page.forest) → (F : Trees) (o : Outcome State Given) → size F ≤ size s.page.forest → Ends (λ g. g) ran s o → Lasts F (turn_after (attempt_in o) (pop_turn queue))
+went_lasts (Ok g) given queue s is h F o le e = stepped_lasts F queue (Ok g) s o e le h
+went_lasts (Err x) given queue s is h F o le e = cc
 
 -- their queue was pushed before
 react_is : (queue : ℕ) (step : Step State Given) (s s1 : State) → Goes queue s1 ≡ open_queue s → turn_after (attempt_in (step s1)) (pop_turn queue) ≡ steps_turn step s
@@ -89,8 +103,8 @@ react_is queue step s s1 e = ap (λ (x : Outcome State ℕ). turn_after x (λ q 
 pub react_turns : (frames new : List Frame) (now : Came) (queue : ℕ) (step : Step State Given) (s s1 s2 : State) → Goes queue s1 ≡ open_queue s → Turns frames new now s2 (turn_after (attempt_in (step s1)) (pop_turn queue)) → Turns frames new now s2 (steps_turn step s)
 react_turns frames new now queue step s s1 s2 e h = turns_as frames new now s2 _ _ (react_is queue step s s1 e) h
 
-pub react_lasts : (queue : ℕ) (step : Step State Given) (s s1 : State) → Goes queue s1 ≡ open_queue s → Lasts (turn_after (attempt_in (step s1)) (pop_turn queue)) → Lasts (steps_turn step s)
-react_lasts queue step s s1 e h = subst Lasts (react_is queue step s s1 e) h
+pub react_lasts : (F : Trees) (queue : ℕ) (step : Step State Given) (s s1 : State) → Goes queue s1 ≡ open_queue s → Lasts F (turn_after (attempt_in (step s1)) (pop_turn queue)) → Lasts F (steps_turn step s)
+react_lasts F queue step s s1 e h = subst (Lasts F) (react_is queue step s s1 e) h
 
 -- a deed whose steps wait for nothing
 
@@ -114,11 +128,14 @@ pub deed_runs : (deed : Deed) (s : State) → IsStill deed → is_reacting deed 
 unfolding by_queue
 deed_runs deed s still is = ap (λ b. by_queue b deed s) (sym is) ∙ deed_is deed s still
 
-pub deed_lasts : (deed : Deed) (s : State) → IsStill deed → is_reacting deed ≡ false → Lasts (ended (steps model deed s)) → Lasts (deed_turn deed s)
-deed_lasts deed s still is h = subst Lasts (deed_runs deed s still is) h
+pub deed_lasts : (F : Trees) (deed : Deed) (s : State) → IsStill deed → is_reacting deed ≡ false → Lasts F (ended (steps model deed s)) → Lasts F (deed_turn deed s)
+deed_lasts F deed s still is h = subst (Lasts F) (deed_runs deed s still is) h
 
-pub react_deed_lasts : (deed : Deed) (s : State) → IsStill deed → is_reacting deed ≡ true → Lasts (steps_turn (steps model deed) s) → Lasts (deed_turn deed s)
-react_deed_lasts deed s still is h = subst Lasts (deed_reacts deed s still is) h
+pub react_deed_lasts : (F : Trees) (deed : Deed) (s : State) → IsStill deed → is_reacting deed ≡ true → Lasts F (steps_turn (steps model deed) s) → Lasts F (deed_turn deed s)
+react_deed_lasts F deed s still is h = subst (Lasts F) (deed_reacts deed s still is) h
+
+pub still_at : (deed : Deed) (s : State) → IsStill deed → BlindAt (deed_turn deed) s
+still_at deed s still = blind_at (deed_turn deed) (deed_turn_blind deed still) s
 
 pub react_deed_turns : (frames new : List Frame) (now : Came) (deed : Deed) (s s1 : State) → IsStill deed → is_reacting deed ≡ true → Turns frames new now s1 (steps_turn (steps model deed) s) → Turns frames new now s1 (deed_turn deed s)
 react_deed_turns frames new now deed s s1 still is h = turns_as frames new now s1 _ _ (deed_reacts deed s still is) h
@@ -129,19 +146,31 @@ run_deed_turns frames now deed s s1 still is e = turns_as frames frames now s1 _
 -- a creation
 
 -- its queue was pushed before, and waits for it
-pub create_turns : (frames frames' new : List Frame) (now : Came) (queue : ℕ) (name : List ℕ) (document : ℕ) (s s1 s2 : State) → Goes queue s1 ≡ open_queue s → frames' ≡ frames ++ Stepping queue ∷ [] → Turns frames' new now s2 (create_named_turn name None document s1)
+pub create_turns : (frames frames' new : List Frame) (now : Came) (queue : ℕ) (name : List ℕ) (document : ℕ) (s s1 s2 : State) → Goes queue s1 ≡ open_queue s → frames' ≡ frames ++ waiting.Stepping queue ∷ [] → Turns frames' new now s2 (create_named_turn name None document s1)
     → Turns frames new now s2 (deed_turn (deeds.Create name None document) s)
 unfolding deed_turn
 create_turns frames frames' new now queue name document s s1 s2 opened pushed h =
     turns_as frames new now s2 (below (waiting.Stepping queue) (create_named_turn name None document) s1) _
     (ap (λ (o : Outcome State ℕ). turn_after o (λ q. below (waiting.Stepping q) (create_named_turn name None document))) opened)
-    (turns_below frames frames' new (Stepping queue) now (create_named_turn name None document) s1 s1 s2 pushed refl h)
+    (turns_below frames frames' new (waiting.Stepping queue) now (create_named_turn name None document) s1 s1 s2 pushed refl h)
 
-pub create_lasts : (queue : ℕ) (name : List ℕ) (document : ℕ) (s s1 : State) → Goes queue s1 ≡ open_queue s → Lasts (create_named_turn name None document s1) → Lasts (deed_turn (deeds.Create name None document) s)
+pub create_lasts : (F : Trees) (queue : ℕ) (name : List ℕ) (document : ℕ) (s s1 : State) → Goes queue s1 ≡ open_queue s → s1.page.forest ≡ F → Lasts s1.page.forest (create_named_turn name None document s1) → Lasts F (deed_turn (deeds.Create name None document) s)
 unfolding deed_turn
-create_lasts queue name document s s1 opened h =
-    subst (λ (o : Outcome State ℕ). Lasts (turn_after o (λ q. below (waiting.Stepping q) (create_named_turn name None document)))) opened
-    (record { gives = h.gives; placed = (h.gives, h.placed) })
+create_lasts F queue name document s s1 opened same h =
+    let n = ap size same in
+    let le = h.grows in
+    subst (λ (o : Outcome State ℕ). Lasts F (turn_after o (λ q. below (waiting.Stepping q) (create_named_turn name None document)))) opened
+    (record { grows = omega (arith, n, le); gives = h.gives; placed = (h.gives, h.placed) })
+
+pub create_at : (queue : ℕ) (name : List ℕ) (document : ℕ) (s s1 : State) → Goes queue s1 ≡ open_queue s → BlindAt (create_named_turn name None document) s1 → BlindAt (deed_turn (deeds.Create name None document)) s
+unfolding deed_turn
+create_at queue name document s s1 opened h =
+    let b = after_at open_queue (λ q. below (waiting.Stepping q) (create_named_turn name None document)) queue s s1 blind_open_queue opened (below_at (waiting.Stepping queue) (create_named_turn name None document) s1 h) in
+    record { same = b.same; classes = b.classes }
+
+-- its name is tested
+pub create_named_at : (name : List ℕ) (document : ℕ) (s : State) → (not (local_name name) ≡ false → BlindAt (create_turn (str_to_ascii_lowercase name) None document) s) → BlindAt (create_named_turn name None document) s
+create_named_at name document s h = let b = tested_at (not (local_name name)) InvalidCharacterError (create_turn (str_to_ascii_lowercase name) None document) s h in record { same = b.same; classes = b.classes }
 
 -- by what was looked up
 pub create_is : (local : List ℕ) (document : ℕ) (d : Option ℕ) (s : State) → d ≡ lookup_in s.page document local None → create_found_turn local None document d s ≡ create_turn local None document s
@@ -153,17 +182,30 @@ pub none_turns : (frames : List Frame) (now : Came) (local : List ℕ) (document
     → Turns frames frames now s1 (create_turn local None document s)
 none_turns frames now local document s s1 is made = turns_as frames frames now s1 _ _ (create_is local document None s is) (turns_same frames now s1 _ made)
 
-pub none_lasts : (now : Came) (local : List ℕ) (document : ℕ) (s s1 : State) → None ≡ lookup_in s.page document local None → came_in now s1 ≡ algorithms.gives_node (on_page (make_undefined local None document)) s → IsEndThere s1.page.forest now
-    → Lasts (create_turn local None document s)
-none_lasts now local document s s1 is made there = subst Lasts (create_is local document None s is) (down_lasts now s1 _ made there)
+pub none_lasts : (F : Trees) (now : Came) (local : List ℕ) (document : ℕ) (s s1 : State) → None ≡ lookup_in s.page document local None → came_in now s1 ≡ algorithms.gives_node (on_page (make_undefined local None document)) s → size F ≤ size s1.page.forest → IsEndThere s1.page.forest now
+    → Lasts F (create_turn local None document s)
+none_lasts F now local document s s1 is made le there = subst (Lasts F) (create_is local document None s is) (down_lasts F now s1 _ made le there)
+
+-- what is looked up reads nothing of what classes do
+found_at : (local : List ℕ) (document : ℕ) (d : Option ℕ) (s : State) → d ≡ lookup_in s.page document local None → BlindAt (create_found_turn local None document d) s → BlindAt (create_turn local None document) s
+found_at local document d s is h = record {
+  same = λ bs. sym (create_is local document d (whole bs s) is) ∙ h.same bs ∙ ap (whole_turned bs) (create_is local document d s is);
+  classes = ap (λ (t : Turned). length t.state.classes) (sym (create_is local document d s is)) ∙ h.classes;
+}
+
+pub none_at : (local : List ℕ) (document : ℕ) (s : State) → None ≡ lookup_in s.page document local None → BlindAt (create_turn local None document) s
+none_at local document s is = found_at local document None s is (blind_at (create_found_turn local None document None) (blind_node (make_undefined local None document)) s)
+
+pub some_at : (local : List ℕ) (document d : ℕ) (s : State) → Some d ≡ lookup_in s.page document local None → BlindAt (create_found_turn local None document (Some d)) s → BlindAt (create_turn local None document) s
+some_at local document d s is h = found_at local document (Some d) s is h
 
 -- there is one
 pub some_turns : (frames new : List Frame) (now : Came) (local : List ℕ) (document d : ℕ) (s s1 : State) → Some d ≡ lookup_in s.page document local None → Turns frames new now s1 (create_found_turn local None document (Some d) s)
     → Turns frames new now s1 (create_turn local None document s)
 some_turns frames new now local document d s s1 is h = turns_as frames new now s1 _ _ (create_is local document (Some d) s is) h
 
-pub some_lasts : (local : List ℕ) (document d : ℕ) (s : State) → Some d ≡ lookup_in s.page document local None → Lasts (create_found_turn local None document (Some d) s) → Lasts (create_turn local None document s)
-some_lasts local document d s is h = subst Lasts (create_is local document (Some d) s is) h
+pub some_lasts : (F : Trees) (local : List ℕ) (document d : ℕ) (s : State) → Some d ≡ lookup_in s.page document local None → Lasts F (create_found_turn local None document (Some d) s) → Lasts F (create_turn local None document s)
+some_lasts F local document d s is h = subst (Lasts F) (create_is local document (Some d) s is) h
 
 -- an autonomous definition: its class is constructed, above the creation's frame
 by_kind : List ℕ → ℕ → ℕ → Definition → Bool → Turn
@@ -176,17 +218,25 @@ found_is local document d class s found is =
     ∙ ap (λ b. by_kind local document d (definition_at s.page d) b s) (sym (found_autonomous s.page document local d found))
 
 pub found_turns : (frames frames' : List Frame) (now : Came) (local : List ℕ) (document d class : ℕ) (s s1 : State) → lookup_in s.page document local None ≡ Some d → class ≡ (definition_at s.page d).class
-    → frames' ≡ frames ++ CreatingFit local document ∷ [] → ended (came_in now s1) ≡ construct_turn class s → Turns frames frames' now s1 (create_found_turn local None document (Some d) s)
+    → frames' ≡ frames ++ waiting.CreatingFit local document ∷ [] → ended (came_in now s1) ≡ construct_turn class s → Turns frames frames' now s1 (create_found_turn local None document (Some d) s)
 found_turns frames frames' now local document d class s s1 found is pushed constructed =
     turns_as frames frames' now s1 _ _ (found_is local document d class s found is)
-    (turns_below frames frames' frames' (CreatingFit local document) now (construct_turn class) s s s1 pushed refl
+    (turns_below frames frames' frames' (waiting.CreatingFit local document) now (construct_turn class) s s s1 pushed refl
     (turns_as frames' frames' now s1 _ _ constructed (turns_same frames' now s1 (came_in now s1) refl)))
 
-pub found_lasts : (now : Came) (local : List ℕ) (document d class : ℕ) (s s1 : State) → lookup_in s.page document local None ≡ Some d → class ≡ (definition_at s.page d).class → ended (came_in now s1) ≡ construct_turn class s → IsEndThere s1.page.forest now
-    → Lasts (create_found_turn local None document (Some d) s)
-found_lasts now local document d class s s1 found is constructed there =
-    subst Lasts (found_is local document d class s found is)
-    (let h = subst Lasts constructed (came_lasts_in now s1 there) in record { gives = h.gives; placed = (h.gives, h.placed) })
+pub found_lasts : (F : Trees) (now : Came) (local : List ℕ) (document d class : ℕ) (s s1 : State) → lookup_in s.page document local None ≡ Some d → class ≡ (definition_at s.page d).class → ended (came_in now s1) ≡ construct_turn class s → size F ≤ size s1.page.forest → IsEndThere s1.page.forest now
+    → Lasts F (create_found_turn local None document (Some d) s)
+found_lasts F now local document d class s s1 found is constructed le there =
+    subst (Lasts F) (found_is local document d class s found is)
+    (let h = subst (Lasts F) constructed (came_lasts_in F now s1 le there) in record { grows = h.grows; gives = h.gives; placed = (h.gives, h.placed) })
+
+pub constructed_at : (local : List ℕ) (document d class : ℕ) (s : State) → lookup_in s.page document local None ≡ Some d → class ≡ (definition_at s.page d).class → BlindAt (construct_turn class) s → BlindAt (create_found_turn local None document (Some d)) s
+constructed_at local document d class s found is h =
+    let b = below_at (waiting.CreatingFit local document) (construct_turn class) s h in
+    record {
+      same = λ bs. sym (found_is local document d class (whole bs s) found is) ∙ b.same bs ∙ ap (whole_turned bs) (found_is local document d class s found is);
+      classes = ap (λ (t : Turned). length t.state.classes) (sym (found_is local document d class s found is)) ∙ b.classes;
+    }
 
 -- what was constructed does not fit
 pub misfit_is : (local : List ℕ) (document n : ℕ) (f : Fault) (s : State) → Throws f s ≡ fitting local document n s → turn_threw (waiting.CreatingFit local document) f s ≡ turn_went (waiting.CreatingFit local document) (Node n) s
@@ -213,6 +263,55 @@ construct_is class s plain =
     ∙ alone (on_page (base_call class) (logged (Construct (class_of s class).name) s))
     ∙ ap (λ has. constructor_after has class s) (sym plain)
 
-pub named_placed : (var : Option (List ℕ)) (turn : Turn) (s : State) → Lasts (turn s) → StaysPlaced (named_turn var turn s)
-named_placed None turn s h = record { placed = h.placed }
-named_placed (Some var) turn s h = record { placed = (h.gives, h.placed) }
+pub construct_at : (class : ℕ) (s : State) → has_call Constructor (class_of s class).facts.calls ≡ false → BlindAt (construct_turn class) s
+construct_at class s plain = record { same = λ bs. construct_blind class bs s plain; classes = construct_classes class s plain }
+
+-- operations and commands
+
+pub named_placed : (F : Trees) (var : Option (List ℕ)) (turn : Turn) (s : State) → Lasts F (turn s) → StaysPlaced F (named_turn var turn s)
+named_placed F None turn s h = record { grows = h.grows; placed = h.placed }
+named_placed F (Some var) turn s h = record { grows = h.grows; placed = (h.gives, h.placed) }
+
+pub named_at : (var : Option (List ℕ)) (turn : Turn) (s : State) → BlindAt turn s → BlindAt (named_turn var turn) s
+named_at None turn s h = h
+named_at (Some var) turn s h = below_at (waiting.Naming var) turn s h
+
+abbrev resolving : Option ℕ → Op → Step State Deed
+resolving this op = look this (λ v. resolve v op)
+
+pub resolved_at : (this : Option ℕ) (op : Op) (deed : Deed) (s : State) → resolve (view this s) op ≡ Ok deed → BlindAt (named_turn (variable op) (deed_turn deed)) s → BlindAt (operate_turn this op) s
+unfolding operate_turn
+resolved_at this op deed s is h =
+    let b = after_at (resolving this op) (λ d. named_turn (variable op) (deed_turn d)) deed s s (look_blind this op) (ap (λ (r : Result Deed Fault). settle r s) (sym is)) h in
+    record { same = b.same; classes = b.classes }
+
+refused_at : (this : Option ℕ) (op : Op) (f : Fault) (s : State) → resolve (view this s) op ≡ Err f → BlindAt (operate_turn this op) s
+unfolding operate_turn
+refused_at this op f s is =
+    let b = throws_at (resolving this op) (λ d. named_turn (variable op) (deed_turn d)) f s s (look_blind this op) (ap (λ (r : Result Deed Fault). settle r s) (sym is)) in
+    record { same = b.same; classes = b.classes }
+
+pub refused_by : (this : Option ℕ) (op : Op) (f : Fault) (s : State) (r : Result Deed RefusedWith) → r ≡ Err (IsFault f) → Resolves r (resolve (view this s) op) → BlindAt (operate_turn this op) s
+refused_by this op f s r is h = refused_at this op f s (subst (λ (x : Result Deed RefusedWith). Resolves x (resolve (view this s) op)) is h)
+
+pub document_at : (var : List ℕ) (s : State) → BlindAt (named_turn (Some var) (hand_down (on_page (algorithms.gives_node make_document)))) s
+document_at var s = blind_at (named_turn (Some var) (hand_down (on_page (algorithms.gives_node make_document)))) (blind_below (waiting.Naming var) (blind_page (algorithms.gives_node make_document))) s
+
+pub performs_at : (c : Cmd) (op : Op) (s : State) → c ≡ Both op → BlindAt (operate_turn None op) s → BlindAt (perform_turn c) s
+unfolding perform_turn
+performs_at c op s is h = subst (λ (x : Cmd). BlindAt (perform_turn x) s) (sym is) (record { same = h.same; classes = h.classes })
+
+pub makes_at : (c : Cmd) (var : List ℕ) (s : State) → c ≡ Doc var → BlindAt (perform_turn c) s
+unfolding perform_turn
+makes_at c var s is = subst (λ (x : Cmd). BlindAt (perform_turn x) s) (sym is) (let h = document_at var s in record { same = h.same; classes = h.classes })
+
+pub command_at : (line : ℕ) (c : Cmd) (s s1 : State) → Goes tt s1 ≡ spend s → BlindAt (perform_turn c) s1 → BlindAt (command_turn line c) s
+command_at line c s s1 is h =
+    let b = after_at spend (λ _. below (waiting.Replying line) (perform_turn c)) tt s s1 blind_spend is (below_at (waiting.Replying line) (perform_turn c) s1 h) in
+    record { same = b.same; classes = b.classes }
+
+pub command_throws_at : (line : ℕ) (c : Cmd) (f : Fault) (s s1 : State) → Throws f s1 ≡ spend s → BlindAt (command_turn line c) s
+command_throws_at line c f s s1 is = let b = throws_at spend (λ _. below (waiting.Replying line) (perform_turn c)) f s s1 blind_spend is in record { same = b.same; classes = b.classes }
+
+pub command_spent_at : (line : ℕ) (c : Cmd) (s s1 : State) → Spent s1 ≡ spend s → BlindAt (command_turn line c) s
+command_spent_at line c s s1 is = let b = spent_at spend (λ _. below (waiting.Replying line) (perform_turn c)) s s1 blind_spend is in record { same = b.same; classes = b.classes }

@@ -1,7 +1,6 @@
 -- The turns of the code are those of the definitions.
-use Rattle.std.proofs.Common.{◌≡◌, ℕ, true, false, List, [], ◌∷◌, ◌++◌, map, Some, None, Option, refl, ap, sym, ◌∙◌, subst, append-nil, append_assoc}
+use Rattle.std.proofs.Common.{◌≡◌, ℕ, true, false, List, [], ◌∷◌, ◌++◌, Some, None, Option, refl, ap, sym, ◌∙◌, subst, append-nil, append_assoc}
 use Rattle.std.specs.Prelude.{Result, not}
-use Rattle.std.proofs.lemmas.List.{map-append}
 use Rattle.ce_base.specs.declared.fault.Fault.{Fault}
 use Rattle.reaction_queue.specs.declared.reaction.Reaction.{Reaction}
 use Rattle.reaction_queue.specs.declared.reaction.Reaction.TheVariants.{Upgrade, Connected, Disconnected, Adopted, Attribute, FormAssociated, FormDisabled, FormReset, FormStateRestore}
@@ -18,35 +17,35 @@ use Rattle.ce_frames.specs.DrainTurns.{call_turn, reaction_turn, checked_turn}
 use Rattle.ce_frames.specs.Turns.{turn, turn_threw, turn_went}
 use Rattle.ce_page.specs.Callbacks.{is_callback}
 use Rattle.session_state.specs.Steps.{callee}
-use Rattle.ce_machine.specs.declared.frames.Frame.{Frame}
-use Rattle.ce_machine.specs.declared.frames.Came.{Came}
-use Rattle.ce_machine.specs.declared.frames.Came.TheVariants.{Went, Threw, Over}
-use Rattle.ce_machine.specs.Frames.{Turns, seen, came_in, end_of}
-use Rattle.ce_machine.specs.Turns.{callback_turn}
+use Rattle.ce_frames.specs.Frames.{Frame}
+use Rattle.ce_machine.specs.declared.came.Came.{Came}
+use Rattle.ce_machine.specs.declared.came.Came.TheVariants.{Went, Threw, Over}
+use Rattle.ce_machine.specs.Turns.{Turns, came_in, end_of}
+use Rattle.ce_machine.specs.Callbacks.{callback_turn}
 
 -- nothing is pushed
 pub turns_same : (frames : List Frame) (now : Came) (s : State) (o : Outcome State Given) → came_in now s ≡ o → Turns frames frames now s (ended o)
 turns_same frames now s o is = subst (λ x. Turns frames frames now s (ended x)) is (go now)
   where
     go : (now : Came) → Turns frames frames now s (ended (came_in now s))
-    go (Went g) = record { frames = sym (append-nil (map seen frames)); end = refl; state = refl }
-    go (Threw f) = record { frames = sym (append-nil (map seen frames)); end = refl; state = refl }
-    go Over = record { frames = sym (append-nil (map seen frames)); end = refl; state = refl }
+    go (Went g) = record { frames = sym (append-nil frames); end = refl; state = refl }
+    go (Threw f) = record { frames = sym (append-nil frames); end = refl; state = refl }
+    go Over = record { frames = sym (append-nil frames); end = refl; state = refl }
 
 -- the same turn, written otherwise
 pub turns_as : (frames new : List Frame) (now : Came) (s : State) (t u : Turned) → t ≡ u → Turns frames new now s t → Turns frames new now s u
 turns_as frames new now s t u e h = subst (λ x. Turns frames new now s x) e h
 
 -- a frame is pushed below what comes
-pub turns_pushed : (frames frames' new : List Frame) (f : Frame) (now : Came) (s : State) (t : Turned) → frames' ≡ frames ++ f ∷ [] → Turns frames' new now s t → Turns frames new now s (with_below (seen f) t)
+pub turns_pushed : (frames frames' new : List Frame) (f : Frame) (now : Came) (s : State) (t : Turned) → frames' ≡ frames ++ f ∷ [] → Turns frames' new now s t → Turns frames new now s (with_below f t)
 turns_pushed frames frames' new f now s t pushed h = record {
-  frames = h.frames ∙ ap (λ l. l ++ t.pushed) (ap (map seen) pushed ∙ map-append seen frames (f ∷ [])) ∙ append_assoc (map seen frames) (seen f ∷ []) t.pushed;
+  frames = h.frames ∙ ap (λ l. l ++ t.pushed) pushed ∙ append_assoc frames (f ∷ []) t.pushed;
   end = h.end;
   state = h.state;
 }
 
 -- a frame is pushed, and then comes a turn
-pub turns_below : (frames frames' new : List Frame) (f : Frame) (now : Came) (turn : Turn) (s s1 s2 : State) → frames' ≡ frames ++ f ∷ [] → s1 ≡ s → Turns frames' new now s2 (turn s1) → Turns frames new now s2 (below (seen f) turn s)
+pub turns_below : (frames frames' new : List Frame) (f : Frame) (now : Came) (turn : Turn) (s s1 s2 : State) → frames' ≡ frames ++ f ∷ [] → s1 ≡ s → Turns frames' new now s2 (turn s1) → Turns frames new now s2 (below f turn s)
 turns_below frames frames' new f now turn s s1 s2 pushed same h =
     turns_pushed frames frames' new f now s2 (turn s) pushed (turns_as frames' new now s2 (turn s1) (turn s) (ap turn same) h)
 
@@ -89,14 +88,18 @@ replies line kept (n ∷ ns) s h = cc
 
 -- a frame goes on
 
-pub resumed_went : (frames new : List Frame) (f : Frame) (end now : Came) (given : Given) (s s1 : State) → end ≡ Went given → Turns frames new now s1 (turn_went (seen f) given s) → Turns frames new now s1 (turn (seen f) (end_of end) s)
+pub resumed_went : (frames new : List Frame) (f : Frame) (end now : Came) (given : Given) (s s1 : State) → end ≡ Went given → Turns frames new now s1 (turn_went f given s) → Turns frames new now s1 (turn f (end_of end) s)
 unfolding turn
-resumed_went frames new f end now given s s1 is h = turns_as frames new now s1 (turn_went (seen f) given s) (turn (seen f) (end_of end) s) (ap (λ e. turn (seen f) (end_of e) s) (sym is)) h
+resumed_went frames new f end now given s s1 is h = turns_as frames new now s1 (turn_went f given s) (turn f (end_of end) s) (ap (λ e. turn f (end_of e) s) (sym is)) h
 
-pub resumed_threw : (frames new : List Frame) (f : Frame) (end now : Came) (x : Fault) (s s1 : State) → end ≡ Threw x → Turns frames new now s1 (turn_threw (seen f) x s) → Turns frames new now s1 (turn (seen f) (end_of end) s)
+pub resumed_threw : (frames new : List Frame) (f : Frame) (end now : Came) (x : Fault) (s s1 : State) → end ≡ Threw x → Turns frames new now s1 (turn_threw f x s) → Turns frames new now s1 (turn f (end_of end) s)
 unfolding turn
-resumed_threw frames new f end now x s s1 is h = turns_as frames new now s1 (turn_threw (seen f) x s) (turn (seen f) (end_of end) s) (ap (λ e. turn (seen f) (end_of e) s) (sym is)) h
+resumed_threw frames new f end now x s s1 is h = turns_as frames new now s1 (turn_threw f x s) (turn f (end_of end) s) (ap (λ e. turn f (end_of e) s) (sym is)) h
 
-pub resumed_over : (frames : List Frame) (f : Frame) (end : Came) (s : State) → end ≡ Over → Turns frames frames Over s (turn (seen f) (end_of end) s)
+pub resumed_over : (frames : List Frame) (f : Frame) (end : Came) (s : State) → end ≡ Over → Turns frames frames Over s (turn f (end_of end) s)
 unfolding turn
-resumed_over frames f end s is = turns_as frames frames Over s (ended (Spent s)) (turn (seen f) (end_of end) s) (ap (λ e. turn (seen f) (end_of e) s) (sym is)) (turns_same frames Over s (Spent s) refl)
+resumed_over frames f end s is = turns_as frames frames Over s (ended (Spent s)) (turn f (end_of end) s) (ap (λ e. turn f (end_of e) s) (sym is)) (turns_same frames Over s (Spent s) refl)
+
+-- it ends, with no frame pushed
+pub turns_ended : (below new : List Frame) (now : Came) (s : State) (o : Outcome State Given) (t : Turned) → new ≡ below → came_in now s ≡ o → ended o ≡ t → Turns below new now s t
+turns_ended below new now s o t same is e = turns_as below new now s (ended o) t e (subst (λ l. Turns below l now s (ended o)) (sym same) (turns_same below now s o is))

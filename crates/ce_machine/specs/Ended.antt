@@ -1,10 +1,13 @@
 -- How a line of a session ends.
+use Rattle.std.specs.Prelude.{◌≡◌, []}
 use Rattle.ce_algorithms.specs.Steps.{Outcome, Goes, Spent}
 use Rattle.ce_algorithms.specs.State.{State}
+use Rattle.frame_stack.specs.Sessions.{ArePaired}
+use Rattle.frame_stack.specs.Stacked.{Stacked}
 use Rattle.ce_machine.specs.declared.end.End.{End}
 use Rattle.ce_machine.specs.declared.end.End.TheVariants.{Replied, FuelSpent}
-use Rattle.ce_machine.specs.declared.frames.Came.{Came}
-use Rattle.ce_machine.specs.declared.frames.Came.TheVariants.{Went, Threw, Over}
+use Rattle.ce_machine.specs.declared.came.Came.{Came}
+use Rattle.ce_machine.specs.declared.came.Came.TheVariants.{Went, Threw, Over}
 
 -- the outcome of the definitions for a command's end
 abbrev pub outcome_of : End → State → Outcome State (Unit {0})
@@ -22,3 +25,9 @@ abbrev pub end_for : Came → End
 end_for (Went given) = Replied
 end_for (Threw f) = Replied
 end_for Over = FuelSpent
+
+-- between two lines: all was written out, no frame lies there, and each class has its behaviour
+pub record IsAtRest (stack : Stacked) (s : State) : Type 0 where
+  pub log : s.log ≡ []
+  pub frames : stack.frames ≡ []
+  pub paired : ArePaired stack s

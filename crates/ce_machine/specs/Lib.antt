@@ -1,4 +1,6 @@
 pub mod Ended
-pub mod Frames
 pub mod Turns
+pub mod Blind
+pub mod Callbacks
 pub mod Placed
+pub mod Bodies

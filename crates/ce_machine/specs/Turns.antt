@@ -1,32 +1,47 @@
--- What a turn comes to where a callback begins, and where its body runs: a body of today's language is one of `log`s.
-use Rattle.std.specs.Prelude.{ℕ, List, map, Some}
-use Rattle.rule_tokens.specs.declared.operand.Val.{Val}
-use Rattle.reaction_queue.specs.declared.reaction.Reaction.{Reaction}
-use Rattle.reaction_queue.specs.Reactions.{what_of}
-use Rattle.ce_algorithms.specs.declared.event.Event.TheVariants.{Logged}
+-- What a turn of the code does.
+use Rattle.std.specs.Prelude.{◌≡◌, ℕ, List, [], ◌∷◌, ◌++◌, Option, Some, None, Result, Ok, Err}
+use Rattle.ce_base.specs.declared.fault.Fault.{Fault}
 use Rattle.ce_algorithms.specs.declared.event.Given.{Given}
-use Rattle.ce_algorithms.specs.Steps.{Step, then_do, read}
-use Rattle.ce_algorithms.specs.Body.{body}
-use Rattle.ce_algorithms.specs.Drain.{actions_for, log_call}
-use Rattle.ce_algorithms.specs.Model.{model}
-use Rattle.ce_algorithms.specs.State.{State, class_of, log, spend}
-use Rattle.ce_algorithms.specs.Values.{Args, args_of, text_of}
-use Rattle.ce_frames.specs.Handing.{a_result}
-use Rattle.ce_frames.specs.ConstructTurns.{begin_body}
-use Rattle.ce_frames.specs.Turned.{Turn, ◌>>=◌, ◌>>◌}
-use Rattle.class_table.specs.Bodies.{logs_of}
+use Rattle.ce_algorithms.specs.State.{State}
+use Rattle.ce_algorithms.specs.Steps.{Outcome}
+use Rattle.ce_frames.specs.Frames.{Frame, Naming}
+use Rattle.ce_frames.specs.Rest.{End, outcome_of, rest}
+use Rattle.ce_frames.specs.Rest as ends
+use Rattle.ce_frames.specs.Turned.{Turned}
+use Rattle.ce_frames.specs.Work.{work}
+use Rattle.frame_stack.specs.Stacked.{Stacked, frames_of}
+use Rattle.ce_machine.specs.declared.came.Came.{Came}
+use Rattle.ce_machine.specs.declared.came.Came.TheVariants.{Went, Threw, Over}
 
--- a callback of a class begins: its line, and then its body
-abbrev pub callback_turn : ℕ → ℕ → Reaction → Turn
-callback_turn n class r = do
-  log_call n r
-  k ← read (λ s. class_of s class)
-  begin_body class (args_of r) (Some n) (actions_for (what_of r) k.bodies)
+abbrev pub end_of : Came → End
+end_of (Went given) = ends.Went given
+end_of (Threw f) = ends.Threw f
+end_of Over = ends.Over
 
--- one `log` of a body
-abbrev pub log_step : ℕ → Args → List Val → Step State (Unit {0})
-log_step class args vals s = then_do (spend s) (λ _ t. log (Logged (map (text_of (class_of t class).memory args) vals)) t)
+-- how it came, in a state
+abbrev pub came_in : Came → State → Outcome State Given
+came_in now s = outcome_of (end_of now) s
 
--- a body of `log`s
-abbrev pub body_result : ℕ → Args → ℕ → List (List Val) → Step State Given
-body_result class args this logs s = a_result (body model class args (Some this) (logs_of logs) s)
+-- what was kept is handed down
+abbrev pub came_of : Result Given Fault → Came
+came_of (Ok given) = Went given
+came_of (Err f) = Threw f
+
+-- with these frames below, the code's frames, its end and its state are those that the definition's turn comes to
+pub record Turns (below new : List Frame) (now : Came) (s : State) (t : Turned) : Type 0 where
+  pub frames : new ≡ below ++ t.pushed
+  pub end : end_of now ≡ t.end
+  pub state : s ≡ t.state
+
+-- what the frames still do, one after another
+unfoldable pub over : Stacked → Outcome State Given → Outcome State Given
+over stack o = rest (frames_of stack) o
+
+-- what is left to do
+unfoldable pub left : Stacked → State → ℕ
+left stack s = work (frames_of stack) s
+
+-- the frame of an operation's variable, where it has one
+abbrev pub naming : Option (List ℕ) → List Frame
+naming None = []
+naming (Some var) = Naming var ∷ []

@@ -9,14 +9,16 @@ ghost use Rattle.ce_algorithms.specs.Session.{command, class_part, log_of};
 ghost use Rattle.ce_algorithms.specs.Steps.{Goes};
 ghost use Rattle.ce_algorithms.specs.Text.{text};
 ghost use Rattle.ce_algorithms.specs.Written.{Did};
+ghost use Rattle.frame_stack.specs.Sessions.{ArePaired, session};
 ghost use Rattle.ce_machine.specs.Ended.{IsNoFault, end_for, outcome_of};
 
 use crate::End;
-use crate::frames::Came;
+use crate::came::Came;
 use crate::looping::run;
 use crate::operate::begin;
 use ce_algorithms::Event;
 use ce_base::{NoMemory, Refused, Sink, Stop};
+use frame_stack::Stack;
 use rule_lines::{ClassPart, Cmd};
 use session_state::State;
 use std::alloc::Global;
@@ -25,13 +27,18 @@ use std::alloc::Global;
 pub(crate) fn reply_to_part(
     state: &mut State,
     alloc: Global,
+    stack: &mut Stack,
     line: u64,
     p: ClassPart,
 ) -> Result<(), NoMemory>
-    requires { is_built_part (part_of p) ≡ true }
-    ensures { OnOk result (Goes tt state.new ≡ class_part line (part_of p) state.old) }
+    requires built { is_built_part (part_of p) ≡ true }
+    requires rest { stack.old.frames ≡ [] }
+    requires paired { ArePaired stack.old state.old }
+    ensures taken { OnOk result (Goes tt (session stack.new state.new) ≡ class_part line (part_of p) (session stack.old state.old)) }
+    ensures rest { OnOk result (stack.new.frames ≡ []) }
+    ensures paired { OnOk result (ArePaired stack.new state.new) }
 {
-    match state.part(alloc, p) {
+    match state.part(alloc, stack, p) {
         Ok(()) => Ok(()),
         Err(Refused::Fault(f)) => state.log(Event::Threw(line, f)),
         Err(Refused::NoMemory) => Err(NoMemory),
@@ -41,28 +48,34 @@ pub(crate) fn reply_to_part(
 /// Runs a command on the state of a session, and writes what comes of it: its first turn, and then the loop. A
 /// machine runs its commands so; whoever has a state of their own, in which reactions may wait already, calls it.
 ///
+/// No frame lies on the stack before it, and none after it; each class has its behaviour there.
+///
 /// FuelSpent exactly where the fuel is spent in it. WriteFault only where a write failed; NoMemory where memory
 /// was refused. The state is only dropped after each of the three.
 pub fn run_command<K: Sink>(
     state: &mut State,
     alloc: Global,
+    stack: &mut Stack,
     line: u64,
     c: &Cmd,
     trace: bool,
     sink: &mut K,
 ) -> Result<End, Stop>
-    requires { is_built_command c.now ≡ true }
-    ensures ran { IfOk result (λ end. Did trace (K.held sink.old) (K.held sink.new) (command model line c.now state.old) (outcome_of end state.new)) }
+    requires built { is_built_command c.now ≡ true }
+    requires rest { stack.old.frames ≡ [] }
+    requires paired { ArePaired stack.old state.old }
+    ensures ran { IfOk result (λ end. Did trace (K.held sink.old) (K.held sink.new) (command model line c.now (session stack.old state.old)) (outcome_of end (session stack.new state.new))) }
     ensures empty { OnOk result (state.new.log ≡ []) }
-    ensures part { OnErr result (AppendsPart (K.held sink.old) (K.held sink.new) (text trace (log_of (command model line c.now state.old)))) }
+    ensures rest { OnOk result (stack.new.frames ≡ []) }
+    ensures paired { OnOk result (ArePaired stack.new state.new) }
+    ensures part { OnErr result (AppendsPart (K.held sink.old) (K.held sink.new) (text trace (log_of (command model line c.now (session stack.old state.old))))) }
     ensures later { K.failed sink.old ≤ K.failed sink.new }
     ensures cause { IsErrOf result Stop.WriteFault → Rose (K.failed sink.old) (K.failed sink.new) }
     ensures home { K.home sink.new ≡ K.home sink.old }
     ensures below { K.below sink.old ≤ K.below sink.new }
 {
-    let mut frames = Vec::new(alloc);
-    let end = begin(state, alloc, &mut frames, line, c)?;
-    let now = run(state, alloc, &mut frames, end, trace, sink)?;
+    let end = begin(state, alloc, stack, line, c)?;
+    let now = run(state, alloc, stack, end, trace, sink)?;
     Ok(ended(now))
 }
 

@@ -8,10 +8,12 @@ ghost use Rattle.ce_frames.specs.OperateTurns.{create_named_turn};
 ghost use Rattle.ce_frames.specs.Turned.{ended};
 ghost use Rattle.ce_frames.specs.Turns.{turn_threw, turn_went};
 ghost use Rattle.ce_operations.specs.Given.{IsThere};
-ghost use Rattle.ce_machine.specs.Frames.{Turns, came_in};
+ghost use Rattle.frame_stack.specs.Stacked.{behaviours_of, frames_of};
+ghost use Rattle.ce_machine.specs.Blind.{BlindAt};
+ghost use Rattle.ce_machine.specs.Turns.{Turns, came_in};
 ghost use Rattle.ce_machine.specs.Placed.{IsEndThere, Lasts};
 
-use crate::frames::{Came, Frame, came_from};
+use crate::came::{Came, came_from};
 use ce_algorithms::Given;
 use ce_base::{ClassNo, DefNo, Fault, NoMemory, NodeNo, Text};
 use ce_operations::create::{
@@ -19,6 +21,7 @@ use ce_operations::create::{
 };
 use ce_operations::deeds::gives_node;
 use element_names::is_local_name;
+use frame_stack::{Stack, Waiting};
 use session_state::State;
 use std::alloc::Global;
 
@@ -26,18 +29,20 @@ use std::alloc::Global;
 pub(crate) fn create_named(
     state: &mut State,
     alloc: Global,
-    frames: &mut Vec<Frame>,
+    stack: &mut Stack,
     name: &Text,
     document: NodeNo,
 ) -> Result<Came, NoMemory>
-    ensures turn { IfOk result (λ now. Turns frames.old.items frames.new.items now state.new (create_named_turn name.now None document state.old)) }
-    ensures lasts { OnOk result (Lasts (create_named_turn name.now None document state.old)) }
+    ensures turn { IfOk result (λ now. Turns (frames_of stack.old) (frames_of stack.new) now state.new (create_named_turn name.now None document state.old)) }
+    ensures same { OnOk result (behaviours_of stack.new ≡ behaviours_of stack.old) }
+    ensures blind { OnOk result (BlindAt (create_named_turn name.now None document) state.old) }
+    ensures lasts { OnOk result (Lasts state.old.page.forest (create_named_turn name.now None document state.old)) }
 {
     if !is_local_name(name.as_str()) {
         return Ok(Came::Threw(Fault::InvalidCharacterError));
     }
     let local = lowercased(alloc, name)?;
-    let now = create(state, alloc, frames, local, document)?;
+    let now = create(state, alloc, stack, local, document)?;
     Ok(now)
 }
 
@@ -45,12 +50,14 @@ pub(crate) fn create_named(
 fn create(
     state: &mut State,
     alloc: Global,
-    frames: &mut Vec<Frame>,
+    stack: &mut Stack,
     local: Text,
     document: NodeNo,
 ) -> Result<Came, NoMemory>
-    ensures turn { IfOk result (λ now. Turns frames.old.items frames.new.items now state.new (create_turn local None document state.old)) }
-    ensures lasts { OnOk result (Lasts (create_turn local None document state.old)) }
+    ensures turn { IfOk result (λ now. Turns (frames_of stack.old) (frames_of stack.new) now state.new (create_turn local None document state.old)) }
+    ensures same { OnOk result (behaviours_of stack.new ≡ behaviours_of stack.old) }
+    ensures blind { OnOk result (BlindAt (create_turn local None document) state.old) }
+    ensures lasts { OnOk result (Lasts state.old.page.forest (create_turn local None document state.old)) }
 {
     match lookup(state, local.as_str(), document) {
         None => {
@@ -59,7 +66,7 @@ fn create(
             Ok(now)
         }
         Some(d) => {
-            let now = create_fit(state, alloc, frames, local, document, d)?;
+            let now = create_fit(state, alloc, stack, local, document, d)?;
             Ok(now)
         }
     }
@@ -69,17 +76,19 @@ fn create(
 fn create_fit(
     state: &mut State,
     alloc: Global,
-    frames: &mut Vec<Frame>,
+    stack: &mut Stack,
     local: Text,
     document: NodeNo,
     d: DefNo,
 ) -> Result<Came, NoMemory>
     requires { lookup_in state.old.page document local None ≡ Some d }
-    ensures turn { IfOk result (λ now. Turns frames.old.items frames.new.items now state.new (create_found_turn local None document (Some d) state.old)) }
-    ensures lasts { OnOk result (Lasts (create_found_turn local None document (Some d) state.old)) }
+    ensures turn { IfOk result (λ now. Turns (frames_of stack.old) (frames_of stack.new) now state.new (create_found_turn local None document (Some d) state.old)) }
+    ensures same { OnOk result (behaviours_of stack.new ≡ behaviours_of stack.old) }
+    ensures blind { OnOk result (BlindAt (create_found_turn local None document (Some d)) state.old) }
+    ensures lasts { OnOk result (Lasts state.old.page.forest (create_found_turn local None document (Some d) state.old)) }
 {
     let class = class_of(state, d);
-    frames.push(Frame::CreatingFit(local, document))?;
+    stack.push(Waiting::CreatingFit(local, document))?;
     let now = construct(state, alloc, class)?;
     Ok(now)
 }
@@ -87,6 +96,8 @@ fn create_fit(
 // A class is constructed. So far its constructor is the base call alone, which waits for nothing.
 fn construct(state: &mut State, alloc: Global, class: ClassNo) -> Result<Came, NoMemory>
     ensures turn { IfOk result (λ now. ended (came_in now state.new) ≡ construct_turn class state.old) }
+    ensures blind { OnOk result (BlindAt (construct_turn class) state.old) }
+    ensures grows { size state.old.page.forest ≤ size state.new.page.forest }
     ensures there { IfOk result (IsEndThere state.new.page.forest) }
 {
     let made = gives_node(state.construct(alloc, class));

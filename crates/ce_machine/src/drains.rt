@@ -1,14 +1,17 @@
 // Turns of drains: a popped queue, the backup element queue, and the checkpoint of a command.
-ghost use Rattle.std.specs.Prelude.{◌≡◌, ◌∷◌, Ok, IfOk};
+ghost use Rattle.std.specs.Prelude.{◌≡◌, ◌∷◌, Ok, IfOk, OnOk};
 ghost use Rattle.ce_algorithms.specs.Session.{reply};
 ghost use Rattle.ce_frames.specs.DrainTurns.{backup_turn, check_turn, drain_turn, next_backup_turn};
 ghost use Rattle.ce_frames.specs.OperateTurns.{next_turn, pop_turn};
-ghost use Rattle.ce_machine.specs.Frames.{Turns};
+ghost use Rattle.frame_stack.specs.Sessions.{ArePaired, session};
+ghost use Rattle.frame_stack.specs.Stacked.{behaviours_of, frames_of};
+ghost use Rattle.ce_machine.specs.Turns.{Turns};
 
-use crate::frames::{Came, Frame, came_of};
+use crate::came::{Came, came_of};
 use crate::reactions::start;
 use ce_algorithms::{Event, Given};
 use ce_base::{Fault, NoMemory, NodeNo, QueueNo};
+use frame_stack::{Stack, Waiting};
 use reaction_queue::ElementQueue;
 use session_state::State;
 use std::alloc::Global;
@@ -16,17 +19,18 @@ use std::alloc::Global;
 /// The steps of an operation have ended: its queue is popped, and is to be drained.
 pub(crate) fn pop_turn(
     state: &mut State,
-    frames: &mut Vec<Frame>,
+    stack: &mut Stack,
     queue: QueueNo,
     kept: Result<Given, Fault>,
 ) -> Result<Came, NoMemory>
-    ensures { IfOk result (λ now. Turns frames.old.items frames.new.items now state.new (pop_turn queue kept state.old)) }
+    ensures turn { IfOk result (λ now. Turns (frames_of stack.old) (frames_of stack.new) now state.new (pop_turn queue kept state.old)) }
+    ensures same { OnOk result (behaviours_of stack.new ≡ behaviours_of stack.old) }
 {
     let elements = state.pop_queue();
     match state.log(Event::DrainBegun(queue)) {
         Err(NoMemory) => Err(NoMemory),
         Ok(()) => {
-            let now = next_turn(state, frames, queue, elements, kept)?;
+            let now = next_turn(state, stack, queue, elements, kept)?;
             Ok(now)
         }
     }
@@ -35,12 +39,13 @@ pub(crate) fn pop_turn(
 // A popped queue goes on with its next element, or is closed.
 fn next_turn(
     state: &mut State,
-    frames: &mut Vec<Frame>,
+    stack: &mut Stack,
     queue: QueueNo,
     elements: ElementQueue,
     kept: Result<Given, Fault>,
 ) -> Result<Came, NoMemory>
-    ensures { IfOk result (λ now. Turns frames.old.items frames.new.items now state.new (next_turn queue elements kept state.old)) }
+    ensures turn { IfOk result (λ now. Turns (frames_of stack.old) (frames_of stack.new) now state.new (next_turn queue elements kept state.old)) }
+    ensures same { OnOk result (behaviours_of stack.new ≡ behaviours_of stack.old) }
 {
     let mut elements = elements;
     match state.next_element(&mut elements) {
@@ -49,7 +54,7 @@ fn next_turn(
             Ok(came_of(kept))
         }
         Some(next) => {
-            frames.push(Frame::Draining(queue, next, elements, kept))?;
+            stack.push(Waiting::Draining(queue, next, elements, kept))?;
             Ok(Came::Went(Given::Nothing))
         }
     }
@@ -59,22 +64,24 @@ fn next_turn(
 pub(crate) fn drain_turn(
     state: &mut State,
     alloc: Global,
-    frames: &mut Vec<Frame>,
+    stack: &mut Stack,
     queue: QueueNo,
     e: NodeNo,
     elements: ElementQueue,
     kept: Result<Given, Fault>,
 ) -> Result<Came, NoMemory>
-    ensures { IfOk result (λ now. Turns frames.old.items frames.new.items now state.new (drain_turn queue (e ∷ elements) kept state.old)) }
+    requires paired { ArePaired stack.old state.old }
+    ensures turn { IfOk result (λ now. Turns (frames_of stack.old) (frames_of stack.new) now (session stack.new state.new) (drain_turn queue (e ∷ elements) kept (session stack.old state.old))) }
+    ensures paired { OnOk result (ArePaired stack.new state.new) }
 {
     match state.next_reaction(e) {
         Some((number, r)) => {
-            frames.push(Frame::Draining(queue, e, elements, kept))?;
-            let now = start(state, alloc, frames, e, number, &r)?;
+            stack.push(Waiting::Draining(queue, e, elements, kept))?;
+            let now = start(state, alloc, stack, e, number, &r)?;
             Ok(now)
         }
         None => {
-            let now = next_turn(state, frames, queue, elements, kept)?;
+            let now = next_turn(state, stack, queue, elements, kept)?;
             Ok(now)
         }
     }
@@ -84,27 +91,30 @@ pub(crate) fn drain_turn(
 pub(crate) fn backup_turn(
     state: &mut State,
     alloc: Global,
-    frames: &mut Vec<Frame>,
+    stack: &mut Stack,
     e: NodeNo,
 ) -> Result<Came, NoMemory>
-    ensures { IfOk result (λ now. Turns frames.old.items frames.new.items now state.new (backup_turn e state.old)) }
+    requires paired { ArePaired stack.old state.old }
+    ensures turn { IfOk result (λ now. Turns (frames_of stack.old) (frames_of stack.new) now (session stack.new state.new) (backup_turn e (session stack.old state.old))) }
+    ensures paired { OnOk result (ArePaired stack.new state.new) }
 {
     match state.next_reaction(e) {
         Some((number, r)) => {
-            frames.push(Frame::DrainingBackup(e))?;
-            let now = start(state, alloc, frames, e, number, &r)?;
+            stack.push(Waiting::DrainingBackup(e))?;
+            let now = start(state, alloc, stack, e, number, &r)?;
             Ok(now)
         }
         None => {
-            let now = next_backup_turn(state, frames)?;
+            let now = next_backup_turn(state, stack)?;
             Ok(now)
         }
     }
 }
 
 // The backup element queue goes on with its next element, or its drain is closed.
-fn next_backup_turn(state: &mut State, frames: &mut Vec<Frame>) -> Result<Came, NoMemory>
-    ensures { IfOk result (λ now. Turns frames.old.items frames.new.items now state.new (next_backup_turn state.old.page.queues.backup state.old)) }
+fn next_backup_turn(state: &mut State, stack: &mut Stack) -> Result<Came, NoMemory>
+    ensures turn { IfOk result (λ now. Turns (frames_of stack.old) (frames_of stack.new) now state.new (next_backup_turn state.old.page.queues.backup state.old)) }
+    ensures same { OnOk result (behaviours_of stack.new ≡ behaviours_of stack.old) }
 {
     match state.next_backup() {
         None => {
@@ -112,7 +122,7 @@ fn next_backup_turn(state: &mut State, frames: &mut Vec<Frame>) -> Result<Came, 
             Ok(Came::Went(Given::Nothing))
         }
         Some(e) => {
-            frames.push(Frame::DrainingBackup(e))?;
+            stack.push(Waiting::DrainingBackup(e))?;
             Ok(Came::Went(Given::Nothing))
         }
     }
@@ -122,16 +132,17 @@ fn next_backup_turn(state: &mut State, frames: &mut Vec<Frame>) -> Result<Came, 
 /// reply.
 pub(crate) fn check_turn(
     state: &mut State,
-    frames: &mut Vec<Frame>,
+    stack: &mut Stack,
     line: u64,
     kept: Result<Given, Fault>,
 ) -> Result<Came, NoMemory>
-    ensures { IfOk result (λ now. Turns frames.old.items frames.new.items now state.new (check_turn line kept state.old)) }
+    ensures turn { IfOk result (λ now. Turns (frames_of stack.old) (frames_of stack.new) now state.new (check_turn line kept state.old)) }
+    ensures same { OnOk result (behaviours_of stack.new ≡ behaviours_of stack.old) }
 {
     if state.has_backup() {
-        frames.push(Frame::Checking(line, kept))?;
+        stack.push(Waiting::Checking(line, kept))?;
         state.log(Event::DrainBegun(QueueNo(0)))?;
-        let now = next_backup_turn(state, frames)?;
+        let now = next_backup_turn(state, stack)?;
         return Ok(now);
     }
     state.log(reply(line, kept))?;

@@ -1,16 +1,18 @@
 //! The machine: the lines of a script as they were read, one after another, on the state of a session.
 #![tactic(auto)]
 
+mod bodies;
+mod came;
 mod command;
 mod creations;
 mod drains;
 mod end;
-mod frames;
 mod looping;
 mod machine;
 mod operate;
 mod react;
 mod reactions;
+mod stops;
 mod turns;
 mod writing;
 

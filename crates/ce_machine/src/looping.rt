@@ -1,16 +1,19 @@
 // The loop: the frames are finished, the topmost first. Only here is anything written out.
-ghost use Rattle.std.specs.Prelude.{◌≡◌, ◌≤◌, [], IfOk, OnOk, OnErr, IsErrOf, map};
+ghost use Rattle.std.specs.Prelude.{◌≡◌, ◌≤◌, [], IfOk, OnOk, OnErr, IsErrOf};
 ghost use Rattle.ce_base.specs.Faults.{Rose};
 ghost use Rattle.ce_base.specs.Outside.{AppendsPart};
 ghost use Rattle.ce_algorithms.specs.Session.{log_of};
 ghost use Rattle.ce_algorithms.specs.Text.{text};
 ghost use Rattle.ce_algorithms.specs.Written.{Did};
-ghost use Rattle.ce_machine.specs.Frames.{came_in, end_of, over, seen};
+ghost use Rattle.frame_stack.specs.Sessions.{ArePaired, session};
+ghost use Rattle.frame_stack.specs.Stacked.{frames_of};
 ghost use Rattle.ce_machine.specs.Placed.{ArePlaced};
+ghost use Rattle.ce_machine.specs.Turns.{came_in, end_of, over};
 
-use crate::frames::{Came, Frame};
+use crate::came::Came;
 use crate::turns::turn;
 use ce_base::{Sink, Stop};
+use frame_stack::Stack;
 use session_state::State;
 use std::alloc::Global;
 
@@ -18,24 +21,27 @@ use std::alloc::Global;
 pub(crate) fn run<K: Sink>(
     state: &mut State,
     alloc: Global,
-    frames: &mut Vec<Frame>,
+    stack: &mut Stack,
     end: Came,
     trace: bool,
     sink: &mut K,
 ) -> Result<Came, Stop>
-    requires { ArePlaced state.old.page.forest (map seen frames.old.items) (end_of end) }
-    ensures ran { IfOk result (λ now. Did trace (K.held sink.old) (K.held sink.new) (over frames.old.items (came_in end state.old)) (came_in now state.new)) }
+    requires paired { ArePaired stack.old state.old }
+    requires placed { ArePlaced state.old.page.forest (frames_of stack.old) (end_of end) }
+    ensures ran { IfOk result (λ now. Did trace (K.held sink.old) (K.held sink.new) (over stack.old (came_in end (session stack.old state.old))) (came_in now (session stack.new state.new))) }
     ensures empty { OnOk result (state.new.log ≡ []) }
-    ensures part { OnErr result (AppendsPart (K.held sink.old) (K.held sink.new) (text trace (log_of (over frames.old.items (came_in end state.old))))) }
+    ensures rest { OnOk result (stack.new.frames ≡ []) }
+    ensures paired { OnOk result (ArePaired stack.new state.new) }
+    ensures part { OnErr result (AppendsPart (K.held sink.old) (K.held sink.new) (text trace (log_of (over stack.old (came_in end (session stack.old state.old)))))) }
     ensures later { K.failed sink.old ≤ K.failed sink.new }
     ensures cause { IsErrOf result Stop.WriteFault → Rose (K.failed sink.old) (K.failed sink.new) }
     ensures home { K.home sink.new ≡ K.home sink.old }
     ensures below { K.below sink.old ≤ K.below sink.new }
 {
     let mut now = end;
-    while !frames.is_empty() {
+    while !stack.is_empty() {
         state.flush(alloc, trace, sink)?;
-        now = turn(state, alloc, frames, now)?;
+        now = turn(state, alloc, stack, now)?;
     }
     state.flush(alloc, trace, sink)?;
     Ok(now)

@@ -9,40 +9,44 @@ ghost use Rattle.ce_algorithms.specs.Session.{command, class_part, run_line, sta
 ghost use Rattle.ce_algorithms.specs.Steps.{Goes};
 ghost use Rattle.ce_algorithms.specs.Text.{text};
 ghost use Rattle.ce_algorithms.specs.Written.{Did};
-ghost use Rattle.ce_machine.specs.Ended.{outcome_of};
+ghost use Rattle.frame_stack.specs.Sessions.{session};
+ghost use Rattle.ce_machine.specs.Ended.{IsAtRest, outcome_of};
 
 use crate::End;
 use crate::command::run_command;
 use crate::writing::{write_part, write_refused};
 use ce_algorithms::Settings;
 use ce_base::{NoMemory, Sink, Stop};
+use frame_stack::Stack;
 use rule_lines::{ClassPart, Cmd};
 use rule_tokens::Bad;
 use session_state::State;
 use std::alloc::Global;
 use std::marker::Model;
 
-/// A machine: the state of a session of which everything logged was written out. It is handed on by value
-/// with each line, so the state stands behind a pointer.
+/// A machine: the state of a session of which everything logged was written out, and the stack of frames, on which
+/// none lies between two lines. It is handed on by value with each line, so both stand behind pointers.
 #[derive(Drop)]
 pub struct Machine {
     state: Box<State>,
+    stack: Box<Stack>,
 }
 
 impl Model for Machine {
     ghost use Rattle.std.specs.Coded.{codes};
     ghost use Rattle.rule_lines.specs.ActCode.{act_code};
     ghost use Rattle.node_trees.specs.TreesCode.{trees_code};
-    ghost use Rattle.std.specs.Prelude.{◌≡◌, []};
     ghost use Rattle.ce_algorithms.specs.State.{State as IsState};
+    ghost use Rattle.frame_stack.specs.Sessions.{session};
+    ghost use Rattle.ce_machine.specs.Ended.{IsAtRest};
 
     ghost Value = { IsState };
 
     ghost coded = { Prim.hlevel (codes, act_code, trees_code) };
 
-    ghost view = { λ m. m.state.value };
+    ghost view = { λ m. session m.stack.value m.state.value };
 
-    ghost invariant = { λ m. m.state.value.log ≡ [] };
+    ghost invariant = { λ m. IsAtRest m.stack.value m.state.value };
 }
 
 impl Machine {
@@ -51,9 +55,9 @@ impl Machine {
         ensures { IfOk result (λ m. m ≡ start false (record { fuel = fuel })) }
     {
         let state = State::make(alloc, Settings { fuel })?;
-        Ok(Machine {
-            state: Box::new(alloc, state)?,
-        })
+        let state = Box::new(alloc, state)?;
+        let stack = Box::new(alloc, Stack::make(alloc))?;
+        Ok(Machine { state, stack })
     }
 
     /// Takes a part of a class, and writes the reply where it is refused.
@@ -74,11 +78,12 @@ impl Machine {
         ensures home { K.home sink.new ≡ K.home sink.old }
         ensures below { K.below sink.old ≤ K.below sink.new }
     {
-        let Machine { state } = self;
+        let Machine { state, stack } = self;
         let mut state = state;
-        match write_part(&mut *state, alloc, line, p, trace, sink) {
+        let mut stack = stack;
+        match write_part(&mut *state, alloc, &mut *stack, line, p, trace, sink) {
             Err(stop) => Err(stop),
-            Ok(()) => Ok(Machine { state }),
+            Ok(()) => Ok(Machine { state, stack }),
         }
     }
 
@@ -99,11 +104,11 @@ impl Machine {
         ensures home { K.home sink.new ≡ K.home sink.old }
         ensures below { K.below sink.old ≤ K.below sink.new }
     {
-        let Machine { state } = self;
+        let Machine { state, stack } = self;
         let mut state = state;
-        match write_refused(&mut *state, alloc, line, bad, trace, sink) {
+        match write_refused(&mut *state, alloc, &*stack, line, bad, trace, sink) {
             Err(stop) => Err(stop),
-            Ok(()) => Ok(Machine { state }),
+            Ok(()) => Ok(Machine { state, stack }),
         }
     }
 
@@ -125,22 +130,27 @@ impl Machine {
         ensures home { K.home sink.new ≡ K.home sink.old }
         ensures below { K.below sink.old ≤ K.below sink.new }
     {
-        let Machine { state } = self;
+        let Machine { state, stack } = self;
         let mut state = state;
-        let ran = run_command(&mut *state, alloc, line, &c, trace, sink);
+        let mut stack = stack;
+        let ran = run_command(&mut *state, alloc, &mut *stack, line, &c, trace, sink);
         drop(c);
-        with_end(state, ran)
+        with_end(state, stack, ran)
     }
 }
 
 // The machine behind a command, where nothing stopped it.
-fn with_end(state: Box<State>, ran: Result<End, Stop>) -> Result<(Machine, End), Stop>
-    requires { OnOk ran (state.value.log ≡ []) }
-    ensures went { IfOk result (λ r. (ran ≡ Ok r.1) × (r.0 ≡ state.value)) }
+fn with_end(
+    state: Box<State>,
+    stack: Box<Stack>,
+    ran: Result<End, Stop>,
+) -> Result<(Machine, End), Stop>
+    requires { OnOk ran (IsAtRest stack.value state.value) }
+    ensures went { IfOk result (λ r. (ran ≡ Ok r.1) × (r.0 ≡ session stack.value state.value)) }
     ensures stopped { IfErr result (λ stop. ran ≡ Err stop) }
 {
     match ran {
         Err(stop) => Err(stop),
-        Ok(end) => Ok((Machine { state }, end)),
+        Ok(end) => Ok((Machine { state, stack }, end)),
     }
 }

@@ -1,5 +1,6 @@
 // Turns of operations: what they come to is resolved, and done; their variable waits for it.
-ghost use Rattle.std.specs.Prelude.{◌≡◌, ◌+◌, ◌++◌, ◌<◌, ◌^◌, None, Some, option_copied, true, IfOk, OnOk};
+ghost use Rattle.std.specs.Prelude.{◌≡◌, ◌≤◌, ◌+◌, ◌++◌, ◌<◌, ◌^◌, Some, option_copied, true, IfOk, IfSome, OnOk};
+ghost use Rattle.node_trees.specs.Nodes.{IsNode, size};
 ghost use Rattle.rule_script.specs.Built.{is_built_command, is_built_op};
 ghost use Rattle.ce_algorithms.specs.Deeds.{variable};
 ghost use Rattle.ce_algorithms.specs.Making.{make_document};
@@ -9,18 +10,21 @@ ghost use Rattle.ce_frames.specs.Loop.{command_turn, perform_turn};
 ghost use Rattle.ce_frames.specs.OperateTurns.{deed_turn, named_turn, operate_turn};
 ghost use Rattle.ce_frames.specs.Turned.{hand_down};
 ghost use Rattle.ce_page.specs.Ends.{Ends};
-ghost use Rattle.ce_machine.specs.Frames.{Turns, naming};
+ghost use Rattle.frame_stack.specs.Stacked.{behaviours_of, frames_of};
+ghost use Rattle.ce_machine.specs.Blind.{BlindAt};
+ghost use Rattle.ce_machine.specs.Turns.{Turns, naming};
 ghost use Rattle.ce_operations.specs.Given.{IsThere};
 ghost use Rattle.ce_machine.specs.Placed.{Lasts, StaysPlaced};
 ghost use Rattle.ce_operations.specs.Ready.{IsReady};
 
-use crate::frames::{Came, Frame, came_from};
+use crate::came::{Came, came_from};
 use crate::react::deed_turn;
 use ce_algorithms::{Deed, Given};
-use ce_base::{NoMemory, Refused, Text};
+use ce_base::{NoMemory, NodeNo, Refused, Text};
 use ce_operations::deeds::gives_node;
 use ce_operations::resolve::resolve;
 use ce_page::PageStop;
+use frame_stack::{Stack, Waiting};
 use rule_lines::{Cmd, Op};
 use session_state::State;
 use std::alloc::Global;
@@ -29,18 +33,20 @@ use std::alloc::Global;
 pub(crate) fn begin(
     state: &mut State,
     alloc: Global,
-    frames: &mut Vec<Frame>,
+    stack: &mut Stack,
     line: u64,
     c: &Cmd,
 ) -> Result<Came, NoMemory>
     requires { is_built_command c.now ≡ true }
-    ensures turn { IfOk result (λ now. Turns frames.old.items frames.new.items now state.new (command_turn line c.now state.old)) }
-    ensures placed { OnOk result (StaysPlaced (command_turn line c.now state.old)) }
+    ensures turn { IfOk result (λ now. Turns (frames_of stack.old) (frames_of stack.new) now state.new (command_turn line c.now state.old)) }
+    ensures same { OnOk result (behaviours_of stack.new ≡ behaviours_of stack.old) }
+    ensures blind { OnOk result (BlindAt (command_turn line c.now) state.old) }
+    ensures placed { OnOk result (StaysPlaced state.old.page.forest (command_turn line c.now state.old)) }
 {
     match state.spend() {
         Ok(()) => {
-            frames.push(Frame::Replying(line))?;
-            let now = perform(state, alloc, frames, c)?;
+            stack.push(Waiting::Replying(line))?;
+            let now = perform(state, alloc, stack, c)?;
             Ok(now)
         }
         Err(PageStop::Refused(f)) => Ok(Came::Threw(f)),
@@ -54,17 +60,19 @@ pub(crate) fn begin(
 fn perform(
     state: &mut State,
     alloc: Global,
-    frames: &mut Vec<Frame>,
+    stack: &mut Stack,
     c: &Cmd,
 ) -> Result<Came, NoMemory>
     requires built { is_built_command c.now ≡ true }
     requires room { state.old.page.queues.pushed + state.old.fuel + 1 < 2 ^ 64 }
-    ensures turn { IfOk result (λ now. Turns frames.old.items frames.new.items now state.new (perform_turn c.now state.old)) }
-    ensures placed { OnOk result (StaysPlaced (perform_turn c.now state.old)) }
+    ensures turn { IfOk result (λ now. Turns (frames_of stack.old) (frames_of stack.new) now state.new (perform_turn c.now state.old)) }
+    ensures same { OnOk result (behaviours_of stack.new ≡ behaviours_of stack.old) }
+    ensures blind { OnOk result (BlindAt (perform_turn c.now) state.old) }
+    ensures placed { OnOk result (StaysPlaced state.old.page.forest (perform_turn c.now state.old)) }
 {
     match c {
-        Cmd::Both(op) => operate(state, alloc, frames, op),
-        Cmd::Doc { var } => make_document(state, alloc, frames, var),
+        Cmd::Both(op) => operate(state, alloc, stack, &None, op),
+        Cmd::Doc { var } => make_document(state, alloc, stack, var),
         _ => unreachable!(),
     }
 }
@@ -73,13 +81,15 @@ fn perform(
 fn make_document(
     state: &mut State,
     alloc: Global,
-    frames: &mut Vec<Frame>,
+    stack: &mut Stack,
     var: &Text,
 ) -> Result<Came, NoMemory>
-    ensures turn { IfOk result (λ now. Turns frames.old.items frames.new.items now state.new (named_turn (Some var.now) (hand_down (on_page (gives_node make_document))) state.old)) }
-    ensures placed { OnOk result (StaysPlaced (named_turn (Some var.now) (hand_down (on_page (gives_node make_document))) state.old)) }
+    ensures turn { IfOk result (λ now. Turns (frames_of stack.old) (frames_of stack.new) now state.new (named_turn (Some var.now) (hand_down (on_page (gives_node make_document))) state.old)) }
+    ensures same { OnOk result (behaviours_of stack.new ≡ behaviours_of stack.old) }
+    ensures blind { OnOk result (BlindAt (named_turn (Some var.now) (hand_down (on_page (gives_node make_document)))) state.old) }
+    ensures placed { OnOk result (StaysPlaced state.old.page.forest (named_turn (Some var.now) (hand_down (on_page (gives_node make_document))) state.old)) }
 {
-    name(alloc, frames, Some(var))?;
+    name(alloc, stack, Some(var))?;
     let made = document(state, alloc);
     let now = came_from(made)?;
     Ok(now)
@@ -87,29 +97,34 @@ fn make_document(
 
 fn document(state: &mut State, alloc: Global) -> Result<Given, PageStop>
     ensures step { Ends (λ g. g) result state.new (on_page (gives_node make_document) state.old) }
+    ensures grows { size state.old.page.forest ≤ size state.new.page.forest }
     ensures there { IfOk result (IsThere state.new.page.forest) }
 {
     gives_node(state.make_document(alloc))
 }
 
-// Performs an operation.
+/// Performs an operation, where `this` is this node or none.
 #[tactic(auto, unfolding(ce_frames::specs::OperateTurns::operate_turn))]
-fn operate(
+pub(crate) fn operate(
     state: &mut State,
     alloc: Global,
-    frames: &mut Vec<Frame>,
+    stack: &mut Stack,
+    this: &Option<NodeNo>,
     op: &Op,
 ) -> Result<Came, NoMemory>
     requires built { is_built_op op.now ≡ true }
+    requires there { IfSome this.now (IsNode state.old.page.forest) }
     requires room { state.old.page.queues.pushed + state.old.fuel + 1 < 2 ^ 64 }
-    ensures turn { IfOk result (λ now. Turns frames.old.items frames.new.items now state.new (operate_turn None op.now state.old)) }
-    ensures placed { OnOk result (StaysPlaced (operate_turn None op.now state.old)) }
+    ensures turn { IfOk result (λ now. Turns (frames_of stack.old) (frames_of stack.new) now state.new (operate_turn this.now op.now state.old)) }
+    ensures same { OnOk result (behaviours_of stack.new ≡ behaviours_of stack.old) }
+    ensures blind { OnOk result (BlindAt (operate_turn this.now op.now) state.old) }
+    ensures placed { OnOk result (StaysPlaced state.old.page.forest (operate_turn this.now op.now state.old)) }
 {
-    match resolve(state, alloc, &None, op) {
+    match resolve(state, alloc, this, op) {
         Err(Refused::Fault(f)) => Ok(Came::Threw(f)),
         Err(Refused::NoMemory) => Err(NoMemory),
         Ok(deed) => {
-            let now = named(state, alloc, frames, op, deed)?;
+            let now = named(state, alloc, stack, op, deed)?;
             Ok(now)
         }
     }
@@ -119,33 +134,36 @@ fn operate(
 fn named(
     state: &mut State,
     alloc: Global,
-    frames: &mut Vec<Frame>,
+    stack: &mut Stack,
     op: &Op,
     deed: Deed,
 ) -> Result<Came, NoMemory>
     requires ready { IsReady state.old.page.forest deed }
     requires room { state.old.page.queues.pushed + state.old.fuel + 1 < 2 ^ 64 }
-    ensures turn { IfOk result (λ now. Turns frames.old.items frames.new.items now state.new (named_turn (variable op.now) (deed_turn deed) state.old)) }
-    ensures placed { OnOk result (StaysPlaced (named_turn (variable op.now) (deed_turn deed) state.old)) }
+    ensures turn { IfOk result (λ now. Turns (frames_of stack.old) (frames_of stack.new) now state.new (named_turn (variable op.now) (deed_turn deed) state.old)) }
+    ensures same { OnOk result (behaviours_of stack.new ≡ behaviours_of stack.old) }
+    ensures blind { OnOk result (BlindAt (named_turn (variable op.now) (deed_turn deed)) state.old) }
+    ensures placed { OnOk result (StaysPlaced state.old.page.forest (named_turn (variable op.now) (deed_turn deed) state.old)) }
 {
-    match name(alloc, frames, variable(op)) {
+    match name(alloc, stack, variable(op)) {
         Err(NoMemory) => Err(NoMemory),
         Ok(()) => {
-            let now = deed_turn(state, alloc, frames, deed)?;
+            let now = deed_turn(state, alloc, stack, deed)?;
             Ok(now)
         }
     }
 }
 
 // The frame of a variable, where there is one.
-fn name(alloc: Global, frames: &mut Vec<Frame>, var: Option<&Text>) -> Result<(), NoMemory>
-    ensures { OnOk result (frames.new.items ≡ frames.old.items ++ naming (option_copied var.entry)) }
+fn name(alloc: Global, stack: &mut Stack, var: Option<&Text>) -> Result<(), NoMemory>
+    ensures frames { OnOk result (frames_of stack.new ≡ frames_of stack.old ++ naming (option_copied var.entry)) }
+    ensures same { OnOk result (behaviours_of stack.new ≡ behaviours_of stack.old) }
 {
     match var {
         None => Ok(()),
         Some(var) => {
             let var = var.copy(alloc)?;
-            frames.push(Frame::Naming(var))?;
+            stack.push(Waiting::Naming(var))?;
             Ok(())
         }
     }

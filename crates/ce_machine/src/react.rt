@@ -1,5 +1,7 @@
 // Deeds that react: a queue is pushed, the steps are done, the queue is popped and is to be drained.
-ghost use Rattle.std.specs.Prelude.{◌≡◌, ◌+◌, ◌<◌, ◌^◌, None, IfOk, OnOk};
+ghost use Rattle.std.specs.Prelude.{◌≡◌, ◌≤◌, ◌+◌, ◌<◌, ◌^◌, None, IfOk, OnOk};
+ghost use Rattle.node_trees.specs.Nodes.{size};
+ghost use Rattle.node_trees.specs.Trees.{Trees};
 ghost use Rattle.ce_algorithms.specs.declared.deed.Deed.TheVariants as deeds;
 ghost use Rattle.ce_algorithms.specs.declared.event.Given.{Given as IsGiven};
 ghost use Rattle.ce_algorithms.specs.Model.{model};
@@ -9,18 +11,21 @@ ghost use Rattle.ce_algorithms.specs.Steps.{Outcome, attempt_in};
 ghost use Rattle.ce_frames.specs.OperateTurns.{deed_turn, pop_turn, steps_turn};
 ghost use Rattle.ce_frames.specs.Turned.{turn_after};
 ghost use Rattle.ce_page.specs.Ends.{Ends};
-ghost use Rattle.ce_machine.specs.Frames.{Turns};
+ghost use Rattle.frame_stack.specs.Stacked.{behaviours_of, frames_of};
+ghost use Rattle.ce_machine.specs.Blind.{BlindAt};
+ghost use Rattle.ce_machine.specs.Turns.{Turns};
 ghost use Rattle.ce_operations.specs.Given.{IsThere};
 ghost use Rattle.ce_machine.specs.Placed.{Lasts};
 ghost use Rattle.ce_operations.specs.Ready.{IsReady, IsStill};
 
 use crate::creations::create_named;
 use crate::drains::pop_turn;
-use crate::frames::{Came, Frame, came_from};
+use crate::came::{Came, came_from};
 use ce_algorithms::{Deed, Given};
 use ce_base::{NoMemory, NodeNo, QueueNo, Text};
 use ce_operations::deeds::run;
 use ce_page::PageStop;
+use frame_stack::{Stack, Waiting};
 use session_state::State;
 use std::alloc::Global;
 
@@ -28,21 +33,23 @@ use std::alloc::Global;
 pub(crate) fn deed_turn(
     state: &mut State,
     alloc: Global,
-    frames: &mut Vec<Frame>,
+    stack: &mut Stack,
     deed: Deed,
 ) -> Result<Came, NoMemory>
     requires ready { IsReady state.old.page.forest deed }
     requires room { state.old.page.queues.pushed + state.old.fuel + 1 < 2 ^ 64 }
-    ensures turn { IfOk result (λ now. Turns frames.old.items frames.new.items now state.new (deed_turn deed state.old)) }
-    ensures lasts { OnOk result (Lasts (deed_turn deed state.old)) }
+    ensures turn { IfOk result (λ now. Turns (frames_of stack.old) (frames_of stack.new) now state.new (deed_turn deed state.old)) }
+    ensures same { OnOk result (behaviours_of stack.new ≡ behaviours_of stack.old) }
+    ensures blind { OnOk result (BlindAt (deed_turn deed) state.old) }
+    ensures lasts { OnOk result (Lasts state.old.page.forest (deed_turn deed state.old)) }
 {
     match deed {
         Deed::Create {
             local,
             is_value: _,
             document,
-        } => create_turn(state, alloc, frames, &local, document),
-        deed => still_turn(state, alloc, frames, deed),
+        } => create_turn(state, alloc, stack, &local, document),
+        deed => still_turn(state, alloc, stack, deed),
     }
 }
 
@@ -50,19 +57,21 @@ pub(crate) fn deed_turn(
 fn create_turn(
     state: &mut State,
     alloc: Global,
-    frames: &mut Vec<Frame>,
+    stack: &mut Stack,
     name: &Text,
     document: NodeNo,
 ) -> Result<Came, NoMemory>
     requires room { state.old.page.queues.pushed + state.old.fuel + 1 < 2 ^ 64 }
-    ensures turn { IfOk result (λ now. Turns frames.old.items frames.new.items now state.new (deed_turn (deeds.Create name.now None document) state.old)) }
-    ensures lasts { OnOk result (Lasts (deed_turn (deeds.Create name.now None document) state.old)) }
+    ensures turn { IfOk result (λ now. Turns (frames_of stack.old) (frames_of stack.new) now state.new (deed_turn (deeds.Create name.now None document) state.old)) }
+    ensures same { OnOk result (behaviours_of stack.new ≡ behaviours_of stack.old) }
+    ensures blind { OnOk result (BlindAt (deed_turn (deeds.Create name.now None document)) state.old) }
+    ensures lasts { OnOk result (Lasts state.old.page.forest (deed_turn (deeds.Create name.now None document) state.old)) }
 {
     match state.open_queue(alloc) {
         Err(NoMemory) => Err(NoMemory),
         Ok(queue) => {
-            frames.push(Frame::Stepping(queue))?;
-            let now = create_named(state, alloc, frames, name, document)?;
+            stack.push(Waiting::Stepping(queue))?;
+            let now = create_named(state, alloc, stack, name, document)?;
             Ok(now)
         }
     }
@@ -72,17 +81,19 @@ fn create_turn(
 fn still_turn(
     state: &mut State,
     alloc: Global,
-    frames: &mut Vec<Frame>,
+    stack: &mut Stack,
     deed: Deed,
 ) -> Result<Came, NoMemory>
     requires ready { IsReady state.old.page.forest deed }
     requires still { IsStill deed }
     requires room { state.old.page.queues.pushed + state.old.fuel + 1 < 2 ^ 64 }
-    ensures turn { IfOk result (λ now. Turns frames.old.items frames.new.items now state.new (deed_turn deed state.old)) }
-    ensures lasts { OnOk result (Lasts (deed_turn deed state.old)) }
+    ensures turn { IfOk result (λ now. Turns (frames_of stack.old) (frames_of stack.new) now state.new (deed_turn deed state.old)) }
+    ensures same { OnOk result (behaviours_of stack.new ≡ behaviours_of stack.old) }
+    ensures blind { OnOk result (BlindAt (deed_turn deed) state.old) }
+    ensures lasts { OnOk result (Lasts state.old.page.forest (deed_turn deed state.old)) }
 {
     if deed.is_reacting() {
-        let now = react(state, alloc, frames, deed)?;
+        let now = react(state, alloc, stack, deed)?;
         Ok(now)
     } else {
         let ran = run(state, alloc, deed);
@@ -94,20 +105,21 @@ fn still_turn(
 fn react(
     state: &mut State,
     alloc: Global,
-    frames: &mut Vec<Frame>,
+    stack: &mut Stack,
     deed: Deed,
 ) -> Result<Came, NoMemory>
     requires ready { IsReady state.old.page.forest deed }
     requires still { IsStill deed }
     requires room { state.old.page.queues.pushed + state.old.fuel + 1 < 2 ^ 64 }
-    ensures turn { IfOk result (λ now. Turns frames.old.items frames.new.items now state.new (steps_turn (steps model deed) state.old)) }
-    ensures lasts { OnOk result (Lasts (steps_turn (steps model deed) state.old)) }
+    ensures turn { IfOk result (λ now. Turns (frames_of stack.old) (frames_of stack.new) now state.new (steps_turn (steps model deed) state.old)) }
+    ensures same { OnOk result (behaviours_of stack.new ≡ behaviours_of stack.old) }
+    ensures lasts { OnOk result (Lasts state.old.page.forest (steps_turn (steps model deed) state.old)) }
 {
     match state.open_queue(alloc) {
         Err(NoMemory) => Err(NoMemory),
         Ok(queue) => {
             let ran = run(state, alloc, deed);
-            let now = stepped(state, frames, queue, ran)?;
+            let now = stepped(state, stack, queue, ran)?;
             Ok(now)
         }
     }
@@ -116,21 +128,22 @@ fn react(
 // The steps have ended.
 fn stepped(
     state: &mut State,
-    frames: &mut Vec<Frame>,
+    stack: &mut Stack,
     queue: QueueNo,
     ran: Result<Given, PageStop>,
 ) -> Result<Came, NoMemory>
     requires { IfOk ran (IsThere state.old.page.forest) }
-    ensures turn { (o : Outcome IsState IsGiven) → Ends (λ g. g) ran state.old o → IfOk result (λ now. Turns frames.old.items frames.new.items now state.new (turn_after (attempt_in o) (pop_turn queue))) }
-    ensures lasts { (o : Outcome IsState IsGiven) → Ends (λ g. g) ran state.old o → OnOk result (Lasts (turn_after (attempt_in o) (pop_turn queue))) }
+    ensures turn { (o : Outcome IsState IsGiven) → Ends (λ g. g) ran state.old o → IfOk result (λ now. Turns (frames_of stack.old) (frames_of stack.new) now state.new (turn_after (attempt_in o) (pop_turn queue))) }
+    ensures same { OnOk result (behaviours_of stack.new ≡ behaviours_of stack.old) }
+    ensures lasts { (f : Trees) (o : Outcome IsState IsGiven) → size f ≤ size state.old.page.forest → Ends (λ g. g) ran state.old o → OnOk result (Lasts f (turn_after (attempt_in o) (pop_turn queue))) }
 {
     match ran {
         Ok(given) => {
-            let now = pop_turn(state, frames, queue, Ok(given))?;
+            let now = pop_turn(state, stack, queue, Ok(given))?;
             Ok(now)
         }
         Err(PageStop::Refused(f)) => {
-            let now = pop_turn(state, frames, queue, Err(f))?;
+            let now = pop_turn(state, stack, queue, Err(f))?;
             Ok(now)
         }
         Err(PageStop::FuelSpent) => Ok(Came::Over),

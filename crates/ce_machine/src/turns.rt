@@ -1,22 +1,25 @@
 // Turns: the topmost frame takes the outcome of what it waited for, and goes on.
-ghost use Rattle.std.specs.Prelude.{◌≡◌, ◌<◌, ◌∷◌, [], Some, false, IfOk, map, vec_len};
+ghost use Rattle.std.specs.Prelude.{◌≡◌, ◌<◌, ◌∷◌, [], Some, length, IfOk, OnOk};
 ghost use Rattle.ce_algorithms.specs.Perform.{named as named_step};
+ghost use Rattle.ce_frames.specs.Frames as waiting;
 ghost use Rattle.ce_frames.specs.Turned.{ended};
 ghost use Rattle.ce_frames.specs.Turns.{turn, turn_threw, turn_went};
-ghost use Rattle.ce_frames.specs.Frames as waiting;
-ghost use Rattle.class_table.specs.Bodies.{logs_of};
-ghost use Rattle.ce_machine.specs.Frames.{Turns, came_in, end_of, left, over, seen};
+ghost use Rattle.ce_frames.specs.Whole.{GoesBlind};
+ghost use Rattle.frame_stack.specs.Frames.{waiting_of};
+ghost use Rattle.frame_stack.specs.Sessions.{ArePaired, session};
+ghost use Rattle.frame_stack.specs.Stacked.{HasBody, behaviours_of, below_top, frames_of};
 ghost use Rattle.ce_operations.specs.Given.{IsThere};
-ghost use Rattle.ce_machine.specs.Placed.{ArePlaced, Creates, IfCreating};
+ghost use Rattle.ce_machine.specs.Bodies.{frame_on_top};
+ghost use Rattle.ce_machine.specs.Placed.{ArePlaced, Creates, IfCreating, StaysPlaced};
+ghost use Rattle.ce_machine.specs.Turns.{Turns, came_in, end_of, left, over};
 
+use crate::bodies::{body_over, body_threw, body_went};
+use crate::came::Came;
 use crate::creations::{failed_turn, fit_turn};
 use crate::drains::{backup_turn, check_turn, drain_turn, pop_turn, reply};
-use crate::frames::{Came, Frame, came_from};
-use crate::reactions::{run_body, tell};
-use behaviours::Args;
 use ce_algorithms::{Event, Given};
-use ce_base::{ClassNo, Fault, NoMemory, NodeNo, ReactionNo, Text};
-use class_table::Actions;
+use ce_base::{Fault, NoMemory, ReactionNo, Text};
+use frame_stack::{Stack, Waiting};
 use session_state::State;
 use std::alloc::Global;
 
@@ -24,45 +27,79 @@ use std::alloc::Global;
 pub(crate) fn turn(
     state: &mut State,
     alloc: Global,
-    frames: &mut Vec<Frame>,
+    stack: &mut Stack,
     end: Came,
 ) -> Result<Came, NoMemory>
-    requires some { 0 < vec_len frames.old }
-    requires placed { ArePlaced state.old.page.forest (map seen frames.old.items) (end_of end) }
-    ensures rest { IfOk result (λ now. over frames.new.items (came_in now state.new) ≡ over frames.old.items (came_in end state.old)) }
-    ensures work { IfOk result (λ _. left frames.new.items state.new < left frames.old.items state.old) }
-    ensures placed { IfOk result (λ now. ArePlaced state.new.page.forest (map seen frames.new.items) (end_of now)) }
+    requires some { 0 < length (frames_of stack.old) }
+    requires paired { ArePaired stack.old state.old }
+    requires placed { ArePlaced state.old.page.forest (frames_of stack.old) (end_of end) }
+    ensures rest { IfOk result (λ now. over stack.new (came_in now (session stack.new state.new)) ≡ over stack.old (came_in end (session stack.old state.old))) }
+    ensures work { IfOk result (λ _. left stack.new (session stack.new state.new) < left stack.old (session stack.old state.old)) }
+    ensures paired { OnOk result (ArePaired stack.new state.new) }
+    ensures placed { IfOk result (λ now. ArePlaced state.new.page.forest (frames_of stack.new) (end_of now)) }
 {
-    // No reaction that waits is an upgrade: the clause of `tree` says so.
+    // No reaction that waits is an upgrade, and what has a definition is a node: the clause of `tree` says so.
     let _tree = state.tree();
-    match frames.pop() {
-        None => unreachable!(),
+    match stack.pop() {
+        None => {
+            let now = resume_body(state, alloc, stack, end)?;
+            Ok(now)
+        }
         Some(frame) => {
-            let now = resume(state, alloc, frames, frame, end)?;
+            let now = resume(state, alloc, stack, frame, end)?;
             Ok(now)
         }
     }
 }
 
-// A frame takes the outcome of what it waited for, and goes on.
-fn resume(
+// The body on top takes the outcome of what it waited for, and goes on.
+fn resume_body(
     state: &mut State,
     alloc: Global,
-    frames: &mut Vec<Frame>,
-    frame: Frame,
+    stack: &mut Stack,
     end: Came,
 ) -> Result<Came, NoMemory>
-    requires { ArePlaced state.old.page.forest (seen frame ∷ []) (end_of end) }
-    ensures turn { IfOk result (λ now. Turns frames.old.items frames.new.items now state.new (turn (seen frame) (end_of end) state.old)) }
-    ensures created { IfOk result (λ now. IfCreating (seen frame) (Creates state.old.page.forest state.new.page.forest frames.old.items frames.new.items now)) }
+    requires body { HasBody (frames_of stack.old) }
+    requires paired { ArePaired stack.old state.old }
+    requires placed { ArePlaced state.old.page.forest (frames_of stack.old) (end_of end) }
+    ensures turn { IfOk result (λ now. Turns (below_top (frames_of stack.old)) (frames_of stack.new) now (session stack.new state.new) (turn (frame_on_top stack.old) (end_of end) (session stack.old state.old))) }
+    ensures paired { OnOk result (ArePaired stack.new state.new) }
+    ensures stays { OnOk result (StaysPlaced state.old.page.forest (turn (frame_on_top stack.old) (end_of end) (session stack.old state.old))) }
 {
     match end {
         Came::Went(given) => {
-            let now = went(state, alloc, frames, frame, given)?;
+            let now = body_went(state, alloc, stack, given)?;
             Ok(now)
         }
         Came::Threw(f) => {
-            let now = threw(state, alloc, frames, frame, f)?;
+            let now = body_threw(state, alloc, stack, f)?;
+            Ok(now)
+        }
+        Came::Over => Ok(body_over(state, stack)),
+    }
+}
+
+// A frame that is of no body takes the outcome of what it waited for, and goes on.
+fn resume(
+    state: &mut State,
+    alloc: Global,
+    stack: &mut Stack,
+    frame: Waiting,
+    end: Came,
+) -> Result<Came, NoMemory>
+    requires paired { ArePaired stack.old state.old }
+    requires placed { ArePlaced state.old.page.forest (waiting_of frame ∷ []) (end_of end) }
+    ensures turn { IfOk result (λ now. Turns (frames_of stack.old) (frames_of stack.new) now (session stack.new state.new) (turn (waiting_of frame) (end_of end) (session stack.old state.old))) }
+    ensures paired { OnOk result (ArePaired stack.new state.new) }
+    ensures created { IfOk result (λ now. IfCreating (waiting_of frame) (Creates state.old.page.forest state.new.page.forest (frames_of stack.old) (frames_of stack.new) now)) }
+{
+    match end {
+        Came::Went(given) => {
+            let now = went(state, alloc, stack, frame, given)?;
+            Ok(now)
+        }
+        Came::Threw(f) => {
+            let now = threw(state, alloc, stack, frame, f)?;
             Ok(now)
         }
         Came::Over => {
@@ -72,55 +109,95 @@ fn resume(
     }
 }
 
-// After what it waited for has gone well.
+// After what it waited for has gone well. Two of the frames start a reaction, which may begin a body.
 fn went(
     state: &mut State,
     alloc: Global,
-    frames: &mut Vec<Frame>,
-    frame: Frame,
+    stack: &mut Stack,
+    frame: Waiting,
     given: Given,
 ) -> Result<Came, NoMemory>
-    requires { ArePlaced state.old.page.forest (seen frame ∷ []) (end_of (Came.Went given)) }
-    ensures turn { IfOk result (λ now. Turns frames.old.items frames.new.items now state.new (turn_went (seen frame) given state.old)) }
-    ensures created { IfOk result (λ now. IfCreating (seen frame) (Creates state.old.page.forest state.new.page.forest frames.old.items frames.new.items now)) }
+    requires paired { ArePaired stack.old state.old }
+    requires placed { ArePlaced state.old.page.forest (waiting_of frame ∷ []) (end_of (Came.Went given)) }
+    ensures turn { IfOk result (λ now. Turns (frames_of stack.old) (frames_of stack.new) now (session stack.new state.new) (turn_went (waiting_of frame) given (session stack.old state.old))) }
+    ensures paired { OnOk result (ArePaired stack.new state.new) }
+    ensures created { IfOk result (λ now. IfCreating (waiting_of frame) (Creates state.old.page.forest state.new.page.forest (frames_of stack.old) (frames_of stack.new) now)) }
 {
     match frame {
-        Frame::Replying(line) => {
-            let now = check_turn(state, frames, line, Ok(given))?;
+        Waiting::DrainingBackup(e) => {
+            let now = backup_turn(state, alloc, stack, e)?;
             Ok(now)
         }
-        Frame::Checking(line, kept) => {
+        Waiting::Draining(queue, e, elements, kept) => {
+            let now = drain_turn(state, alloc, stack, queue, e, elements, kept)?;
+            Ok(now)
+        }
+        frame => {
+            let now = go_on(state, alloc, stack, frame, given)?;
+            Ok(now)
+        }
+    }
+}
+
+// A frame that starts no reaction reads nothing of what classes do.
+fn go_on(
+    state: &mut State,
+    alloc: Global,
+    stack: &mut Stack,
+    frame: Waiting,
+    given: Given,
+) -> Result<Came, NoMemory>
+    requires goes { GoesBlind (waiting_of frame) }
+    requires paired { ArePaired stack.old state.old }
+    requires placed { ArePlaced state.old.page.forest (waiting_of frame ∷ []) (end_of (Came.Went given)) }
+    ensures turn { IfOk result (λ now. Turns (frames_of stack.old) (frames_of stack.new) now (session stack.new state.new) (turn_went (waiting_of frame) given (session stack.old state.old))) }
+    ensures paired { OnOk result (ArePaired stack.new state.new) }
+    ensures created { IfOk result (λ now. IfCreating (waiting_of frame) (Creates state.old.page.forest state.new.page.forest (frames_of stack.old) (frames_of stack.new) now)) }
+{
+    let now = settled(state, alloc, stack, frame, given)?;
+    Ok(now)
+}
+
+fn settled(
+    state: &mut State,
+    alloc: Global,
+    stack: &mut Stack,
+    frame: Waiting,
+    given: Given,
+) -> Result<Came, NoMemory>
+    requires goes { GoesBlind (waiting_of frame) }
+    requires placed { ArePlaced state.old.page.forest (waiting_of frame ∷ []) (end_of (Came.Went given)) }
+    ensures turn { IfOk result (λ now. Turns (frames_of stack.old) (frames_of stack.new) now state.new (turn_went (waiting_of frame) given state.old)) }
+    ensures same { OnOk result (behaviours_of stack.new ≡ behaviours_of stack.old) }
+    ensures created { IfOk result (λ now. IfCreating (waiting_of frame) (Creates state.old.page.forest state.new.page.forest (frames_of stack.old) (frames_of stack.new) now)) }
+{
+    match frame {
+        Waiting::Replying(line) => {
+            let now = check_turn(state, stack, line, Ok(given))?;
+            Ok(now)
+        }
+        Waiting::Checking(line, kept) => {
             let now = checked(state, line, kept)?;
             Ok(now)
         }
-        Frame::DrainingBackup(e) => {
-            let now = backup_turn(state, alloc, frames, e)?;
-            Ok(now)
-        }
-        Frame::Naming(var) => {
+        Waiting::Naming(var) => {
             let now = named(state, var, given)?;
             Ok(now)
         }
-        Frame::Stepping(queue) => {
-            let now = pop_turn(state, frames, queue, Ok(given))?;
+        Waiting::Stepping(queue) => {
+            let now = pop_turn(state, stack, queue, Ok(given))?;
             Ok(now)
         }
-        Frame::Draining(queue, e, elements, kept) => {
-            let now = drain_turn(state, alloc, frames, queue, e, elements, kept)?;
-            Ok(now)
-        }
-        Frame::InReaction(number) => {
+        Waiting::InReaction(number) => {
             let now = finished(state, number)?;
             Ok(now)
         }
-        Frame::CreatingFit(local, document) => {
+        Waiting::CreatingFit(local, document) => {
             let now = fit_turn(state, alloc, local, document, given)?;
             Ok(now)
         }
-        Frame::InBody(class, args, this, actions) => {
-            let now = body(state, alloc, class, &args, this, &actions, given)?;
-            Ok(now)
-        }
+        Waiting::DrainingBackup(_) => unreachable!(),
+        Waiting::Draining(_, _, _, _) => unreachable!(),
     }
 }
 
@@ -128,35 +205,35 @@ fn went(
 fn threw(
     state: &mut State,
     alloc: Global,
-    frames: &mut Vec<Frame>,
-    frame: Frame,
+    stack: &mut Stack,
+    frame: Waiting,
     f: Fault,
 ) -> Result<Came, NoMemory>
-    ensures turn { IfOk result (λ now. Turns frames.old.items frames.new.items now state.new (turn_threw (seen frame) f state.old)) }
-    ensures created { IfOk result (λ now. IfCreating (seen frame) (Creates state.old.page.forest state.new.page.forest frames.old.items frames.new.items now)) }
+    ensures turn { IfOk result (λ now. Turns (frames_of stack.old) (frames_of stack.new) now state.new (turn_threw (waiting_of frame) f state.old)) }
+    ensures same { OnOk result (behaviours_of stack.new ≡ behaviours_of stack.old) }
+    ensures created { IfOk result (λ now. IfCreating (waiting_of frame) (Creates state.old.page.forest state.new.page.forest (frames_of stack.old) (frames_of stack.new) now)) }
 {
     match frame {
-        Frame::Replying(line) => {
-            let now = check_turn(state, frames, line, Err(f))?;
+        Waiting::Replying(line) => {
+            let now = check_turn(state, stack, line, Err(f))?;
             Ok(now)
         }
-        Frame::Stepping(queue) => {
-            let now = pop_turn(state, frames, queue, Err(f))?;
+        Waiting::Stepping(queue) => {
+            let now = pop_turn(state, stack, queue, Err(f))?;
             Ok(now)
         }
-        Frame::InReaction(number) => {
+        Waiting::InReaction(number) => {
             let now = reported(state, number, f)?;
             Ok(now)
         }
-        Frame::CreatingFit(local, document) => {
+        Waiting::CreatingFit(local, document) => {
             let now = failed_turn(state, alloc, local, document, f)?;
             Ok(now)
         }
-        Frame::Checking(_, _) => Ok(Came::Threw(f)),
-        Frame::DrainingBackup(_) => Ok(Came::Threw(f)),
-        Frame::Naming(_) => Ok(Came::Threw(f)),
-        Frame::Draining(_, _, _, _) => Ok(Came::Threw(f)),
-        Frame::InBody(_, _, _, _) => Ok(Came::Threw(f)),
+        Waiting::Checking(_, _) => Ok(Came::Threw(f)),
+        Waiting::DrainingBackup(_) => Ok(Came::Threw(f)),
+        Waiting::Naming(_) => Ok(Came::Threw(f)),
+        Waiting::Draining(_, _, _, _) => Ok(Came::Threw(f)),
     }
 }
 
@@ -198,23 +275,5 @@ fn reported(state: &mut State, number: ReactionNo, f: Fault) -> Result<Came, NoM
 {
     state.log(Event::Reported(f))?;
     let now = finished(state, number)?;
-    Ok(now)
-}
-
-// A body begins.
-fn body(
-    state: &mut State,
-    alloc: Global,
-    class: ClassNo,
-    args: &Args,
-    this: NodeNo,
-    actions: &Actions,
-    given: Given,
-) -> Result<Came, NoMemory>
-    ensures { IfOk result (λ now. ended (came_in now state.new) ≡ turn_went (waiting.InBody class args.now (Some this) false (logs_of actions.now)) given state.old) }
-{
-    tell(state, given)?;
-    let ran = run_body(state, alloc, class, args, this, actions);
-    let now = came_from(ran)?;
     Ok(now)
 }

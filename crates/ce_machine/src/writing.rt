@@ -9,10 +9,12 @@ ghost use Rattle.ce_algorithms.specs.Session.{class_part, log_of, run_line};
 ghost use Rattle.ce_algorithms.specs.Steps.{Goes};
 ghost use Rattle.ce_algorithms.specs.Text.{text};
 ghost use Rattle.ce_algorithms.specs.Written.{Did};
+ghost use Rattle.frame_stack.specs.Sessions.{ArePaired, session};
 
 use crate::command::reply_to_part;
 use ce_algorithms::Event;
 use ce_base::{Sink, Stop};
+use frame_stack::Stack;
 use rule_lines::ClassPart;
 use rule_tokens::Bad;
 use session_state::State;
@@ -22,21 +24,26 @@ use std::alloc::Global;
 pub(crate) fn write_part<K: Sink>(
     state: &mut State,
     alloc: Global,
+    stack: &mut Stack,
     line: u64,
     p: ClassPart,
     trace: bool,
     sink: &mut K,
 ) -> Result<(), Stop>
-    requires { is_built_part (part_of p) ≡ true }
-    ensures ran { OnOk result (Did trace (K.held sink.old) (K.held sink.new) (class_part line (part_of p) state.old) (Goes tt state.new)) }
+    requires built { is_built_part (part_of p) ≡ true }
+    requires rest { stack.old.frames ≡ [] }
+    requires paired { ArePaired stack.old state.old }
+    ensures ran { OnOk result (Did trace (K.held sink.old) (K.held sink.new) (class_part line (part_of p) (session stack.old state.old)) (Goes tt (session stack.new state.new))) }
     ensures empty { OnOk result (state.new.log ≡ []) }
-    ensures part { OnErr result (AppendsPart (K.held sink.old) (K.held sink.new) (text trace (log_of (class_part line (part_of p) state.old)))) }
+    ensures rest { OnOk result (stack.new.frames ≡ []) }
+    ensures paired { OnOk result (ArePaired stack.new state.new) }
+    ensures part { OnErr result (AppendsPart (K.held sink.old) (K.held sink.new) (text trace (log_of (class_part line (part_of p) (session stack.old state.old))))) }
     ensures later { K.failed sink.old ≤ K.failed sink.new }
     ensures cause { IsErrOf result Stop.WriteFault → Rose (K.failed sink.old) (K.failed sink.new) }
     ensures home { K.home sink.new ≡ K.home sink.old }
     ensures below { K.below sink.old ≤ K.below sink.new }
 {
-    reply_to_part(state, alloc, line, p)?;
+    reply_to_part(state, alloc, stack, line, p)?;
     state.flush(alloc, trace, sink)?;
     Ok(())
 }
@@ -45,14 +52,16 @@ pub(crate) fn write_part<K: Sink>(
 pub(crate) fn write_refused<K: Sink>(
     state: &mut State,
     alloc: Global,
+    stack: &Stack,
     line: u64,
     bad: Bad,
     trace: bool,
     sink: &mut K,
 ) -> Result<(), Stop>
-    ensures ran { OnOk result (Did trace (K.held sink.old) (K.held sink.new) (run_line model line (Err bad) state.old) (Goes tt state.new)) }
+    ensures ran { OnOk result (Did trace (K.held sink.old) (K.held sink.new) (run_line model line (Err bad) (session stack.now state.old)) (Goes tt (session stack.now state.new))) }
     ensures empty { OnOk result (state.new.log ≡ []) }
-    ensures part { OnErr result (AppendsPart (K.held sink.old) (K.held sink.new) (text trace (log_of (run_line model line (Err bad) state.old)))) }
+    ensures classes { OnOk result (state.new.classes ≡ state.old.classes) }
+    ensures part { OnErr result (AppendsPart (K.held sink.old) (K.held sink.new) (text trace (log_of (run_line model line (Err bad) (session stack.now state.old))))) }
     ensures later { K.failed sink.old ≤ K.failed sink.new }
     ensures cause { IsErrOf result Stop.WriteFault → Rose (K.failed sink.old) (K.failed sink.new) }
     ensures home { K.home sink.new ≡ K.home sink.old }

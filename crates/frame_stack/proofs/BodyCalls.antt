@@ -13,7 +13,7 @@ use Rattle.frame_stack.specs.Chains.{linked, topmost, unlinked}
 use Rattle.frame_stack.specs.Frames.{class_in, first_place, is_body}
 use Rattle.frame_stack.specs.Moves.{frames_filled, frames_left, holding_at, homes_filled, homes_left, taken}
 use Rattle.frame_stack.specs.Order.{AreInOrder}
-use Rattle.frame_stack.specs.Resumes.{FrameResumes, IsBuiltStop, IsDoing, IsSameBody, Resumes}
+use Rattle.frame_stack.specs.Resumes.{FrameResumes, IsBuiltStop, Proceeds, IsSameBody, Resumes}
 use Rattle.frame_stack.specs.Stacked.{Stacked, actions_at, behaviours_of, below_top, frames_of}
 use Rattle.frame_stack.proofs.BeginLaws.{begin_behaviours, begin_frames, begin_order, below_there, unknown_behaviours, unknown_frames, unknown_order}
 use Rattle.frame_stack.proofs.EndLaws.{end_behaviours, end_frames, end_order, gone_behaviours, gone_frames, gone_order, has_home, room_below}
@@ -91,8 +91,8 @@ module _ (homes : Homes) (chains : List (List ℕ)) (frames : List Held) (i : �
   pub has_built : (r : Result Next NoMemory) → IfOk r (FrameResumes f g before after) → IfOk r (λ (next : Next). IsBuiltStop (stop_of next))
   has_built r h = IfOk-weaker r (FrameResumes f g before after) (λ (next : Next). IsBuiltStop (stop_of next)) (λ next e. resume_built homes chains top.front f g before after next front_order e) h
 
-  pub has_spent : (r : Result Next NoMemory) → IfOk r (FrameResumes f g before after) → IfOk r (λ (next : Next). IsDoing (stop_of next) → after < before)
-  has_spent r h = IfOk-weaker r (FrameResumes f g before after) (λ (next : Next). IsDoing (stop_of next) → after < before)
+  pub has_spent : (r : Result Next NoMemory) → IfOk r (FrameResumes f g before after) → IfOk r (λ (next : Next). Proceeds (stop_of next) → after < before)
+  has_spent r h = IfOk-weaker r (FrameResumes f g before after) (λ (next : Next). Proceeds (stop_of next) → after < before)
       (λ next e does. resumes_spends now (stacked homes (slice_set frames i g)) before after next (resumes next e) does) h
 
 -- a body ends

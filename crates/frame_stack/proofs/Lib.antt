@@ -6,7 +6,7 @@ pub mod SpendLaws
 pub mod PushLaws
 pub mod Tops
 pub mod BeginLaws
-pub mod ResumeLaws
 pub mod EndLaws
+pub mod ResumeLaws
 pub mod ClassLaws
 pub mod BodyCalls

@@ -12,6 +12,7 @@ use Rattle.ce_algorithms.specs.State.{Memory}
 use Rattle.ce_frames.specs.Frames.{Frame}
 use Rattle.ce_frames.specs.Places.{Behaviour, Held, Homes, Place, Stands, Wait, Body, seen}
 use Rattle.ce_frames.proofs.Moves.{changed, top_has, unknown_stays}
+use Rattle.ce_frames.proofs.Wholes.{bodies_stay}
 use Rattle.behaviours.specs.declared.next.Next.{Next}
 use Rattle.behaviours.specs.Next.{stop_of}
 use Rattle.behaviours.specs.Resume.{Resumed, resumed}
@@ -22,14 +23,9 @@ use Rattle.frame_stack.specs.Stacked.{Stacked, Running, behaviour_at, behaviours
 use Rattle.frame_stack.proofs.BuiltLaws.{behaviour_built, body_built, set_built}
 use Rattle.frame_stack.proofs.ChainLaws.{chained_as, top_indices}
 use Rattle.frame_stack.proofs.PushLaws.{frames_are}
-use Rattle.frame_stack.proofs.Settled.{behaviours_are, in_order}
+use Rattle.frame_stack.proofs.EndLaws.{has_home}
+use Rattle.frame_stack.proofs.Settled.{behaviours_are, in_order, placed_length}
 use Rattle.frame_stack.proofs.TopLaws.{below_push, top_push}
-
--- what a class remembers changes nothing of its bodies
-bodies_set : (bs : List Behaviour) (k : ℕ) (b : Behaviour) (m : Memory) → slice_get bs k ≡ Some b → bodies_in (slice_set bs k (record b { memory = m })) ≡ bodies_in bs
-bodies_set [] k b m at = refl
-bodies_set (x ∷ bs) zero b m at = let is : b ≡ x = cc in ap (λ (y : Behaviour). y.bodies ∷ bodies_in bs) is
-bodies_set (x ∷ bs) (suc k) b m at = ap (λ l. x.bodies ∷ l) (bodies_set bs k b m at)
 
 bodies_at : (bs : List Behaviour) (k : ℕ) (b : Behaviour) → slice_get bs k ≡ Some b → or_empty (slice_get (bodies_in bs) k) ≡ b.bodies
 bodies_at [] k b at = absurd (let e : None ≡ Some b = at in cc)
@@ -110,7 +106,7 @@ module _ (homes : Homes) (chains : List (List ℕ)) (frames : List Held) (k : �
     new_frames : frames_of now ≡ below_top (frames_of old) ++ in_body (record running { guarded = is_guarded (stop_of next); actions = (resumed running.args running.actions (behaviour_at k (behaviours_of old)).memory before).left }) ∷ []
     new_frames =
         frames_are homes (frames ++ new ∷ []) (next_bs q r.memory) new_stands
-        ∙ ap (λ (l : List (List (CallName × Act))). map (seen l) (frames ++ new ∷ [])) (bodies_set bs k b r.memory has)
+        ∙ ap (λ (l : List (List (CallName × Act))). map (seen l) (frames ++ new ∷ [])) (bodies_stay bs k b r.memory has)
         ∙ map-append (seen (bodies_in bs)) frames (new ∷ [])
         ∙ ap (λ (f : Held). map (seen (bodies_in bs)) frames ++ seen (bodies_in bs) f ∷ []) r.frame
         ∙ ap (λ (l : List (CallName × Act)). map (seen (bodies_in bs)) frames ++ in_body (record running { guarded = is_guarded (stop_of next); actions = drop r.index (actions_of p.call l) }) ∷ []) (bodies_at bs k b has)
@@ -118,10 +114,18 @@ module _ (homes : Homes) (chains : List (List ℕ)) (frames : List Held) (k : �
         ∙ ap (λ (l : List Frame). l ++ in_body (record running { guarded = is_guarded (stop_of next); actions = (resumed running.args running.actions (behaviour_at k (behaviours_of old)).memory before).left }) ∷ [])
         (sym (ap below_top old_frames ∙ below_push (map (seen (bodies_in bs)) frames) (in_body running)))
 
+    within_all : length (behaviours_of old) ≤ k → ⊥
+    within_all past =
+        let within = has_home homes chains frames k p b o in
+        let same = ap length (behaviours_are homes (frames ++ Body k p (Some b) ∷ []) bs o.placed) in
+        let many = placed_length 0 (frames ++ Body k p (Some b) ∷ []) homes in
+        omega (arith, past, within, same, many)
+
     own_resumes : Resumes old now before after next
     own_resumes = record {
       body = running;
       top = ap top_of old_frames ∙ top_push (map (seen (bodies_in bs)) frames) (in_body running);
+      idle = λ past. let h = within_all past in absurd h;
       stop = ap (λ (x : Resumed). x.stop) (r.ran ∙ sym same_came);
       fuel = ap (λ (x : Resumed). x.fuel) (r.ran ∙ sym same_came);
       frames = new_frames;
@@ -199,6 +203,7 @@ module _ (homes : Homes) (chains : List (List ℕ)) (frames : List Held) (k : �
     gone_resumes = record {
       body = idle;
       top = ap top_of idle_frames ∙ top_push (map (seen (bodies_in cs)) frames) (in_body idle);
+      idle = λ past. no_actions;
       stop = sym (ap (λ (x : Resumed). x.stop) come);
       fuel = sym (ap (λ (x : Resumed). x.fuel) come);
       frames = gone_frames;

@@ -8,7 +8,7 @@ use Rattle.ce_algorithms.specs.Values.{Args, text_of}
 use Rattle.behaviours.specs.Resume.{Stop, acted, spending, goes_on, stop_or, resumed}
 use Rattle.behaviours.specs.declared.next.Next.{Next}
 use Rattle.behaviours.specs.Next.{stop_of}
-use Rattle.frame_stack.specs.Resumes.{IsDoing, Resumes, resumed_of}
+use Rattle.frame_stack.specs.Resumes.{Proceeds, Resumes, resumed_of}
 use Rattle.frame_stack.specs.Stacked.{Stacked, behaviours_of}
 
 same : (n : ℕ) → n ≤ n
@@ -31,17 +31,17 @@ acted_falls args guarded (If equal l r a) memory fuel = go (holds equal (text_of
     go true (suc n) on = let h = on n in omega (arith, h)
     go false fuel on = same fuel
 
-spends : (args : Args) (actions : List Act) (memory : Memory) (fuel : ℕ) → IsDoing (resumed args actions memory fuel).stop → (resumed args actions memory fuel).fuel < fuel
-spends args [] memory fuel h = absurd h
+spends : (args : Args) (actions : List Act) (memory : Memory) (fuel : ℕ) → Proceeds (resumed args actions memory fuel).stop → (resumed args actions memory fuel).fuel < fuel
+spends args [] memory fuel h = absurd (let e : false ≡ true = h in cc)
 spends args (a ∷ actions) memory zero h = absurd h
 spends args (a ∷ actions) memory (suc n) h =
     go (acted args false a memory n).stop (acted args false a memory n).memory (acted args false a memory n).fuel (acted_falls args false a memory n) (spends args actions) h
   where
-    go : (o : Option Stop) (m : Memory) (f : ℕ) → f ≤ n → ((m : Memory) (f : ℕ) → IsDoing (resumed args actions m f).stop → (resumed args actions m f).fuel < f)
-        → IsDoing (stop_or o m f actions (resumed args actions)).stop → (stop_or o m f actions (resumed args actions)).fuel < suc n
+    go : (o : Option Stop) (m : Memory) (f : ℕ) → f ≤ n → ((m : Memory) (f : ℕ) → Proceeds (resumed args actions m f).stop → (resumed args actions m f).fuel < f)
+        → Proceeds (stop_or o m f actions (resumed args actions)).stop → (stop_or o m f actions (resumed args actions)).fuel < suc n
     go None m f le rest h = let r = rest m f h in omega (arith, le, r)
     go (Some stop) m f le rest h = omega (arith, le)
 
-pub resumes_spends : (old new : Stacked) (before after : ℕ) (next : Next) → Resumes old new before after next → IsDoing (stop_of next) → after < before
+pub resumes_spends : (old new : Stacked) (before after : ℕ) (next : Next) → Resumes old new before after next → Proceeds (stop_of next) → after < before
 resumes_spends old new before after next r h =
-    subst (λ n. n < before) (sym r.fuel) (spends r.body.args r.body.actions _ before (subst IsDoing r.stop h))
+    subst (λ n. n < before) (sym r.fuel) (spends r.body.args r.body.actions _ before (subst Proceeds r.stop h))

@@ -1,5 +1,5 @@
 -- A body goes on, in its frame.
-use Rattle.std.specs.Prelude.{◌≡◌, ◌<◌, ℕ, Bool, true, false, List, [], ◌∷◌, ◌++◌, drop, Option, Some, None, slice_set}
+use Rattle.std.specs.Prelude.{◌≡◌, ◌<◌, ◌≤◌, ℕ, Bool, true, false, List, [], ◌∷◌, ◌++◌, drop, length, Option, Some, None, slice_set}
 use Rattle.rule_lines.specs.declared.op.Op.{Op}
 use Rattle.rule_lines.specs.Acts.{Act, Both, Log, act_of}
 use Rattle.rule_script.specs.Built.{is_built_op}
@@ -19,10 +19,12 @@ is_guarded (Returning value guarded) = guarded
 is_guarded (Throwing fault guarded) = guarded
 is_guarded OutOfFuel = false
 
--- an action is next
-abbrev pub IsDoing : Stop → Type 0
-IsDoing (Doing action guarded) = Unit {0}
-IsDoing stop = ⊥
+-- the body may go on behind it: an action is next, or its `try` catches what is thrown
+abbrev pub Proceeds : Stop → Type 0
+Proceeds (Doing action guarded) = Unit {0}
+Proceeds (Returning value guarded) = guarded ≡ true
+Proceeds (Throwing fault guarded) = guarded ≡ true
+Proceeds OutOfFuel = ⊥
 
 -- where it stops, the operation that is next is built
 abbrev pub IsBuiltStop : Stop → Type 0
@@ -63,6 +65,7 @@ resumed_of r bs fuel = resumed r.args r.actions (behaviour_at r.class bs).memory
 pub record Resumes (old new : Stacked) (before after : ℕ) (next : Next) : Type 0 where
   pub body : Running
   pub top : top_of (frames_of old) ≡ Some (in_body body)
+  pub idle : length (behaviours_of old) ≤ body.class → body.actions ≡ []  -- a class that is not there does nothing
   pub stop : stop_of next ≡ (resumed_of body (behaviours_of old) before).stop
   pub fuel : after ≡ (resumed_of body (behaviours_of old) before).fuel
   pub frames : frames_of new ≡ below_top (frames_of old) ++ in_body (record body { guarded = is_guarded (stop_of next); actions = (resumed_of body (behaviours_of old) before).left }) ∷ []

@@ -2,7 +2,7 @@
 ghost use Rattle.std.specs.Prelude.{◌≡◌, ◌≤◌, ◌<◌, ◌++◌, ◌∷◌, [], false, IfOk, OnOk};
 ghost use Rattle.ce_frames.specs.Frames.{InBody};
 ghost use Rattle.behaviours.specs.Next.{stop_of};
-ghost use Rattle.frame_stack.specs.Resumes.{IsBuiltStop, IsDoing, Resumes};
+ghost use Rattle.frame_stack.specs.Resumes.{IsBuiltStop, Proceeds, Resumes};
 ghost use Rattle.frame_stack.specs.Stacked.{HasBody, actions_at, behaviours_of, below_top, frames_of, guarded_of, this_of, top_of};
 
 use crate::Stack;
@@ -70,7 +70,7 @@ impl Stack {
         requires { HasBody (frames_of self.old) }
         ensures resumed { IfOk result (λ next. Resumes self.old self.new fuel.old fuel.new next) }
         ensures built { IfOk result (λ next. IsBuiltStop (stop_of next)) }
-        ensures spent { IfOk result (λ next. IsDoing (stop_of next) → fuel.new < fuel.old) }
+        ensures spent { IfOk result (λ next. Proceeds (stop_of next) → fuel.new < fuel.old) }
         ensures less { fuel.new ≤ fuel.old }
     {
         let last = self.frames.len() - 1;

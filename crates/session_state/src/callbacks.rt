@@ -7,7 +7,7 @@ ghost use Rattle.ce_algorithms.specs.Page.{definition_of};
 ghost use Rattle.ce_algorithms.specs.State.{log};
 ghost use Rattle.ce_algorithms.specs.Steps.{Goes};
 ghost use Rattle.ce_page.specs.Callbacks.{is_callback};
-ghost use Rattle.frame_stack.specs.Resumes.{IsBuiltStop, IsDoing, Resumes};
+ghost use Rattle.frame_stack.specs.Resumes.{IsBuiltStop, Proceeds, Resumes};
 ghost use Rattle.frame_stack.specs.Stacked.{HasBody, frames_of};
 ghost use Rattle.session_state.specs.Steps.{callee};
 
@@ -49,8 +49,8 @@ impl State {
         ensures resumed { IfOk result (λ next. Resumes stack.old stack.new self.old.fuel self.new.fuel next) }
         ensures built { IfOk result (λ next. IsBuiltStop (stop_of next)) }
         ensures rest { self.new ≡ record self.old { fuel = self.new.fuel } }
-        ensures spent { IfOk result (λ next. IsDoing (stop_of next) → self.new.fuel < self.old.fuel) }
-        ensures room { IfOk result (λ next. IsDoing (stop_of next) → self.new.page.queues.pushed + self.new.fuel + 1 < 2 ^ 64) }
+        ensures spent { IfOk result (λ next. Proceeds (stop_of next) → self.new.fuel < self.old.fuel) }
+        ensures room { IfOk result (λ next. Proceeds (stop_of next) → self.new.page.queues.pushed + self.new.fuel + 1 < 2 ^ 64) }
     {
         stack.resume(alloc, &mut self.fuel)
     }

@@ -4,7 +4,7 @@ use Rattle.ce_algorithms.specs.Model.{model}
 use Rattle.ce_algorithms.specs.Perform.{gives_node}
 use Rattle.ce_frames.specs.Turned.{ended}
 use Rattle.ce_operations.proofs.GivenLaws.{node_ends}
-use Rattle.ce_machine.proofs.OperateLaws.{construct_is, node_there}
+use Rattle.ce_machine.proofs.OperateLaws.{construct_at, construct_is, node_there}
 use Rattle.ce_machine.proofs.creations.construct.Goals as goal
 
 pub returns-clause-turn : goal.returns-clause-turn
@@ -15,3 +15,6 @@ returns-clause-turn c =
 
 pub returns-clause-there : goal.returns-clause-there
 returns-clause-there c = c.in_ok-now.ensures.there c.construct.new.self.page.forest (rw c.gives_node-made.ensures (node_there c.construct.result c.construct.new.self.page.forest c.construct.ensures.made))
+
+pub returns-clause-blind : goal.returns-clause-blind
+returns-clause-blind c = construct_at c.args.class c.args.state.now c.construct.ensures.plain

@@ -4,7 +4,7 @@ use Rattle.ce_algorithms.specs.declared.event.Given.{Given}
 use Rattle.ce_frames.specs.Frames as waiting
 use Rattle.ce_frames.specs.Turned.{Turned, ended}
 use Rattle.ce_frames.specs.Turns.{turn_went}
-use Rattle.ce_machine.specs.Frames.{came_in}
+use Rattle.ce_machine.specs.Turns.{came_in}
 use Rattle.ce_machine.proofs.OperateLaws.{misfit_is}
 use Rattle.ce_machine.proofs.creations.fit_turn.Goals as goal
 

@@ -1,27 +1,30 @@
 use Rattle.std.proofs.Common.{sym, ◌∙◌, arith}
-use Rattle.std.proofs.lemmas.Bool.{eqb-true}
 use Rattle.std.proofs.lemmas.Result.{err_from_is_err_and}
 use Rattle.ce_algorithms.proofs.Writing.{did_front}
-use Rattle.ce_machine.specs.Frames.{came_in}
-use Rattle.ce_machine.proofs.LoopLaws.{flushed, flushed_part, turned_did, empty_items, ended_did, left_forgotten, less_of}
+use Rattle.frame_stack.specs.Sessions.{session}
+use Rattle.frame_stack.specs.Stacked.{frames_of}
+use Rattle.frame_stack.proofs.PushLaws.{no_frames as none_kept}
+use Rattle.ce_machine.specs.Turns.{came_in}
+use Rattle.ce_machine.proofs.LoopLaws.{flushed, flushed_part, turned_did, no_frames, ended_did, left_forgotten, less_of}
 use Rattle.ce_machine.proofs.looping.run.Goals as goal
 
 pub returns-in_err-flush-clause-part : goal.returns-in_err-flush-clause-part
 returns-in_err-flush-clause-part g c =
     let p = err_from_is_err_and c.from_residual.result c.from_residual.ensures.1 in
-    rw p.1 (flushed_part (g.K.Sink.held c.flush.new.sink) c.loop-state.frames.items c.loop-state.now c.loop-state.state c.loop-state.invariant.did c.in_err-flush.ensures.part)
+    rw p.1 (flushed_part (g.K.Sink.held c.flush.new.sink) c.loop-state.stack c.loop-state.now c.loop-state.state c.loop-state.invariant.did c.in_err-flush.ensures.part)
 
 pub returns-in_err-now-clause-part : goal.returns-in_err-now-clause-part
 returns-in_err-now-clause-part g c =
     let p = err_from_is_err_and c.from_residual-in_err-now.result c.from_residual-in_err-now.ensures.1 in
-    rw p.1 (did_front (flushed c.loop-state.frames.items c.loop-state.now c.loop-state.state c.flush.new.self c.loop-state.invariant.did c.in_ok-flush.ensures.written c.in_ok-flush.ensures.state))
+    rw p.1 (did_front (flushed c.loop-state.stack c.loop-state.now c.loop-state.state c.flush.new.self c.loop-state.invariant.did c.in_ok-flush.ensures.written c.in_ok-flush.ensures.state))
 
 pub loop-state-smaller : goal.loop-state-smaller
-loop-state-smaller g c = less_of _ _ _ c.in_ok-now.ensures.work (left_forgotten c.loop-state.frames.items c.loop-state.state c.flush.new.self c.in_ok-flush.ensures.state)
+loop-state-smaller g c = less_of _ _ _ c.in_ok-now.ensures.work (left_forgotten c.loop-state.stack c.loop-state.state c.flush.new.self c.in_ok-flush.ensures.state)
 
 pub loop-state-preserved : goal.loop-state-preserved
 loop-state-preserved g c = record {
-  did = turned_did (flushed c.loop-state.frames.items c.loop-state.now c.loop-state.state c.flush.new.self c.loop-state.invariant.did c.in_ok-flush.ensures.written c.in_ok-flush.ensures.state) c.in_ok-now.ensures.rest;
+  did = turned_did (flushed c.loop-state.stack c.loop-state.now c.loop-state.state c.flush.new.self c.loop-state.invariant.did c.in_ok-flush.ensures.written c.in_ok-flush.ensures.state) c.in_ok-now.ensures.rest;
+  paired = c.in_ok-now.ensures.paired;
   placed = c.in_ok-now.ensures.placed;
   later = omega arith;
   home = c.in_ok-flush.ensures.home ∙ c.loop-state.invariant.home;
@@ -31,11 +34,12 @@ loop-state-preserved g c = record {
 pub returns-in_err-flush-2-clause-part : goal.returns-in_err-flush-2-clause-part
 returns-in_err-flush-2-clause-part g c =
     let p = err_from_is_err_and c.from_residual-in_err-flush-2.result c.from_residual-in_err-flush-2.ensures.1 in
-    rw p.1 (flushed_part (g.K.Sink.held c.flush-2.new.sink) c.loop-state.frames.items c.loop-state.now c.loop-state.state c.loop-state.invariant.did c.in_err-flush-2.ensures.part)
+    rw p.1 (flushed_part (g.K.Sink.held c.flush-2.new.sink) c.loop-state.stack c.loop-state.now c.loop-state.state c.loop-state.invariant.did c.in_err-flush-2.ensures.part)
 
 pub returns-clause-ran : goal.returns-clause-ran
 returns-clause-ran g c =
-    let z = eqb-true c.loop-state.frames.len 0 (sym c.is_empty.ensures ∙ c.loop-state-test.false) in
-    let fits = c.loop-state.frames.ok in
-    ended_did c.loop-state.frames.items (came_in c.loop-state.now c.flush-2.new.self) (empty_items c.loop-state.frames.items (omega (arith, z, fits)))
-    (flushed c.loop-state.frames.items c.loop-state.now c.loop-state.state c.flush-2.new.self c.loop-state.invariant.did c.in_ok-flush-2.ensures.written c.in_ok-flush-2.ensures.state)
+    ended_did c.loop-state.stack (came_in c.loop-state.now (session c.loop-state.stack c.flush-2.new.self)) (no_frames (frames_of c.loop-state.stack) (sym c.is_empty.ensures.empty ∙ c.loop-state-test.false))
+    (flushed c.loop-state.stack c.loop-state.now c.loop-state.state c.flush-2.new.self c.loop-state.invariant.did c.in_ok-flush-2.ensures.written c.in_ok-flush-2.ensures.state)
+
+pub returns-clause-rest : goal.returns-clause-rest
+returns-clause-rest g c = none_kept c.loop-state.stack (no_frames (frames_of c.loop-state.stack) (sym c.is_empty.ensures.empty ∙ c.loop-state-test.false))

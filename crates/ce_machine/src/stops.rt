@@ -1,0 +1,211 @@
+// Where a body stops, and what it does there.
+ghost use Rattle.std.specs.Prelude.{◌≡◌, ◌+◌, ◌<◌, ◌^◌, false, map, true, IfNone, IfOk, IfSome, OnOk};
+ghost use Rattle.node_trees.specs.Nodes.{IsNode};
+ghost use Rattle.rule_lines.specs.Acts.{Both, act_of};
+ghost use Rattle.rule_script.specs.Built.{is_built_op};
+ghost use Rattle.behaviours.specs.Resume.{Doing, OutOfFuel, Returning, Throwing};
+ghost use Rattle.ce_algorithms.specs.declared.event.Event.TheVariants.{Logged};
+ghost use Rattle.ce_algorithms.specs.State.{logged};
+ghost use Rattle.ce_algorithms.specs.Values.{fixed_text};
+ghost use Rattle.frame_stack.specs.Resumes.{IsBuiltStop};
+ghost use Rattle.frame_stack.specs.Sessions.{ArePaired, session};
+ghost use Rattle.frame_stack.specs.Stacked.{HasBody, below_top, frames_of, this_of, top_of};
+ghost use Rattle.ce_machine.specs.Bodies.{GoesOn, acting_turn, answer, frame_on_top, running_turn, stopped_turn};
+ghost use Rattle.ce_machine.specs.Placed.{StaysPlaced};
+ghost use Rattle.ce_machine.specs.Turns.{Turns};
+
+use crate::came::Came;
+use crate::operate::operate;
+use behaviours::Next;
+use ce_algorithms::{Event, Given};
+use ce_base::{Fault, NoMemory, NodeNo};
+use ce_operations::operands::{fixed_texts, node};
+use frame_stack::Stack;
+use rule_lines::{Action, Op, Vals};
+use rule_tokens::Operand;
+use session_state::State;
+use std::alloc::Global;
+
+/// The body on top runs up to its next stop. None where it goes on behind it.
+pub(crate) fn go_on(
+    state: &mut State,
+    alloc: Global,
+    stack: &mut Stack,
+) -> Result<Option<Came>, NoMemory>
+    requires body { HasBody (frames_of stack.old) }
+    requires paired { ArePaired stack.old state.old }
+    requires there { IfSome (this_of (top_of (frames_of stack.old))) (IsNode state.old.page.forest) }
+    ensures turn { IfOk result (λ o. IfSome o (λ now. Turns (below_top (frames_of stack.old)) (frames_of stack.new) now (session stack.new state.new) (running_turn (frame_on_top stack.old) (session stack.old state.old)))) }
+    ensures paired { OnOk result (ArePaired stack.new state.new) }
+    ensures placed { IfOk result (λ o. IfSome o (λ now. StaysPlaced state.old.page.forest (running_turn (frame_on_top stack.old) (session stack.old state.old)))) }
+    ensures on { IfOk result (λ o. IfNone o (GoesOn stack.old stack.new state.old state.new (running_turn))) }
+    ensures spent { IfOk result (λ o. IfNone o (state.new.fuel < state.old.fuel)) }
+{
+    match state.resume(alloc, stack)? {
+        Next::FuelSpent => {
+            let now = spent(state, stack)?;
+            Ok(Some(now))
+        }
+        Next::Throw { fault, guarded } => {
+            let o = thrown(state, stack, fault, guarded)?;
+            Ok(o)
+        }
+        Next::Return { value, guarded } => {
+            let o = returned(state, stack, &value, guarded)?;
+            Ok(o)
+        }
+        Next::Do { action, guarded: _ } => {
+            let o = act(state, alloc, stack, action)?;
+            Ok(o)
+        }
+    }
+}
+
+// No unit of fuel is left: the session has ended.
+fn spent(state: &mut State, stack: &mut Stack) -> Result<Came, NoMemory>
+    requires body { HasBody (frames_of stack.old) }
+    requires paired { ArePaired stack.old state.old }
+    ensures turn { IfOk result (λ now. Turns (below_top (frames_of stack.old)) (frames_of stack.new) now (session stack.new state.new) (stopped_turn OutOfFuel (frame_on_top stack.old) (session stack.old state.old))) }
+    ensures paired { OnOk result (ArePaired stack.new state.new) }
+    ensures placed { OnOk result (StaysPlaced state.old.page.forest (stopped_turn OutOfFuel (frame_on_top stack.old) (session stack.old state.old))) }
+{
+    state.log(Event::FuelLine)?;
+    stack.end();
+    Ok(Came::Over)
+}
+
+// An action has thrown.
+fn thrown(
+    state: &mut State,
+    stack: &mut Stack,
+    fault: Fault,
+    guarded: bool,
+) -> Result<Option<Came>, NoMemory>
+    requires body { HasBody (frames_of stack.old) }
+    requires paired { ArePaired stack.old state.old }
+    ensures turn { IfOk result (λ o. IfSome o (λ now. Turns (below_top (frames_of stack.old)) (frames_of stack.new) now (session stack.new state.new) (stopped_turn (Throwing fault guarded) (frame_on_top stack.old) (session stack.old state.old)))) }
+    ensures paired { OnOk result (ArePaired stack.new state.new) }
+    ensures placed { IfOk result (λ o. IfSome o (λ now. StaysPlaced state.old.page.forest (stopped_turn (Throwing fault guarded) (frame_on_top stack.old) (session stack.old state.old)))) }
+    ensures on { IfOk result (λ o. IfNone o (GoesOn stack.old stack.new state.old state.new (stopped_turn (Throwing fault guarded)))) }
+    ensures guarded { IfOk result (λ o. IfNone o (guarded ≡ true)) }
+{
+    if guarded {
+        state.log(Event::Caught(fault))?;
+        return Ok(None);
+    }
+    stack.end();
+    Ok(Some(Came::Threw(fault)))
+}
+
+// The body returns.
+fn returned(
+    state: &mut State,
+    stack: &mut Stack,
+    value: &Option<Operand>,
+    guarded: bool,
+) -> Result<Option<Came>, NoMemory>
+    requires body { HasBody (frames_of stack.old) }
+    requires paired { ArePaired stack.old state.old }
+    requires there { IfSome (this_of (top_of (frames_of stack.old))) (IsNode state.old.page.forest) }
+    ensures turn { IfOk result (λ o. IfSome o (λ now. Turns (below_top (frames_of stack.old)) (frames_of stack.new) now (session stack.new state.new) (stopped_turn (Returning value.now guarded) (frame_on_top stack.old) (session stack.old state.old)))) }
+    ensures paired { OnOk result (ArePaired stack.new state.new) }
+    ensures placed { IfOk result (λ o. IfSome o (λ now. StaysPlaced state.old.page.forest (stopped_turn (Returning value.now guarded) (frame_on_top stack.old) (session stack.old state.old)))) }
+    ensures on { IfOk result (λ o. IfNone o (GoesOn stack.old stack.new state.old state.new (stopped_turn (Returning value.now guarded)))) }
+    ensures guarded { IfOk result (λ o. IfNone o (guarded ≡ true)) }
+{
+    let this = stack.this();
+    match answer(state, &this, value) {
+        Ok(given) => {
+            stack.end();
+            Ok(Some(Came::Went(given)))
+        }
+        Err(f) => {
+            let o = thrown(state, stack, f, guarded)?;
+            Ok(o)
+        }
+    }
+}
+
+// What a body returns: the node that is named, or what `this` is.
+fn answer(
+    state: &State,
+    this: &Option<NodeNo>,
+    value: &Option<Operand>,
+) -> Result<Given, Fault>
+    requires { IfSome this.now (IsNode state.now.page.forest) }
+    ensures { result ≡ answer this.now state.now value.now }
+{
+    match value {
+        None => match this {
+            None => Ok(Given::Nothing),
+            Some(n) => Ok(Given::Node(*n)),
+        },
+        Some(operand) => {
+            let n = node(state, this, operand)?;
+            Ok(Given::Node(n))
+        }
+    }
+}
+
+// The body does an action whose texts are fixed.
+fn act(
+    state: &mut State,
+    alloc: Global,
+    stack: &mut Stack,
+    action: Action,
+) -> Result<Option<Came>, NoMemory>
+    requires built { IsBuiltStop (Doing (act_of action) false) }
+    requires room { state.old.page.queues.pushed + state.old.fuel + 1 < 2 ^ 64 }
+    requires body { HasBody (frames_of stack.old) }
+    requires paired { ArePaired stack.old state.old }
+    requires there { IfSome (this_of (top_of (frames_of stack.old))) (IsNode state.old.page.forest) }
+    ensures turn { IfOk result (λ o. IfSome o (λ now. Turns (below_top (frames_of stack.old)) (frames_of stack.new) now (session stack.new state.new) (acting_turn (act_of action) (frame_on_top stack.old) (session stack.old state.old)))) }
+    ensures paired { OnOk result (ArePaired stack.new state.new) }
+    ensures placed { IfOk result (λ o. IfSome o (λ now. StaysPlaced state.old.page.forest (acting_turn (act_of action) (frame_on_top stack.old) (session stack.old state.old)))) }
+    ensures on { IfOk result (λ o. IfNone o (GoesOn stack.old stack.new state.old state.new (acting_turn (act_of action)))) }
+{
+    match action {
+        Action::Both(op) => {
+            let now = operation(state, alloc, stack, op)?;
+            Ok(Some(now))
+        }
+        Action::Log(vals) => {
+            let written = log_fixed(state, alloc, &vals);
+            drop(vals);
+            written?;
+            Ok(None)
+        }
+        _ => unreachable!(),
+    }
+}
+
+// An operation runs above the body.
+fn operation(
+    state: &mut State,
+    alloc: Global,
+    stack: &mut Stack,
+    op: Op,
+) -> Result<Came, NoMemory>
+    requires built { is_built_op op ≡ true }
+    requires room { state.old.page.queues.pushed + state.old.fuel + 1 < 2 ^ 64 }
+    requires body { HasBody (frames_of stack.old) }
+    requires paired { ArePaired stack.old state.old }
+    requires there { IfSome (this_of (top_of (frames_of stack.old))) (IsNode state.old.page.forest) }
+    ensures turn { IfOk result (λ now. Turns (below_top (frames_of stack.old)) (frames_of stack.new) now (session stack.new state.new) (acting_turn (Both op) (frame_on_top stack.old) (session stack.old state.old))) }
+    ensures paired { OnOk result (ArePaired stack.new state.new) }
+    ensures placed { OnOk result (StaysPlaced state.old.page.forest (acting_turn (Both op) (frame_on_top stack.old) (session stack.old state.old))) }
+{
+    let this = stack.this();
+    let now = operate(state, alloc, stack, &this, &op);
+    drop(op);
+    now
+}
+
+// Writes texts that were fixed.
+fn log_fixed(state: &mut State, alloc: Global, vals: &Vals) -> Result<(), NoMemory>
+    ensures logged { OnOk result (state.new ≡ logged (Logged (map fixed_text vals.now)) state.old) }
+{
+    let texts = fixed_texts(alloc, vals)?;
+    state.log(Event::Logged(texts))?;
+    Ok(())
+}
