@@ -4,6 +4,7 @@ mod steps;
 
 use ce_algorithms::Settings;
 use ce_base::{MemSink, Stop, write_all};
+use frame_stack::Stack;
 use session_state::State;
 use sessions::*;
 use std::alloc::Global;
@@ -22,6 +23,7 @@ fn answer(
     rt: &impl Abort,
     alloc: Global,
     state: &mut State,
+    stack: &mut Stack,
     row: &str,
     trace: bool,
     sink: &mut MemSink,
@@ -29,8 +31,8 @@ fn answer(
     write_all(sink, b"> ")?;
     copy(row, sink)?;
     let end = match row.strip_prefix("run ") {
-        Some(words) => run_line(alloc, state, words, trace, sink)?,
-        None => step(rt, alloc, state, row)?,
+        Some(words) => run_line(alloc, state, stack, words, trace, sink)?,
+        None => step(rt, alloc, state, stack, row)?,
     };
     state.flush(alloc, trace, sink)?;
     copy(end.as_str(), sink)?;
@@ -42,13 +44,14 @@ fn run(
     rt: &impl Abort,
     alloc: Global,
     state: &mut State,
+    stack: &mut Stack,
     session: &str,
     trace: bool,
 ) -> Result<MemSink, Fail> {
     let mut sink = MemSink::make(alloc, Vec::new(alloc));
     for row in session.lines() {
         if let Some(row) = row.strip_prefix("> ") {
-            answer(rt, alloc, state, row, trace, &mut sink)?;
+            answer(rt, alloc, state, stack, row, trace, &mut sink)?;
         } else if row.starts_with("# ") {
             copy(row, &mut sink)?;
         }
@@ -61,10 +64,11 @@ fn compare(
     rt: &impl Abort,
     alloc: Global,
     state: &mut State,
+    stack: &mut Stack,
     session: &str,
     trace: bool,
 ) -> Result<(), Fail> {
-    let sink = run(rt, alloc, state, session, trace)?;
+    let sink = run(rt, alloc, state, stack, session, trace)?;
     assert_eq!(rt; str::from_utf8(sink.bytes())?, session);
     Ok(())
 }
@@ -72,7 +76,8 @@ fn compare(
 // The same from a new state with so much fuel.
 fn begin(rt: &impl Abort, alloc: Global, fuel: u32, session: &str) -> Result<(), Fail> {
     let mut state = State::make(alloc, Settings { fuel })?;
-    compare(rt, alloc, &mut state, session, false)
+    let mut stack = Stack::make(alloc);
+    compare(rt, alloc, &mut state, &mut stack, session, false)
 }
 
 // The same where there are elements.
@@ -84,8 +89,9 @@ fn go_on(
     trace: bool,
 ) -> Result<(), Fail> {
     let mut state = State::make(alloc, Settings { fuel })?;
-    compare(rt, alloc, &mut state, ELEMENTS, trace)?;
-    compare(rt, alloc, &mut state, session, trace)
+    let mut stack = Stack::make(alloc);
+    compare(rt, alloc, &mut state, &mut stack, ELEMENTS, trace)?;
+    compare(rt, alloc, &mut state, &mut stack, session, trace)
 }
 
 #[test]
@@ -144,10 +150,18 @@ fn failing(alloc: Global, call: u64) -> Result<MemSink, Fail> {
 // What a command writes that drains the backup queue, where a write fails.
 fn cut_off(rt: &impl Abort, alloc: Global, call: u64) -> Result<MemSink, Fail> {
     let mut state = State::make(alloc, Settings { fuel: 20 })?;
-    compare(rt, alloc, &mut state, ELEMENTS, false)?;
-    compare(rt, alloc, &mut state, WAITS, false)?;
+    let mut stack = Stack::make(alloc);
+    compare(rt, alloc, &mut state, &mut stack, ELEMENTS, false)?;
+    compare(rt, alloc, &mut state, &mut stack, WAITS, false)?;
     let mut sink = failing(alloc, call)?;
-    let end = run_line(alloc, &mut state, "9 text $t x", false, &mut sink)?;
+    let end = run_line(
+        alloc,
+        &mut state,
+        &mut stack,
+        "9 text $t x",
+        false,
+        &mut sink,
+    )?;
     assert_eq!(rt; end.as_str(), "Err(WriteFault)");
     Ok(sink)
 }

@@ -7,6 +7,7 @@ ghost use Rattle.node_trees.specs.Nodes.{IsNode, IsNodeOrNone};
 use ce_algorithms::Event;
 use ce_base::{ClassNo, CustomState, MemSink, NodeNo, Text};
 use ce_machine::run_command;
+use frame_stack::Stack;
 use node_trees::NodeKind;
 use rule_script::{Line, read_line};
 use session_state::State;
@@ -161,10 +162,10 @@ fn make(rt: &impl Abort, alloc: Global, state: &mut State, row: &str) -> Result<
     }
 }
 
-fn part(alloc: Global, state: &mut State, row: &str) -> Result<String, Fail> {
+fn part(alloc: Global, state: &mut State, stack: &mut Stack, row: &str) -> Result<String, Fail> {
     match read_line(alloc, row.as_bytes()) {
         Ok(Line::Part(p)) => {
-            let end = state.part(alloc, p);
+            let end = state.part(alloc, stack, p);
             told(alloc, &end)
         }
         _ => Err("a part of a class".into()),
@@ -229,6 +230,7 @@ fn next(alloc: Global, state: &mut State, row: &str) -> Result<String, Fail> {
 pub(super) fn run_line(
     alloc: Global,
     state: &mut State,
+    stack: &mut Stack,
     row: &str,
     trace: bool,
     sink: &mut MemSink,
@@ -236,7 +238,7 @@ pub(super) fn run_line(
     let (line, command) = cut(row);
     match read_line(alloc, command.as_bytes()) {
         Ok(Line::Command(c)) => {
-            let end = run_command(state, alloc, number(line), &c, trace, sink);
+            let end = run_command(state, alloc, stack, number(line), &c, trace, sink);
             told(alloc, &end)
         }
         _ => Err("a command".into()),
@@ -248,12 +250,13 @@ pub(super) fn step(
     rt: &impl Abort,
     alloc: Global,
     state: &mut State,
+    stack: &mut Stack,
     row: &str,
 ) -> Result<String, Fail> {
     let (word, _) = cut(row);
     match word {
         "next" | "backup" => next(alloc, state, row),
-        "class" | "has" | "observe" | "on" => part(alloc, state, row),
+        "class" | "has" | "observe" | "on" => part(alloc, state, stack, row),
         "count" | "defined" | "named" | "get" => ask(alloc, state, row),
         "spend" | "log" | "let" | "define" => note(rt, alloc, state, row),
         "document" | "text" | "element" | "shadow" | "construct" => make(rt, alloc, state, row),
