@@ -2,6 +2,10 @@
 mod sessions;
 mod steps;
 
+ghost use Rattle.std.specs.Prelude.{◌≡◌, [], OnOk};
+ghost use Rattle.frame_stack.specs.Sessions.{ArePaired};
+ghost use Rattle.frame_stack.specs.Stacked.{frames_of};
+
 use ce_algorithms::Settings;
 use ce_base::{MemSink, Stop, write_all};
 use frame_stack::Stack;
@@ -10,7 +14,7 @@ use sessions::*;
 use std::alloc::Global;
 use std::process::Abort;
 use std::test::Fail;
-use steps::{run_line, step};
+use steps::{run_line, run_whole, step};
 
 // Copies a row of a session.
 fn copy(row: &str, sink: &mut MemSink) -> Result<(), Stop> {
@@ -27,11 +31,16 @@ fn answer(
     row: &str,
     trace: bool,
     sink: &mut MemSink,
-) -> Result<(), Fail> {
+) -> Result<(), Fail>
+    requires rest { frames_of stack.old ≡ [] }
+    requires paired { ArePaired stack.old state.old }
+    ensures rest { OnOk result (frames_of stack.new ≡ []) }
+    ensures paired { OnOk result (ArePaired stack.new state.new) }
+{
     write_all(sink, b"> ")?;
     copy(row, sink)?;
     let end = match row.strip_prefix("run ") {
-        Some(words) => run_line(alloc, state, stack, words, trace, sink)?,
+        Some(words) => run_whole(alloc, state, stack, words, trace, sink)?,
         None => step(rt, alloc, state, stack, row)?,
     };
     state.flush(alloc, trace, sink)?;
@@ -47,7 +56,12 @@ fn run(
     stack: &mut Stack,
     session: &str,
     trace: bool,
-) -> Result<MemSink, Fail> {
+) -> Result<MemSink, Fail>
+    requires rest { frames_of stack.old ≡ [] }
+    requires paired { ArePaired stack.old state.old }
+    ensures rest { OnOk result (frames_of stack.new ≡ []) }
+    ensures paired { OnOk result (ArePaired stack.new state.new) }
+{
     let mut sink = MemSink::make(alloc, Vec::new(alloc));
     for row in session.lines() {
         if let Some(row) = row.strip_prefix("> ") {
@@ -67,7 +81,12 @@ fn compare(
     stack: &mut Stack,
     session: &str,
     trace: bool,
-) -> Result<(), Fail> {
+) -> Result<(), Fail>
+    requires rest { frames_of stack.old ≡ [] }
+    requires paired { ArePaired stack.old state.old }
+    ensures rest { OnOk result (frames_of stack.new ≡ []) }
+    ensures paired { OnOk result (ArePaired stack.new state.new) }
+{
     let sink = run(rt, alloc, state, stack, session, trace)?;
     assert_eq!(rt; str::from_utf8(sink.bytes())?, session);
     Ok(())
@@ -132,7 +151,7 @@ fn the_checkpoint_drains_the_backup_queue(rt: HostRuntime) -> Result<(), Fail> {
 #[test]
 fn the_fuel_is_spent_in_a_body(rt: HostRuntime) -> Result<(), Fail> {
     go_on(&rt, rt.alloc(), 7, SPENT, true)?;
-    go_on(&rt, rt.alloc(), 7, SPENT_IN_CHECKPOINT, true)
+    go_on(&rt, rt.alloc(), 8, SPENT_IN_CHECKPOINT, true)
 }
 
 #[test]
@@ -162,7 +181,7 @@ fn cut_off(rt: &impl Abort, alloc: Global, call: u64) -> Result<MemSink, Fail> {
         false,
         &mut sink,
     )?;
-    assert_eq!(rt; end.as_str(), "Err(WriteFault)");
+    assert!(rt; matches!(end, Err(Stop::WriteFault)));
     Ok(sink)
 }
 
