@@ -218,9 +218,9 @@ fn take_part(
     p: ClassPart,
 ) -> Result<String, Fail>
     requires built { is_built_part (part_of p) ≡ true }
-    requires rest { frames_of stack.old ≡ [] }
+    requires rest { stack.old.frames ≡ [] }
     requires paired { ArePaired stack.old state.old }
-    ensures rest { OnOk result (frames_of stack.new ≡ []) }
+    ensures rest { OnOk result (stack.new.frames ≡ []) }
     ensures paired { OnOk result (ArePaired stack.new state.new) }
 {
     let end = state.part(alloc, stack, p);
