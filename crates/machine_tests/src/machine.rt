@@ -1,7 +1,9 @@
+mod nested;
 mod sessions;
 
 use ce_base::{MemSink, Sink, Stop, SureSink, write_all};
 use ce_machine::*;
+use nested::*;
 use rule_script::{Bad, Line, LineRefused, read_line};
 use sessions::*;
 use std::alloc::Global;
@@ -99,6 +101,41 @@ fn a_reacting_operation_drains_a_queue_of_its_own(rt: HostRuntime) -> Result<(),
     compare(&rt, rt.alloc(), true, QUEUES)
 }
 
+#[test]
+fn a_callback_runs_where_a_body_causes_it(rt: HostRuntime) -> Result<(), Fail> {
+    compare(&rt, rt.alloc(), true, NESTED)
+}
+
+#[test]
+fn a_body_has_its_own_arguments(rt: HostRuntime) -> Result<(), Fail> {
+    compare(&rt, rt.alloc(), false, REENTERED)
+}
+
+#[test]
+fn a_try_takes_the_fault_of_its_action(rt: HostRuntime) -> Result<(), Fail> {
+    compare(&rt, rt.alloc(), false, CAUGHT)
+}
+
+#[test]
+fn a_fault_ends_one_body(rt: HostRuntime) -> Result<(), Fail> {
+    compare(&rt, rt.alloc(), false, REPORTED)
+}
+
+#[test]
+fn a_fault_is_handed_down_to_the_body(rt: HostRuntime) -> Result<(), Fail> {
+    compare(&rt, rt.alloc(), true, HANDED_DOWN)
+}
+
+#[test]
+fn a_return_ends_one_body(rt: HostRuntime) -> Result<(), Fail> {
+    compare(&rt, rt.alloc(), false, RETURNED)
+}
+
+#[test]
+fn a_class_remembers_one_thing(rt: HostRuntime) -> Result<(), Fail> {
+    compare(&rt, rt.alloc(), false, REMEMBERED)
+}
+
 // Lines that spend nine units: the definition one, the creation two, the attribute three, the text two, the
 // variable one.
 const LINES: &str = "class A
@@ -110,12 +147,12 @@ setattr $e k v
 text $t x
 let $f $e";
 
-// Runs these lines until the fuel is spent: how the last one ends, and what it writes.
-fn last(alloc: Global, fuel: u32) -> Result<(End, SureSink), Stop> {
+// Runs lines until the fuel is spent: how the last one ends, and what it writes.
+fn last(alloc: Global, lines: &str, fuel: u32) -> Result<(End, SureSink), Stop> {
     let mut machine = Machine::make(alloc, fuel)?;
     let mut sink = SureSink::make(alloc);
     let mut number: u64 = 0;
-    for line in LINES.lines() {
+    for line in lines.lines() {
         number = number.saturating_add(1);
         sink = SureSink::make(alloc);
         let (next, end) = take(machine, alloc, number, line, true, &mut sink)?;
@@ -128,8 +165,8 @@ fn last(alloc: Global, fuel: u32) -> Result<(End, SureSink), Stop> {
 }
 
 // Copies how the last line ends with so much fuel, and what it writes.
-fn copy_last(alloc: Global, fuel: u32, sink: &mut SureSink) -> Result<(), Stop> {
-    let (end, written) = last(alloc, fuel)?;
+fn copy_last(alloc: Global, lines: &str, fuel: u32, sink: &mut SureSink) -> Result<(), Stop> {
+    let (end, written) = last(alloc, lines, fuel)?;
     let word = match end {
         End::Replied => "replied",
         End::FuelSpent => "spent",
@@ -139,12 +176,12 @@ fn copy_last(alloc: Global, fuel: u32, sink: &mut SureSink) -> Result<(), Stop> 
 }
 
 // Runs the lines with each fuel that the rows name.
-fn run_endings(alloc: Global, rows: &str) -> Result<SureSink, Fail> {
+fn run_endings(alloc: Global, lines: &str, rows: &str) -> Result<SureSink, Fail> {
     let mut sink = SureSink::make(alloc);
     for row in rows.lines() {
         if let Some(fuel) = row.strip_prefix("> ") {
             copy(row, &mut sink)?;
-            copy_last(alloc, fuel.parse::<u32>()?, &mut sink)?;
+            copy_last(alloc, lines, fuel.parse::<u32>()?, &mut sink)?;
         } else if row.starts_with("# ") {
             copy(row, &mut sink)?;
         }
@@ -152,11 +189,21 @@ fn run_endings(alloc: Global, rows: &str) -> Result<SureSink, Fail> {
     Ok(sink)
 }
 
+// Compares the rows with what the lines come to.
+fn compare_endings(rt: &impl Abort, alloc: Global, lines: &str, rows: &str) -> Result<(), Fail> {
+    let sink = run_endings(alloc, lines, rows)?;
+    assert_eq!(rt; str::from_utf8(sink.bytes())?, rows);
+    Ok(())
+}
+
 #[test]
 fn a_command_ends_where_the_fuel_is_spent(rt: HostRuntime) -> Result<(), Fail> {
-    let sink = run_endings(rt.alloc(), ENDINGS)?;
-    assert_eq!(rt; str::from_utf8(sink.bytes())?, ENDINGS);
-    Ok(())
+    compare_endings(&rt, rt.alloc(), LINES, ENDINGS)
+}
+
+#[test]
+fn a_callback_within_another_ends_the_session(rt: HostRuntime) -> Result<(), Fail> {
+    compare_endings(&rt, rt.alloc(), NESTED_LINES, NESTED_ENDINGS)
 }
 
 fn bad(word: &str) -> Bad {

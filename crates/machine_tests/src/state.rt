@@ -2,14 +2,19 @@
 mod sessions;
 mod steps;
 
+ghost use Rattle.std.specs.Prelude.{◌≡◌, [], OnOk};
+ghost use Rattle.frame_stack.specs.Sessions.{ArePaired};
+ghost use Rattle.frame_stack.specs.Stacked.{frames_of};
+
 use ce_algorithms::Settings;
 use ce_base::{MemSink, Stop, write_all};
+use frame_stack::Stack;
 use session_state::State;
 use sessions::*;
 use std::alloc::Global;
 use std::process::Abort;
 use std::test::Fail;
-use steps::{run_line, step};
+use steps::{run_line, run_whole, step};
 
 // Copies a row of a session.
 fn copy(row: &str, sink: &mut MemSink) -> Result<(), Stop> {
@@ -22,15 +27,21 @@ fn answer(
     rt: &impl Abort,
     alloc: Global,
     state: &mut State,
+    stack: &mut Stack,
     row: &str,
     trace: bool,
     sink: &mut MemSink,
-) -> Result<(), Fail> {
+) -> Result<(), Fail>
+    requires rest { frames_of stack.old ≡ [] }
+    requires paired { ArePaired stack.old state.old }
+    ensures rest { OnOk result (frames_of stack.new ≡ []) }
+    ensures paired { OnOk result (ArePaired stack.new state.new) }
+{
     write_all(sink, b"> ")?;
     copy(row, sink)?;
     let end = match row.strip_prefix("run ") {
-        Some(words) => run_line(alloc, state, words, trace, sink)?,
-        None => step(rt, alloc, state, row)?,
+        Some(words) => run_whole(alloc, state, stack, words, trace, sink)?,
+        None => step(rt, alloc, state, stack, row)?,
     };
     state.flush(alloc, trace, sink)?;
     copy(end.as_str(), sink)?;
@@ -42,13 +53,19 @@ fn run(
     rt: &impl Abort,
     alloc: Global,
     state: &mut State,
+    stack: &mut Stack,
     session: &str,
     trace: bool,
-) -> Result<MemSink, Fail> {
+) -> Result<MemSink, Fail>
+    requires rest { frames_of stack.old ≡ [] }
+    requires paired { ArePaired stack.old state.old }
+    ensures rest { OnOk result (frames_of stack.new ≡ []) }
+    ensures paired { OnOk result (ArePaired stack.new state.new) }
+{
     let mut sink = MemSink::make(alloc, Vec::new(alloc));
     for row in session.lines() {
         if let Some(row) = row.strip_prefix("> ") {
-            answer(rt, alloc, state, row, trace, &mut sink)?;
+            answer(rt, alloc, state, stack, row, trace, &mut sink)?;
         } else if row.starts_with("# ") {
             copy(row, &mut sink)?;
         }
@@ -61,10 +78,16 @@ fn compare(
     rt: &impl Abort,
     alloc: Global,
     state: &mut State,
+    stack: &mut Stack,
     session: &str,
     trace: bool,
-) -> Result<(), Fail> {
-    let sink = run(rt, alloc, state, session, trace)?;
+) -> Result<(), Fail>
+    requires rest { frames_of stack.old ≡ [] }
+    requires paired { ArePaired stack.old state.old }
+    ensures rest { OnOk result (frames_of stack.new ≡ []) }
+    ensures paired { OnOk result (ArePaired stack.new state.new) }
+{
+    let sink = run(rt, alloc, state, stack, session, trace)?;
     assert_eq!(rt; str::from_utf8(sink.bytes())?, session);
     Ok(())
 }
@@ -72,7 +95,8 @@ fn compare(
 // The same from a new state with so much fuel.
 fn begin(rt: &impl Abort, alloc: Global, fuel: u32, session: &str) -> Result<(), Fail> {
     let mut state = State::make(alloc, Settings { fuel })?;
-    compare(rt, alloc, &mut state, session, false)
+    let mut stack = Stack::make(alloc);
+    compare(rt, alloc, &mut state, &mut stack, session, false)
 }
 
 // The same where there are elements.
@@ -84,8 +108,9 @@ fn go_on(
     trace: bool,
 ) -> Result<(), Fail> {
     let mut state = State::make(alloc, Settings { fuel })?;
-    compare(rt, alloc, &mut state, ELEMENTS, trace)?;
-    compare(rt, alloc, &mut state, session, trace)
+    let mut stack = Stack::make(alloc);
+    compare(rt, alloc, &mut state, &mut stack, ELEMENTS, trace)?;
+    compare(rt, alloc, &mut state, &mut stack, session, trace)
 }
 
 #[test]
@@ -126,7 +151,7 @@ fn the_checkpoint_drains_the_backup_queue(rt: HostRuntime) -> Result<(), Fail> {
 #[test]
 fn the_fuel_is_spent_in_a_body(rt: HostRuntime) -> Result<(), Fail> {
     go_on(&rt, rt.alloc(), 7, SPENT, true)?;
-    go_on(&rt, rt.alloc(), 7, SPENT_IN_CHECKPOINT, true)
+    go_on(&rt, rt.alloc(), 8, SPENT_IN_CHECKPOINT, true)
 }
 
 #[test]
@@ -144,11 +169,19 @@ fn failing(alloc: Global, call: u64) -> Result<MemSink, Fail> {
 // What a command writes that drains the backup queue, where a write fails.
 fn cut_off(rt: &impl Abort, alloc: Global, call: u64) -> Result<MemSink, Fail> {
     let mut state = State::make(alloc, Settings { fuel: 20 })?;
-    compare(rt, alloc, &mut state, ELEMENTS, false)?;
-    compare(rt, alloc, &mut state, WAITS, false)?;
+    let mut stack = Stack::make(alloc);
+    compare(rt, alloc, &mut state, &mut stack, ELEMENTS, false)?;
+    compare(rt, alloc, &mut state, &mut stack, WAITS, false)?;
     let mut sink = failing(alloc, call)?;
-    let end = run_line(alloc, &mut state, "9 text $t x", false, &mut sink)?;
-    assert_eq!(rt; end.as_str(), "Err(WriteFault)");
+    let end = run_line(
+        alloc,
+        &mut state,
+        &mut stack,
+        "9 text $t x",
+        false,
+        &mut sink,
+    )?;
+    assert!(rt; matches!(end, Err(Stop::WriteFault)));
     Ok(sink)
 }
 

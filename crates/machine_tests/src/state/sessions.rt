@@ -304,9 +304,12 @@ fuel
 Ok(FuelSpent)
 "#;
 
-// The same in the checkpoint: the command has no reply.
+// The same in the checkpoint: the command has no reply, and the element that waits next is not reached.
 pub(super) const SPENT_IN_CHECKPOINT: &str = r#"> insert 2 3
 ~ enq 1 #3 connected 0
+Ok(())
+> insert 2 4
+~ enq 2 #4 connected 0
 Ok(())
 > run 7 text $t x
 ~ drain 0

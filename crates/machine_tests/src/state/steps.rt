@@ -1,13 +1,20 @@
 // The steps of a session: rows of words, nodes and classes by their numbers; and commands, by their lines.
-ghost use Rattle.std.specs.Prelude.{◌≡◌};
+ghost use Rattle.std.specs.Prelude.{◌≡◌, true, [], length, IfOk, IsErrOf, OnOk};
 ghost use Rattle.node_trees.specs.declared.kind.NodeKind.TheVariants.{Element as ElementKind};
 ghost use Rattle.node_trees.specs.Spots.{kind_at};
 ghost use Rattle.node_trees.specs.Nodes.{IsNode, IsNodeOrNone};
+ghost use Rattle.rule_lines.specs.Acts.{part_of};
+ghost use Rattle.rule_script.specs.Built.{is_built_part};
+ghost use Rattle.frame_stack.specs.Sessions.{ArePaired};
+ghost use Rattle.frame_stack.specs.Stacked.{frames_of};
 
 use ce_algorithms::Event;
-use ce_base::{ClassNo, CustomState, MemSink, NodeNo, Text};
-use ce_machine::run_command;
+use ce_base::{ClassNo, CustomState, MemSink, NoMemory, NodeNo, Refused, Stop, Text};
+use ce_machine::{End, run_command};
+use ce_page::PageStop;
+use frame_stack::Stack;
 use node_trees::NodeKind;
+use rule_lines::ClassPart;
 use rule_script::{Line, read_line};
 use session_state::State;
 use std::alloc::Global;
@@ -20,6 +27,16 @@ fn told<T: Debug>(alloc: Global, value: &T) -> Result<String, Fail> {
     let mut out = String::new(alloc);
     write!(out, "{value:?}")?;
     Ok(out)
+}
+
+// How a step of the page ended. Want of memory ends the test.
+fn ended<T: Debug>(alloc: Global, end: &Result<T, PageStop>) -> Result<String, Fail>
+    ensures { OnOk result (IsErrOf end.now PageStop.NoMemory → ⊥) }
+{
+    if let Err(PageStop::NoMemory) = end {
+        return Err("no memory".into());
+    }
+    told(alloc, end)
 }
 
 // The first word, and those behind it.
@@ -70,47 +87,59 @@ fn element(rt: &impl Abort, state: &State, word: &str) -> NodeNo
     n
 }
 
-fn insert(rt: &impl Abort, alloc: Global, state: &mut State, words: &str) -> Result<String, Fail> {
+fn insert(rt: &impl Abort, alloc: Global, state: &mut State, words: &str) -> Result<String, Fail>
+    ensures { OnOk result (length state.new.classes ≡ length state.old.classes) }
+{
     let (parent, words) = cut(words);
     let (n, before) = cut(words);
     let parent = node(rt, state, parent);
     let n = node(rt, state, n);
     let before = node_or_none(rt, state, before);
     let end = state.insert(alloc, parent, n, before);
-    told(alloc, &end)
+    ended(alloc, &end)
 }
 
-fn remove(rt: &impl Abort, alloc: Global, state: &mut State, words: &str) -> Result<String, Fail> {
+fn remove(rt: &impl Abort, alloc: Global, state: &mut State, words: &str) -> Result<String, Fail>
+    ensures { OnOk result (length state.new.classes ≡ length state.old.classes) }
+{
     let (parent, n) = cut(words);
     let n = node(rt, state, n);
     let end = state.remove_child(alloc, NodeNo(number(parent)), n);
-    told(alloc, &end)
+    ended(alloc, &end)
 }
 
-fn detach(rt: &impl Abort, alloc: Global, state: &mut State, word: &str) -> Result<String, Fail> {
+fn detach(rt: &impl Abort, alloc: Global, state: &mut State, word: &str) -> Result<String, Fail>
+    ensures { OnOk result (length state.new.classes ≡ length state.old.classes) }
+{
     let n = node(rt, state, word);
     let end = state.detach(alloc, n);
-    told(alloc, &end)
+    ended(alloc, &end)
 }
 
-fn set(rt: &impl Abort, alloc: Global, state: &mut State, words: &str) -> Result<String, Fail> {
+fn set(rt: &impl Abort, alloc: Global, state: &mut State, words: &str) -> Result<String, Fail>
+    ensures { OnOk result (length state.new.classes ≡ length state.old.classes) }
+{
     let (n, words) = cut(words);
     let (name, value) = cut(words);
     let n = element(rt, state, n);
     let value = Text::of(alloc, value)?;
     let end = state.set_named(alloc, n, name, value);
-    told(alloc, &end)
+    ended(alloc, &end)
 }
 
-fn unset(rt: &impl Abort, alloc: Global, state: &mut State, words: &str) -> Result<String, Fail> {
+fn unset(rt: &impl Abort, alloc: Global, state: &mut State, words: &str) -> Result<String, Fail>
+    ensures { OnOk result (length state.new.classes ≡ length state.old.classes) }
+{
     let (n, name) = cut(words);
     let n = element(rt, state, n);
     let end = state.remove_named(alloc, n, name);
-    told(alloc, &end)
+    ended(alloc, &end)
 }
 
 // A step that may enqueue reactions.
-fn change(rt: &impl Abort, alloc: Global, state: &mut State, row: &str) -> Result<String, Fail> {
+fn change(rt: &impl Abort, alloc: Global, state: &mut State, row: &str) -> Result<String, Fail>
+    ensures { OnOk result (length state.new.classes ≡ length state.old.classes) }
+{
     let (word, words) = cut(row);
     match word {
         "insert" => insert(rt, alloc, state, words),
@@ -122,19 +151,23 @@ fn change(rt: &impl Abort, alloc: Global, state: &mut State, row: &str) -> Resul
     }
 }
 
-fn make_text(alloc: Global, state: &mut State, words: &str) -> Result<String, Fail> {
+fn make_text(alloc: Global, state: &mut State, words: &str) -> Result<String, Fail>
+    ensures { OnOk result (length state.new.classes ≡ length state.old.classes) }
+{
     let (document, chars) = cut(words);
     let chars = Text::of(alloc, chars)?;
     let end = state.make_text(alloc, chars, NodeNo(number(document)));
-    told(alloc, &end)
+    ended(alloc, &end)
 }
 
-fn make_element(alloc: Global, state: &mut State, words: &str) -> Result<String, Fail> {
+fn make_element(alloc: Global, state: &mut State, words: &str) -> Result<String, Fail>
+    ensures { OnOk result (length state.new.classes ≡ length state.old.classes) }
+{
     let (document, local) = cut(words);
     let document = NodeNo(number(document));
     let local = Text::of(alloc, local)?;
     let end = state.make_in_state(alloc, local, None, document, CustomState::Uncustomized);
-    told(alloc, &end)
+    ended(alloc, &end)
 }
 
 fn attach_shadow(
@@ -142,42 +175,70 @@ fn attach_shadow(
     alloc: Global,
     state: &mut State,
     word: &str,
-) -> Result<String, Fail> {
+) -> Result<String, Fail>
+    ensures { OnOk result (length state.new.classes ≡ length state.old.classes) }
+{
     let n = element(rt, state, word);
     let end = state.attach_shadow(alloc, n);
-    told(alloc, &end)
+    ended(alloc, &end)
 }
 
 // A step that makes a node.
-fn make(rt: &impl Abort, alloc: Global, state: &mut State, row: &str) -> Result<String, Fail> {
+fn make(rt: &impl Abort, alloc: Global, state: &mut State, row: &str) -> Result<String, Fail>
+    ensures { OnOk result (length state.new.classes ≡ length state.old.classes) }
+{
     let (word, words) = cut(row);
     match word {
-        "document" => told(alloc, &state.make_document(alloc)),
+        "document" => ended(alloc, &state.make_document(alloc)),
         "text" => make_text(alloc, state, words),
         "element" => make_element(alloc, state, words),
         "shadow" => attach_shadow(rt, alloc, state, words),
-        "construct" => told(alloc, &state.construct(alloc, ClassNo(number(words)))),
+        "construct" => ended(alloc, &state.construct(alloc, ClassNo(number(words)))),
         _ => Err("a making".into()),
     }
 }
 
-fn part(alloc: Global, state: &mut State, row: &str) -> Result<String, Fail> {
+fn part(alloc: Global, state: &mut State, stack: &mut Stack, row: &str) -> Result<String, Fail>
+    requires rest { frames_of stack.old ≡ [] }
+    requires paired { ArePaired stack.old state.old }
+    ensures rest { OnOk result (frames_of stack.new ≡ []) }
+    ensures paired { OnOk result (ArePaired stack.new state.new) }
+{
     match read_line(alloc, row.as_bytes()) {
-        Ok(Line::Part(p)) => {
-            let end = state.part(alloc, p);
-            told(alloc, &end)
-        }
+        Ok(Line::Part(p)) => take_part(alloc, state, stack, p),
         _ => Err("a part of a class".into()),
     }
 }
 
-fn define(alloc: Global, state: &mut State, words: &str) -> Result<String, Fail> {
+// Takes a part of a class. Want of memory ends the test.
+fn take_part(
+    alloc: Global,
+    state: &mut State,
+    stack: &mut Stack,
+    p: ClassPart,
+) -> Result<String, Fail>
+    requires built { is_built_part (part_of p) ≡ true }
+    requires rest { stack.old.frames ≡ [] }
+    requires paired { ArePaired stack.old state.old }
+    ensures rest { OnOk result (stack.new.frames ≡ []) }
+    ensures paired { OnOk result (ArePaired stack.new state.new) }
+{
+    let end = state.part(alloc, stack, p);
+    if let Err(Refused::NoMemory) = end {
+        return Err("no memory".into());
+    }
+    told(alloc, &end)
+}
+
+fn define(alloc: Global, state: &mut State, words: &str) -> Result<String, Fail>
+    ensures { OnOk result (length state.new.classes ≡ length state.old.classes) }
+{
     let (name, words) = cut(words);
     let (class, base) = cut(words);
     let name = Text::of(alloc, name)?;
     let base = text_or_none(alloc, base)?;
     let end = state.define_element(alloc, &name, ClassNo(number(class)), &base);
-    told(alloc, &end)
+    ended(alloc, &end)
 }
 
 fn set_variable(
@@ -185,20 +246,31 @@ fn set_variable(
     alloc: Global,
     state: &mut State,
     words: &str,
-) -> Result<String, Fail> {
+) -> Result<String, Fail>
+    ensures { OnOk result (length state.new.classes ≡ length state.old.classes) }
+{
     let (name, n) = cut(words);
     let n = node(rt, state, n);
     let name = Text::of(alloc, name)?;
-    let end = state.set_variable(name, n);
-    told(alloc, &end)
+    state.set_variable(name, n)?;
+    told(alloc, &Ok::<(), NoMemory>(()))
+}
+
+fn log(alloc: Global, state: &mut State, words: &str) -> Result<String, Fail>
+    ensures { OnOk result (length state.new.classes ≡ length state.old.classes) }
+{
+    state.log(Event::Fine(number(words)))?;
+    told(alloc, &Ok::<(), NoMemory>(()))
 }
 
 // A step that changes nothing of the page.
-fn note(rt: &impl Abort, alloc: Global, state: &mut State, row: &str) -> Result<String, Fail> {
+fn note(rt: &impl Abort, alloc: Global, state: &mut State, row: &str) -> Result<String, Fail>
+    ensures { OnOk result (length state.new.classes ≡ length state.old.classes) }
+{
     let (word, words) = cut(row);
     match word {
-        "spend" => told(alloc, &state.spend()),
-        "log" => told(alloc, &state.log(Event::Fine(number(words)))),
+        "spend" => ended(alloc, &state.spend()),
+        "log" => log(alloc, state, words),
         "let" => set_variable(rt, alloc, state, words),
         "define" => define(alloc, state, words),
         _ => Err("a note".into()),
@@ -217,7 +289,9 @@ fn ask(alloc: Global, state: &State, row: &str) -> Result<String, Fail> {
 }
 
 // What waits first at an element, and the element behind it in the backup element queue.
-fn next(alloc: Global, state: &mut State, row: &str) -> Result<String, Fail> {
+fn next(alloc: Global, state: &mut State, row: &str) -> Result<String, Fail>
+    ensures { OnOk result (length state.new.classes ≡ length state.old.classes) }
+{
     let (word, n) = cut(row);
     match word {
         "next" => told(alloc, &state.next_reaction(NodeNo(number(n)))),
@@ -225,21 +299,46 @@ fn next(alloc: Global, state: &mut State, row: &str) -> Result<String, Fail> {
     }
 }
 
-// Runs a command, by the number of its line and the line, and says how it ends.
+// Runs a command, by the number of its line and the line.
 pub(super) fn run_line(
     alloc: Global,
     state: &mut State,
+    stack: &mut Stack,
     row: &str,
     trace: bool,
     sink: &mut MemSink,
-) -> Result<String, Fail> {
+) -> Result<Result<End, Stop>, Fail>
+    requires rest { frames_of stack.old ≡ [] }
+    requires paired { ArePaired stack.old state.old }
+    ensures rest { IfOk result (λ end. OnOk end (frames_of stack.new ≡ [])) }
+    ensures paired { IfOk result (λ end. OnOk end (ArePaired stack.new state.new)) }
+{
     let (line, command) = cut(row);
     match read_line(alloc, command.as_bytes()) {
         Ok(Line::Command(c)) => {
-            let end = run_command(state, alloc, number(line), &c, trace, sink);
-            told(alloc, &end)
+            Ok(run_command(state, alloc, stack, number(line), &c, trace, sink))
         }
         _ => Err("a command".into()),
+    }
+}
+
+// Runs a command, and says how it ends. One that is stopped ends the test.
+pub(super) fn run_whole(
+    alloc: Global,
+    state: &mut State,
+    stack: &mut Stack,
+    row: &str,
+    trace: bool,
+    sink: &mut MemSink,
+) -> Result<String, Fail>
+    requires rest { frames_of stack.old ≡ [] }
+    requires paired { ArePaired stack.old state.old }
+    ensures rest { OnOk result (frames_of stack.new ≡ []) }
+    ensures paired { OnOk result (ArePaired stack.new state.new) }
+{
+    match run_line(alloc, state, stack, row, trace, sink)? {
+        Err(stop) => Err(stop.into()),
+        Ok(end) => told(alloc, &Ok::<End, Stop>(end)),
     }
 }
 
@@ -248,12 +347,18 @@ pub(super) fn step(
     rt: &impl Abort,
     alloc: Global,
     state: &mut State,
+    stack: &mut Stack,
     row: &str,
-) -> Result<String, Fail> {
+) -> Result<String, Fail>
+    requires rest { frames_of stack.old ≡ [] }
+    requires paired { ArePaired stack.old state.old }
+    ensures rest { OnOk result (frames_of stack.new ≡ []) }
+    ensures paired { OnOk result (ArePaired stack.new state.new) }
+{
     let (word, _) = cut(row);
     match word {
         "next" | "backup" => next(alloc, state, row),
-        "class" | "has" | "observe" | "on" => part(alloc, state, row),
+        "class" | "has" | "observe" | "on" => part(alloc, state, stack, row),
         "count" | "defined" | "named" | "get" => ask(alloc, state, row),
         "spend" | "log" | "let" | "define" => note(rt, alloc, state, row),
         "document" | "text" | "element" | "shadow" | "construct" => make(rt, alloc, state, row),
