@@ -57,12 +57,7 @@ pub(crate) fn begin(
 
 // Performs a command.
 #[tactic(auto, unfolding(ce_frames::specs::Loop::perform_turn))]
-fn perform(
-    state: &mut State,
-    alloc: Global,
-    stack: &mut Stack,
-    c: &Cmd,
-) -> Result<Came, NoMemory>
+fn perform(state: &mut State, alloc: Global, stack: &mut Stack, c: &Cmd) -> Result<Came, NoMemory>
     requires built { is_built_command c.now ≡ true }
     requires room { state.old.page.queues.pushed + state.old.fuel + 1 < 2 ^ 64 }
     ensures turn { IfOk result (λ now. Turns (frames_of stack.old) (frames_of stack.new) now state.new (perform_turn c.now state.old)) }

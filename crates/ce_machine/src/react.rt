@@ -18,9 +18,9 @@ ghost use Rattle.ce_operations.specs.Given.{IsThere};
 ghost use Rattle.ce_machine.specs.Placed.{Lasts};
 ghost use Rattle.ce_operations.specs.Ready.{IsReady, IsStill};
 
+use crate::came::{Came, came_from};
 use crate::creations::create_named;
 use crate::drains::pop_turn;
-use crate::came::{Came, came_from};
 use ce_algorithms::{Deed, Given};
 use ce_base::{NoMemory, NodeNo, QueueNo, Text};
 use ce_operations::deeds::run;
@@ -102,12 +102,7 @@ fn still_turn(
     }
 }
 
-fn react(
-    state: &mut State,
-    alloc: Global,
-    stack: &mut Stack,
-    deed: Deed,
-) -> Result<Came, NoMemory>
+fn react(state: &mut State, alloc: Global, stack: &mut Stack, deed: Deed) -> Result<Came, NoMemory>
     requires ready { IsReady state.old.page.forest deed }
     requires still { IsStill deed }
     requires room { state.old.page.queues.pushed + state.old.fuel + 1 < 2 ^ 64 }

@@ -127,11 +127,7 @@ fn returned(
 }
 
 // What a body returns: the node that is named, or what `this` is.
-fn answer(
-    state: &State,
-    this: &Option<NodeNo>,
-    value: &Option<Operand>,
-) -> Result<Given, Fault>
+fn answer(state: &State, this: &Option<NodeNo>, value: &Option<Operand>) -> Result<Given, Fault>
     requires { IfSome this.now (IsNode state.now.page.forest) }
     ensures { result ≡ answer this.now state.now value.now }
 {
@@ -180,12 +176,7 @@ fn act(
 }
 
 // An operation runs above the body.
-fn operation(
-    state: &mut State,
-    alloc: Global,
-    stack: &mut Stack,
-    op: Op,
-) -> Result<Came, NoMemory>
+fn operation(state: &mut State, alloc: Global, stack: &mut Stack, op: Op) -> Result<Came, NoMemory>
     requires built { is_built_op op ≡ true }
     requires room { state.old.page.queues.pushed + state.old.fuel + 1 < 2 ^ 64 }
     requires body { HasBody (frames_of stack.old) }

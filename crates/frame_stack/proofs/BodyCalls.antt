@@ -56,7 +56,7 @@ module _ (homes : Homes) (chains : List (List ℕ)) (frames : List Held) (k : �
       let p = first_place call args this in
       let first_of : List Held = frames ++ first ∷ [] in
       let b0 : BeginsAt (homes_left (topmost k chains) k homes) (linked k (length frames) chains) (holding_at (length frames) (taken (topmost k chains) k homes first_of) (frames_left (topmost k chains) first_of)) =
-          record { order = begin_order homes chains frames k p o within; frames = begin_frames homes chains frames k p o within; behaviours = begin_behaviours homes chains frames k p o within } in
+      record { order = begin_order homes chains frames k p o within; frames = begin_frames homes chains frames k p o within; behaviours = begin_behaviours homes chains frames k p o within } in
       let b1 = subst (λ (t : Option ℕ). BeginsAt (homes_left t k homes) (linked k (length frames) chains) (holding_at (length frames) (taken t k homes first_of) (frames_left t first_of))) (sym same) b0 in
       let b2 = subst (λ (n : ℕ). BeginsAt (homes_left below k homes) (linked k n chains) (holding_at n (taken below k homes first_of) (frames_left below first_of))) (sym at) b1 in
       let b3 = subst (λ (l : List Held). BeginsAt (homes_left below k homes) (linked k index chains) (holding_at index (taken below k homes l) (frames_left below l))) (sym is) b2 in

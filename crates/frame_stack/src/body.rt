@@ -25,12 +25,7 @@ pub(crate) struct Body {
 
 impl Body {
     /// A body that begins.
-    pub(crate) fn begin(
-        class: ClassNo,
-        call: CallName,
-        args: Args,
-        this: Option<NodeNo>,
-    ) -> Body
+    pub(crate) fn begin(class: ClassNo, call: CallName, args: Args, this: Option<NodeNo>) -> Body
         ensures { body_of result ≡ BodyHeld class (first_place call args this) None }
     {
         Body {

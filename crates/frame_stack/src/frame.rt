@@ -49,12 +49,7 @@ impl Frame {
     }
 
     /// A body that begins. Its behaviour is not there yet.
-    pub(crate) fn body(
-        class: ClassNo,
-        call: CallName,
-        args: Args,
-        this: Option<NodeNo>,
-    ) -> Frame
+    pub(crate) fn body(class: ClassNo, call: CallName, args: Args, this: Option<NodeNo>) -> Frame
         ensures { result ≡ BodyHeld class (first_place call args this) None }
     {
         Frame {

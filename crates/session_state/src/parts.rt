@@ -17,12 +17,7 @@ use std::alloc::Global;
 impl State {
     /// Takes a part of a class. What it says of the class's behaviour goes to the stack, on which no frame lies. It
     /// spends no fuel.
-    pub fn part(
-        &mut self,
-        alloc: Global,
-        stack: &mut Stack,
-        p: ClassPart,
-    ) -> Result<(), Refused>
+    pub fn part(&mut self, alloc: Global, stack: &mut Stack, p: ClassPart) -> Result<(), Refused>
         requires built { is_built_part (part_of p) ≡ true }
         requires rest { stack.old.frames ≡ [] }
         requires paired { ArePaired stack.old self.old }
@@ -48,12 +43,7 @@ impl State {
 
 // What the parts do.
 impl State {
-    fn add_class(
-        &mut self,
-        alloc: Global,
-        stack: &mut Stack,
-        name: Text,
-    ) -> Result<(), Refused>
+    fn add_class(&mut self, alloc: Global, stack: &mut Stack, name: Text) -> Result<(), Refused>
         requires rest { stack.old.frames ≡ [] }
         requires paired { ArePaired stack.old self.old }
         ensures taken { Takes result (session stack.new self.new) (add_class name (session stack.old self.old)) }

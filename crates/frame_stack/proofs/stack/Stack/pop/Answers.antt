@@ -21,8 +21,8 @@ invariant_of-self c = taken_order c.self.inside.homes c.self.inside.chains.items
 
 pub returns-clause-frames : goal.returns-clause-frames
 returns-clause-frames c = elim c.match-pop.branch [
-    in-None w ↦ rw w.result-is (ap (stacked c.self.inside.homes) (sym (w.in-None.ensures.items ∙ append-nil c.pop.new.self.items)) ∙ c.self.view_is)
-    | in-Some w ↦ rw w.result-is (ap frames_of (sym c.self.view_is) ∙ taken_frames c.self.inside.homes c.self.inside.chains.items c.self.inside.frames.items c.pop.new.self.items w.in-Some.f (waiting_of w.into_waiting.result) c.self.invariant w.in-Some.ensures.items w.into_waiting.ensures)
+  | in-None w ↦ rw w.result-is (ap (stacked c.self.inside.homes) (sym (w.in-None.ensures.items ∙ append-nil c.pop.new.self.items)) ∙ c.self.view_is)
+  | in-Some w ↦ rw w.result-is (ap frames_of (sym c.self.view_is) ∙ taken_frames c.self.inside.homes c.self.inside.chains.items c.self.inside.frames.items c.pop.new.self.items w.in-Some.f (waiting_of w.into_waiting.result) c.self.invariant w.in-Some.ensures.items w.into_waiting.ensures)
 ]
 
 pub returns-clause-behaviours : goal.returns-clause-behaviours
