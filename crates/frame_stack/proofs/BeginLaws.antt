@@ -1,22 +1,20 @@
 -- A body begins.
-use Rattle.std.proofs.Common.{◌≡◌, ℕ, zero, suc, ◌<◌, ◌≤◌, Bool, true, false, List, [], ◌∷◌, ◌++◌, map, length, drop, Option, Some, None, refl, ap, sym, ◌∙◌, subst, arith, get_or}
+use Rattle.std.proofs.Common.{◌≡◌, ℕ, zero, suc, ◌<◌, ◌≤◌, true, List, [], ◌∷◌, ◌++◌, map, length, Option, Some, None, refl, ap, sym, ◌∙◌, subst, arith}
 use Rattle.std.specs.Prelude.{slice_get, slice_set, is_some, MatchOption}
 use Rattle.std.proofs.lemmas.List.{length-set, map-append, set-append_left, set_at, length-append}
 use Rattle.std.proofs.lemmas.Option.{slice_get_within, slice_get_past}
 use Rattle.rule_tokens.specs.declared.callback.CallName.{CallName}
 use Rattle.rule_lines.specs.Acts.{Act}
-use Rattle.ce_algorithms.specs.Values.{Args}
-use Rattle.ce_frames.specs.Frames.{Frame, InBody}
+use Rattle.ce_frames.specs.Frames.{Frame}
 use Rattle.ce_frames.specs.Places.{Behaviour, Held, Homes, IsTopmost, NoneOf, OnlyLast, Place, Stands, Wait, Body, held_in, holding, home_of, place_if, places_of, seen}
 use Rattle.ce_frames.proofs.Moves.{fetched, from_home, unknown_begins, seen_holding}
 use Rattle.frame_stack.specs.Chains.{AreChained, indices_of, linked, topmost}
-use Rattle.frame_stack.specs.Frames.{first_place}
 use Rattle.frame_stack.specs.Moves.{frames_left, held_at, holding_at, homes_left, or_waiting, taken}
 use Rattle.frame_stack.specs.Order.{AreInOrder}
-use Rattle.frame_stack.specs.Stacked.{Stacked, actions_at, behaviours_of, bodies_in, frames_of, placed_from}
+use Rattle.frame_stack.specs.Stacked.{behaviours_of, bodies_in, frames_of, placed_from}
 use Rattle.frame_stack.proofs.ChainLaws.{chained_as, chained_known, chained_push, holding_indices, topmost_at, topmost_none, unknown_indices}
 use Rattle.frame_stack.proofs.PushLaws.{frames_are}
-use Rattle.frame_stack.proofs.Settled.{behaviours_are, in_order, placed_length}
+use Rattle.frame_stack.proofs.Settled.{behaviours_are, in_order}
 use Rattle.frame_stack.proofs.TopLaws.{get_push}
 
 -- lists

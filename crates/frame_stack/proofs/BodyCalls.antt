@@ -1,5 +1,5 @@
 -- What the calls on frames of bodies leave.
-use Rattle.std.proofs.Common.{◌≡◌, ℕ, ◌<◌, ◌≤◌, true, false, List, [], ◌∷◌, ◌++◌, length, Option, Some, None, Result, refl, ap, sym, ◌∙◌, subst}
+use Rattle.std.proofs.Common.{◌≡◌, ℕ, ◌<◌, ◌≤◌, true, false, List, [], ◌∷◌, ◌++◌, length, Option, Some, None, Result, ap, sym, ◌∙◌, subst}
 use Rattle.std.specs.Prelude.{slice_set, is_some, IfOk, MatchOption}
 use Rattle.std.proofs.lemmas.Result.{IfOk-weaker}
 use Rattle.rule_tokens.specs.declared.callback.CallName.{CallName}

@@ -1,5 +1,5 @@
 -- Where the actions of a body are built, so is the operation at which it stops.
-use Rattle.std.proofs.Common.{◌≡◌, ℕ, zero, suc, Bool, true, false, List, [], ◌∷◌, ◌++◌, drop, map, Option, Some, None, refl, ap, sym, ◌∙◌, subst}
+use Rattle.std.proofs.Common.{◌≡◌, ℕ, zero, suc, Bool, true, false, List, [], ◌∷◌, ◌++◌, drop, Option, Some, None, refl, ap, ◌∙◌}
 use Rattle.std.specs.Prelude.{◌&&◌, if◌then◌else◌, slice_get, slice_set}
 use Rattle.std.specs.List.{list_all}
 use Rattle.rule_tokens.specs.declared.callback.CallName.{CallName}
@@ -7,15 +7,13 @@ use Rattle.rule_lines.specs.declared.op.Op.{Op}
 use Rattle.rule_lines.specs.declared.op.Op.TheVariants as ops
 use Rattle.rule_lines.specs.Acts.{Act, Both, Log, Super, Return, Throw, Bump, Keep, Try, If}
 use Rattle.rule_script.specs.Built.{is_built_act, is_built_op}
-use Rattle.reaction_queue.specs.Queues.{or_empty}
 use Rattle.ce_algorithms.specs.Body.{actions_of, holds, same_call}
 use Rattle.ce_algorithms.specs.State.{Memory}
 use Rattle.ce_algorithms.specs.Values.{Args, fixed, text_of}
 use Rattle.ce_frames.specs.Places.{Behaviour}
-use Rattle.behaviours.specs.Resume.{Stop, Acted, acted, spending, goes_on, stop_or, resumed}
+use Rattle.behaviours.specs.Resume.{Stop, acted, spending, goes_on, stop_or, resumed}
 use Rattle.frame_stack.specs.Order.{is_built_behaviour, is_built_line}
 use Rattle.frame_stack.specs.Resumes.{IsBuiltStop}
-use Rattle.frame_stack.specs.Stacked.{actions_at, behaviour_at, bodies_in, or_new}
 
 both : (a b : Bool) → (a && b) ≡ true → (a ≡ true) × (b ≡ true)
 both true b h = (refl, h)

@@ -1,24 +1,23 @@
 -- The classes, while no frame lies on the stack.
-use Rattle.std.proofs.Common.{◌≡◌, ℕ, zero, suc, ◌<◌, ◌≤◌, ◌+◌, Bool, true, List, [], ◌∷◌, ◌++◌, map, length, Option, Some, None, refl, ap, sym, ◌∙◌, subst, arith, length-append}
+use Rattle.std.proofs.Common.{◌≡◌, ℕ, zero, suc, ◌<◌, ◌≤◌, ◌+◌, true, List, [], ◌∷◌, ◌++◌, map, length, Option, Some, refl, ap, sym, ◌∙◌, subst, arith, length-append}
 use Rattle.std.specs.Prelude.{slice_get, slice_set, is_some, ◌⊎◌, OnOk, OnErr, Result, Ok, Err}
 use Rattle.std.proofs.Common.{inl, inr}
 use Rattle.std.proofs.lemmas.Bool.{cases_lt}
-use Rattle.std.specs.List.{list_all}
 use Rattle.std.proofs.lemmas.List.{map-append}
 use Rattle.ce_base.specs.declared.memory.NoMemory.{NoMemory}
 use Rattle.rule_tokens.specs.declared.callback.CallName.{CallName}
 use Rattle.rule_lines.specs.Acts.{Act}
 use Rattle.rule_script.specs.Built.{is_built_act}
-use Rattle.ce_frames.specs.Places.{Behaviour, Held, Homes, Stands, home_in, home_of}
+use Rattle.ce_frames.specs.Places.{Behaviour, Held, Homes, Stands, home_of}
 use Rattle.ce_frames.proofs.Moves.{all_home, at_home}
 use Rattle.behaviours.specs.Behaviours.{extended, extended_at, new_behaviour, with_action}
-use Rattle.frame_stack.specs.Chains.{AreChained, indices_of}
+use Rattle.frame_stack.specs.Chains.{AreChained}
 use Rattle.frame_stack.specs.Changes.{extended as extended_in}
-use Rattle.frame_stack.specs.Order.{AreInOrder, is_built_behaviour}
+use Rattle.frame_stack.specs.Order.{AreInOrder}
 use Rattle.frame_stack.specs.Stacked.{Stacked, behaviour_at, behaviours_of, placed_from}
 use Rattle.frame_stack.specs.Stacked as stacked
 use Rattle.frame_stack.proofs.BuiltLaws.{behaviour_built, class_built, more_built, set_built}
-use Rattle.frame_stack.proofs.Settled.{behaviours_are, in_order, placed_length}
+use Rattle.frame_stack.proofs.Settled.{behaviours_are, in_order}
 
 -- all behaviours are at home
 pub homes_are : (homes : Homes) (chains : List (List ℕ)) (frames : List Held) → AreInOrder homes chains frames → frames ≡ [] → homes ≡ map Some (placed_from 0 frames homes)

@@ -1,19 +1,18 @@
 -- A body has ended.
-use Rattle.std.proofs.Common.{◌≡◌, ℕ, zero, suc, ◌<◌, ◌≤◌, Bool, true, false, List, [], ◌∷◌, ◌++◌, map, length, Option, Some, None, refl, ap, sym, ◌∙◌, subst, arith}
-use Rattle.std.specs.Prelude.{slice_get, slice_set, MatchOption, ◌==◌, ◌⊎◌}
+use Rattle.std.proofs.Common.{◌≡◌, ℕ, ◌<◌, ◌≤◌, List, [], ◌∷◌, ◌++◌, map, length, Option, Some, None, refl, ap, sym, ◌∙◌, subst, arith}
+use Rattle.std.specs.Prelude.{slice_get, slice_set, MatchOption, ◌⊎◌}
 use Rattle.std.proofs.Common.{inl, inr}
 use Rattle.std.proofs.lemmas.Bool.{eq-eqb, cases_lt}
 use Rattle.std.proofs.lemmas.List.{length-set, map-append}
 use Rattle.std.proofs.lemmas.Option.{slice_get_within}
 use Rattle.rule_tokens.specs.declared.callback.CallName.{CallName}
 use Rattle.rule_lines.specs.Acts.{Act}
-use Rattle.ce_frames.specs.Frames.{Frame}
-use Rattle.ce_frames.specs.Places.{Behaviour, Held, Homes, IsTopmost, NoneOf, OnlyLast, Place, Stands, Wait, Body, holding, home_of, place_if, places_of, seen}
+use Rattle.ce_frames.specs.Places.{Behaviour, Held, Homes, NoneOf, OnlyLast, Place, Stands, Wait, Body, holding, home_of, place_if, places_of, seen}
 use Rattle.ce_frames.proofs.Moves.{handed_back, to_home, top_has, unknown_ends}
 use Rattle.frame_stack.specs.Chains.{AreChained, indices_of, topmost, unlinked}
-use Rattle.frame_stack.specs.Moves.{frames_filled, held_at, homes_filled, or_waiting}
+use Rattle.frame_stack.specs.Moves.{frames_filled, homes_filled, or_waiting}
 use Rattle.frame_stack.specs.Order.{AreInOrder}
-use Rattle.frame_stack.specs.Stacked.{Stacked, behaviours_of, below_top, bodies_in, frames_of, placed_from}
+use Rattle.frame_stack.specs.Stacked.{behaviours_of, below_top, bodies_in, frames_of, placed_from}
 use Rattle.frame_stack.proofs.BeginLaws.{Found, class_gone, class_there, found, seen_set}
 use Rattle.frame_stack.proofs.ChainLaws.{chained_as, chained_known, chained_pop, holding_indices, unknown_indices}
 use Rattle.frame_stack.proofs.PushLaws.{frames_are}

@@ -1,5 +1,5 @@
 -- Frames of no body come and go.
-use Rattle.std.proofs.Common.{◌≡◌, ℕ, ◌-◌, ◌<◌, Bool, true, false, List, [], ◌∷◌, ◌++◌, map, length, drop, Option, Some, None, refl, ap, sym, ◌∙◌, subst, arith}
+use Rattle.std.proofs.Common.{◌≡◌, ℕ, ◌-◌, ◌<◌, true, false, List, [], ◌∷◌, ◌++◌, map, length, drop, Some, refl, ap, sym, ◌∙◌, subst, arith}
 use Rattle.std.specs.Prelude.{slice_get}
 use Rattle.std.proofs.lemmas.List.{length-map, map-append}
 use Rattle.rule_tokens.specs.declared.callback.CallName.{CallName}
@@ -7,14 +7,13 @@ use Rattle.rule_lines.specs.Acts.{Act}
 use Rattle.reaction_queue.specs.Queues.{or_empty}
 use Rattle.ce_algorithms.specs.Body.{actions_of}
 use Rattle.ce_frames.specs.Frames.{Frame}
-use Rattle.ce_frames.specs.Places.{Behaviour, Held, Homes, Place, Stands, Wait, Body, seen}
+use Rattle.ce_frames.specs.Places.{Behaviour, Held, Homes, Stands, Wait, Body, seen}
 use Rattle.ce_frames.proofs.Moves.{waits, waited}
-use Rattle.frame_stack.specs.Chains.{AreChained}
 use Rattle.frame_stack.specs.Frames.{is_waiting}
 use Rattle.frame_stack.specs.Order.{AreInOrder}
 use Rattle.frame_stack.specs.Stacked.{Stacked, HasBody, Running, behaviours_of, bodies_in, frames_of, in_body, placed_from, top_of}
 use Rattle.frame_stack.proofs.ChainLaws.{chained_as, wait_indices}
-use Rattle.frame_stack.proofs.Settled.{behaviours_are, in_order, settled}
+use Rattle.frame_stack.proofs.Settled.{behaviours_are, in_order}
 use Rattle.frame_stack.proofs.TopLaws.{Ends, AtNone, AtLast, ends, last_push, top_push}
 
 -- the frames of the definitions, where the behaviours are known

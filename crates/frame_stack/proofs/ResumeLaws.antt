@@ -1,9 +1,7 @@
 -- The body on top goes on.
-use Rattle.std.proofs.Common.{◌≡◌, ℕ, zero, suc, ◌<◌, ◌≤◌, Bool, true, false, List, [], ◌∷◌, ◌++◌, map, length, drop, Option, Some, None, refl, ap, sym, ◌∙◌, subst, arith}
+use Rattle.std.proofs.Common.{◌≡◌, ℕ, zero, suc, ◌≤◌, Bool, false, List, [], ◌∷◌, ◌++◌, map, length, drop, Option, Some, None, refl, ap, sym, ◌∙◌, subst, arith}
 use Rattle.std.specs.Prelude.{slice_get, slice_set}
-use Rattle.std.specs.List.{list_all}
 use Rattle.std.proofs.lemmas.List.{map-append}
-use Rattle.std.proofs.lemmas.Option.{slice_get-map}
 use Rattle.rule_tokens.specs.declared.callback.CallName.{CallName}
 use Rattle.rule_lines.specs.Acts.{Act}
 use Rattle.reaction_queue.specs.Queues.{or_empty}
@@ -16,8 +14,7 @@ use Rattle.ce_frames.proofs.Wholes.{bodies_stay}
 use Rattle.behaviours.specs.declared.next.Next.{Next}
 use Rattle.behaviours.specs.Next.{stop_of}
 use Rattle.behaviours.specs.Resume.{Resumed, resumed}
-use Rattle.frame_stack.specs.Chains.{AreChained}
-use Rattle.frame_stack.specs.Order.{AreInOrder, is_built_behaviour}
+use Rattle.frame_stack.specs.Order.{AreInOrder}
 use Rattle.frame_stack.specs.Resumes.{Ends, FrameResumes, IsBuiltStop, IsSameBody, Resumes, Runs, is_guarded}
 use Rattle.frame_stack.specs.Stacked.{Stacked, Running, behaviour_at, behaviours_of, below_top, bodies_in, frames_of, in_body, or_new, placed_from, top_of}
 use Rattle.frame_stack.proofs.BuiltLaws.{behaviour_built, body_built, set_built}

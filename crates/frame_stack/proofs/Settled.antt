@@ -1,11 +1,11 @@
 -- What the classes do and remember is read off their last places.
-use Rattle.std.proofs.Common.{◌≡◌, ℕ, zero, suc, ◌+◌, ◌<◌, List, [], ◌∷◌, map, length, Option, Some, None, Bool, true, refl, ap, sym, ◌∙◌, subst, arith, add-zero}
+use Rattle.std.proofs.Common.{◌≡◌, ℕ, suc, ◌+◌, List, [], ◌∷◌, length, Option, Some, true, refl, ap, sym, ◌∙◌, subst, arith, add-zero}
 use Rattle.std.specs.Prelude.{slice_get}
 use Rattle.std.specs.List.{list_all}
 use Rattle.ce_frames.specs.Places.{Behaviour, Held, Homes, OnlyLast, Stands, home_of, places_of}
 use Rattle.frame_stack.specs.Chains.{AreChained}
 use Rattle.frame_stack.specs.Order.{AreInOrder, is_built_behaviour}
-use Rattle.frame_stack.specs.Stacked.{Stacked, behaviours_of, last_of, or_new, placed_from}
+use Rattle.frame_stack.specs.Stacked.{behaviours_of, last_of, or_new, placed_from}
 
 last_is : (b h : Option Behaviour) (ps : List (Option Behaviour)) → OnlyLast b (h ∷ ps) → last_of h ps ≡ b
 last_is b h [] e = e

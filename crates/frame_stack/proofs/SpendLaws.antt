@@ -1,5 +1,5 @@
 -- A body that stops at an action has spent fuel.
-use Rattle.std.proofs.Common.{◌≡◌, ℕ, zero, suc, ◌<◌, ◌≤◌, Bool, true, false, List, [], ◌∷◌, Option, Some, None, refl, ap, sym, subst, arith}
+use Rattle.std.proofs.Common.{◌≡◌, ℕ, zero, suc, ◌<◌, ◌≤◌, Bool, true, false, List, [], ◌∷◌, Option, Some, None, sym, subst, arith}
 use Rattle.std.specs.Prelude.{if◌then◌else◌}
 use Rattle.rule_lines.specs.Acts.{Act, Both, Log, Super, Return, Throw, Bump, Keep, Try, If}
 use Rattle.ce_algorithms.specs.Body.{holds}
@@ -8,8 +8,8 @@ use Rattle.ce_algorithms.specs.Values.{Args, text_of}
 use Rattle.behaviours.specs.Resume.{Stop, acted, spending, goes_on, stop_or, resumed}
 use Rattle.behaviours.specs.declared.next.Next.{Next}
 use Rattle.behaviours.specs.Next.{stop_of}
-use Rattle.frame_stack.specs.Resumes.{Proceeds, Resumes, resumed_of}
-use Rattle.frame_stack.specs.Stacked.{Stacked, behaviours_of}
+use Rattle.frame_stack.specs.Resumes.{Proceeds, Resumes}
+use Rattle.frame_stack.specs.Stacked.{Stacked}
 
 same : (n : ℕ) → n ≤ n
 same n = omega arith

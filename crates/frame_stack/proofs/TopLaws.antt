@@ -1,14 +1,11 @@
 -- The topmost frame, and those below it.
-use Rattle.std.proofs.Common.{◌≡◌, ℕ, suc, zero, ◌-◌, ◌<◌, Bool, true, false, List, [], ◌∷◌, ◌++◌, map, length, Option, Some, None, refl, ap, sym, ◌∙◌, subst, arith, length-append}
+use Rattle.std.proofs.Common.{◌≡◌, ◌-◌, ◌<◌, List, [], ◌∷◌, ◌++◌, length, Some, None, refl, ap, ◌∙◌, arith, length-append}
 use Rattle.std.specs.Prelude.{slice_get}
-use Rattle.rule_tokens.specs.declared.callback.CallName.{CallName}
-use Rattle.rule_lines.specs.Acts.{Act}
-use Rattle.ce_frames.specs.Frames.{Frame, InBody}
-use Rattle.ce_frames.specs.Places.{Held, Wait, Body, seen}
+use Rattle.ce_frames.specs.Frames.{Frame}
 use Rattle.frame_stack.specs.declared.waiting.Waiting.{Waiting}
 use Rattle.frame_stack.specs.declared.waiting.Waiting.TheVariants.{Replying, Checking, DrainingBackup, Naming, Stepping, Draining, InReaction, CreatingFit}
-use Rattle.frame_stack.specs.Frames.{is_body, waiting_of, IsPlain, this_in}
-use Rattle.frame_stack.specs.Stacked.{HasBody, Running, below_top, in_body, this_of, top_of}
+use Rattle.frame_stack.specs.Frames.{waiting_of}
+use Rattle.frame_stack.specs.Stacked.{Running, below_top, in_body, top_of}
 
 pub top_push : (frames : List Frame) (f : Frame) → top_of (frames ++ f ∷ []) ≡ Some f
 top_push [] f = refl

@@ -1,5 +1,5 @@
 -- The topmost frame as it is kept: where it is read, changed and taken.
-use Rattle.std.proofs.Common.{◌≡◌, ℕ, zero, suc, ◌-◌, ◌<◌, Bool, true, false, List, [], ◌∷◌, ◌++◌, map, length, Option, Some, None, refl, ap, sym, ◌∙◌, subst, arith, length-append, append-nil}
+use Rattle.std.proofs.Common.{◌≡◌, ℕ, ◌-◌, ◌<◌, true, false, List, [], ◌∷◌, ◌++◌, map, length, Option, Some, None, refl, ap, sym, ◌∙◌, subst, arith, length-append, append-nil}
 use Rattle.std.specs.Prelude.{slice_get, slice_set, slice_index_or, option_map, option_to_list}
 use Rattle.std.specs.Bool.{◌==◌}
 use Rattle.std.proofs.Math.Dec.{eqb-suc-zero}

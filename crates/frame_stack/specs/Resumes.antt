@@ -1,16 +1,14 @@
 -- A body goes on, in its frame.
-use Rattle.std.specs.Prelude.{◌≡◌, ◌<◌, ◌≤◌, ℕ, Bool, true, false, List, [], ◌∷◌, ◌++◌, drop, length, Option, Some, None, slice_set}
-use Rattle.rule_lines.specs.declared.op.Op.{Op}
-use Rattle.rule_lines.specs.Acts.{Act, Both, Log, act_of}
+use Rattle.std.specs.Prelude.{◌≡◌, ◌≤◌, ℕ, Bool, true, false, List, [], ◌∷◌, ◌++◌, drop, length, Some, None, slice_set}
+use Rattle.rule_lines.specs.Acts.{Both, Log}
 use Rattle.rule_script.specs.Built.{is_built_op}
 use Rattle.ce_algorithms.specs.Body.{actions_of}
 use Rattle.ce_algorithms.specs.State.{Memory}
-use Rattle.ce_frames.specs.Frames.{InBody}
 use Rattle.ce_frames.specs.Places.{Behaviour, Held, Place, Wait, Body}
 use Rattle.behaviours.specs.declared.next.Next.{Next}
 use Rattle.behaviours.specs.Next.{resumed_to, stop_of}
 use Rattle.behaviours.specs.Resume.{Stop, Doing, Returning, Throwing, OutOfFuel, Resumed, resumed}
-use Rattle.frame_stack.specs.Stacked.{Stacked, HasBody, Running, behaviour_at, behaviours_of, below_top, frames_of, in_body, top_of}
+use Rattle.frame_stack.specs.Stacked.{Stacked, Running, behaviour_at, behaviours_of, below_top, frames_of, in_body, top_of}
 
 -- it stops in a `try`
 abbrev pub is_guarded : Stop → Bool

@@ -1,5 +1,5 @@
 -- A stack of frames, and the homes of behaviours: what they stand for.
-use Rattle.std.specs.Prelude.{◌≡◌, ℕ, suc, Bool, true, false, List, [], ◌∷◌, ◌++◌, map, Option, Some, None, slice_get}
+use Rattle.std.specs.Prelude.{◌≡◌, ℕ, suc, Bool, false, List, [], ◌∷◌, map, Option, Some, None, slice_get}
 use Rattle.rule_tokens.specs.declared.callback.CallName.{CallName}
 use Rattle.rule_lines.specs.Acts.{Act}
 use Rattle.reaction_queue.specs.Queues.{or_empty}

@@ -6,12 +6,8 @@ use Rattle.std.specs.Io.KnownBytes.{Appends}
 use Rattle.std.specs.declared.option.Option.{Option}
 use Rattle.ce_base.specs.Outside.{AppendsPart}
 use Rattle.ce_algorithms.specs.declared.event.Event.{Event}
-use Rattle.ce_algorithms.specs.State.{State}
-use Rattle.ce_algorithms.specs.Steps.{Goes, Spent}
 use Rattle.ce_algorithms.specs.Text.{shown, text}
-use Rattle.ce_algorithms.specs.Written.{Did, behind}
 use Rattle.ce_algorithms.proofs.Growth.{text-append}
-use Rattle.session_state.specs.Steps.{forgotten}
 
 -- one more event is written
 pub wrote_event : (t : Bool) (h0 h h' : Option (List ℕ)) (log : List Event) (i : ℕ) (e : Event) → i < length log → e ≡ get_or log i e → Appends h0 h (text t (take i log)) → Appends h h' (shown t e) → Appends h0 h' (text t (take (i + 1) log))

@@ -1,13 +1,13 @@
 -- The parts of classes, where the behaviours of classes are kept apart.
-use Rattle.std.proofs.Common.{◌≡◌, ℕ, ◌+◌, ◌<◌, true, zero, suc, List, [], ◌∷◌, ◌++◌, length, Option, Some, None, Result, Ok, Err, refl, ap, sym, ◌∙◌, subst, arith, length-append, length-set}
-use Rattle.std.specs.Prelude.{slice_get, slice_set, IfOk}
+use Rattle.std.proofs.Common.{◌≡◌, ℕ, ◌<◌, zero, suc, List, [], ◌∷◌, ◌++◌, length, Option, Some, None, Result, Ok, Err, refl, ap, sym, ◌∙◌, arith}
+use Rattle.std.specs.Prelude.{slice_get}
 use Rattle.ce_base.specs.declared.fault.Fault.{Fault}
 use Rattle.ce_base.specs.declared.fault.Refused.{Refused}
 use Rattle.ce_base.specs.declared.fault.Refused.TheVariants.{Fault as IsFault, NoMemory}
 use Rattle.rule_tokens.specs.declared.callback.CallName.{CallName}
 use Rattle.rule_lines.specs.Acts.{Act}
 use Rattle.ce_algorithms.specs.Parts.{add_class, change_open, open_class, with_body}
-use Rattle.ce_algorithms.specs.State.{State, class_of}
+use Rattle.ce_algorithms.specs.State.{State}
 use Rattle.ce_algorithms.specs.Steps.{Step, Goes, Throws}
 use Rattle.ce_frames.specs.Places.{Behaviour}
 use Rattle.ce_frames.specs.Whole.{IsBlind, whole, whole_in}
@@ -16,7 +16,7 @@ use Rattle.behaviours.specs.Behaviours.{new_behaviour}
 use Rattle.frame_stack.specs.Changes.{extended}
 use Rattle.frame_stack.specs.Stacked.{behaviour_at, or_new}
 use Rattle.session_state.specs.Steps.{with_call_at}
-use Rattle.session_state.specs.Taking.{Counts, Names, Takes}
+use Rattle.session_state.specs.Taking.{Takes}
 
 -- a step that reads nothing of the behaviours is taken on the whole state too
 pub blind_takes : (step : Step State (Unit {0})) (bs : List Behaviour) (s new : State) (r : Result (Unit {0}) Refused) → IsBlind step → Takes r new (step s) → Takes r (whole bs new) (step (whole bs s))

@@ -7,13 +7,13 @@ use Rattle.std.proofs.lemmas.List.Folds.{find_at, position_or_len-set, position_
 use Rattle.std.proofs.lemmas.List.Quantifiers.{position-Some}
 use Rattle.std.proofs.lemmas.Option.{slice_get-get_or, slice_get_past}
 use Rattle.std.proofs.lemmas.List.Sums.{prefix_len-le-length}
-use Rattle.std.specs.Prelude.{IfSome, bytes_eq, slice_get, option_map, nat_lt}
+use Rattle.std.specs.Prelude.{IfSome, bytes_eq, slice_get, option_map}
 use Rattle.std.specs.List.{position, position_or_len}
 use Rattle.std.specs.BTreeMap.{BTreeMap, get_by_text, is_at}
 use Rattle.std.specs.Map.{lookup}
 use Rattle.std.specs.Ordering.{nat_cmp}
 use Rattle.std.specs.Cmp.Lexicographic.{bytes_decides, slice_cmp}
-use Rattle.ce_algorithms.specs.State.{value_of, with_variable}
+use Rattle.ce_algorithms.specs.State.{value_of}
 use Rattle.session_state.specs.Variables.{ArePositive, Finds, highest, place}
 use Rattle.session_state.proofs.VariableLaws.{value_of-made}
 

@@ -1,4 +1,4 @@
-use Rattle.std.proofs.Common.{◌≡◌, ◌<◌, ◌≤◌, ◌++◌, ◌∷◌, [], None, false, length, ap, sym, ◌∙◌, arith}
+use Rattle.std.proofs.Common.{◌≡◌, ◌++◌, ◌∷◌, [], None, false, ap, ◌∙◌, arith}
 use Rattle.ce_frames.specs.Frames.{InBody}
 use Rattle.ce_frames.specs.Places.{Held, Body}
 use Rattle.frame_stack.specs.Frames.{first_place}

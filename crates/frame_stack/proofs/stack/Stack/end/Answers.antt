@@ -1,4 +1,4 @@
-use Rattle.std.proofs.Common.{◌≡◌, ap, sym, ◌∙◌, arith}
+use Rattle.std.proofs.Common.{ap, sym, ◌∙◌, arith}
 use Rattle.frame_stack.specs.Stacked.{Stacked, behaviours_of, below_top, frames_of}
 use Rattle.frame_stack.proofs.BodyCalls.{Leaves, falls, falls_leaves, falls_room, gone}
 use Rattle.frame_stack.proofs.Tops.{has_frame, no_other, stacked}

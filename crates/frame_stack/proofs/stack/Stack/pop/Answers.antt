@@ -1,6 +1,5 @@
-use Rattle.std.specs.Prelude.{◌≡◌, ◌<◌, ◌++◌, ◌∷◌, [], List, length}
+use Rattle.std.specs.Prelude.{◌<◌, length}
 use Rattle.std.proofs.Common.{ap, sym, subst, ◌∙◌, append-nil}
-use Rattle.ce_frames.specs.Places.{Held}
 use Rattle.frame_stack.specs.Frames.{waiting_of}
 use Rattle.frame_stack.specs.Stacked.{Stacked, HasBody, behaviours_of, frames_of}
 use Rattle.frame_stack.proofs.PushLaws.{body_on_top}

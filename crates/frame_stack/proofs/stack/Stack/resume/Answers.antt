@@ -1,4 +1,4 @@
-use Rattle.std.proofs.Common.{◌≡◌, ◌-◌, ◌∙◌, sym, arith}
+use Rattle.std.proofs.Common.{◌-◌, ◌∙◌, sym, arith}
 use Rattle.frame_stack.proofs.BodyCalls.{changed_order, has_built, has_resumed, has_spent}
 use Rattle.frame_stack.proofs.Tops.{at_top, has_frame, no_other}
 use Rattle.frame_stack.proofs.stack.Stack.resume.Goals as goal

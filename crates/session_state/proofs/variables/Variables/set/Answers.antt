@@ -1,4 +1,4 @@
-use Rattle.std.proofs.Common.{sym, ◌∙◌}
+use Rattle.std.proofs.Common.{sym}
 use Rattle.session_state.proofs.PlaceLaws.{finds-set}
 use Rattle.session_state.proofs.VariableLaws.{highest-set, positive-set}
 use Rattle.session_state.proofs.variables.Variables.set.Goals as goal
