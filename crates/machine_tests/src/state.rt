@@ -4,7 +4,6 @@ mod steps;
 
 ghost use Rattle.std.specs.Prelude.{◌≡◌, [], OnOk};
 ghost use Rattle.frame_stack.specs.Sessions.{ArePaired};
-ghost use Rattle.frame_stack.specs.Stacked.{frames_of};
 
 use ce_algorithms::Settings;
 use ce_base::{MemSink, Stop, write_all};
@@ -32,9 +31,9 @@ fn answer(
     trace: bool,
     sink: &mut MemSink,
 ) -> Result<(), Fail>
-    requires rest { frames_of stack.old ≡ [] }
+    requires rest { stack.old.frames ≡ [] }
     requires paired { ArePaired stack.old state.old }
-    ensures rest { OnOk result (frames_of stack.new ≡ []) }
+    ensures rest { OnOk result (stack.new.frames ≡ []) }
     ensures paired { OnOk result (ArePaired stack.new state.new) }
 {
     write_all(sink, b"> ")?;
@@ -57,9 +56,9 @@ fn run(
     session: &str,
     trace: bool,
 ) -> Result<MemSink, Fail>
-    requires rest { frames_of stack.old ≡ [] }
+    requires rest { stack.old.frames ≡ [] }
     requires paired { ArePaired stack.old state.old }
-    ensures rest { OnOk result (frames_of stack.new ≡ []) }
+    ensures rest { OnOk result (stack.new.frames ≡ []) }
     ensures paired { OnOk result (ArePaired stack.new state.new) }
 {
     let mut sink = MemSink::make(alloc, Vec::new(alloc));
@@ -82,9 +81,9 @@ fn compare(
     session: &str,
     trace: bool,
 ) -> Result<(), Fail>
-    requires rest { frames_of stack.old ≡ [] }
+    requires rest { stack.old.frames ≡ [] }
     requires paired { ArePaired stack.old state.old }
-    ensures rest { OnOk result (frames_of stack.new ≡ []) }
+    ensures rest { OnOk result (stack.new.frames ≡ []) }
     ensures paired { OnOk result (ArePaired stack.new state.new) }
 {
     let sink = run(rt, alloc, state, stack, session, trace)?;

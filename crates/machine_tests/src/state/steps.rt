@@ -6,7 +6,6 @@ ghost use Rattle.node_trees.specs.Nodes.{IsNode, IsNodeOrNone};
 ghost use Rattle.rule_lines.specs.Acts.{part_of};
 ghost use Rattle.rule_script.specs.Built.{is_built_part};
 ghost use Rattle.frame_stack.specs.Sessions.{ArePaired};
-ghost use Rattle.frame_stack.specs.Stacked.{frames_of};
 
 use ce_algorithms::Event;
 use ce_base::{ClassNo, CustomState, MemSink, NoMemory, NodeNo, Refused, Stop, Text};
@@ -199,9 +198,9 @@ fn make(rt: &impl Abort, alloc: Global, state: &mut State, row: &str) -> Result<
 }
 
 fn part(alloc: Global, state: &mut State, stack: &mut Stack, row: &str) -> Result<String, Fail>
-    requires rest { frames_of stack.old ≡ [] }
+    requires rest { stack.old.frames ≡ [] }
     requires paired { ArePaired stack.old state.old }
-    ensures rest { OnOk result (frames_of stack.new ≡ []) }
+    ensures rest { OnOk result (stack.new.frames ≡ []) }
     ensures paired { OnOk result (ArePaired stack.new state.new) }
 {
     match read_line(alloc, row.as_bytes()) {
@@ -308,9 +307,9 @@ pub(super) fn run_line(
     trace: bool,
     sink: &mut MemSink,
 ) -> Result<Result<End, Stop>, Fail>
-    requires rest { frames_of stack.old ≡ [] }
+    requires rest { stack.old.frames ≡ [] }
     requires paired { ArePaired stack.old state.old }
-    ensures rest { IfOk result (λ end. OnOk end (frames_of stack.new ≡ [])) }
+    ensures rest { IfOk result (λ end. OnOk end (stack.new.frames ≡ [])) }
     ensures paired { IfOk result (λ end. OnOk end (ArePaired stack.new state.new)) }
 {
     let (line, command) = cut(row);
@@ -331,9 +330,9 @@ pub(super) fn run_whole(
     trace: bool,
     sink: &mut MemSink,
 ) -> Result<String, Fail>
-    requires rest { frames_of stack.old ≡ [] }
+    requires rest { stack.old.frames ≡ [] }
     requires paired { ArePaired stack.old state.old }
-    ensures rest { OnOk result (frames_of stack.new ≡ []) }
+    ensures rest { OnOk result (stack.new.frames ≡ []) }
     ensures paired { OnOk result (ArePaired stack.new state.new) }
 {
     match run_line(alloc, state, stack, row, trace, sink)? {
@@ -350,9 +349,9 @@ pub(super) fn step(
     stack: &mut Stack,
     row: &str,
 ) -> Result<String, Fail>
-    requires rest { frames_of stack.old ≡ [] }
+    requires rest { stack.old.frames ≡ [] }
     requires paired { ArePaired stack.old state.old }
-    ensures rest { OnOk result (frames_of stack.new ≡ []) }
+    ensures rest { OnOk result (stack.new.frames ≡ []) }
     ensures paired { OnOk result (ArePaired stack.new state.new) }
 {
     let (word, _) = cut(row);

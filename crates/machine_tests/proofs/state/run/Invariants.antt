@@ -1,10 +1,9 @@
 use Rattle.std.proofs.Common.{◌≡◌, []}
 use Rattle.frame_stack.specs.Sessions.{ArePaired}
-use Rattle.frame_stack.specs.Stacked.{frames_of}
 use Rattle.machine_tests.proofs.state.run.Given as goal
 
 abbrev pub invariant-loop-row : goal.invariant-loop-row
 invariant-loop-row g l = record {
-  rest : frames_of l.stack ≡ [];
+  rest : l.stack.frames ≡ [];
   paired : ArePaired l.stack l.state;
 }
