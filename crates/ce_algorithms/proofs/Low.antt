@@ -70,7 +70,7 @@ lower = record {
   element = λ n e w. omega arith;
   defined = λ d w. omega arith;
   node = λ f w. omega arith;
-  stack = λ d entries w. omega arith;
+  stacks = λ f w. omega arith;
   spent = λ k w e. omega (arith, e);
   enqueued = enqueued_lower;
 }

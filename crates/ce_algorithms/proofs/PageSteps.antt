@@ -13,14 +13,14 @@ use Rattle.ce_registry.specs.declared.definition.Definition.{Definition}
 use Rattle.ce_algorithms.specs.Steps.{Step, Outcome, Goes, Throws, Spent, then_do, ◌>>=◌, ◌>>◌, give, done, throw, when, throw_if, throw_any, found, find_or, where_is, throw_where, refuse, for_each, read}
 use Rattle.ce_algorithms.specs.Page.{Page, Work, Element, spend, spend_from, read_page, change_page, with_forest, with_queues, with_element, with_state, with_definition}
 use Rattle.ce_algorithms.specs.Making.{with_new, make_node, make_element, make_text, make_document, make_shadow_root}
-use Rattle.ce_algorithms.specs.Enqueue.{noted, enqueue, enqueue_callback, enqueue_upgrade, enqueue_found, look_up_and_enqueue, try_upgrade}
+use Rattle.ce_algorithms.specs.Enqueue.{noted, enqueue, enqueue_callback, enqueue_upgrade, enqueue_found, try_upgrade}
 use Rattle.ce_algorithms.specs.FormChanges.{FormChange, tell_owner, tell_disabled, tell, tell_form_change, tell_at_turn, tell_others, tell_first_owner, tell_first, tell_form}
 use Rattle.ce_algorithms.specs.Mutation.{removed, remove, adopted, move_to, adopt, connected_now, inserted, put_in, insert, pre_insert}
 use Rattle.ce_algorithms.specs.Attributes.{handle_attribute_change, set_attribute, remove_there, remove_attribute}
 use Rattle.ce_algorithms.specs.Define.{with_defined, upgrade_candidates, define_name}
 use Rattle.ce_algorithms.specs.CreateLater.{make_in_state, make_later, create_later}
 use Rattle.ce_algorithms.specs.Clone.{copy_attribute, copy_node, copy_below, clone}
-use Rattle.ce_algorithms.specs.Construction.{with_stack, push_construction, pop_construction, make_custom, base_entry, base_call}
+use Rattle.ce_algorithms.specs.Construction.{with_stacks, push_construction, pop_construction, make_custom, base_entry, base_call}
 use Rattle.ce_algorithms.specs.Upgrade.{enqueue_attribute, begin_upgrade}
 use Rattle.ce_algorithms.specs.declared.deed.PageDeed.{PageDeed}
 use Rattle.ce_algorithms.specs.declared.deed.PageDeed.TheVariants as page_deeds
@@ -46,7 +46,7 @@ pub record Closed (R : Work → Work → Type 0) : Type 0 where
   pub element : (n : ℕ) (e : Element) (w : Work) → R w (on (with_element n e) w)
   pub defined : (d : Definition) (w : Work) → R w (on (with_defined d) w)
   pub node : (f : Trees) (w : Work) → R w (on (with_new f) w)
-  pub stack : (d : ℕ) (entries : List (Option ℕ)) (w : Work) → R w (on (with_stack d entries) w)
+  pub stacks : (f : List (List (Option ℕ)) → List (List (Option ℕ))) (w : Work) → R w (on (with_stacks f) w)
   pub spent : (k : ℕ) (w : Work) → w.fuel ≡ suc k → R w (record w { fuel = k })
   pub enqueued : (n : ℕ) (r : Reaction) (k : ℕ) (w : Work) → w.fuel ≡ suc k → R w (record { page = noted n r (with_queues (enqueued n r) w.page); fuel = k })
 
@@ -139,8 +139,8 @@ module _ (R : Work → Work → Type 0) (c : Closed R) where
   pub keeps_new : (f : Page → Trees) → Keeps R (change_page (λ p. with_new (f p) p))
   keeps_new f = record { at = λ w. c.node (f w.page) w }
 
-  pub keeps_stack : (d : ℕ) (entries : Page → List (Option ℕ)) → Keeps R (change_page (λ p. with_stack d (entries p) p))
-  keeps_stack d entries = record { at = λ w. c.stack d (entries w.page) w }
+  pub keeps_stacks : (f : List (List (Option ℕ)) → List (List (Option ℕ))) → Keeps R (change_page (with_stacks f))
+  keeps_stacks f = record { at = λ w. c.stacks f w }
 
   pub keeps_enqueue : (n : ℕ) (r : Reaction) → Keeps R (enqueue n r)
   keeps_enqueue n r = record { at = λ w. go w w.fuel refl }
@@ -149,7 +149,7 @@ module _ (R : Work → Work → Type 0) (c : Closed R) where
       go w zero e = c.same w
       go w (suc k) e = c.enqueued n r k w e
 
-  pub ruleset page_steps = (keeps_where_is, keeps_throw_where, keeps_refuse, keeps_find_or, keeps_bind, keeps_seq, keeps_read, keeps_read_page, keeps_done, keeps_give, keeps_when, keeps_each, keeps_throw, keeps_throw_any, keeps_throw_if, keeps_spend, keeps_forest, keeps_state, keeps_definition, keeps_defined, keeps_new, keeps_stack, keeps_enqueue)
+  pub ruleset page_steps = (keeps_where_is, keeps_throw_where, keeps_refuse, keeps_find_or, keeps_bind, keeps_seq, keeps_read, keeps_read_page, keeps_done, keeps_give, keeps_when, keeps_each, keeps_throw, keeps_throw_any, keeps_throw_if, keeps_spend, keeps_forest, keeps_state, keeps_definition, keeps_defined, keeps_new, keeps_stacks, keeps_enqueue)
 
   -- enqueues
 
@@ -163,11 +163,8 @@ module _ (R : Work → Work → Type 0) (c : Closed R) where
   keeps_enqueue_found n None = keeps_done
   keeps_enqueue_found n (Some d) = keeps_enqueue_upgrade d n
 
-  pub keeps_look_up_and_enqueue : (n : ℕ) → Keeps R (look_up_and_enqueue n)
-  keeps_look_up_and_enqueue n = search (page_steps, keeps_enqueue_found) depth 12
-
   pub keeps_try_upgrade : (n : ℕ) → Keeps R (try_upgrade n)
-  keeps_try_upgrade n = search (page_steps, keeps_look_up_and_enqueue) depth 12
+  keeps_try_upgrade n = search (page_steps, keeps_enqueue_found) depth 12
 
   -- form changes
 
@@ -251,8 +248,8 @@ module _ (R : Work → Work → Type 0) (c : Closed R) where
 
   -- definitions
 
-  pub keeps_upgrade_candidates : (name : List ℕ) (base : Option (List ℕ)) (d : ℕ) → Keeps R (upgrade_candidates name base d)
-  keeps_upgrade_candidates name base d = search (page_steps, keeps_enqueue_upgrade d) depth 12
+  pub keeps_upgrade_candidates : (d : ℕ) (x : Definition) → Keeps R (upgrade_candidates d x)
+  keeps_upgrade_candidates d x = search (page_steps, keeps_enqueue_upgrade d) depth 12
 
   pub keeps_define_name : (name : List ℕ) (class : ℕ) (facts : ClassFacts) (base : Option (List ℕ)) → Keeps R (define_name name class facts base)
   keeps_define_name name class facts base = search (page_steps, keeps_upgrade_candidates) depth 14
@@ -304,10 +301,10 @@ module _ (R : Work → Work → Type 0) (c : Closed R) where
   -- construction
 
   pub keeps_push_construction : (d n : ℕ) → Keeps R (push_construction d n)
-  keeps_push_construction d n = keeps_stack d _
+  keeps_push_construction d n = keeps_stacks _
 
   pub keeps_pop_construction : (d : ℕ) → Keeps R (pop_construction d)
-  keeps_pop_construction d = keeps_stack d _
+  keeps_pop_construction d = keeps_stacks _
 
   pub keeps_make_custom : (d : ℕ) (x : Definition) → Keeps R (make_custom d x)
   keeps_make_custom d x = search (page_steps, keeps_make_element) depth 12
@@ -315,7 +312,7 @@ module _ (R : Work → Work → Type 0) (c : Closed R) where
   pub keeps_base_entry : (d : ℕ) (x : Definition) (entries : List (Option ℕ)) → Keeps R (base_entry d x entries)
   keeps_base_entry d x [] = keeps_make_custom d x
   keeps_base_entry d x (None ∷ entries) = keeps_throw _
-  keeps_base_entry d x (Some n ∷ entries) = keeps_seq (keeps_stack d (λ _. None ∷ entries)) (keeps_give n)
+  keeps_base_entry d x (Some n ∷ entries) = keeps_seq (keeps_stacks _) (keeps_give n)
 
   pub keeps_base_call : (class : ℕ) → Keeps R (base_call class)
   keeps_base_call class = search (page_steps, keeps_base_entry) depth 14

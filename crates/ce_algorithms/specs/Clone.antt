@@ -2,6 +2,7 @@
 use Rattle.std.specs.Prelude.{ℕ, Bool, true, false, ◌||◌, List, None}
 use Rattle.ce_base.specs.declared.fault.Fault.TheVariants.{NotSupportedError}
 use Rattle.node_trees.specs.Facts.{Facts, is_document, is_element, is_shadow_root}
+use Rattle.node_trees.specs.Links.{below}
 use Rattle.node_trees.specs.Trees.{Trees, none, tree, tree_of}
 use Rattle.node_trees.specs.Spots.{facts_at, kind_at}
 use Rattle.ce_algorithms.specs.Steps.{Step, ◌>>=◌, ◌>>◌, give, done, when, throw_where, for_each}
@@ -38,11 +39,6 @@ copy_below parent (tree m x shadow children rest) = do
   pre_insert parent n None
   copy_below n children
   copy_below parent rest
-
--- the trees of the root's children
-abbrev pub below : Trees → Trees
-below none = none
-below (tree m x shadow children rest) = children
 
 -- a document or a shadow root is not cloned
 abbrev pub clone : Bool → ℕ → Step Work ℕ

@@ -21,9 +21,8 @@ pub record Page : Type 0 where
   pub forest : Trees  -- all nodes; node 1 is the page's document
   pub elements : List Element  -- a row for each node, that of node 1 first; of a node that is no element it stays blank
   pub definitions : List Definition  -- the custom element registry, in the order of defining
-  pub stacks : List (List (Option ℕ))  -- the construction stack of each definition, the last entry first; None is the already constructed marker
+  pub stacks : List (List (Option ℕ))  -- the construction stacks of the definitions
   pub queues : Queues
-  pub upgrades : Bool  -- whether a definition, an insertion and a call of `upgrade` upgrade elements that are there already
   pub notes : List Note  -- the enqueues that were made and not told yet, the oldest first
 
 -- a page, and the fuel that is left
@@ -56,14 +55,13 @@ abbrev pub uncustomized : Element
 uncustomized = record { state = Uncustomized; definition = None }
 
 -- a page with its document alone
-abbrev pub blank_page : Bool → Page
-blank_page upgrades = record {
+abbrev pub blank_page : Page
+blank_page = record {
   forest = single 1 (blank Document 1);
   elements = uncustomized ∷ [];
   definitions = [];
   stacks = [];
   queues = no_queues;
-  upgrades = upgrades;
   notes = [];
 }
 

@@ -4,9 +4,9 @@ use Rattle.std.specs.Str.{str_to_ascii_lowercase}
 use Rattle.ce_base.specs.declared.fault.Fault.TheVariants.{NotSupportedError, HierarchyRequestError, NotFoundError, InvalidCharacterError}
 use Rattle.element_names.specs.Names.{custom_name, local_name, attr_name}
 use Rattle.element_names.specs.Hosts.{shadow_host}
-use Rattle.node_trees.specs.Facts.{is_document, is_element, is_shadow_root}
+use Rattle.node_trees.specs.Facts.{is_document, is_shadow_root}
 use Rattle.node_trees.specs.Trees.{is_number}
-use Rattle.node_trees.specs.Orders.{order_of}
+use Rattle.node_trees.specs.Candidates.{elements}
 use Rattle.node_trees.specs.Spots.{facts_at, kind_at, parent_at, shadow_at}
 use Rattle.rule_lines.specs.declared.op.Op.{Op}
 use Rattle.ce_algorithms.specs.declared.deed.Deed.{Deed}
@@ -87,14 +87,11 @@ define_element name k base = do
   on_page (define_name name k c.facts base)
   change_class k (λ c. record c { frozen = true })
 
-abbrev pub upgrade_one : ℕ → Step Work (Unit {0})
-upgrade_one n = where_is (λ w. is_element (kind_at w.page.forest n)) (try_upgrade n)
-
 -- each element of the shadow-including inclusive descendants (HTML Standard, section "The CustomElementRegistry interface", `upgrade`)
 abbrev pub upgrade_all : ℕ → Step Work (Unit {0})
 upgrade_all n = do
-  walk ← page.read_page (λ p. order_of p.forest n)
-  for_each walk upgrade_one
+  walk ← page.read_page (λ p. elements p.forest n)
+  for_each walk try_upgrade
 
 -- what is done, and what that gives
 

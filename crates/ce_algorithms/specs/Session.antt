@@ -69,9 +69,9 @@ run_lines again line (l ∷ ls) = do
   run_line again line l
   run_lines again (line + 1) ls
 
--- the state before the first line, where elements are upgraded or not
-abbrev pub start : Bool → Settings → State
-start upgrades settings = record { page = blank_page upgrades; fuel = settings.fuel; classes = []; variables = []; log = [] }
+-- the state before the first line
+abbrev pub start : Settings → State
+start settings = record { page = blank_page; fuel = settings.fuel; classes = []; variables = []; log = [] }
 
 abbrev pub log_of : {A : Type 0} → Outcome State A → List Event
 log_of (Goes a s) = s.log

@@ -13,9 +13,9 @@ use Rattle.ce_algorithms.specs.Model.{model}
 use Rattle.ce_algorithms.specs.Session.{run_lines, start, log_of}
 use Rattle.ce_algorithms.specs.Text.{is_trace}
 
--- the session of a script on a page where elements are upgraded, with so much fuel
+-- the session of a script, with so much fuel
 abbrev pub worked : ℕ → List (Result Said Bad) → Outcome State (Unit {0})
-worked fuel script = run_lines model 1 script (start true (record { fuel = fuel }))
+worked fuel script = run_lines model 1 script (start (record { fuel = fuel }))
 
 -- its log, with ample fuel
 abbrev pub traced : List (Result Said Bad) → List Event

@@ -52,7 +52,11 @@ pub fn no_code_has_the_unbuilt_deed(deed: &Deed)
     ensures { deed.now ≡ unbuilt_deed → ⊥ }
 {
     match deed {
-        Deed::Let { var: _, node } => no_code_has_no_node(*node),
+        Deed::Ask {
+            word: _,
+            node,
+            name: _,
+        } => no_code_has_no_node(*node),
         _ => (),
     }
 }

@@ -14,7 +14,8 @@ use Rattle.ce_algorithms.specs.declared.event.Given.TheVariants.{Nothing, Node, 
 use Rattle.ce_algorithms.specs.Steps.{Step, Outcome, Goes, Throws, Spent, then_do, give, catch_in, attempt_in}
 use Rattle.ce_algorithms.specs.Page.{with_state, state_of, definition_at, with_definition}
 use Rattle.ce_algorithms.specs.Enqueue.{lookup_in}
-use Rattle.ce_algorithms.specs.Construction.{base_call, stack_of, with_stack, without_last}
+use Rattle.construction.specs.Stacks.{popped as popped_stacks}
+use Rattle.ce_algorithms.specs.Construction.{base_call, with_stacks}
 use Rattle.ce_algorithms.specs.State.{State, Class, class_of, logged, on_page, with_work}
 use Rattle.ce_algorithms.specs.Values.{Args, no_args}
 use Rattle.ce_algorithms.specs.Body.{actions_of, body}
@@ -138,7 +139,7 @@ threw_then n x next s = then_assoc (drop_reactions n (record s { page = with_def
 
 -- the state after the construction stack has lost its entry
 abbrev popped : ℕ → State → State
-popped d s = with_work (record { page = with_stack d (without_last (stack_of s.page d)) s.page; fuel = s.fuel }) s
+popped d s = with_work (record { page = with_stacks (popped_stacks d) s.page; fuel = s.fuel }) s
 
 pub upgraded_comes : (n d : ℕ) (o : Outcome State (Unit {0})) → comes (turn_after (attempt_in o) (upgraded_turn n d)) ≡ nothing (upgraded n d o)
 upgraded_comes n d (Goes x s) = comes_after (upgrade_ends n (popped d s)) (λ _. comes_down (give Nothing))

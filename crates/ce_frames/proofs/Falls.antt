@@ -47,7 +47,7 @@ sinks = record {
   element = λ n e w. omega arith;
   defined = λ d w. omega arith;
   node = λ f w. omega arith;
-  stack = λ d entries w. omega arith;
+  stacks = λ f w. omega arith;
   spent = λ k w is. omega (arith, is);
   enqueued = enqueued_sinks;
 }

@@ -39,6 +39,10 @@ local_of name (Some base) = base
 abbrev pub is_autonomous : Definition → Bool
 is_autonomous d = bytes_eq d.local d.name
 
+-- the `is` value of the elements that it is for: an autonomous custom element has none
+abbrev pub is_value_of : Definition → Option (List ℕ)
+is_value_of d = if is_autonomous d then None else Some d.name
+
 -- the definition with this name and this local name
 abbrev pub by_names : List Definition → List ℕ → List ℕ → Option ℕ
 by_names ds name local = position (λ (d : Definition). bytes_eq d.name name && bytes_eq d.local local) ds

@@ -1,4 +1,7 @@
 // A custom element definition.
+ghost use Rattle.std.specs.Prelude.{◌≡◌, option_copied};
+ghost use Rattle.ce_registry.specs.Registry.{is_value_of};
+
 use crate::ClassFacts;
 use ce_base::{ClassNo, Text};
 
@@ -14,4 +17,17 @@ pub struct Definition {
     pub class: ClassNo,
     /// What it took over from the class.
     pub facts: ClassFacts,
+}
+
+impl Definition {
+    /// The `is` value of the elements that it is for (HTML Standard, section "Core concepts"). None exactly where
+    /// it is autonomous.
+    pub fn is_value(&self) -> Option<&str>
+        ensures { option_copied result ≡ is_value_of self.now }
+    {
+        if self.local.as_str() == self.name.as_str() {
+            return None;
+        }
+        Some(self.name.as_str())
+    }
 }

@@ -26,10 +26,14 @@ grown (suc count) (entries ∷ stacks) = entries ∷ grown count stacks
 abbrev pub pushed : ℕ → ℕ → List (List (Option ℕ)) → List (List (Option ℕ))
 pushed d n stacks = with_stack d (Some n ∷ stack_of d stacks) (grown (d + 1) stacks)
 
--- the last entry removed (section "Upgrades", "upgrade an element")
 abbrev pub without_last : List (Option ℕ) → List (Option ℕ)
 without_last [] = []
 without_last (entry ∷ entries) = entries
+
+-- the last entry removed from a definition's construction stack (section "Upgrades", "upgrade an element"); from an
+-- empty one nothing is
+abbrev pub popped : ℕ → List (List (Option ℕ)) → List (List (Option ℕ))
+popped d stacks = with_stack d (without_last (stack_of d stacks)) stacks
 
 -- what the last entry is for the base call of a constructor (section "HTML element constructors")
 abbrev pub base_of : List (Option ℕ) → Base

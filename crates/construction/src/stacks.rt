@@ -1,6 +1,6 @@
 // The construction stacks of all definitions.
-ghost use Rattle.std.specs.Prelude.{◌≡◌, ◌+◌, ◌<◌, ◌∷◌, [], ℕ, length, vec_len, OnOk, Some};
-ghost use Rattle.construction.specs.Stacks.{base_of, grown, marked, pushed, stack_of, with_marker, with_stack, without_last};
+ghost use Rattle.std.specs.Prelude.{◌≡◌, ◌+◌, ◌<◌, ◌∷◌, [], ℕ, vec_len, OnOk, Some};
+ghost use Rattle.construction.specs.Stacks.{base_of, grown, marked, popped, pushed, stack_of, with_marker, without_last};
 
 use crate::Base;
 use crate::stack::Stack;
@@ -69,14 +69,17 @@ impl Stacks {
     }
 
     /// Takes the last entry of a definition's construction stack away (HTML Standard, section "Upgrades",
-    /// "upgrade an element").
+    /// "upgrade an element"). From an empty stack it takes nothing.
     pub fn pop(&mut self, d: DefNo)
-        requires { 0 < length (stack_of d self.old) }
-        ensures stacks { self.new ≡ with_stack d (without_last (stack_of d self.old)) self.old }
+        ensures stacks { self.new ≡ popped d self.old }
         ensures stack { stack_of d self.new ≡ without_last (stack_of d self.old) }
         ensures others { (e : ℕ) → ¬ (e ≡ d) → stack_of e self.new ≡ stack_of e self.old }
     {
-        let stack = &mut self.stacks[d.0 as usize];
+        let place = d.0 as usize;
+        if place >= self.stacks.len() {
+            return;
+        }
+        let stack = &mut self.stacks[place];
         stack.pop();
     }
 }

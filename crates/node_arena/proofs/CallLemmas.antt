@@ -48,6 +48,10 @@ module _ (old now new after : List Node) (f : Trees) (p n : ℕ) (b : Option ℕ
   inserted_or_not (Ok u) ok err = (_, inserted ok)
   inserted_or_not (Err e) ok err = (f, not_inserted err)
 
+-- the rows that `insert` wrote
+pub regrafted : {old now new after : List Node} {p n : ℕ} {b : Option ℕ} → now ≡ old → after ≡ new → Grafted (rows now) (rows new) p n b → Grafted (rows old) (rows after) p n b
+regrafted same back g = rw back (rw same at g)
+
 -- the parent of a child
 pub parent_is : (rs : List Spot) (f : Trees) (p n : ℕ) → IsForest rs f → IsNode f n → Some p ≡ parent_at f n → IsNode f p × p ≢ n
 parent_is rs f p n a at is =

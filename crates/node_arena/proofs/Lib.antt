@@ -46,4 +46,7 @@ pub mod ForestLemmas
 pub mod ReadLemmas
 pub mod MakeLemmas
 pub mod LinkLemmas
+pub mod LinkedBelow
+pub mod SpotLemmas
+pub mod KindLemmas
 pub mod CallLemmas

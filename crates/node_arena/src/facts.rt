@@ -5,6 +5,8 @@ ghost use Rattle.node_trees.specs.Facts.{is_element, value_in, with_value, witho
 ghost use Rattle.node_trees.specs.Trees.{with_attribute, without_attribute, with_document};
 ghost use Rattle.node_trees.specs.Spots.{parent_at, Spot, facts_at, kind_at, attribute_at};
 ghost use Rattle.node_trees.specs.Nodes.{size, IsNode};
+ghost use Rattle.node_trees.specs.Kinds.{KeepsKinds};
+ghost use Rattle.node_trees.specs.Links.{KeepsSpots};
 ghost use Rattle.node_trees.specs.Insertion.{may_insert};
 ghost use Rattle.node_arena.specs.NodeRows.{rows, row};
 ghost use Rattle.node_arena.specs.Rows.{row_at, Changed};
@@ -92,6 +94,8 @@ impl Tree {
         ensures set { OnOk result (self.new ≡ with_attribute node name value self.old) }
         ensures was { IfOk result (λ old. old ≡ attribute_at self.old node name) }
         ensures size { size self.new ≡ size self.old }
+        ensures kinds { KeepsKinds self.old self.new }
+        ensures others { KeepsSpots node node self.old self.new }
         ensures err { OnErr result (self.new ≡ self.old) }
     {
         set_attribute(alloc, &mut self.nodes, node, name, value)
@@ -105,6 +109,8 @@ impl Tree {
         ensures left { self.new ≡ without_attribute node name.now self.old }
         ensures was { result ≡ attribute_at self.old node name.now }
         ensures size { size self.new ≡ size self.old }
+        ensures kinds { KeepsKinds self.old self.new }
+        ensures others { KeepsSpots node node self.old self.new }
     {
         remove_attribute(&mut self.nodes, node, name)
     }
@@ -114,6 +120,7 @@ impl Tree {
         requires { IsNode self.old node }
         ensures document { self.new ≡ with_document node document self.old }
         ensures size { size self.new ≡ size self.old }
+        ensures kinds { KeepsKinds self.old self.new }
         ensures parents { (n : ℕ) → parent_at self.new n ≡ parent_at self.old n }
         ensures may { (p n : ℕ) (b : Option ℕ) → may_insert self.new p n b ≡ may_insert self.old p n b }
     {

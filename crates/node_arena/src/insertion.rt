@@ -5,6 +5,8 @@ ghost use Rattle.node_trees.specs.Trees.{graft};
 ghost use Rattle.node_trees.specs.Spots.{parent_at};
 ghost use Rattle.node_trees.specs.Insertion.{may_insert, has_element_child};
 ghost use Rattle.node_trees.specs.Nodes.{size, IsNode, IsNodeOrNone};
+ghost use Rattle.node_trees.specs.Kinds.{KeepsKinds};
+ghost use Rattle.node_trees.specs.Links.{KeepsSpots};
 ghost use Rattle.node_arena.specs.NodeRows.{rows};
 ghost use Rattle.node_arena.specs.Rows.{Grafted};
 
@@ -104,6 +106,8 @@ impl Tree {
         requires free { parent_at self.old node ≡ None }
         ensures ok { OnOk result (self.new ≡ graft self.old parent node before) }
         ensures size { size self.new ≡ size self.old }
+        ensures kinds { KeepsKinds self.old self.new }
+        ensures others { OnOk result (KeepsSpots parent node self.old self.new) }
         ensures err { OnErr result (self.new ≡ self.old) }
     {
         link(&mut self.nodes, parent, node, before)

@@ -1,10 +1,11 @@
 // New nodes.
-ghost use Rattle.std.specs.Prelude.{◌≡◌, ◌+◌, ◌<◌, ◌≤◌, ◌∷◌, [], None, false, length, IfOk, OnOk, OnErr};
+ghost use Rattle.std.specs.Prelude.{◌≡◌, ℕ, ◌+◌, ◌<◌, ◌≤◌, ◌∷◌, [], None, false, length, IfOk, OnOk, OnErr};
 ghost use Rattle.node_trees.specs.declared.kind.NodeKind.TheVariants.{Document, Element, ShadowRoot};
 ghost use Rattle.node_trees.specs.Facts.{blank, new_element, new_text, is_shadow_root};
 ghost use Rattle.node_trees.specs.Trees.{single, with_node, with_shadow};
-ghost use Rattle.node_trees.specs.Spots.{kind_at, document_at, parent_at, shadow_at};
+ghost use Rattle.node_trees.specs.Spots.{spot_at, kind_at, document_at, parent_at, shadow_at};
 ghost use Rattle.node_trees.specs.Nodes.{size, surplus_at, IsNode};
+ghost use Rattle.node_trees.specs.Kinds.{IsElement, KeepsKinds};
 ghost use Rattle.node_arena.specs.NodeRows.{facts_of, rows, IsLoose, IsRootOf};
 ghost use Rattle.node_arena.specs.Rows.{Attached};
 
@@ -47,7 +48,10 @@ impl Tree {
         requires parts { surplus_at (facts_of node) ≡ 0 }
         ensures number { IfOk result (λ n. n ≡ size self.old + 1) }
         ensures size { OnOk result (size self.new ≡ size self.old + 1) }
+        ensures kinds { KeepsKinds self.old self.new }
+        ensures others { (m : ℕ) → IsNode self.old m → spot_at self.new m ≡ spot_at self.old m }
         ensures free { IfOk result (λ n. parent_at self.new n ≡ None) }
+        ensures made { IfOk result (λ n. IsNode self.new n × (kind_at self.new n ≡ node.kind)) }
         ensures ok { OnOk result (self.new ≡ with_node (size self.old + 1) (facts_of node) self.old) }
         ensures err { OnErr result (self.new ≡ self.old) }
     {
@@ -60,6 +64,8 @@ impl Tree {
     pub fn make_document(&mut self, alloc: Global) -> Result<NodeNo, NoMemory>
         ensures number { IfOk result (λ n. n ≡ size self.old + 1) }
         ensures size { OnOk result (size self.new ≡ size self.old + 1) }
+        ensures kinds { KeepsKinds self.old self.new }
+        ensures others { (m : ℕ) → IsNode self.old m → spot_at self.new m ≡ spot_at self.old m }
         ensures free { IfOk result (λ n. parent_at self.new n ≡ None) }
         ensures made { OnOk result (self.new ≡ with_node (size self.old + 1) (blank Document (size self.old + 1)) self.old) }
         ensures err { OnErr result (self.new ≡ self.old) }
@@ -79,7 +85,10 @@ impl Tree {
     ) -> Result<NodeNo, NoMemory>
         ensures number { IfOk result (λ n. n ≡ size self.old + 1) }
         ensures size { OnOk result (size self.new ≡ size self.old + 1) }
+        ensures kinds { KeepsKinds self.old self.new }
+        ensures others { (m : ℕ) → IsNode self.old m → spot_at self.new m ≡ spot_at self.old m }
         ensures free { IfOk result (λ n. parent_at self.new n ≡ None) }
+        ensures element { IfOk result (λ n. IsElement self.new n) }
         ensures made { OnOk result (self.new ≡ with_node (size self.old + 1) (new_element local is_value document) self.old) }
         ensures err { OnErr result (self.new ≡ self.old) }
     {
@@ -99,6 +108,8 @@ impl Tree {
     ) -> Result<NodeNo, NoMemory>
         ensures number { IfOk result (λ n. n ≡ size self.old + 1) }
         ensures size { OnOk result (size self.new ≡ size self.old + 1) }
+        ensures kinds { KeepsKinds self.old self.new }
+        ensures others { (m : ℕ) → IsNode self.old m → spot_at self.new m ≡ spot_at self.old m }
         ensures free { IfOk result (λ n. parent_at self.new n ≡ None) }
         ensures made { OnOk result (self.new ≡ with_node (size self.old + 1) (new_text chars document) self.old) }
         ensures err { OnErr result (self.new ≡ self.old) }
@@ -116,6 +127,7 @@ impl Tree {
         requires bare { shadow_at self.old host ≡ None }
         ensures number { IfOk result (λ n. n ≡ size self.old + 1) }
         ensures size { OnOk result (size self.new ≡ size self.old + 1) }
+        ensures kinds { KeepsKinds self.old self.new }
         ensures made { OnOk result (self.new ≡ with_shadow host (single (size self.old + 1) (blank ShadowRoot (document_at self.old host))) self.old) }
         ensures err { OnErr result (self.new ≡ self.old) }
     {

@@ -5,6 +5,7 @@ ghost use Rattle.node_trees.specs.Trees.{tree_of};
 ghost use Rattle.node_trees.specs.Spots.{spot, facts_at, kind_at, attribute_at, document_at, parent_at, host_at, shadow_at, children_at, first_child_at, next_sibling_at};
 ghost use Rattle.node_trees.specs.Orders.{order};
 ghost use Rattle.node_trees.specs.Nodes.{size, HasOwnParts, IsNode, IsNodeOrNone, IsTidy};
+ghost use Rattle.node_trees.specs.Links.{below, AreLinked};
 ghost use Rattle.node_arena.specs.NodeRows.{row, text_in};
 ghost use Rattle.node_arena.specs.Walks.{above, orders, AreNodes, IsUp};
 
@@ -152,6 +153,9 @@ impl Tree {
         requires { IsNode self.now n }
         ensures child { result ≡ first_child_at self.now n }
         ensures node { IsNodeOrNone self.now result }
+
+        // The trees of the children are found from the first child on, by first children and next siblings.
+        ensures linked { AreLinked self.now (first_child_at self.now n) (below (tree_of n self.now)) }
     {
         self.node(n).children.first().copied()
     }

@@ -4,6 +4,7 @@ ghost use Rattle.node_trees.specs.Trees.{cut};
 ghost use Rattle.node_trees.specs.Spots.{next_sibling_at, parent_at};
 ghost use Rattle.node_trees.specs.Insertion.{may_insert};
 ghost use Rattle.node_trees.specs.Nodes.{size, IsNode};
+ghost use Rattle.node_trees.specs.Kinds.{KeepsKinds};
 ghost use Rattle.node_arena.specs.NodeRows.{rows};
 ghost use Rattle.node_arena.specs.Rows.{Severed};
 
@@ -33,6 +34,7 @@ impl Tree {
         requires placed { IsSome (parent_at self.old node) }
         ensures cut { self.new ≡ cut self.old node }
         ensures size { size self.new ≡ size self.old }
+        ensures kinds { KeepsKinds self.old self.new }
         ensures free { parent_at self.new node ≡ None }
 
         // An insertion of this node that was allowed is still allowed; where it was to go before itself, its next

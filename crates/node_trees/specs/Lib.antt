@@ -6,5 +6,8 @@ pub mod Paths
 pub mod Insertion
 pub mod Ids
 pub mod Nodes
+pub mod Candidates
+pub mod Kinds
+pub mod Links
 pub mod TreesCode
 pub mod Worked

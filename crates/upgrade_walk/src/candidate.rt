@@ -2,7 +2,7 @@
 ghost use Rattle.std.specs.Prelude.{◌≡◌, All, IfOk, filter, option_copied};
 ghost use Rattle.node_trees.specs.Nodes.{IsNode};
 ghost use Rattle.node_trees.specs.Spots.{facts_at};
-ghost use Rattle.upgrade_walk.specs.Candidates.{candidates, has_is_value, is_candidate};
+ghost use Rattle.node_trees.specs.Candidates.{candidates, has_is_value, is_candidate};
 
 use crate::place::{is_element, keep_where, node_at};
 use ce_base::{NoMemory, NodeNo, Nodes};

@@ -3,7 +3,7 @@ ghost use Rattle.std.specs.Prelude.{◌≡◌, All, IfOk, filter};
 ghost use Rattle.node_trees.specs.Facts.{is_element};
 ghost use Rattle.node_trees.specs.Nodes.{IsNode};
 ghost use Rattle.node_trees.specs.Spots.{kind_at};
-ghost use Rattle.upgrade_walk.specs.Candidates.{elements};
+ghost use Rattle.node_trees.specs.Candidates.{elements};
 
 use crate::place::{is_element, keep_where, node_at};
 use ce_base::{NoMemory, NodeNo, Nodes};

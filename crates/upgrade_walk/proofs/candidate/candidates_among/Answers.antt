@@ -1,7 +1,7 @@
 use Rattle.std.specs.Prelude.{option_copied}
 use Rattle.node_trees.specs.Nodes.{IsNode}
 use Rattle.node_trees.specs.Spots.{facts_at}
-use Rattle.upgrade_walk.specs.Candidates.{is_candidate}
+use Rattle.node_trees.specs.Candidates.{is_candidate}
 use Rattle.upgrade_walk.proofs.FilterLemmas.{filter_next, filter_holds}
 use Rattle.upgrade_walk.proofs.candidate.candidates_among.Goals as goal
 

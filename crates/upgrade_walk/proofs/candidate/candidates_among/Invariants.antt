@@ -1,7 +1,7 @@
 use Rattle.std.proofs.Common.{◌≡◌, take}
 use Rattle.std.specs.Prelude.{filter, option_copied}
 use Rattle.node_trees.specs.Spots.{facts_at}
-use Rattle.upgrade_walk.specs.Candidates.{is_candidate}
+use Rattle.node_trees.specs.Candidates.{is_candidate}
 use Rattle.upgrade_walk.proofs.candidate.candidates_among.Given as goal
 
 abbrev pub invariant-loop-i : goal.invariant-loop-i

@@ -4,6 +4,8 @@ use Rattle.std.proofs.lemmas.Result.{err_from_is_err_and}
 use Rattle.node_arena.specs.NodeRows.{row, facts_of}
 use Rattle.node_arena.specs.Seen.{seen_fact, seen_is, seen_size}
 use Rattle.node_arena.proofs.CallLemmas.{pushed, pushed_or_not, new_free}
+use Rattle.node_arena.proofs.KindLemmas.{kinds-same, kinds-new, kind-new}
+use Rattle.node_arena.proofs.SpotLemmas.{spots-same, spot_at-new}
 use Rattle.node_arena.proofs.tree.Tree.add.Goals as goal
 
 pub invariant_of-self-inside : goal.invariant_of-self-inside
@@ -30,3 +32,18 @@ pub returns-clause-free : goal.returns-clause-free
 returns-clause-free c =
     let a = seen_fact _ _ _ c.self.view_is in
     rw (returns-clause-ok c, returns-clause-number c) (new_free _ c.args.self.now (facts_of c.args.node) a)
+
+pub returns-in_err-push-clause-kinds : goal.returns-in_err-push-clause-kinds
+returns-in_err-push-clause-kinds c = kinds-same _ _ (seen_is _ _ _ (rw c.in_err-push.ensures.items (seen_fact _ _ _ c.self.view_is)))
+
+pub returns-clause-kinds : goal.returns-clause-kinds
+returns-clause-kinds c = kinds-new _ _ _ _ (seen_fact _ _ _ c.self.view_is).tidy (returns-clause-ok c)
+
+pub returns-clause-made : goal.returns-clause-made
+returns-clause-made c = kind-new (facts_of c.args.node) _ _ _ (seen_fact _ _ _ c.self.view_is).tidy (returns-clause-ok c) (returns-clause-number c)
+
+pub returns-in_err-push-clause-others : goal.returns-in_err-push-clause-others
+returns-in_err-push-clause-others c = λ m at. spots-same _ _ m (seen_is _ _ _ (rw c.in_err-push.ensures.items (seen_fact _ _ _ c.self.view_is)))
+
+pub returns-clause-others : goal.returns-clause-others
+returns-clause-others c = λ m at. spots-same _ _ m (returns-clause-ok c) ∙ spot_at-new _ _ _ m (seen_fact _ _ _ c.self.view_is).tidy at

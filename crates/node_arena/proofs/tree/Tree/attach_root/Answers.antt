@@ -1,4 +1,5 @@
-use Rattle.std.proofs.Common.{◌≡◌, ◌+◌, ◌∙◌, arith, ap, subst, length}
+use Rattle.std.proofs.Common.{◌≡◌, ◌+◌, ◌∙◌, arith, ap, sym, refl, subst, length}
+use Rattle.std.proofs.lemmas.List.{length-map}
 use Rattle.std.proofs.lemmas.Result.{on_ok_weaker, on_err_weaker, IfOk-weaker}
 use Rattle.node_trees.specs.declared.kind.NodeKind.TheVariants.{ShadowRoot}
 use Rattle.node_trees.specs.Facts.{blank, is_shadow_root}
@@ -6,10 +7,11 @@ use Rattle.node_trees.specs.Trees.{single, with_shadow}
 use Rattle.node_trees.specs.Spots.{document_at}
 use Rattle.node_trees.specs.Nodes.{size, surplus_at}
 use Rattle.node_arena.specs.Rows.{IsForest}
-use Rattle.node_arena.specs.NodeRows.{facts_of, rows}
+use Rattle.node_arena.specs.NodeRows.{facts_of, row, rows}
 use Rattle.node_arena.specs.Seen.{seen_fact, seen_is, seen_size}
 use Rattle.node_arena.proofs.CallLemmas.{attached_forest, attached_or_not, counts}
 use Rattle.node_arena.proofs.ReadLemmas.{in_range}
+use Rattle.node_arena.proofs.KindLemmas.{by_result, kinds-same, kinds-attached}
 use Rattle.node_arena.proofs.tree.Tree.attach_root.Goals as goal
 
 pub attach-requires-clause-host : goal.attach-requires-clause-host
@@ -34,3 +36,7 @@ returns-clause-made c =
 
 pub returns-clause-err : goal.returns-clause-err
 returns-clause-err c = on_err_weaker c.attach.result (λ g. seen_is _ _ _ (rw g (seen_fact _ _ _ c.self.view_is))) c.attach.ensures.err
+
+pub returns-clause-kinds : goal.returns-clause-kinds
+returns-clause-kinds c =
+    by_result c.attach.result (λ g. kinds-attached _ _ _ _ _ _ _ (seen_fact _ _ _ c.self.view_is) (seen_fact _ _ _ refl) (ap (λ v. v + 1) (sym (length-map c.self.inside.nodes.items row))) g) (kinds-same _ _) c.attach.ensures.ok (returns-clause-err c)

@@ -1,9 +1,11 @@
-use Rattle.std.proofs.Common.{◌∙◌, arith, ap, sym}
+use Rattle.std.proofs.Common.{◌∙◌, arith, ap, sym, refl}
 use Rattle.node_trees.specs.Facts.{value_in, without_value}
 use Rattle.node_arena.specs.Seen.{seen_fact, seen_is, seen_size}
 use Rattle.node_arena.proofs.CallLemmas.{size_written, written, altered, own_row}
 use Rattle.node_arena.proofs.ReadLemmas.{in_range}
 use Rattle.node_arena.proofs.Surplus.{keeps-attributes}
+use Rattle.node_arena.proofs.KindLemmas.{kinds-with}
+use Rattle.node_arena.proofs.SpotLemmas.{spots-with}
 use Rattle.node_arena.proofs.tree.Tree.del_attr.Goals as goal
 
 pub remove_attribute-requires : goal.remove_attribute-requires
@@ -33,3 +35,9 @@ returns-clause-was c =
 pub returns-clause-size : goal.returns-clause-size
 returns-clause-size c =
     seen_size _ _ ∙ size_written _ _ _ _ _ (seen_fact _ _ _ c.self.view_is) c.deref_mut.ensures.value (written _ _ _ _ c.deref_mut.ensures.value c.self.inside.nodes.ok.0 c.remove_attribute.auto.nodes) c.remove_attribute.auto.nodes
+
+pub returns-clause-kinds : goal.returns-clause-kinds
+returns-clause-kinds c = kinds-with c.args.node (λ x. record x { attributes = without_value c.args.name.now x.attributes }) _ _ (λ x. refl) (returns-clause-left c)
+
+pub returns-clause-others : goal.returns-clause-others
+returns-clause-others c = spots-with c.args.node (λ x. record x { attributes = without_value c.args.name.now x.attributes }) _ _ (returns-clause-left c)

@@ -1,8 +1,10 @@
-use Rattle.std.proofs.Common.{◌∙◌, arith}
+use Rattle.std.proofs.Common.{◌∙◌, arith, refl}
 use Rattle.std.proofs.lemmas.Result.{on_ok_weaker, on_err_weaker}
 use Rattle.node_arena.specs.Seen.{seen_fact, seen_is, seen_size}
-use Rattle.node_arena.proofs.CallLemmas.{size_written, written, inserted, not_inserted, inserted_or_not, apart_of}
+use Rattle.node_arena.proofs.CallLemmas.{size_written, written, regrafted, inserted, not_inserted, inserted_or_not, apart_of}
 use Rattle.node_arena.proofs.ReadLemmas.{in_range}
+use Rattle.node_arena.proofs.KindLemmas.{by_result, kinds-same, kinds-grafted}
+use Rattle.node_arena.proofs.SpotLemmas.{spots-grafted}
 use Rattle.node_arena.proofs.tree.Tree.insert.Goals as goal
 
 pub link-requires-clause-parent : goal.link-requires-clause-parent
@@ -38,3 +40,13 @@ returns-clause-err c =
 pub returns-clause-size : goal.returns-clause-size
 returns-clause-size c =
     seen_size _ _ ∙ size_written _ _ _ _ _ (seen_fact _ _ _ c.self.view_is) c.deref_mut.ensures.value (written _ _ _ _ c.deref_mut.ensures.value c.self.inside.nodes.ok.0 c.link.auto.nodes) c.link.auto.nodes
+
+pub returns-clause-kinds : goal.returns-clause-kinds
+returns-clause-kinds c =
+    by_result c.link.result (λ g. kinds-grafted _ _ _ _ _ _ _ (seen_fact _ _ _ c.self.view_is) (seen_fact _ _ _ refl)
+    (regrafted c.deref_mut.ensures.value (written _ _ _ _ c.deref_mut.ensures.value c.self.inside.nodes.ok.0 c.link.auto.nodes) g)) (kinds-same _ _) c.link.ensures.ok (returns-clause-err c)
+
+pub returns-clause-others : goal.returns-clause-others
+returns-clause-others c =
+    on_ok_weaker c.link.result (λ g. spots-grafted _ _ _ _ _ _ _ (seen_fact _ _ _ c.self.view_is) (seen_fact _ _ _ refl)
+    (regrafted c.deref_mut.ensures.value (written _ _ _ _ c.deref_mut.ensures.value c.self.inside.nodes.ok.0 c.link.auto.nodes) g)) c.link.ensures.ok

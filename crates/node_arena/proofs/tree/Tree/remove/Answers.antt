@@ -4,6 +4,7 @@ use Rattle.node_arena.proofs.CallLemmas.{size_written, written, removed, parent_
 use Rattle.node_arena.proofs.ReadLemmas.{in_range}
 use Rattle.node_arena.proofs.CutReads.{parent_at-cut-here}
 use Rattle.node_arena.proofs.AllowedCut.{may_insert-cut, may_insert-cut-itself}
+use Rattle.node_arena.proofs.KindLemmas.{kinds-cut}
 use Rattle.node_arena.proofs.tree.Tree.remove.Goals as goal
 
 pub unlink-requires-clause-parent : goal.unlink-requires-clause-parent
@@ -46,3 +47,6 @@ returns-in-Some-clause-may_in_place c = λ p at may. rw (returns-in-Some-clause-
 
 pub returns-in-Some-clause-free : goal.returns-in-Some-clause-free
 returns-in-Some-clause-free c = rw (returns-in-Some-clause-cut c) (parent_at-cut-here c.args.self.now c.args.node (seen_fact _ _ _ c.self.view_is).tidy c.requires.node)
+
+pub returns-in-Some-clause-kinds : goal.returns-in-Some-clause-kinds
+returns-in-Some-clause-kinds c = kinds-cut _ _ _ (seen_fact _ _ _ c.self.view_is).tidy c.requires.node (returns-in-Some-clause-cut c)

@@ -1,4 +1,4 @@
-use Rattle.std.proofs.Common.{◌≡◌, ◌∙◌, arith, ap, sym}
+use Rattle.std.proofs.Common.{◌≡◌, ◌∙◌, arith, ap, sym, refl}
 use Rattle.std.proofs.lemmas.Result.{on_ok_weaker, on_err_weaker, IfOk-weaker}
 use Rattle.node_trees.specs.Facts.{value_in, with_value}
 use Rattle.node_trees.specs.Spots.{attribute_at}
@@ -6,6 +6,8 @@ use Rattle.node_arena.specs.Seen.{seen_fact, seen_is, seen_size}
 use Rattle.node_arena.proofs.CallLemmas.{size_written, written, altered, unaltered, altered_or_not, own_row}
 use Rattle.node_arena.proofs.ReadLemmas.{in_range}
 use Rattle.node_arena.proofs.Surplus.{keeps-attributes}
+use Rattle.node_arena.proofs.KindLemmas.{by_result, kinds-same, kinds-with}
+use Rattle.node_arena.proofs.SpotLemmas.{spots-same, spots-with}
 use Rattle.node_arena.proofs.tree.Tree.set_attr.Goals as goal
 
 pub set_attribute-requires : goal.set_attribute-requires
@@ -39,3 +41,11 @@ returns-clause-err c =
 pub returns-clause-size : goal.returns-clause-size
 returns-clause-size c =
     seen_size _ _ ∙ size_written _ _ _ _ _ (seen_fact _ _ _ c.self.view_is) c.deref_mut.ensures.value (written _ _ _ _ c.deref_mut.ensures.value c.self.inside.nodes.ok.0 c.set_attribute.auto.nodes) c.set_attribute.auto.nodes
+
+pub returns-clause-kinds : goal.returns-clause-kinds
+returns-clause-kinds c =
+    by_result c.set_attribute.result (kinds-with c.args.node (λ x. record x { attributes = with_value c.args.name c.args.value x.attributes }) _ _ (λ x. refl)) (kinds-same _ _) (returns-clause-set c) (returns-clause-err c)
+
+pub returns-clause-others : goal.returns-clause-others
+returns-clause-others c =
+    by_result c.set_attribute.result (spots-with c.args.node (λ x. record x { attributes = with_value c.args.name c.args.value x.attributes }) _ _) (λ e m _ _. spots-same _ _ m e) (returns-clause-set c) (returns-clause-err c)

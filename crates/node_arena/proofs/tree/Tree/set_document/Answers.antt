@@ -1,10 +1,11 @@
-use Rattle.std.proofs.Common.{◌∙◌, arith}
+use Rattle.std.proofs.Common.{◌∙◌, arith, refl}
 use Rattle.node_arena.specs.Seen.{seen_fact, seen_is, seen_size}
 use Rattle.node_arena.proofs.CallLemmas.{size_written, written, altered}
 use Rattle.node_arena.proofs.ReadLemmas.{in_range}
 use Rattle.node_arena.proofs.Surplus.{keeps-document}
 use Rattle.node_arena.proofs.Allowed.{may_insert-with_document}
 use Rattle.node_arena.proofs.ChangedReads.{parent_at-with}
+use Rattle.node_arena.proofs.KindLemmas.{kinds-with}
 use Rattle.node_arena.proofs.tree.Tree.set_document.Goals as goal
 
 pub move_to-requires : goal.move_to-requires
@@ -34,3 +35,6 @@ returns-clause-may c = λ p n b. rw (returns-clause-document c) (may_insert-with
 pub returns-clause-parents : goal.returns-clause-parents
 returns-clause-parents c = λ n.
     rw (returns-clause-document c) (parent_at-with c.args.node (λ x. record x { document = c.args.document }) c.args.self.now n)
+
+pub returns-clause-kinds : goal.returns-clause-kinds
+returns-clause-kinds c = kinds-with c.args.node (λ x. record x { document = c.args.document }) _ _ (λ x. refl) (returns-clause-document c)
