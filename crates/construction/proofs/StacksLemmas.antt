@@ -41,6 +41,12 @@ stack_of-grown (suc e) (suc count) [] = stack_of-grown e count []
 stack_of-grown zero (suc count) (s ∷ stacks) = refl
 stack_of-grown (suc e) (suc count) (s ∷ stacks) = stack_of-grown e count stacks
 
+pub stack_of-push : (e : ℕ) (stacks : List (List (Option ℕ))) → stack_of e (stacks ++ [] ∷ []) ≡ stack_of e stacks
+stack_of-push zero [] = refl
+stack_of-push (suc e) [] = refl
+stack_of-push zero (s ∷ stacks) = refl
+stack_of-push (suc e) (s ∷ stacks) = stack_of-push e stacks
+
 -- the stack in a place of more stacks is changed: s becomes t
 
 module _ (d : ℕ) (old more : List (List (Option ℕ))) (s t : List (Option ℕ)) (lt : d < length more) (grows : more ≡ grown (d + 1) old) (read : s ≡ get_or more d s) where
@@ -55,6 +61,11 @@ module _ (d : ℕ) (old more : List (List (Option ℕ))) (s t : List (Option ℕ
 
   pub pushes-others : (e : ℕ) → ¬ (e ≡ d) → stack_of e (slice_set more d t) ≡ stack_of e old
   pushes-others e other = stack_of-others e d t more other ∙ ap (stack_of e) grows ∙ stack_of-grown e (d + 1) old
+
+-- a stack that stays, given anew in its place
+pub stays : (old more : List (List (Option ℕ))) (d : ℕ) (s t : List (Option ℕ)) → s ≡ get_or more d s → t ≡ s → ((e : ℕ) → stack_of e more ≡ stack_of e old) → (e : ℕ) → stack_of e (slice_set more d t) ≡ stack_of e old
+stays old more d s t read is same e =
+    ap (stack_of e) (ap (slice_set more d) (is ∙ read) ∙ set-get_or more d s) ∙ same e
 
 -- the marker takes the place of an element that stands last in a stack
 pub marks : (d : ℕ) (stacks : List (List (Option ℕ))) (s t : List (Option ℕ)) → d < length stacks → s ≡ get_or stacks d s → t ≡ marked s → slice_set stacks d t ≡ with_marker d (stack_of d stacks) stacks

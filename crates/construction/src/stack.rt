@@ -1,5 +1,5 @@
 // The construction stack of one definition.
-ghost use Rattle.std.specs.Prelude.{◌≡◌, ◌∷◌, [], OnOk, Some};
+ghost use Rattle.std.specs.Prelude.{◌≡◌, ◌∷◌, [], OnErr, OnOk, Some};
 ghost use Rattle.construction.specs.Stacks.{base_of, marked, without_last};
 
 use crate::Base;
@@ -34,7 +34,8 @@ impl Stack {
 
     /// Puts an element last.
     pub(crate) fn push(&mut self, node: NodeNo) -> Result<(), NoMemory>
-        ensures { OnOk result (self.new ≡ Some node ∷ self.old) }
+        ensures ok { OnOk result (self.new ≡ Some node ∷ self.old) }
+        ensures err { OnErr result (self.new ≡ self.old) }
     {
         self.entries.push(Some(node))?;
         Ok(())

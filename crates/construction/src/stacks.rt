@@ -1,5 +1,5 @@
 // The construction stacks of all definitions.
-ghost use Rattle.std.specs.Prelude.{◌≡◌, ◌+◌, ◌<◌, ◌∷◌, [], ℕ, vec_len, OnOk, Some};
+ghost use Rattle.std.specs.Prelude.{◌≡◌, ◌+◌, ◌<◌, ◌∷◌, [], ℕ, vec_len, OnErr, OnOk, Some};
 ghost use Rattle.construction.specs.Stacks.{base_of, grown, marked, popped, pushed, stack_of, with_marker, without_last};
 
 use crate::Base;
@@ -37,11 +37,12 @@ impl Stacks {
     }
 
     /// Puts an element last on a definition's construction stack (HTML Standard, section "Upgrades", "upgrade
-    /// an element"). `NoMemory` comes only where memory was refused; the stacks are only dropped after it.
+    /// an element"). `NoMemory` comes only where memory was refused, and then each stack is as it was.
     pub fn push(&mut self, alloc: Global, d: DefNo, node: NodeNo) -> Result<(), NoMemory>
         ensures stacks { OnOk result (self.new ≡ pushed d node self.old) }
         ensures stack { OnOk result (stack_of d self.new ≡ Some node ∷ stack_of d self.old) }
         ensures others { OnOk result ((e : ℕ) → ¬ (e ≡ d) → stack_of e self.new ≡ stack_of e self.old) }
+        ensures err { OnErr result ((e : ℕ) → stack_of e self.new ≡ stack_of e self.old) }
     {
         let place = d.0 as usize;
         grow(alloc, &mut self.stacks, place)?;
@@ -88,6 +89,7 @@ impl Stacks {
 fn grow(alloc: Global, stacks: &mut Vec<Stack>, place: usize) -> Result<(), NoMemory>
     ensures within { OnOk result (place < vec_len stacks.new) }
     ensures grown { OnOk result (stacks.new.items ≡ grown (place + 1) stacks.old.items) }
+    ensures same { (e : ℕ) → stack_of e stacks.new.items ≡ stack_of e stacks.old.items }
 {
     while stacks.len() <= place {
         stacks.push(Stack::make(alloc))?;

@@ -1,2 +1,3 @@
+pub mod PlaceLemmas
 pub mod TrimmedLemmas
 pub mod StackLemmas

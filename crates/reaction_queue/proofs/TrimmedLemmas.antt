@@ -1,10 +1,11 @@
 -- Lists side by side, without the empty ones at the end.
-use Rattle.std.proofs.Common.{◌≡◌, ◌≤◌, ◌<◌, ℕ, zero, suc, List, [], ◌∷◌, ◌++◌, length, get_or, refl, ap, sym, ◌∙◌, arith, Option, Some, None, MatchOption}
+use Rattle.std.proofs.Common.{◌≡◌, ◌≤◌, ◌<◌, ℕ, zero, suc, List, [], ◌∷◌, ◌++◌, length, get_or, refl, ap, sym, ◌∙◌, arith, Option, Some, None, IfNone, MatchOption}
 use Rattle.std.specs.Prelude.{slice_set}
 use Rattle.std.proofs.lemmas.List.{get_or-set_same, length-set, set-get_or}
 use Rattle.std.proofs.lemmas.Option.{slice_get-get_or, slice_get_past}
 use Rattle.reaction_queue.specs.Queues.{ahead, list_at, with_list, or_empty}
 use Rattle.reaction_queue.specs.Trimmed.{trimmed}
+use Rattle.reaction_queue.proofs.PlaceLemmas.{list_at_ahead, list_at_head}
 
 -- an empty list more at the end is none
 pub trimmed-push : {A : Type 0} → (ls : List (List A)) → trimmed (ls ++ [] ∷ []) ≡ trimmed ls
@@ -12,17 +13,6 @@ trimmed-push [] = refl
 trimmed-push (l ∷ ls) = ap (ahead l) (trimmed-push ls)
 
 -- the list at a place
-list_at_ahead : {A : Type 0} → (i : ℕ) (l : List A) (ls : List (List A)) → list_at (suc i) (ahead l ls) ≡ list_at i ls
-list_at_ahead zero [] [] = refl
-list_at_ahead (suc i) [] [] = refl
-list_at_ahead i [] (m ∷ ls) = refl
-list_at_ahead i (x ∷ l) ls = refl
-
-list_at_head : {A : Type 0} → (l : List A) (ls : List (List A)) → list_at zero (ahead l ls) ≡ l
-list_at_head [] [] = refl
-list_at_head [] (m ∷ ls) = refl
-list_at_head (x ∷ l) ls = refl
-
 pub list_at-trimmed : {A : Type 0} → (i : ℕ) (ls : List (List A)) → list_at i (trimmed ls) ≡ list_at i ls
 list_at-trimmed i [] = refl
 list_at-trimmed zero (l ∷ ls) = list_at_head l (trimmed ls)
@@ -44,6 +34,18 @@ trimmed-set i xs [] lt = absurd (omega arith)
 trimmed-set zero xs (l ∷ ls) lt = sym (with_list_head xs l (trimmed ls))
 trimmed-set (suc i) xs (l ∷ ls) lt =
     ap (ahead l) (trimmed-set i xs ls (omega arith)) ∙ sym (with_list_ahead i xs l (trimmed ls))
+
+-- an empty list given anew where there is an empty one, or none, changes nothing
+with_none : {A : Type 0} → (i : ℕ) → with_list {A = A} i [] [] ≡ []
+with_none zero = refl
+with_none (suc i) = ap (ahead []) (with_none i)
+
+pub trimmed-empty : {A : Type 0} → (i : ℕ) (ls : List (List A)) → list_at i (trimmed ls) ≡ [] → with_list i [] (trimmed ls) ≡ trimmed ls
+trimmed-empty i [] at = with_none i
+trimmed-empty zero (l ∷ ls) at =
+    with_list_head [] l (trimmed ls) ∙ ap (λ m. ahead m (trimmed ls)) (sym at ∙ list_at_head l (trimmed ls))
+trimmed-empty (suc i) (l ∷ ls) at =
+    with_list_ahead i [] l (trimmed ls) ∙ ap (ahead l) (trimmed-empty i ls (sym (list_at_ahead i l (trimmed ls)) ∙ at))
 
 -- what stands at a place that is there, and past the end
 pub list_at-read : {A : Type 0} → (i : ℕ) (ls : List (List A)) (l : List A) → i < length ls → l ≡ get_or ls i l → list_at i (trimmed ls) ≡ l
@@ -69,6 +71,11 @@ takes_others ls i l m None lt read taken =
     ap trimmed (ap (slice_set ls i) (taken.1 ∙ sym taken.0 ∙ read) ∙ set-get_or ls i l)
 takes_others ls i l m (Some x) lt read taken =
     trimmed-set i m ls lt ∙ ap (λ xs. with_list i xs (trimmed ls)) (sym (list_at-set i ls m lt))
+
+pub takes_none : {A : Type 0} → (ls : List (List A)) (i : ℕ) (l m : List A) (r : Option A) → i < length ls → l ≡ get_or ls i l → MatchOption r ((l ≡ []) × (m ≡ [])) (λ x. l ≡ x ∷ m)
+    → IfNone r (with_list i [] (trimmed ls) ≡ trimmed ls)
+takes_none ls i l m None lt read taken = trimmed-empty i ls (list_at-read i ls l lt read ∙ taken.0)
+takes_none ls i l m (Some x) lt read taken = tt
 
 -- one more comes last in the list at a place
 pub appends : {A : Type 0} → (ls : List (List A)) (i : ℕ) (l m : List A) (x : A) → i < length ls → l ≡ get_or ls i l → m ≡ l ++ x ∷ []

@@ -168,6 +168,7 @@ impl Queues {
     pub fn drop_first(&mut self, node: NodeNo) -> Option<ReactionNo>
         ensures first { MatchOption result (waiting_at self.old node ≡ []) (λ number. DropsFirst self.old self.new node number) }
         ensures queues { MatchOption result (self.new ≡ self.old) (λ number. self.new ≡ with_waiting node (waiting_at self.new node) self.old) }
+        ensures empty { IfNone result (with_waiting node [] self.old ≡ self.old) }
         ensures numbers { SameNumbers self.old self.new }
     {
         match self.waiting.take(node) {

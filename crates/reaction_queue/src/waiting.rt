@@ -1,5 +1,5 @@
 // The reaction queues of all nodes.
-ghost use Rattle.std.specs.Prelude.{◌≡◌, ◌-◌, ◌<◌, ◌++◌, ◌∷◌, [], length, vec_len, MatchOption, OnOk, OnErr};
+ghost use Rattle.std.specs.Prelude.{◌≡◌, ◌-◌, ◌<◌, ◌++◌, ◌∷◌, [], length, vec_len, IfNone, MatchOption, OnOk, OnErr};
 ghost use Rattle.reaction_queue.specs.Queues.{list_at, with_list};
 ghost use Rattle.reaction_queue.specs.Trimmed.{trimmed};
 
@@ -99,6 +99,7 @@ impl Waiting {
     pub(crate) fn take(&mut self, node: NodeNo) -> Option<(ReactionNo, Reaction)>
         ensures first { MatchOption result (list_at (node - 1) self.old ≡ []) (λ w. list_at (node - 1) self.old ≡ w ∷ list_at (node - 1) self.new) }
         ensures others { MatchOption result (self.new ≡ self.old) (λ w. self.new ≡ with_list (node - 1) (list_at (node - 1) self.new) self.old) }
+        ensures empty { IfNone result (with_list (node - 1) [] self.old ≡ self.old) }
     {
         let i = place_of(node);
         if i >= self.queues.len() {

@@ -1,5 +1,6 @@
 // The elements that a definition may upgrade.
 ghost use Rattle.std.specs.Prelude.{◌≡◌, All, IfOk, filter, option_copied};
+ghost use Rattle.node_trees.specs.Kinds.{IsElement};
 ghost use Rattle.node_trees.specs.Nodes.{IsNode};
 ghost use Rattle.node_trees.specs.Spots.{facts_at};
 ghost use Rattle.node_trees.specs.Candidates.{candidates, has_is_value, is_candidate};
@@ -22,7 +23,7 @@ pub fn candidates(
 ) -> Result<Nodes, NoMemory>
     requires { IsNode tree.now document }
     ensures candidates { IfOk result (λ ns. ns ≡ candidates local.now (option_copied is_value.entry) tree.now document) }
-    ensures nodes { IfOk result (All (IsNode tree.now)) }
+    ensures nodes { IfOk result (All (IsElement tree.now)) }
 {
     let order = tree.shadow_order(alloc, document)?;
     candidates_among(alloc, tree, &order, local, is_value)
@@ -38,7 +39,7 @@ fn candidates_among(
 ) -> Result<Nodes, NoMemory>
     requires { All (IsNode tree.now) nodes.now }
     ensures candidates { IfOk result (λ ns. ns ≡ filter (λ n. is_candidate local.now (option_copied is_value.entry) (facts_at tree.now n)) nodes.now) }
-    ensures nodes { IfOk result (All (IsNode tree.now)) }
+    ensures nodes { IfOk result (All (IsElement tree.now)) }
 {
     let mut found = Nodes::make(alloc);
     for i in 0..nodes.len() {

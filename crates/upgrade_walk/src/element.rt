@@ -1,6 +1,7 @@
 // The elements of an order.
 ghost use Rattle.std.specs.Prelude.{◌≡◌, All, IfOk, filter};
 ghost use Rattle.node_trees.specs.Facts.{is_element};
+ghost use Rattle.node_trees.specs.Kinds.{IsElement};
 ghost use Rattle.node_trees.specs.Nodes.{IsNode};
 ghost use Rattle.node_trees.specs.Spots.{kind_at};
 ghost use Rattle.node_trees.specs.Candidates.{elements};
@@ -16,7 +17,7 @@ use std::alloc::Global;
 pub fn walk(alloc: Global, tree: &Tree, node: NodeNo) -> Result<Nodes, NoMemory>
     requires { IsNode tree.now node }
     ensures elements { IfOk result (λ ns. ns ≡ elements tree.now node) }
-    ensures nodes { IfOk result (All (IsNode tree.now)) }
+    ensures nodes { IfOk result (All (IsElement tree.now)) }
 {
     let order = tree.shadow_order(alloc, node)?;
     elements_among(alloc, tree, &order)
@@ -26,7 +27,7 @@ pub fn walk(alloc: Global, tree: &Tree, node: NodeNo) -> Result<Nodes, NoMemory>
 fn elements_among(alloc: Global, tree: &Tree, nodes: &Nodes) -> Result<Nodes, NoMemory>
     requires { All (IsNode tree.now) nodes.now }
     ensures elements { IfOk result (λ ns. ns ≡ filter (λ m. is_element (kind_at tree.now m)) nodes.now) }
-    ensures nodes { IfOk result (All (IsNode tree.now)) }
+    ensures nodes { IfOk result (All (IsElement tree.now)) }
 {
     let mut found = Nodes::make(alloc);
     for i in 0..nodes.len() {
