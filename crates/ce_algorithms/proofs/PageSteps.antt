@@ -20,7 +20,7 @@ use Rattle.ce_algorithms.specs.Attributes.{handle_attribute_change, set_attribut
 use Rattle.ce_algorithms.specs.Define.{with_defined, upgrade_candidates, define_name}
 use Rattle.ce_algorithms.specs.CreateLater.{make_in_state, make_later, create_later}
 use Rattle.ce_algorithms.specs.Clone.{copy_attribute, copy_node, copy_below, clone}
-use Rattle.ce_algorithms.specs.Construction.{with_stacks, push_construction, pop_construction, make_custom, base_entry, base_call}
+use Rattle.ce_algorithms.specs.Construction.{with_stacks, pop_construction, make_custom, base_entry, base_call}
 use Rattle.ce_algorithms.specs.Upgrade.{enqueue_attribute, begin_upgrade}
 use Rattle.ce_algorithms.specs.declared.deed.PageDeed.{PageDeed}
 use Rattle.ce_algorithms.specs.declared.deed.PageDeed.TheVariants as page_deeds
@@ -300,9 +300,6 @@ module _ (R : Work → Work → Type 0) (c : Closed R) where
 
   -- construction
 
-  pub keeps_push_construction : (d n : ℕ) → Keeps R (push_construction d n)
-  keeps_push_construction d n = keeps_stacks _
-
   pub keeps_pop_construction : (d : ℕ) → Keeps R (pop_construction d)
   keeps_pop_construction d = keeps_stacks _
 
@@ -323,7 +320,7 @@ module _ (R : Work → Work → Type 0) (c : Closed R) where
   keeps_enqueue_attribute n a = keeps_enqueue_callback n _
 
   pub keeps_begin_upgrade : (n d : ℕ) → Keeps R (begin_upgrade n d)
-  keeps_begin_upgrade n d = search (page_steps, keeps_enqueue_attribute, keeps_enqueue_callback, keeps_push_construction) depth 16
+  keeps_begin_upgrade n d = search (page_steps, keeps_enqueue_attribute, keeps_enqueue_callback) depth 16
 
   -- what an operation does on the page: each deed by the same rules
   pub ruleset deed_steps = (page_steps, keeps_make_node, keeps_make_shadow_root, keeps_pre_insert, keeps_remove, keeps_adopt, keeps_set_attribute, keeps_remove_attribute, keeps_copy_node, keeps_copy_below, keeps_try_upgrade)

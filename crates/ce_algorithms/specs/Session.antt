@@ -1,5 +1,5 @@
 -- A session: the lines of a script, one after another.
-use Rattle.std.specs.Prelude.{ℕ, ◌+◌, Bool, List, [], ◌∷◌, Some, None, Result, Ok, Err}
+use Rattle.std.specs.Prelude.{ℕ, ◌+◌, List, [], ◌∷◌, Some, None, Result, Ok, Err}
 use Rattle.ce_base.specs.declared.fault.Fault.{Fault}
 use Rattle.rule_lines.specs.Acts.{Part, Said, Blank, Command, Declares}
 use Rattle.rule_lines.specs.declared.line.Cmd.{Cmd}
