@@ -1,4 +1,5 @@
-pub mod CallbackLemmas
-pub mod DefineLemmas
+pub mod ElementLemmas
 pub mod LooseLemmas
 pub mod RowLemmas
+pub mod StackLemmas
+pub mod WaitLemmas

@@ -1,6 +1,7 @@
 pub mod Ends
-pub mod Callbacks
 pub mod Parts
 pub mod Rows
+pub mod Elements
+pub mod Sound
 pub mod Numbers
 pub mod Loose

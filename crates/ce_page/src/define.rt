@@ -1,5 +1,5 @@
 // Defining a custom element.
-ghost use Rattle.std.specs.Prelude.{◌≡◌};
+ghost use Rattle.std.specs.Prelude.{◌≡◌, ◌+◌, ◌<◌, ◌^◌};
 ghost use Rattle.ce_algorithms.specs.Define.{define_name};
 ghost use Rattle.ce_page.specs.Ends.{Ends, Keeps, work};
 ghost use Rattle.ce_page.specs.Numbers.{StaysWithin};
@@ -12,7 +12,9 @@ use std::alloc::Global;
 impl Page {
     /// Adds a definition, and gives its number (HTML Standard, section "The CustomElementRegistry
     /// interface", `define`). It is refused with the fault that `Registry::define` gives, and then nothing
-    /// has changed. Elements that are there already are not upgraded yet.
+    /// has changed. Else upgrades of the elements that it is for are enqueued: those among the document's
+    /// shadow-including descendants that have its local name and, where it extends an element, its name as
+    /// their `is` value, in shadow-including tree order. Each spends one unit of fuel.
     pub fn define_name(
         &mut self,
         alloc: Global,
@@ -22,11 +24,13 @@ impl Page {
         base: Option<Text>,
         fuel: &mut Fuel,
     ) -> Result<DefNo, PageStop>
+        requires { self.old.queues.reactions + fuel.old < 2 ^ 64 }
         ensures step { Ends (λ d. d) result (work self.new fuel.new) (define_name name class facts base (work self.old fuel.old)) }
         ensures within { StaysWithin self.old self.new fuel.old fuel.new }
         ensures refused { Keeps result self.old self.new }
     {
         let d = self.registry.define(alloc, name, class, facts, base)?;
+        self.upgrade_candidates(alloc, d, fuel)?;
         Ok(d)
     }
 }

@@ -1,11 +1,11 @@
 // Enqueuing reactions.
 ghost use Rattle.std.specs.Prelude.{◌≡◌, ◌+◌, ◌<◌, ◌^◌, ◌∷◌, ◌++◌, [], true, slice_get, IfSome, OnOk, OnErr};
 ghost use Rattle.rule_tokens.specs.declared.callback.CallOrUpgrade.{CallOrUpgrade};
+ghost use Rattle.node_trees.specs.Kinds.{IsElement};
 ghost use Rattle.reaction_queue.specs.Queues.{enqueued};
 ghost use Rattle.ce_algorithms.specs.Steps.{where_is};
 ghost use Rattle.ce_algorithms.specs.Page.{definition_of, is_custom, with_queues};
-ghost use Rattle.ce_algorithms.specs.Enqueue.{has_callback, is_observed, gives_reaction, noted, enqueue, enqueue_callback, try_upgrade};
-ghost use Rattle.ce_page.specs.Callbacks.{is_callback, IsPlain};
+ghost use Rattle.ce_algorithms.specs.Enqueue.{has_callback, is_observed, gives_reaction, noted, enqueue, enqueue_callback};
 ghost use Rattle.ce_page.specs.Ends.{Does, NeverRefuses, work};
 ghost use Rattle.ce_page.specs.Numbers.{StaysWithin, OnlyEnqueues};
 
@@ -42,10 +42,10 @@ impl Page {
         Ok(())
     }
 
-    /// Whether the element's definition gives a reaction. An upgrade it does not.
+    /// Whether the element's definition gives a reaction. An upgrade it does not, and what is no element has none.
     fn gives_reaction(&self, n: NodeNo, r: &Reaction) -> bool
         ensures gives { result ≡ gives_reaction (definition_of self.now n) r.now }
-        ensures callback { result ≡ true → is_callback r.now ≡ true }
+        ensures element { result ≡ true → IsElement self.now.forest n }
     {
         match self.definition(n) {
             None => false,
@@ -54,7 +54,7 @@ impl Page {
     }
 
     /// One unit of fuel for a reaction that is enqueued.
-    fn enqueue(
+    pub(crate) fn enqueue(
         &mut self,
         alloc: Global,
         n: NodeNo,
@@ -62,7 +62,7 @@ impl Page {
         fuel: &mut Fuel,
     ) -> Result<(), PageStop>
         requires room { self.old.queues.reactions + fuel.old < 2 ^ 64 }
-        requires callback { is_callback r ≡ true }
+        requires element { IsElement self.old.forest n }
         ensures step { Does result (work self.new fuel.new) (enqueue n r (work self.old fuel.old)) }
         ensures within { StaysWithin self.old self.new fuel.old fuel.new }
         ensures rest { OnlyEnqueues self.old self.new }
@@ -78,7 +78,7 @@ impl Page {
     /// The reaction is enqueued, and noted.
     fn record(&mut self, alloc: Global, n: NodeNo, r: Reaction) -> Result<(), NoMemory>
         requires room { self.old.queues.reactions + 1 < 2 ^ 64 }
-        requires callback { is_callback r ≡ true }
+        requires element { IsElement self.old.forest n }
         ensures page { OnOk result (self.new ≡ noted n r (with_queues (enqueued n r) self.old)) }
         ensures within { StaysWithin self.old self.new 1 0 }
         ensures rest { OnlyEnqueues self.old self.new }
@@ -113,24 +113,6 @@ impl Page {
         }
         Ok(())
     }
-
-    /// Tries to upgrade an element (HTML Standard, section "Upgrades", "try to upgrade an element").
-    /// Elements that are there already are not upgraded yet, so this does nothing.
-    pub fn try_upgrade(
-        &mut self,
-        _alloc: Global,
-        n: NodeNo,
-        fuel: &mut Fuel,
-    ) -> Result<(), PageStop>
-        ensures step { Does result (work self.new fuel.new) (try_upgrade n (work self.old fuel.old)) }
-        ensures within { StaysWithin self.old self.new fuel.old fuel.new }
-        ensures rest { OnlyEnqueues self.old self.new }
-        ensures refused { NeverRefuses result }
-    {
-        // A page upgrades nothing yet: the tree's clause says so.
-        let _tree = self.tree();
-        Ok(())
-    }
 }
 
 /// Whether the definition has the callback. An upgrade is none.
@@ -155,8 +137,7 @@ fn is_observed(registry: &Registry, d: DefNo, r: &Reaction) -> bool
 
 /// Whether a definition gives a reaction. An upgrade it does not.
 fn gives(registry: &Registry, d: DefNo, r: &Reaction) -> bool
-    ensures gives { result ≡ gives_reaction (slice_get registry.now d) r.now }
-    ensures callback { result ≡ true → is_callback r.now ≡ true }
+    ensures { result ≡ gives_reaction (slice_get registry.now d) r.now }
 {
     match registry.at(d) {
         None => false,

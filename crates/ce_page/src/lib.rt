@@ -11,12 +11,15 @@ mod making;
 mod page;
 mod reads;
 mod removal;
+mod stacks;
 mod stop;
+mod upgrades;
 mod waiting;
 mod walk;
 
 pub use ce_algorithms::Note;
 pub use ce_registry::{Calls, ClassFacts, Definition, Registry};
+pub use construction::Base;
 pub use node_arena::{NodeKind, Tree};
 pub use page::Page;
 pub use reaction_queue::{ElementQueue, Mode, Reaction};

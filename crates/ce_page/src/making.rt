@@ -1,10 +1,11 @@
 // New nodes, and what they are as custom elements.
-ghost use Rattle.std.specs.Prelude.{◌≡◌, ◌+◌, ◌<◌, None, IfOk, OnOk};
+ghost use Rattle.std.specs.Prelude.{◌≡◌, ◌+◌, None, IfOk, IfSome, OnOk};
 ghost use Rattle.node_trees.specs.declared.kind.NodeKind.TheVariants.{Document, Element as ElementKind, ShadowRoot};
 ghost use Rattle.node_trees.specs.Facts.{blank, new_element, new_text};
 ghost use Rattle.node_trees.specs.Trees.{single, with_node, with_shadow};
 ghost use Rattle.node_trees.specs.Spots.{document_at, kind_at, shadow_at};
 ghost use Rattle.node_trees.specs.Nodes.{size, IsNode};
+ghost use Rattle.node_trees.specs.Kinds.{IsElement};
 ghost use Rattle.ce_algorithms.specs.Page.{with_state, with_definition};
 ghost use Rattle.ce_algorithms.specs.Making.{next_number, with_new};
 ghost use Rattle.ce_page.specs.Numbers.{SameNumbers};
@@ -30,7 +31,7 @@ impl Page {
     }
 
     /// Makes an element, uncustomized and without a definition (DOM Standard, section "Interface Element",
-    /// "create an element internal"). Node 1 is the page's document, so its number is above 1.
+    /// "create an element internal").
     pub fn make_element(
         &mut self,
         alloc: Global,
@@ -43,7 +44,7 @@ impl Page {
         ensures made { IfOk result (IsNode self.new.forest) }
         ensures nodes { OnOk result (size self.new.forest ≡ size self.old.forest + 1) }
         ensures numbers { SameNumbers self.old self.new }
-        ensures later { IfOk result (λ n. 1 < n) }
+        ensures element { IfOk result (IsElement self.new.forest) }
     {
         let n = self.tree.make_element(alloc, local, is_value, document)?;
         self.elements.push(Element::uncustomized())?;
@@ -96,16 +97,16 @@ impl Page {
         }
     }
 
-    /// Sets or clears the definition of an element, and tells nobody. Node 1 is the page's document, so an
-    /// element's number is above 1.
+    /// Sets or clears the definition of an element, and tells nobody.
     pub fn set_definition(
         &mut self,
         _alloc: Global,
         n: NodeNo,
         d: Option<DefNo>,
     ) -> Result<(), NoMemory>
-        requires { 1 < n }
+        requires { IfSome d (λ x. IsElement self.old.forest n) }
         ensures page { OnOk result (self.new ≡ with_definition n d self.old) }
+        ensures forest { self.new.forest ≡ self.old.forest }
         ensures numbers { SameNumbers self.old self.new }
     {
         if let Some(i) = self.row_of(n) {

@@ -1,9 +1,10 @@
 // What is read of a page.
 ghost use Rattle.std.specs.Prelude.{◌≡◌, not, option_copied, IfSome};
 ghost use Rattle.node_trees.specs.Nodes.{IsNode};
+ghost use Rattle.node_trees.specs.Kinds.{IsElement};
 ghost use Rattle.ce_algorithms.specs.Page.{element_of, state_of, definition_of, is_custom};
 ghost use Rattle.reaction_queue.specs.ElementQueues.{is_empty};
-ghost use Rattle.ce_page.specs.Callbacks.{IsPlain};
+ghost use Rattle.ce_page.specs.Sound.{IsSoundPage};
 
 use crate::Page;
 use crate::element::is_custom_state;
@@ -12,10 +13,10 @@ use ce_registry::{Definition, Registry};
 use node_arena::Tree;
 
 impl Page {
-    /// The page's nodes.
+    /// The page's nodes. Node 1 is the page's document.
     pub fn tree(&self) -> &Tree
         ensures tree { result.now ≡ self.now.forest }
-        ensures plain { IsPlain self.now }
+        ensures sound { IsSoundPage self.now }
     {
         &self.tree
     }
@@ -48,10 +49,10 @@ impl Page {
     }
 
     /// The definition of a node, itself. None exactly where the node has none that was given. What has a
-    /// definition is a node that was made.
+    /// definition is an element.
     pub fn definition_of(&self, n: NodeNo) -> Option<&Definition>
         ensures definition { option_copied result ≡ definition_of self.now n }
-        ensures made { IfSome result (λ d. IsNode self.now.forest n) }
+        ensures element { IfSome result (λ d. IsElement self.now.forest n) }
     {
         match self.definition(n) {
             None => None,

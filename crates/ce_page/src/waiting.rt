@@ -1,9 +1,9 @@
 // The element queues, and what waits.
-ghost use Rattle.std.specs.Prelude.{◌≡◌, ◌+◌, ◌<◌, ◌^◌, ◌∷◌, [], true, length, MatchOption, IfOk, IfSome, OnOk};
+ghost use Rattle.std.specs.Prelude.{◌≡◌, ◌+◌, ◌<◌, ◌^◌, ◌∷◌, [], length, MatchOption, IfOk, IfSome, OnOk};
+ghost use Rattle.node_trees.specs.Kinds.{IsElement};
 ghost use Rattle.reaction_queue.specs.Queues.{begun, ended, current_elements, waiting_at, with_waiting};
 ghost use Rattle.reaction_queue.specs.Changes.{DropsFirst};
 ghost use Rattle.ce_algorithms.specs.Page.{with_queues};
-ghost use Rattle.ce_page.specs.Callbacks.{is_callback};
 ghost use Rattle.ce_page.specs.Numbers.{SameNumbers};
 
 use crate::Page;
@@ -53,12 +53,12 @@ impl Page {
         self.queues.next_backup()
     }
 
-    /// Takes the first reaction of a node's reaction queue, with its number. It is no upgrade. None exactly
-    /// where none waits at the node.
+    /// Takes the first reaction of a node's reaction queue, with its number. What waits, waits at an
+    /// element. None exactly where none waits at the node.
     pub fn next(&mut self, node: NodeNo) -> Option<(ReactionNo, Reaction)>
         ensures first { MatchOption result (waiting_at self.old.queues node ≡ []) (λ w. waiting_at self.old.queues node ≡ w ∷ waiting_at self.new.queues node) }
         ensures page { MatchOption result (self.new ≡ self.old) (λ w. self.new ≡ with_queues (with_waiting node (waiting_at self.new.queues node)) self.old) }
-        ensures callback { IfSome result (λ w. is_callback w.1 ≡ true) }
+        ensures element { IfSome result (λ w. IsElement self.old.forest node) }
         ensures numbers { SameNumbers self.old self.new }
     {
         self.queues.next(node)

@@ -1,8 +1,14 @@
-use Rattle.ce_page.proofs.CallbackLemmas.{next_keeps, next_gives}
+use Rattle.ce_page.proofs.RowLemmas.{at_node}
+use Rattle.ce_page.proofs.WaitLemmas.{next_waits, next_element}
 use Rattle.ce_page.proofs.page.Page.next.Goals as goal
 
 pub invariant_of-self : goal.invariant_of-self
-invariant_of-self c = (next_keeps c.self.inside.queues c.next.new.self c.args.node c.next.result c.self.invariant.0 c.next.ensures.first c.next.ensures.queues, c.self.invariant.1)
+invariant_of-self c = record {
+  rows = c.self.invariant.rows;
+  waits = next_waits c.self.inside.tree c.self.inside.queues c.next.new.self c.args.node c.next.result c.self.invariant.waits c.next.ensures.first c.next.ensures.queues;
+  held = c.self.invariant.held;
+}
 
-pub returns-clause-callback : goal.returns-clause-callback
-returns-clause-callback c = next_gives c.self.inside.queues c.next.new.self c.args.node c.next.result c.self.invariant.0 c.next.ensures.first
+pub returns-clause-element : goal.returns-clause-element
+returns-clause-element c =
+    rw (← c.self.view_is) (next_element c.self.inside.tree c.self.inside.queues c.next.new.self c.args.node c.next.result (at_node c.args.node c.self.invariant.rows) c.self.invariant.waits c.next.ensures.first)

@@ -1,10 +1,24 @@
-use Rattle.ce_page.proofs.CallbackLemmas.{enqueued_keeps}
+use Rattle.std.proofs.Common.{subst, sym}
+use Rattle.node_trees.specs.Kinds.{IsElement}
+use Rattle.ce_algorithms.specs.Page.{Page}
+use Rattle.ce_page.proofs.RowLemmas.{above}
+use Rattle.ce_page.proofs.WaitLemmas.{enqueued_waits}
 use Rattle.ce_page.proofs.page.Page.record.Goals as goal
 
 pub invariant_of-self-in_err-push_back : goal.invariant_of-self-in_err-push_back
 invariant_of-self-in_err-push_back c =
-    (rw c.in_ok-number.ensures.queues (enqueued_keeps c.args.n c.args.r c.self.inside.queues c.requires.callback c.self.invariant.0), c.self.invariant.1)
+    let element : IsElement c.self.inside.tree c.args.n = subst (λ (p : Page). IsElement p.forest c.args.n) (sym c.self.view_is) c.requires.element in
+    record {
+      rows = c.self.invariant.rows;
+      waits = rw c.in_ok-number.ensures.queues (enqueued_waits c.self.inside.tree c.args.n c.args.r c.self.inside.queues (above c.args.n c.self.invariant.rows element) c.self.invariant.waits);
+      held = c.self.invariant.held;
+    }
 
 pub invariant_of-self-2 : goal.invariant_of-self-2
 invariant_of-self-2 c =
-    (rw c.in_ok-number.ensures.queues (enqueued_keeps c.args.n c.args.r c.self.inside.queues c.requires.callback c.self.invariant.0), c.self.invariant.1)
+    let element : IsElement c.self.inside.tree c.args.n = subst (λ (p : Page). IsElement p.forest c.args.n) (sym c.self.view_is) c.requires.element in
+    record {
+      rows = c.self.invariant.rows;
+      waits = rw c.in_ok-number.ensures.queues (enqueued_waits c.self.inside.tree c.args.n c.args.r c.self.inside.queues (above c.args.n c.self.invariant.rows element) c.self.invariant.waits);
+      held = c.self.invariant.held;
+    }

@@ -1,0 +1,13 @@
+use Rattle.std.proofs.Common.{◌≡◌, drop}
+use Rattle.ce_algorithms.specs.Enqueue.{enqueue_upgrade}
+use Rattle.ce_algorithms.specs.Steps.{for_each}
+use Rattle.ce_page.specs.Ends.{work}
+use Rattle.ce_page.specs.Numbers.{StaysWithin, OnlyEnqueues}
+use Rattle.ce_page.proofs.page.Page.enqueue_upgrades.Given as goal
+
+abbrev pub invariant-loop-i : goal.invariant-loop-i
+invariant-loop-i l = record {
+  step : for_each (drop l.i l.found) (enqueue_upgrade l.d) (work l.self l.fuel) ≡ for_each l.found (enqueue_upgrade l.d) (work l.initial.self l.initial.fuel);
+  within : StaysWithin l.initial.self l.self l.initial.fuel l.fuel;
+  rest : OnlyEnqueues l.initial.self l.self;
+}

@@ -1,0 +1,5 @@
+use Rattle.ce_page.proofs.ElementLemmas.{sound_kept}
+use Rattle.ce_page.proofs.page.Page.set_attribute.Goals as goal
+
+pub invariant_of-self-2 : goal.invariant_of-self-2
+invariant_of-self-2 c = sound_kept _ _ c.set_attr.ensures.kinds c.self.invariant
