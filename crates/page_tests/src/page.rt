@@ -333,3 +333,98 @@ Some(DefNo(1))
 fn definitions_are_added_or_refused(rt: HostRuntime) -> Result<(), Fail> {
     play(&rt, rt.alloc(), 3, DEFINITIONS)
 }
+
+// Element 3, with the element 5 in its shadow tree and the element 6 below it, stands in the page's document.
+const CANDIDATES: &str = "> element html
+#2
+> insert 1 2
+ok
+> element x-a
+#3
+> root 3
+#4
+> element x-a
+#5
+> insert 4 5
+ok
+> element x-a
+#6
+> insert 3 6
+ok
+> insert 2 3
+ok
+> element x-a
+#7
+";
+
+const UPGRADED: &str = "> define x-b 1 -
+0
+> define x-a 0 -
+1
+enqueued 1 #3 upgrade 0
+enqueued 2 #5 upgrade 0
+enqueued 3 #6 upgrade 0
+> insert 2 7
+ok
+enqueued 4 #7 upgrade 0
+> upgrade 7
+ok
+enqueued 5 #7 upgrade 0
+> upgrade 2
+ok
+> next 7
+4 upgrade
+> drop 3
+1
+> fuel
+4
+";
+
+#[test]
+fn what_a_definition_is_for_is_upgraded(rt: HostRuntime) -> Result<(), Fail> {
+    let mut trial = Trial::make(rt.alloc(), 9)?;
+    trial.play(&rt, rt.alloc(), CANDIDATES)?;
+    trial.play(&rt, rt.alloc(), UPGRADED)
+}
+
+const UPGRADES_SPENT: &str = "> define x-a 0 -
+FuelSpent
+enqueued 1 #3 upgrade 0
+enqueued 2 #5 upgrade 0
+> defined x-a
+Some(DefNo(0))
+";
+
+#[test]
+fn fuel_for_some_upgrades_is_not_enough(rt: HostRuntime) -> Result<(), Fail> {
+    let mut trial = Trial::make(rt.alloc(), 2)?;
+    trial.play(&rt, rt.alloc(), CANDIDATES)?;
+    trial.play(&rt, rt.alloc(), UPGRADES_SPENT)
+}
+
+const CONSTRUCTED: &str = "> element x-a
+#2
+> base 0
+Fresh
+> pop 0
+ok
+> push 0 2
+ok
+> push 1 2
+ok
+> base 0
+Of(NodeNo(2))
+> base 0
+Already
+> base 1
+Of(NodeNo(2))
+> pop 0
+ok
+> base 0
+Fresh
+";
+
+#[test]
+fn a_base_call_gives_an_element_once(rt: HostRuntime) -> Result<(), Fail> {
+    play(&rt, rt.alloc(), 0, CONSTRUCTED)
+}

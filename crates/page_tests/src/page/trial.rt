@@ -89,6 +89,7 @@ impl Trial {
         match word(step, 0) {
             "define" => self.defining(alloc, step),
             "custom" | "failed" | "upgrade" => self.customizing(rt, alloc, step),
+            "push" | "base" | "pop" => self.constructing(rt, alloc, step),
             "enqueue" | "within" => self.enqueuing(alloc, step),
             "next" | "drop" | "next-backup" => self.taking(alloc, step),
             "stands" | "owner" => self.placed(rt, alloc, step),
@@ -142,14 +143,24 @@ impl Trial {
 
     // custom NODE DEFINITION, failed NODE DEFINITION, upgrade NODE
     fn customizing(&mut self, rt: &impl Abort, alloc: Global, step: &str) -> Result<String, Fail> {
-        let n = NodeNo(number(step, 1));
+        let n = number(step, 1);
         let d = DefNo(number(step, 2));
         let end = match word(step, 0) {
             "custom" => self.customize(rt, alloc, n, d, CustomState::Custom),
             "failed" => self.customize(rt, alloc, n, d, CustomState::Failed),
-            _ => self.page.try_upgrade(alloc, n, &mut self.fuel),
+            _ => self.upgrade(rt, alloc, n),
         };
         ended(alloc, end)
+    }
+
+    // push DEFINITION NODE, base DEFINITION, pop DEFINITION
+    fn constructing(&mut self, rt: &impl Abort, alloc: Global, step: &str) -> Result<String, Fail> {
+        let d = DefNo(number(step, 1));
+        match word(step, 0) {
+            "push" => ended(alloc, self.push(rt, alloc, d, number(step, 2))),
+            "base" => told(alloc, &self.page.base(d)),
+            _ => ended(alloc, Ok(self.page.pop(d))),
+        }
     }
 
     // enqueue NODE CALLBACK, within NODE CALLBACK
@@ -254,13 +265,24 @@ impl Trial {
         &mut self,
         rt: &impl Abort,
         alloc: Global,
-        n: NodeNo,
+        n: u64,
         d: DefNo,
         state: CustomState,
     ) -> Result<(), PageStop> {
-        assert!(rt; 1 < n.0);
+        let n = self.element(rt, n);
         self.page.set_definition(alloc, n, Some(d))?;
         self.page.set_state(n, state);
+        Ok(())
+    }
+
+    fn upgrade(&mut self, rt: &impl Abort, alloc: Global, n: u64) -> Result<(), PageStop> {
+        let n = self.element(rt, n);
+        self.page.try_upgrade(alloc, n, &mut self.fuel)
+    }
+
+    fn push(&mut self, rt: &impl Abort, alloc: Global, d: DefNo, n: u64) -> Result<(), PageStop> {
+        let n = self.element(rt, n);
+        self.page.push(alloc, d, n)?;
         Ok(())
     }
 
