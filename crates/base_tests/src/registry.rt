@@ -23,7 +23,8 @@ define xp 2 blink => SyntaxError
 define x-p 2 p => ok";
 
 // page LOCAL IS, other LOCAL IS: the definition for an element of the page's document, or of another; name
-// NAME, class CLASS: the definition; local NUMBER: the local name of the definition.
+// NAME, class CLASS: the definition; local NUMBER: the local name of the definition; is NUMBER: the `is` value of its
+// elements.
 const LOOKUPS: &str = "define x-a 5 - => ok
 define x-p 7 p => ok
 page x-a - => 0
@@ -40,7 +41,9 @@ name p => none
 class 7 => 1
 class 6 => none
 local 1 => p
-local 2 => none";
+local 2 => none
+is 0 => none
+is 1 => x-p";
 
 fn fault_word(refused: Refused) -> &'static str {
     match refused {
@@ -86,8 +89,17 @@ fn local(registry: &Registry, d: DefNo) -> &str {
     }
 }
 
+// The `is` value of a definition's elements.
+fn is_value(registry: &Registry, d: DefNo) -> &str {
+    match registry.at(d) {
+        None => "no definition",
+        Some(x) => x.is_value().unwrap_or("none"),
+    }
+}
+
 fn step(alloc: Global, registry: &mut Registry, step: &str, out: &mut String) -> Result<(), Fail> {
     match word(step, 0) {
+        "is" => out.push_str(is_value(registry, DefNo(number(step, 1))))?,
         "define" => out.push_str(define(alloc, registry, step)?)?,
         "local" => out.push_str(local(registry, DefNo(number(step, 1))))?,
         _ => match find(registry, step) {

@@ -7,10 +7,13 @@ use std::fmt::Write;
 use std::process::Abort;
 use std::test::Fail;
 
-// push DEFINITION NODE; base DEFINITION; end DEFINITION: a base call, and what it found is popped; throw
-// DEFINITION NODE: an element is pushed, and popped without a base call.
+// push DEFINITION NODE; pop DEFINITION; base DEFINITION; end DEFINITION: a base call, and what it found is popped;
+// throw DEFINITION NODE: an element is pushed, and popped without a base call.
 const STACKS: &str = "base 0 => Fresh
 base 7 => Fresh
+pop 0 => ok
+pop 7 => ok
+base 0 => Fresh
 push 0 5 => ok
 base 0 => Of(NodeNo(5))
 base 0 => Already
@@ -37,7 +40,11 @@ base 2 => Fresh
 push 0 5 => ok
 end 0 => Of(NodeNo(5))
 end 0 => Already
-base 0 => Fresh";
+base 0 => Fresh
+pop 0 => ok
+push 0 5 => ok
+pop 1 => ok
+base 0 => Of(NodeNo(5))";
 
 fn tell(found: Base, out: &mut String) -> Result<(), Fail> {
     write!(out, "{found:?}")?;
@@ -55,6 +62,11 @@ fn end(rt: &impl Abort, stacks: &mut Stacks, d: DefNo) -> Base {
     assert!(rt; found != Base::Fresh);
     stacks.pop(d);
     found
+}
+
+fn pop(stacks: &mut Stacks, d: DefNo, out: &mut String) -> Result<(), Fail> {
+    stacks.pop(d);
+    tell_done(out)
 }
 
 fn push(
@@ -92,6 +104,7 @@ fn step(
     let node = NodeNo(number(step, 2));
     match word(step, 0) {
         "base" => tell(stacks.base(d), out),
+        "pop" => pop(stacks, d, out),
         "end" => tell(end(rt, stacks, d), out),
         "throw" => throw(alloc, stacks, d, node, out),
         _ => push(alloc, stacks, d, node, out),
