@@ -1,10 +1,6 @@
 -- The law computes.
 use Rattle.std.specs.Prelude.{◌≡◌, false, refl}
 use Rattle.std.specs.Str.{chars}
-use Rattle.element_names.specs.Known.{known_html}
-use Rattle.element_names.specs.Names.{custom_name, local_name}
-use Rattle.ce_algorithms.specs.Model.{model}
-use Rattle.ce_algorithms.specs.Worked.{traced}
 use Rattle.ce_algorithms.specs.Worked.Logs as logs
 use Rattle.order_law.specs.Book.{blank}
 use Rattle.order_law.specs.Law.{Lawful, is_lawful}
@@ -167,9 +163,3 @@ reply_with_one_waiting_unlawful = refl
 pub behind_fuel_unlawful : is_lawful blank samples.behind_fuel ≡ false
 unfolding chars
 behind_fuel_unlawful = refl
-
--- a script
-
-pub without_steps_unlawful : is_lawful blank (traced samples.without_steps) ≡ false
-unfolding model chars custom_name local_name known_html
-without_steps_unlawful = refl

@@ -32,4 +32,3 @@ pub mod Bodies
 pub mod Operations
 pub mod Sessions
 pub mod Scripts
-pub mod Readings

@@ -6,5 +6,4 @@ pub mod After
 pub mod Law
 pub mod Words
 pub mod Brackets
-pub mod Whole
 pub mod Samples

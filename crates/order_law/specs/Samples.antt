@@ -1,11 +1,5 @@
--- Two lawful logs, and what each becomes where it is changed in one place: none of the changed ones is lawful. And a script
--- with an operation that has no steps.
-use Rattle.std.specs.Prelude.{ℕ, zero, suc, List, [], ◌∷◌, ◌++◌, None, Ok, Result, Some, codes}
-use Rattle.rule_lines.specs.Acts.{Class, Command, Declares, Said}
-use Rattle.rule_lines.specs.declared.line.Cmd.TheVariants.{Both}
-use Rattle.rule_lines.specs.declared.op.Op.TheVariants.{Append, Create, Define, Reset}
-use Rattle.rule_tokens.specs.declared.operand.Operand.TheVariants.{Variable}
-use Rattle.rule_tokens.specs.declared.refused.Bad.{Bad}
+-- Two lawful logs, and what each becomes where it is changed in one place: none of the changed ones is lawful.
+use Rattle.std.specs.Prelude.{ℕ, zero, suc, List, [], ◌∷◌, ◌++◌, None, Some, codes}
 use Rattle.rule_tokens.specs.declared.callback.CallName.TheVariants as names
 use Rattle.rule_tokens.specs.declared.callback.CallOrUpgrade.TheVariants.{Call, Upgrade}
 use Rattle.ce_algorithms.specs.declared.event.Event.{Event}
@@ -171,15 +165,3 @@ reply_with_one_waiting = Enqueued 1 3 Upgrade 0 ∷ Fine 1 ∷ []
 
 abbrev pub behind_fuel : List Event
 behind_fuel = changed 18 (FuelLine ∷ Fine 1 ∷ []) upgrade
-
--- what stands for the reset leaves a variable that holds no node, and an element appended to that is a node no more: the next
--- one gets its number
-abbrev pub without_steps : List (Result Said Bad)
-without_steps =
-    Ok (Declares (Class (codes "P")))
-    ∷ Ok (Command (Both (Define (codes "x-p") (codes "P") (Some (codes "p")))))
-    ∷ Ok (Command (Both (Create (codes "e") (codes "p") (Some (codes "x-p")) None)))
-    ∷ Ok (Command (Both (Reset (Variable (codes "e")))))
-    ∷ Ok (Command (Both (Append (Variable []) (Variable (codes "e")))))
-    ∷ Ok (Command (Both (Create (codes "f") (codes "p") (Some (codes "x-p")) None)))
-    ∷ []

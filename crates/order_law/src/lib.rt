@@ -21,4 +21,4 @@ pub use samples::{
     nests_refuses, replies_at_rest_refuses, runs_in_order_refuses, runs_once_refuses,
     upgrades_once_refuses, worked_logs_are_lawful,
 };
-pub use sessions::{each_script_is_lawful, each_session_is_lawful, steps_are_needed};
+pub use sessions::{each_script_is_lawful, each_session_is_lawful};

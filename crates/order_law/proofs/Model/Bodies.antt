@@ -19,16 +19,13 @@ use Rattle.ce_base.specs.declared.custom_state.CustomState.TheVariants.{Precusto
 use Rattle.std.specs.Option.{option_and_then}
 use Rattle.ce_algorithms.specs.Page.{Page, Element, element_of, definition_of, definition_at, with_state}
 use Rattle.ce_algorithms.specs.Upgrade.{is_shadow_refused, construct_class}
-use Rattle.rule_lines.specs.declared.op.Op.{Op}
-use Rattle.rule_lines.specs.declared.op.Op.TheVariants as ops
-use Rattle.ce_algorithms.specs.State.{State, View, view, Class, Memory, value_of, log, on_page, change_page, spend, spend_from, class_of, change_class, read_page}
+use Rattle.ce_algorithms.specs.State.{State, View, view, Class, value_of, log, on_page, change_page, spend, spend_from, class_of, change_class, read_page}
 use Rattle.ce_algorithms.specs.Calls.{Again}
 use Rattle.ce_algorithms.specs.Operands.{node}
 use Rattle.ce_algorithms.specs.Values.{Args, no_args, text_of, fixed}
 use Rattle.ce_algorithms.specs.Body.{Flow, Next, Ended, bumped, told, on_flow, returned, holds, act, body, actions_of}
 use Rattle.ce_algorithms.specs.Construct.{construct, constructor_body, base_alone}
-use Rattle.order_law.specs.Whole.{has_steps, is_whole, are_whole}
-use Rattle.order_law.proofs.Model.Sound.{IsRow, All, all_set}
+use Rattle.order_law.proofs.Model.Sound.{IsRow, All}
 use Rattle.order_law.proofs.Model.Invariant.{Hold, InUpgrade, fits, nodes_of, Holds, HoldsIn, After}
 use Rattle.order_law.proofs.Model.Reading.{line_tests, each_map}
 use Rattle.order_law.proofs.Model.Upgrades.{says_row, rest_row}
@@ -38,7 +35,7 @@ use Rattle.order_law.proofs.Model.Lines.{Plain, plain_holds, construct_plain, ca
 use Rattle.order_law.proofs.Model.Steps.{Keeps, keeps_bind, keeps_seq, keeps_throw}
 use Rattle.order_law.proofs.Model.Giving.{one, maybe, given_nodes, Gives, gives_bind, gives_after, gives_seq, gives_give, gives_throw, gives_if, gives_catch, gives_look, gives_keeps, gives_page, FoundRows}
 use Rattle.order_law.proofs.Model.Nodes.{base_gives}
-use Rattle.order_law.proofs.Model.Draining.{KeepsLaw, ConstructsKeep, BodiesKeep, class_whole, whole_actions}
+use Rattle.order_law.proofs.Model.Draining.{KeepsLaw, ConstructsKeep, BodiesKeep}
 
 pub keeps_done : {h : List Hold} → Keeps h done
 keeps_done = record { at = λ s o. o }
@@ -62,15 +59,8 @@ keeps_spend {h} = record { at = λ s k. go s s.fuel k }
     go s zero k = spent_lawful h s.log s.page k.holds
     go s (suc n) k = record { holds = k.holds; notes = k.notes; rest = k.rest }
 
-pub keeps_class : {h : List Hold} (k : ℕ) (f : Class → Class) → ((c : Class) → are_whole c.bodies ≡ true → are_whole (f c).bodies ≡ true) →
-    Keeps h (change_class k f)
-keeps_class k f whole = record {
-  at = λ s o. record {
-    holds = o.holds;
-    notes = o.notes;
-    rest = record { sound = o.rest.sound; named = o.rest.named; whole = all_set (λ (c : Class). are_whole c.bodies ≡ true) s.classes k (f (class_of s k)) (whole (class_of s k) (class_whole s.classes k o.rest.whole)) o.rest.whole };
-  };
-}
+pub keeps_class : {h : List Hold} (k : ℕ) (f : Class → Class) → Keeps h (change_class k f)
+keeps_class k f = record { at = λ s o. record { holds = o.holds; notes = o.notes; rest = o.rest } }
 
 pub keeps_throw_if : {h : List Hold} (t : Bool) (f : Fault) → Keeps h (throw_if t f)
 keeps_throw_if true f = keeps_throw f
@@ -121,10 +111,6 @@ returned_gives : (h : List Hold) (this : Option ℕ) (o : Option Operand) → Al
 returned_gives h this None held = gives_give (Ended this) held
 returned_gives h this (Some operand) held = gives_bind {nodes = one} (gives_look this (λ v. node v operand) (λ s k. view_row h this operand s held k)) (λ n. gives_give (Ended (Some n)) (inl refl, tt))
 
-fixed_steps : (memory : Memory) (args : Args) (op : Op) → has_steps op ≡ true → has_steps (fixed memory args op) ≡ true
-fixed_steps memory args (ops.Let var at) e = refl
-fixed_steps memory args op e = e
-
 -- a constructor under an upgrade begins
 
 precustomized_holds : (n : ℕ) (h : List Hold) (l : List Event) (p : Page) → Holds (InUpgrade n ∷ h) l p →
@@ -154,30 +140,29 @@ base : (class : ℕ) (h : List Hold) → Gives one h (on_page (base_call class))
 base class h = gives_page (λ vs l. base_gives class)
 
 module _ (again : Again) (keeps : KeepsLaw again) where
-  act_gives : (class : ℕ) (args : Args) (this : Option ℕ) (a : Act) (h : List Hold) → is_whole a ≡ true → All (λ n. IsHeld n h) (maybe this) →
-      Gives flow_nodes h (act again class args this a)
-  act_gives class args this (Both op) h whole held =
-      gives_after (keeps_read (λ s. (class_of s class).memory)) (λ memory. gives_bind (keeps.operates this (fixed memory args op) h (fixed_steps memory args op whole) held)
+  act_gives : (class : ℕ) (args : Args) (this : Option ℕ) (a : Act) (h : List Hold) → All (λ n. IsHeld n h) (maybe this) → Gives flow_nodes h (act again class args this a)
+  act_gives class args this (Both op) h held =
+      gives_after (keeps_read (λ s. (class_of s class).memory)) (λ memory. gives_bind (keeps.operates this (fixed memory args op) h held)
       (λ given. gives_seq (keeps_told given) (gives_give (Next this) (all_under (given_nodes given) (maybe this) h held))))
-  act_gives class args this (Log vals) h whole held =
+  act_gives class args this (Log vals) h held =
       gives_after (keeps_read (λ s. (class_of s class).memory)) (λ memory. gives_seq (keeps_plain (Logged (map (text_of memory args) vals)) (logged_plain (map (text_of memory args) vals))) (gives_give (Next this) held))
-  act_gives class args this Super h whole held = gives_bind (base class h) (λ n. gives_seq (keeps_throw_if (is_some this) ReferenceError) (gives_give (Next (Some n)) (inl refl, tt)))
-  act_gives class args this (Return operand) h whole held = returned_gives h this operand held
-  act_gives class args this (Throw val) h whole held = gives_after (keeps_read (λ s. (class_of s class).memory)) (λ memory. gives_throw (UserThrow (text_of memory args val)))
-  act_gives class args this Bump h whole held = gives_seq (keeps_class class (λ c. record c { memory = record (c.memory) { count = bumped (c.memory).count } }) (λ c e. e)) (gives_give (Next this) held)
-  act_gives class args this (Keep val) h whole held =
+  act_gives class args this Super h held = gives_bind (base class h) (λ n. gives_seq (keeps_throw_if (is_some this) ReferenceError) (gives_give (Next (Some n)) (inl refl, tt)))
+  act_gives class args this (Return operand) h held = returned_gives h this operand held
+  act_gives class args this (Throw val) h held = gives_after (keeps_read (λ s. (class_of s class).memory)) (λ memory. gives_throw (UserThrow (text_of memory args val)))
+  act_gives class args this Bump h held = gives_seq (keeps_class class (λ c. record c { memory = record (c.memory) { count = bumped (c.memory).count } })) (gives_give (Next this) held)
+  act_gives class args this (Keep val) h held =
       gives_after (keeps_read (λ s. (class_of s class).memory))
-      (λ memory. gives_seq (keeps_class class (λ c. record c { memory = record (c.memory) { kept = text_of memory args val } }) (λ c e. e)) (gives_give (Next this) held))
-  act_gives class args this (Try action) h whole held =
-      gives_catch (gives_seq keeps_spend (act_gives class args this action h whole held)) (λ f. gives_seq (keeps_plain (Caught f) (caught_plain f)) (gives_give (Next this) held))
-  act_gives class args this (If equal left right action) h whole held =
+      (λ memory. gives_seq (keeps_class class (λ c. record c { memory = record (c.memory) { kept = text_of memory args val } })) (gives_give (Next this) held))
+  act_gives class args this (Try action) h held =
+      gives_catch (gives_seq keeps_spend (act_gives class args this action h held)) (λ f. gives_seq (keeps_plain (Caught f) (caught_plain f)) (gives_give (Next this) held))
+  act_gives class args this (If equal left right action) h held =
       gives_after (keeps_read (λ s. (class_of s class).memory))
-      (λ memory. gives_if (holds equal (text_of memory args left) (text_of memory args right)) (gives_seq keeps_spend (act_gives class args this action h whole held)) (gives_give (Next this) held))
+      (λ memory. gives_if (holds equal (text_of memory args left) (text_of memory args right)) (gives_seq keeps_spend (act_gives class args this action h held)) (gives_give (Next this) held))
 
-  body_gives : (class : ℕ) (args : Args) (this : Option ℕ) (actions : List Act) (h : List Hold) → All (λ a. is_whole a ≡ true) actions →
-      All (λ n. IsHeld n h) (maybe this) → Gives maybe h (body again class args this actions)
-  body_gives class args this [] h whole held = gives_give this held
-  body_gives class args this (a ∷ rest) h whole held = gives_seq keeps_spend (gives_bind (act_gives class args this a h whole.0 held) (λ flow. flows flow (λ next g held. body_gives class args next rest g whole.1 held)))
+  body_gives : (class : ℕ) (args : Args) (this : Option ℕ) (actions : List Act) (h : List Hold) → All (λ n. IsHeld n h) (maybe this) →
+      Gives maybe h (body again class args this actions)
+  body_gives class args this [] h held = gives_give this held
+  body_gives class args this (a ∷ rest) h held = gives_seq keeps_spend (gives_bind (act_gives class args this a h held) (λ flow. flows flow (λ next g held. body_gives class args next rest g held)))
     where
       flows : (flow : Flow) →
           ((next : Option ℕ) (g : List Hold) → All (λ n. IsHeld n g) (maybe next) → Gives maybe g (body again class args next rest)) →
@@ -193,17 +178,17 @@ module _ (again : Again) (keeps : KeepsLaw again) where
   result_gives h (Some n) held = gives_give n held
 
   -- the class as it is in this state
-  construct_of : (class : ℕ) (k : Class) (h : List Hold) → are_whole k.bodies ≡ true →
+  construct_of : (class : ℕ) (k : Class) (h : List Hold) →
       Gives one h (log (Construct k.name) >> (constructor_body again class k >>= (λ result. found result ReferenceError)))
-  construct_of class k h whole = gives_seq (keeps_plain (Construct k.name) (construct_plain k.name))
-      (gives_bind {nodes = maybe} (gives_if (has_call Constructor k.facts.calls) (body_gives class no_args None (actions_of Constructor k.bodies) h (whole_actions Constructor k.bodies whole) tt) (alone_gives class h))
+  construct_of class k h = gives_seq (keeps_plain (Construct k.name) (construct_plain k.name))
+      (gives_bind {nodes = maybe} (gives_if (has_call Constructor k.facts.calls) (body_gives class no_args None (actions_of Constructor k.bodies) h tt) (alone_gives class h))
       (λ result. result_gives (with_hands (maybe result) h) result (all_taken (maybe result) h)))
 
   pub construct_gives : (class : ℕ) (h : List Hold) → Gives one h (construct again class)
-  construct_gives class h = record { at = λ s o. (construct_of class (class_of s class) h (class_whole s.classes class o.rest.whole)).at s o }
+  construct_gives class h = record { at = λ s o. (construct_of class (class_of s class) h).at s o }
 
   pub body_keeps : BodiesKeep again
-  body_keeps class args this actions h whole held = gives_keeps (body_gives class args this actions h whole held)
+  body_keeps class args this actions h held = gives_keeps (body_gives class args this actions h held)
 
   construct_class_keeps : (n d : ℕ) (h : List Hold) → Keeps (InUpgrade n ∷ h) (construct_class again n d)
   construct_class_keeps n d h =

@@ -1,6 +1,6 @@
 -- Reactions, drains, reacting operations, the checkpoint.
-use Rattle.std.proofs.Common.{◌≡◌, ℕ, ◌+◌, ◌<◌, Bool, true, false, List, [], ◌∷◌, ◌++◌, zero, suc, Option, Some, None, refl, sym, ap, ◌∙◌, subst, arith, inl}
-use Rattle.std.specs.Prelude.{◌||◌, slice_get, not, if◌then◌else◌}
+use Rattle.std.proofs.Common.{◌≡◌, ℕ, ◌+◌, ◌<◌, Bool, true, false, List, [], ◌∷◌, ◌++◌, Option, Some, None, refl, sym, ap, ◌∙◌, subst, arith, inl}
+use Rattle.std.specs.Prelude.{◌||◌, not}
 use Rattle.rule_tokens.specs.declared.callback.CallName.{CallName}
 use Rattle.rule_tokens.specs.declared.callback.CallName.TheVariants.{Connected as ConnectedName, Disconnected as DisconnectedName, Adopted as AdoptedName, Attribute as AttributeName, FormAssociated as FormAssociatedName, FormDisabled as FormDisabledName, FormReset as FormResetName, FormStateRestore as FormStateRestoreName}
 use Rattle.rule_tokens.specs.declared.callback.CallOrUpgrade.{CallOrUpgrade}
@@ -15,22 +15,20 @@ use Rattle.ce_registry.specs.declared.definition.Definition.{Definition}
 use Rattle.ce_algorithms.specs.declared.event.Event.TheVariants.{Started, Finished, Reported, QueueOpened, QueueClosed, DrainBegun}
 use Rattle.ce_algorithms.specs.Steps.{Step, Outcome, Goes, Throws, Spent, then_do, ◌>>=◌, ◌>>◌, give, done, when, throw, read, catch_in, finally_in}
 use Rattle.ce_algorithms.specs.Page.{definition_of, with_queues}
-use Rattle.ce_algorithms.specs.State.{State, Class, log, logged, change_page, class_of, or_new_class}
+use Rattle.ce_algorithms.specs.State.{State, log, logged, change_page, class_of}
 use Rattle.ce_algorithms.specs.Calls.{Again, Operate, DrainRest, DrainBackup}
 use Rattle.ce_algorithms.specs.Values.{Args, args_of}
-use Rattle.ce_algorithms.specs.Body.{body, same_call, actions_of}
+use Rattle.ce_algorithms.specs.Body.{body}
 use Rattle.ce_algorithms.specs.Upgrade.{construct_for}
 use Rattle.ce_algorithms.specs.Drain.{log_call, actions_for, call_defined, run_reaction, react, drain, drain_popped, reacting, with_backup, drain_backup, drain_all_backup, checkpoint}
 use Rattle.reaction_queue.specs.ElementQueues.{is_empty}
 use Rattle.order_law.specs.Book.{Entry}
 use Rattle.order_law.specs.Reads.{is_callback}
 use Rattle.order_law.specs.Law.{Lawful}
-use Rattle.order_law.specs.Whole.{has_steps, is_whole, are_whole}
 use Rattle.order_law.proofs.Model.Invariant.{Hold, InSteps, InDrain, InReaction, InUpgrade, Known, fits, HoldsIn, After}
 use Rattle.order_law.proofs.Model.Reactions.{opened_holds, drained_holds, started_holds, finished_holds}
 use Rattle.order_law.proofs.Model.Ending.{closed_holds, skipped_holds, taken_holds, checkpoint_holds, checkpoint_closed}
 use Rattle.order_law.proofs.Model.Lines.{plain_holds, reported_plain, call_line}
-use Rattle.order_law.proofs.Model.Reading.{both_true}
 use Rattle.order_law.proofs.Model.Sound.{All}
 use Rattle.order_law.proofs.Model.Hands.{IsHeld, with_hands, take_in_below, hand_rows}
 use Rattle.order_law.proofs.Model.Steps.{AfterCalm, Keeps, keeps_seq}
@@ -49,31 +47,9 @@ AfterRest (Goes a s) = HoldsIn [] s × (s.page.queues.backup ≡ [])
 AfterRest (Throws f s) = ⊥
 AfterRest (Spent s) = Lawful s.log
 
--- bodies of a class
-
-pub class_whole : (ks : List Class) (k : ℕ) → All (λ (c : Class). are_whole c.bodies ≡ true) ks → are_whole (or_new_class (slice_get ks k)).bodies ≡ true
-class_whole [] k all = refl
-class_whole (c ∷ ks) zero all = all.0
-class_whole (c ∷ ks) (suc k) all = class_whole ks k all.1
-
-pub whole_actions : (call : CallName) (bodies : List (CallName × Act)) → are_whole bodies ≡ true → All (λ a. is_whole a ≡ true) (actions_of call bodies)
-whole_actions call [] e = tt
-whole_actions call (b ∷ bodies) e = go (same_call b.0 call) (both_true (is_whole b.1) (are_whole bodies) e) (λ k. whole_actions call bodies k)
-  where
-    go : (t : Bool) → (is_whole b.1 ≡ true) × (are_whole bodies ≡ true) →
-        (are_whole bodies ≡ true → All (λ a. is_whole a ≡ true) (actions_of call bodies)) →
-        All (λ a. is_whole a ≡ true) (if t then b.1 ∷ actions_of call bodies else actions_of call bodies)
-    go true e rest = (e.0, rest e.1)
-    go false e rest = rest e.1
-
-whole_for : (what : CallOrUpgrade) (bodies : List (CallName × Act)) → are_whole bodies ≡ true → All (λ a. is_whole a ≡ true) (actions_for what bodies)
-whole_for (Call call) bodies e = whole_actions call bodies e
-whole_for IsUpgrade bodies e = tt
-
 -- what goes on again keeps the law, whatever is suspended
 pub record KeepsLaw (again : Again) : Type 0 where
-  pub operates : (this : Option ℕ) (op : Op) (h : List Hold) → has_steps op ≡ true → All (λ n. IsHeld n h) (maybe this) →
-      Gives given_nodes h (again (Operate this op))
+  pub operates : (this : Option ℕ) (op : Op) (h : List Hold) → All (λ n. IsHeld n h) (maybe this) → Gives given_nodes h (again (Operate this op))
   pub drains : (ns : List ℕ) (q : ℕ) (h : List Hold) (s : State) → HoldsIn (InDrain q ns ∷ h) s → AfterCalm (InDrain q [] ∷ h) (again (DrainRest ns) s)
   pub backups : (s : State) → HoldsIn (InDrain 0 [] ∷ []) s → AfterBackup (again DrainBackup s)
 
@@ -81,19 +57,16 @@ pub record KeepsLaw (again : Again) : Type 0 where
 abbrev pub ConstructsKeep : Again → Type 0
 ConstructsKeep again = (n d : ℕ) (h : List Hold) → Keeps (InUpgrade n ∷ h) (construct_for again n d)
 
--- bodies keep it whose operations have their steps, where `this` is a node at hand
+-- bodies keep it, where `this` is a node at hand
 abbrev pub BodiesKeep : Again → Type 0
 BodiesKeep again =
-    (class : ℕ) (args : Args) (this : Option ℕ) (actions : List Act) (h : List Hold) → All (λ a. is_whole a ≡ true) actions → All (λ n. IsHeld n h) (maybe this) →
-    Keeps h (body again class args this actions)
+    (class : ℕ) (args : Args) (this : Option ℕ) (actions : List Act) (h : List Hold) → All (λ n. IsHeld n h) (maybe this) → Keeps h (body again class args this actions)
 
 module _ (again : Again) (keeps : KeepsLaw again) (constructs : ConstructsKeep again) (bodies : BodiesKeep again) where
   rest_keeps : (n class : ℕ) (x : Reaction) (h : List Hold) → IsHeld n h →
       Keeps h (read (λ (s : State). class_of s class) >>= (λ k. body again class (args_of x) (Some n) (actions_for (what_of x) k.bodies) >> done))
   rest_keeps n class x h held = record {
-    at = λ s k.
-        let whole = whole_for (what_of x) (class_of s class).bodies (class_whole s.classes class k.rest.whole) in
-        (keeps_seq (bodies class (args_of x) (Some n) (actions_for (what_of x) (class_of s class).bodies) h whole (held, tt)) (record { at = λ t l. l })).at s k;
+    at = λ s k. (keeps_seq (bodies class (args_of x) (Some n) (actions_for (what_of x) (class_of s class).bodies) h (held, tt)) (record { at = λ t l. l })).at s k;
   }
 
   line_then : {A B : Type 0} (h : List Hold) (o : Outcome State A) (f : Step State B) → After h o → Keeps h f → After h (then_do o (λ _. f))

@@ -1,5 +1,5 @@
 -- Steps that keep the law, may throw, and give nodes: those of a page with its notes, and those of a session.
-use Rattle.std.proofs.Common.{◌≡◌, ℕ, Bool, true, false, List, [], ◌∷◌, ◌++◌, length, map, Option, Some, None}
+use Rattle.std.proofs.Common.{ℕ, Bool, true, false, List, [], ◌∷◌, ◌++◌, length, map, Option, Some, None}
 use Rattle.std.specs.Prelude.{Result, Ok, Err, if◌then◌else◌}
 use Rattle.ce_base.specs.declared.fault.Fault.{Fault}
 use Rattle.ce_algorithms.specs.declared.event.Event.{Event}
@@ -7,9 +7,8 @@ use Rattle.ce_algorithms.specs.declared.event.Given.{Given}
 use Rattle.ce_algorithms.specs.declared.event.Given.TheVariants.{Node}
 use Rattle.ce_algorithms.specs.Steps.{Step, Outcome, Goes, Throws, Spent, then_do, ◌>>=◌, ◌>>◌, give, throw, throw_if, throw_any, throw_where, refuse, catch, catch_in, settle}
 use Rattle.ce_algorithms.specs.Page.{Work}
-use Rattle.ce_algorithms.specs.State.{State, Class, View, view, look, event_of, with_outcome, work_of, on_page}
+use Rattle.ce_algorithms.specs.State.{State, View, view, look, event_of, with_outcome, work_of, on_page}
 use Rattle.order_law.specs.Law.{Lawful}
-use Rattle.order_law.specs.Whole.{are_whole}
 use Rattle.order_law.proofs.Model.Sound.{IsRow, All}
 use Rattle.order_law.proofs.Model.Invariant.{Hold, nodes_of, HoldsIn, After}
 use Rattle.order_law.proofs.Model.Hands.{with_hands, IsHeld, all_rows, take_hands, drop_hands, take_in, drop_in}
@@ -171,15 +170,14 @@ gives_catch {nodes = nodes} {h = h} {f = f} {k = k} x n = record { at = λ s o. 
 
 -- a primitive on the page
 page_back : {A : Type 0} (nodes : A → List ℕ) (h : List Hold) (s : State) (o : Outcome Work A) →
-    All (λ (k : Class). are_whole k.bodies ≡ true) s.classes → AfterGivesAt nodes (with_hands (nodes_of s.variables) h) s.log o
-    → AfterGives nodes h (with_outcome o s)
-page_back nodes h s (Goes a w) whole k = (came_back h s w whole k.0, k.1)
-page_back nodes h s (Throws f w) whole k = came_back h s w whole k
-page_back nodes h s (Spent w) whole k = spent_lawful (with_hands (nodes_of s.variables) h) (s.log ++ map event_of w.page.notes) w.page k.holds
+    AfterGivesAt nodes (with_hands (nodes_of s.variables) h) s.log o → AfterGives nodes h (with_outcome o s)
+page_back nodes h s (Goes a w) k = (came_back h s w k.0, k.1)
+page_back nodes h s (Throws f w) k = came_back h s w k
+page_back nodes h s (Spent w) k = spent_lawful (with_hands (nodes_of s.variables) h) (s.log ++ map event_of w.page.notes) w.page k.holds
 
 pub gives_page : {A : Type 0} {nodes : A → List ℕ} {h : List Hold} {f : Step Work A} →
     ((vs : List ℕ) (l : List Event) → GivesAt nodes (with_hands vs h) l f) → Gives nodes h (on_page f)
-gives_page {nodes = nodes} {h = h} {f = f} n = record { at = λ s k. page_back nodes h s (f (work_of s)) k.rest.whole ((n (nodes_of s.variables) s.log).at (work_of s) (at_work h s k)) }
+gives_page {nodes = nodes} {h = h} {f = f} n = record { at = λ s k. page_back nodes h s (f (work_of s)) ((n (nodes_of s.variables) s.log).at (work_of s) (at_work h s k)) }
 
 -- what is looked up
 abbrev pub FoundRows : {A : Type 0} → (A → List ℕ) → ℕ → Result A Fault → Type 0

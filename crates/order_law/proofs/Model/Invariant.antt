@@ -11,9 +11,8 @@ use Rattle.ce_registry.specs.ClassFacts.{has_call}
 use Rattle.ce_algorithms.specs.declared.event.Event.{Event}
 use Rattle.ce_algorithms.specs.Steps.{Outcome, Goes, Throws, Spent}
 use Rattle.ce_algorithms.specs.Page.{Page, Element, element_of, state_of, definition_of}
-use Rattle.ce_algorithms.specs.State.{State, Class}
+use Rattle.ce_algorithms.specs.State.{State}
 use Rattle.node_trees.specs.Trees.{Trees}
-use Rattle.order_law.specs.Whole.{are_whole}
 use Rattle.order_law.proofs.Model.Sound.{IsRow, All, Sound}
 use Rattle.ce_algorithms.specs.Upgrade.{is_upgradable}
 use Rattle.order_law.specs.Book.{Entry, Bracket, Filling, Draining, Reacting, Upgrading, Book, blank}
@@ -151,22 +150,21 @@ abbrev pub nodes_of : List (List ℕ × ℕ) → List ℕ
 nodes_of [] = []
 nodes_of (v ∷ variables) = v.1 ∷ nodes_of variables
 
--- each variable holds a node, and each class's bodies are of operations that have steps
-pub record HoldsRest (f : Trees) (rows : ℕ) (stacks : List (List (Option ℕ))) (variables : List (List ℕ × ℕ)) (classes : List Class) : Type 0 where
+-- each variable holds a node
+pub record HoldsRest (f : Trees) (rows : ℕ) (stacks : List (List (Option ℕ))) (variables : List (List ℕ × ℕ)) : Type 0 where
   pub sound : Sound f rows stacks
   pub named : All (IsRow rows) (nodes_of variables)
-  pub whole : All (λ (k : Class). are_whole k.bodies ≡ true) classes
 
 -- as many rows
-pub rest_rows : (f : Trees) (rows others : ℕ) (stacks : List (List (Option ℕ))) (variables : List (List ℕ × ℕ)) (classes : List Class) →
-    rows ≡ others → HoldsRest f rows stacks variables classes → HoldsRest f others stacks variables classes
-rest_rows f rows others stacks variables classes e k = subst (λ n. HoldsRest f n stacks variables classes) e k
+pub rest_rows : (f : Trees) (rows others : ℕ) (stacks : List (List (Option ℕ))) (variables : List (List ℕ × ℕ)) →
+    rows ≡ others → HoldsRest f rows stacks variables → HoldsRest f others stacks variables
+rest_rows f rows others stacks variables e k = subst (λ n. HoldsRest f n stacks variables) e k
 
 -- the state is what the log says, with this suspended
 pub record HoldsIn (h : List Hold) (s : State) : Type 0 where
   pub holds : Holds h s.log s.page
   pub notes : s.page.notes ≡ []
-  pub rest : HoldsRest s.page.forest (length s.page.elements) s.page.stacks s.variables s.classes
+  pub rest : HoldsRest s.page.forest (length s.page.elements) s.page.stacks s.variables
 
 abbrev pub After : {A : Type 0} → List Hold → Outcome State A → Type 0
 After h (Goes a s) = HoldsIn h s

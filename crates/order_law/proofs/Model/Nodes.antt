@@ -13,7 +13,8 @@ use Rattle.node_trees.specs.Nodes.{times}
 use Rattle.node_trees.specs.Spots.{facts_at, document_at, shadow_at}
 use Rattle.reaction_queue.specs.declared.reaction.Reaction.TheVariants.{Upgrade}
 use Rattle.ce_registry.specs.declared.definition.Definition.{Definition}
-use Rattle.ce_registry.specs.Registry.{by_class}
+use Rattle.ce_registry.specs.Registry.{by_class, is_value_of}
+use Rattle.construction.specs.Stacks.{stack_of, with_stack}
 use Rattle.ce_algorithms.specs.declared.event.Event.{Event}
 use Rattle.ce_algorithms.specs.Steps.{Outcome, Goes, Throws, Spent, then_do, ◌>>=◌, ◌>>◌, give, throw_if, throw_where, found}
 use Rattle.ce_algorithms.specs.Page.{Page, Work, Element, element_of, state_of, or_uncustomized, uncustomized, with_element, with_state, with_definition, definition_at}
@@ -22,15 +23,15 @@ use Rattle.ce_algorithms.specs.State.{event_of}
 use Rattle.ce_algorithms.specs.Making.{next_number, with_new, make_node, make_element, make_text, make_document, make_shadow_root}
 use Rattle.ce_algorithms.specs.Enqueue.{enqueue_upgrade, lookup_in}
 use Rattle.ce_algorithms.specs.CreateLater.{make_in_state, make_later, create_later, first_state}
-use Rattle.ce_algorithms.specs.Construction.{stack_of, is_value_of, base_entry, base_call}
+use Rattle.ce_algorithms.specs.Construction.{base_entry, base_call}
 use Rattle.ce_algorithms.specs.Upgrade.{is_upgradable}
 use Rattle.ce_algorithms.specs.Perform.{attach_shadow, is_shadow_disabled}
 use Rattle.order_law.proofs.Model.Forests.{host_there, more_node, more_shadow}
-use Rattle.order_law.proofs.Model.Sound.{All, IsEntry, Sound, sound_more, sound_rows, stack_entries}
+use Rattle.order_law.proofs.Model.Sound.{All, IsEntry, Sound, sound_more, sound_rows, stack_entries, set_entries}
 use Rattle.order_law.proofs.Model.Invariant.{Hold, InHand, Known}
 use Rattle.order_law.proofs.Model.Rows.{row_same, row_twice}
 use Rattle.order_law.proofs.Model.Making.{new_same, new_holds, fresh_holds}
-use Rattle.order_law.proofs.Model.Steps.{HoldsAt, Any, at_read, stack_holds, enqueue_at}
+use Rattle.order_law.proofs.Model.Steps.{HoldsAt, Any, at_read, stacks_hold, enqueue_at}
 use Rattle.order_law.proofs.Model.Giving.{none, one, AfterGivesAt, GivesAt, take_at, let_go_at, give_then_at, give_bind_at, give_at, keeps_at, given_at}
 
 -- a node that was just made
@@ -144,15 +145,15 @@ entry_after : (d : ℕ) (x : Definition) (entries : List (Option ℕ)) (h : List
     All (IsEntry (length w.page.elements)) entries → HoldsAt Any h l w → AfterGivesAt one h l (base_entry d x entries w)
 entry_after d x [] h l w all k = custom_then d h l (make_element x.local (is_value_of x) 1 w) (new_at (λ n. new_element x.local (is_value_of x) 1) h l w k)
 entry_after d x (None ∷ entries) h l w all k = k
-entry_after d x (Some n ∷ entries) h l w all k = (stack_holds Any h l d (None ∷ entries) w (tt, all.1) k, (all.0, tt))
+entry_after d x (Some n ∷ entries) h l w all k = (stacks_hold Any h l (with_stack d (None ∷ entries)) w (set_entries (length w.page.elements) d (None ∷ entries) w.page.stacks (tt, all.1) k.sound.stacked) k, (all.0, tt))
 
 pub base_gives : {h : List Hold} {l : List Event} (class : ℕ) → GivesAt one h l (base_call class)
 base_gives {h} {l} class = record { at = λ w k. go w k (by_class w.page.definitions class) }
   where
     go : (w : Work) → HoldsAt Any h l w → (o : Option ℕ) →
-        AfterGivesAt one h l (then_do (found o TypeError w) (λ d. page.read_page (λ p. definition_at p d) >>= (λ x. page.read_page (λ p. stack_of p d) >>= base_entry d x)))
+        AfterGivesAt one h l (then_do (found o TypeError w) (λ d. page.read_page (λ p. definition_at p d) >>= (λ x. page.read_page (λ p. stack_of d p.stacks) >>= base_entry d x)))
     go w k None = k
-    go w k (Some d) = entry_after d (definition_at w.page d) (stack_of w.page d) h l w (stack_entries (length w.page.elements) w.page.stacks d k.sound.stacked) k
+    go w k (Some d) = entry_after d (definition_at w.page d) (stack_of d w.page.stacks) h l w (stack_entries (length w.page.elements) w.page.stacks d k.sound.stacked) k
 
 -- creating that is not synchronous
 

@@ -1,5 +1,5 @@
 -- Operations keep the law, and give nodes: their operands are read, and then they are done.
-use Rattle.std.proofs.Common.{◌≡◌, ◌≤◌, ℕ, zero, suc, true, false, List, [], ◌∷◌, ◌++◌, length, Option, Some, None, refl, inl, arith}
+use Rattle.std.proofs.Common.{◌≤◌, ℕ, zero, suc, true, List, [], ◌∷◌, ◌++◌, length, Option, Some, None, refl, inl, arith}
 use Rattle.std.specs.Prelude.{not, slice_set, bytes_eq, Result, Ok, Err}
 use Rattle.std.specs.Str.{str_to_ascii_lowercase}
 use Rattle.std.specs.List.{position}
@@ -34,7 +34,6 @@ use Rattle.ce_algorithms.specs.Construct.{construct}
 use Rattle.ce_algorithms.specs.Drain.{reacting}
 use Rattle.ce_algorithms.specs.Deeds.{resolve, variable, is_reacting_on_page}
 use Rattle.ce_algorithms.specs.Perform.{create_named, define_element, gives_nothing, gives_node, page_steps, perform_deed, keep, kept, operate}
-use Rattle.order_law.specs.Whole.{has_steps}
 use Rattle.order_law.specs.Law.{Lawful}
 use Rattle.order_law.proofs.Model.Sound.{IsRow, All}
 use Rattle.order_law.proofs.Model.Invariant.{Hold, InSteps, InHand, Known, nodes_of, HoldsIn, After}
@@ -70,26 +69,25 @@ found_node : (rows : ℕ) (r : Result ℕ Fault) (k : ℕ → Result Deed Fault)
 found_node rows (Ok n) k row next = next n row.0
 found_node rows (Err f) k row next = tt
 
-resolved : (rows : ℕ) (v : View) (op : Op) → has_steps op ≡ true → ((operand : Operand) → FoundRows one rows (node v operand)) →
-    FoundRows deed_nodes rows (resolve v op)
-resolved rows v (ops.Create var local is within) steps row = found_any rows (document_or_page v within) _ (λ d. tt)
-resolved rows v (ops.New var name) steps row = found_any rows (class v.classes name) _ (λ k. tt)
-resolved rows v (ops.MakeText var chars within) steps row = found_any rows (document_or_page v within) _ (λ d. tt)
-resolved rows v (ops.Shadow var host) steps row = found_any rows (element v host) _ (λ n. tt)
-resolved rows v (ops.Append parent child) steps row = found_node rows (node v parent) _ (row parent) (λ p at_p. found_node rows (node v child) _ (row child) (λ n at_n. (at_p, (at_n, tt))))
-resolved rows v (ops.Before parent child before) steps row =
+resolved : (rows : ℕ) (v : View) (op : Op) → ((operand : Operand) → FoundRows one rows (node v operand)) → FoundRows deed_nodes rows (resolve v op)
+resolved rows v (ops.Create var local is within) row = found_any rows (document_or_page v within) _ (λ d. tt)
+resolved rows v (ops.New var name) row = found_any rows (class v.classes name) _ (λ k. tt)
+resolved rows v (ops.MakeText var chars within) row = found_any rows (document_or_page v within) _ (λ d. tt)
+resolved rows v (ops.Shadow var host) row = found_any rows (element v host) _ (λ n. tt)
+resolved rows v (ops.Append parent child) row = found_node rows (node v parent) _ (row parent) (λ p at_p. found_node rows (node v child) _ (row child) (λ n at_n. (at_p, (at_n, tt))))
+resolved rows v (ops.Before parent child before) row =
     found_node rows (node v parent) _ (row parent) (λ p at_p. found_node rows (node v child) _ (row child) (λ n at_n. found_any rows (node v before) _ (λ b. (at_p, (at_n, tt)))))
-resolved rows v (ops.Remove parent child) steps row = found_any rows (node v parent) _ (λ p. found_any rows (node v child) _ (λ n. tt))
-resolved rows v (ops.Detach child) steps row = found_any rows (node_that ElementOrText v child) _ (λ n. tt)
-resolved rows v (ops.SetAttr at name value) steps row = found_any rows (element v at) _ (λ n. tt)
-resolved rows v (ops.DelAttr at name) steps row = found_any rows (element v at) _ (λ n. tt)
-resolved rows v (ops.Clone var at deep) steps row = found_any rows (node v at) _ (λ n. tt)
-resolved rows v (ops.Adopt within at) steps row = found_any rows (document v within) _ (λ d. found_any rows (node v at) _ (λ n. tt))
-resolved rows v (ops.Define name class_name base) steps row = found_any rows (class v.classes class_name) _ (λ k. tt)
-resolved rows v (ops.Upgrade at) steps row = found_any rows (node v at) _ (λ n. tt)
-resolved rows v (ops.Ask word at name) steps row = found_any rows (node_that (question word name).asked_of v at) _ (λ n. tt)
-resolved rows v (ops.Let var at) steps row = found_node rows (node v at) _ (row at) (λ n at_n. (at_n, tt))
-resolved rows v op steps row = absurd (let x : false ≡ true = steps in cc)
+resolved rows v (ops.Remove parent child) row = found_any rows (node v parent) _ (λ p. found_any rows (node v child) _ (λ n. tt))
+resolved rows v (ops.Detach child) row = found_any rows (node_that ElementOrText v child) _ (λ n. tt)
+resolved rows v (ops.SetAttr at name value) row = found_any rows (element v at) _ (λ n. tt)
+resolved rows v (ops.DelAttr at name) row = found_any rows (element v at) _ (λ n. tt)
+resolved rows v (ops.Clone var at deep) row = found_any rows (node v at) _ (λ n. tt)
+resolved rows v (ops.Adopt within at) row = found_any rows (document v within) _ (λ d. found_any rows (node v at) _ (λ n. tt))
+resolved rows v (ops.Define name class_name base) row = found_any rows (class v.classes class_name) _ (λ k. tt)
+resolved rows v (ops.Upgrade at) row = found_any rows (node v at) _ (λ n. tt)
+resolved rows v (ops.Ask word at name) row = found_any rows (node_that (question word name).asked_of v at) _ (λ n. tt)
+resolved rows v (ops.Let var at) row = found_node rows (node v at) _ (row at) (λ n at_n. (at_n, tt))
+resolved rows v op row = tt
 
 -- variables
 
@@ -114,7 +112,7 @@ keeps_variable {h} v n held = record {
   at = λ s k. record {
     holds = k.holds;
     notes = k.notes;
-    rest = record { sound = k.rest.sound; named = put_nodes (length s.page.elements) (position (λ (b : List ℕ × ℕ). bytes_eq b.0 v) s.variables) v n s.variables (held_row n h s.log s.page held k.holds) k.rest.named; whole = k.rest.whole };
+    rest = record { sound = k.rest.sound; named = put_nodes (length s.page.elements) (position (λ (b : List ℕ × ℕ). bytes_eq b.0 v) s.variables) v n s.variables (held_row n h s.log s.page held k.holds) k.rest.named };
   };
 }
 
@@ -142,7 +140,7 @@ AfterMadeIn h (Spent s) = Lawful s.log
 
 made_in : (h : List Hold) (s : State) (o : Outcome Work ℕ) → HoldsIn h s → AfterMade (with_hands (nodes_of s.variables) h) s.log o →
     AfterMadeIn h (with_outcome o s)
-made_in h s (Goes n w) k made = (came_back h s w k.rest.whole made.holds, made.known)
+made_in h s (Goes n w) k made = (came_back h s w made.holds, made.known)
 made_in h s (Throws f w) k made = made
 made_in h s (Spent w) k made = spent_lawful (with_hands (nodes_of s.variables) h) _ w.page made.holds
 
@@ -207,7 +205,7 @@ module _ (again : Again) (keeps : KeepsLaw again) where
 
   define_keeps : (name : List ℕ) (class : ℕ) (base : Option (List ℕ)) (h : List Hold) → Keeps h (define_element name class base)
   define_keeps name class base h = gives_keeps {nodes = none} (gives_after (keeps_read (λ s. class_of s class))
-      (λ c. gives_seq (gives_keeps (gives_page (λ vs l. define_gives name class c.facts base))) (keeps_gives (keeps_class class (λ c. record c { frozen = true }) (λ c e. e)))))
+      (λ c. gives_seq (gives_keeps (gives_page (λ vs l. define_gives name class c.facts base))) (keeps_gives (keeps_class class (λ c. record c { frozen = true })))))
 
   on_page_gives : (deed : PageDeed) (h : List Hold) → All (λ n. IsHeld n h) (page_deed_nodes deed) → Gives given_nodes h (on_page (page_steps deed))
   on_page_gives deed h held = gives_page (λ vs l. page_gives deed (all_under vs (page_deed_nodes deed) h held))
@@ -221,7 +219,6 @@ module _ (again : Again) (keeps : KeepsLaw again) where
   deed_gives (deeds.Ask word n name) h held = record { at = λ s k. (k, tt) }
   deed_gives (deeds.Let var n) h held = nothing_gives (keeps_variable var n held.0)
 
-  pub operate_gives : (this : Option ℕ) (op : Op) (h : List Hold) → has_steps op ≡ true → All (λ n. IsHeld n h) (maybe this) →
-      Gives given_nodes h (operate again this op)
-  operate_gives this op h steps held = gives_bind {nodes = deed_nodes} (gives_look this (λ v. resolve v op) (λ s k. resolved (length s.page.elements) (view this s) op steps (λ operand. view_row h this operand s held k)))
+  pub operate_gives : (this : Option ℕ) (op : Op) (h : List Hold) → All (λ n. IsHeld n h) (maybe this) → Gives given_nodes h (operate again this op)
+  operate_gives this op h held = gives_bind {nodes = deed_nodes} (gives_look this (λ v. resolve v op) (λ s k. resolved (length s.page.elements) (view this s) op (λ operand. view_row h this operand s held k)))
       (λ deed. kept_gives (variable op) (deed_gives deed (with_hands (deed_nodes deed) h) (all_taken (deed_nodes deed) h)))

@@ -7,30 +7,32 @@ use Rattle.element_names.specs.Names.{attr_name}
 use Rattle.node_trees.specs.Facts.{Facts, is_document, is_element, is_shadow_root}
 use Rattle.node_trees.specs.Trees.{Trees, none as no_trees, tree, tree_of, is_number}
 use Rattle.node_trees.specs.Orders.{order_of}
+use Rattle.node_trees.specs.Links.{below}
+use Rattle.node_trees.specs.Candidates.{elements, has_is_value, is_candidate, candidates}
 use Rattle.node_trees.specs.Spots.{facts_at, kind_at, parent_at}
 use Rattle.ce_registry.specs.declared.class_facts.ClassFacts.{ClassFacts}
 use Rattle.ce_registry.specs.declared.definition.Definition.{Definition}
-use Rattle.ce_registry.specs.Registry.{may_define, local_of}
+use Rattle.ce_registry.specs.Registry.{may_define, is_value_of}
 use Rattle.ce_algorithms.specs.declared.deed.PageDeed.{PageDeed}
 use Rattle.ce_algorithms.specs.declared.deed.PageDeed.TheVariants as page_deeds
 use Rattle.ce_algorithms.specs.declared.event.Event.{Event}
 use Rattle.ce_algorithms.specs.declared.event.Given.TheVariants.{Nothing, Node}
-use Rattle.ce_algorithms.specs.Steps.{Step, Outcome, Goes, Throws, Spent, when, for_each}
+use Rattle.ce_algorithms.specs.Steps.{Step, Outcome, Goes, Throws, Spent, ◌>>=◌, when, for_each}
 use Rattle.ce_algorithms.specs.Page.{Page, Work}
 use Rattle.ce_algorithms.specs.Page as page
 use Rattle.ce_algorithms.specs.State.{event_of}
-use Rattle.ce_algorithms.specs.Enqueue.{enqueue_upgrade}
-use Rattle.ce_algorithms.specs.Clone.{copy_node, copy_below, below, clone}
-use Rattle.ce_algorithms.specs.Define.{with_defined, has_is_value, is_candidate, candidates, upgrade_candidates, define_name}
-use Rattle.ce_algorithms.specs.Perform.{gives_nothing, gives_node, page_steps}
+use Rattle.ce_algorithms.specs.Enqueue.{enqueue_upgrade, try_upgrade}
+use Rattle.ce_algorithms.specs.Clone.{copy_node, copy_below, clone}
+use Rattle.ce_algorithms.specs.Define.{new_definition, with_defined, upgrade_candidates, define_name}
+use Rattle.ce_algorithms.specs.Perform.{upgrade_all, gives_nothing, gives_node, page_steps}
 use Rattle.order_law.proofs.Model.Reading.{both_true}
-use Rattle.order_law.proofs.Model.Sound.{All, all_append, IsEntry, sound_stacks}
+use Rattle.order_law.proofs.Model.Sound.{All}
 use Rattle.order_law.proofs.Model.Invariant.{Hold}
 use Rattle.order_law.proofs.Model.Hands.{with_hands, IsHeld}
 use Rattle.order_law.proofs.Model.Making.{defined_holds}
-use Rattle.order_law.proofs.Model.Steps.{HoldsAt, Any, AfterAt, KeepsAt, at_seq, at_bind, at_done, at_each, at_where, at_read}
+use Rattle.order_law.proofs.Model.Steps.{HoldsAt, Any, AfterAt, KeepsAt, at_seq, at_done, at_each, at_where, at_read}
 use Rattle.order_law.proofs.Model.Giving.{none, one, given_nodes, GivesAt, give_bind_at, give_seq_at, give_at, give_throw_if_at, give_throw_where_at, give_refuse_at, keeps_at}
-use Rattle.order_law.proofs.Model.Primitives.{try_element_at, upgrade_at, remove_at, adopt_at, insert_gives, set_at, unset_at}
+use Rattle.order_law.proofs.Model.Primitives.{try_at, upgrade_at, remove_at, adopt_at, insert_gives, set_at, unset_at}
 use Rattle.order_law.proofs.Model.Nodes.{create_later_gives, text_gives, attach_gives}
 
 -- copies
@@ -67,36 +69,40 @@ defined_at : {q : Trees → Type 0} {h : List Hold} {l : List Event} (d : Defini
 defined_at {q} {h} {l} d = record {
   at = λ w k. record {
     holds = defined_holds d h (l ++ map event_of w.page.notes) w.page k.holds;
-    sound = sound_stacks w.page.forest (length w.page.elements) w.page.stacks (w.page.stacks ++ [] ∷ []) (all_append (All (IsEntry (length w.page.elements))) w.page.stacks ([] ∷ []) k.sound.stacked (tt, tt)) k.sound;
+    sound = k.sound;
     known = k.known;
   };
 }
 
-candidate_element : (name : List ℕ) (base : Option (List ℕ)) (x : Facts) → is_candidate name base x ≡ true → is_element x.kind ≡ true
-candidate_element name None x is = (both_true (is_element x.kind) (bytes_eq x.local name) is).0
-candidate_element name (Some base) x is = (both_true (is_element x.kind) (bytes_eq x.local base) (both_true (is_element x.kind && bytes_eq x.local base) (has_is_value x.is_value name) is).0).0
-
-candidates_elements : (name : List ℕ) (base : Option (List ℕ)) (f : Trees) (ns : List ℕ) →
-    All (λ n. is_element (kind_at f n) ≡ true) (filter (λ n. is_candidate name base (facts_at f n)) ns)
-candidates_elements name base f [] = tt
-candidates_elements name base f (n ∷ ns) = go (is_candidate name base (facts_at f n)) refl (candidates_elements name base f ns)
+-- nodes that pass a test, which only elements pass
+passing_elements : (test : ℕ → Bool) (f : Trees) (ns : List ℕ) → ((n : ℕ) → test n ≡ true → is_element (kind_at f n) ≡ true) →
+    All (λ n. is_element (kind_at f n) ≡ true) (filter test ns)
+passing_elements test f [] passes = tt
+passing_elements test f (n ∷ ns) passes = go (test n) refl (passing_elements test f ns passes)
   where
-    go : (t : Bool) → is_candidate name base (facts_at f n) ≡ t →
-        All (λ n. is_element (kind_at f n) ≡ true) (filter (λ n. is_candidate name base (facts_at f n)) ns)
-        → All (λ n. is_element (kind_at f n) ≡ true) (if t then n ∷ filter (λ n. is_candidate name base (facts_at f n)) ns else filter (λ n. is_candidate name base (facts_at f n)) ns)
-    go true is rest = (candidate_element name base (facts_at f n) is, rest)
+    go : (t : Bool) → test n ≡ t → All (λ n. is_element (kind_at f n) ≡ true) (filter test ns)
+        → All (λ n. is_element (kind_at f n) ≡ true) (if t then n ∷ filter test ns else filter test ns)
+    go true is rest = (passes n is, rest)
     go false is rest = rest
 
--- the forest stays while they are enqueued
-enqueued_at : {h : List Hold} {l : List Event} (f : Trees) (d : ℕ) (ns : List ℕ) → All (λ n. is_element (kind_at f n) ≡ true) ns →
-    KeepsAt (λ g. f ≡ g) h l (for_each ns (enqueue_upgrade d))
-enqueued_at f d [] all = at_done
-enqueued_at f d (n ∷ ns) all = at_seq (upgrade_at d n (λ g same. ap (λ t. is_element (kind_at t n)) (sym same) ∙ all.0)) (enqueued_at f d ns all.1)
+candidate_element : (local : List ℕ) (value : Option (List ℕ)) (x : Facts) → is_candidate local value x ≡ true → is_element x.kind ≡ true
+candidate_element local None x is = (both_true (is_element x.kind) (bytes_eq x.local local) is).0
+candidate_element local (Some value) x is = (both_true (is_element x.kind) (bytes_eq x.local local) (both_true (is_element x.kind && bytes_eq x.local local) (has_is_value x.is_value value) is).0).0
 
-candidates_at : {h : List Hold} {l : List Event} (name : List ℕ) (base : Option (List ℕ)) (d : ℕ) → KeepsAt Any h l (upgrade_candidates name base d)
-candidates_at {h} {l} name base d = record {
-  at = λ w k. known (for_each (candidates name base w.page.forest) (enqueue_upgrade d) w) w.page.forest
-      ((enqueued_at w.page.forest d (candidates name base w.page.forest) (candidates_elements name base w.page.forest (order_of w.page.forest 1))).at w (record { holds = k.holds; sound = k.sound; known = refl }));
+-- steps at each of some elements, while the forest stays
+elements_at : {h : List Hold} {l : List Event} (f : Trees) (step : ℕ → Step Work (Unit {0})) (ns : List ℕ)
+    → ((n : ℕ) → ((g : Trees) → f ≡ g → is_element (kind_at g n) ≡ true) → KeepsAt (λ g. f ≡ g) h l (step n)) → All (λ n. is_element (kind_at f n) ≡ true) ns →
+    KeepsAt (λ g. f ≡ g) h l (for_each ns step)
+elements_at f step [] keeps all = at_done
+elements_at f step (n ∷ ns) keeps all = at_seq (keeps n (λ g same. ap (λ t. is_element (kind_at t n)) (sym same) ∙ all.0)) (elements_at f step ns keeps all.1)
+
+-- so of elements that are found in the forest as it stands
+each_element_at : {h : List Hold} {l : List Event} (find : Trees → List ℕ) (step : ℕ → Step Work (Unit {0})) → ((f : Trees) → All (λ n. is_element (kind_at f n) ≡ true) (find f))
+    → ((f : Trees) (n : ℕ) → ((g : Trees) → f ≡ g → is_element (kind_at g n) ≡ true) → KeepsAt (λ g. f ≡ g) h l (step n)) →
+    KeepsAt Any h l (page.read_page (λ p. find p.forest) >>= (λ ns. for_each ns step))
+each_element_at {h} {l} find step finds keeps = record {
+  at = λ w k. known (for_each (find w.page.forest) step w) w.page.forest
+      ((elements_at w.page.forest step (find w.page.forest) (keeps w.page.forest) (finds w.page.forest)).at w (record { holds = k.holds; sound = k.sound; known = refl }));
 }
   where
     known : (o : Outcome Work (Unit {0})) (f : Trees) → AfterAt (λ g. f ≡ g) h l o → AfterAt Any h l o
@@ -104,11 +110,19 @@ candidates_at {h} {l} name base d = record {
     known (Throws x w) f o = o
     known (Spent w) f o = record { holds = o.holds; sound = o.sound; known = tt }
 
+candidates_at : {h : List Hold} {l : List Event} (d : ℕ) (x : Definition) → KeepsAt Any h l (upgrade_candidates d x)
+candidates_at d x = each_element_at (λ f. candidates x.local (is_value_of x) f 1) (enqueue_upgrade d)
+    (λ f. passing_elements (λ n. is_candidate x.local (is_value_of x) (facts_at f n)) f (order_of f 1) (λ n. candidate_element x.local (is_value_of x) (facts_at f n)))
+    (λ f n is. upgrade_at d n is)
+
+all_at : {h : List Hold} {l : List Event} (n : ℕ) → KeepsAt Any h l (upgrade_all n)
+all_at n = each_element_at (λ f. elements f n) try_upgrade (λ f. passing_elements (λ m. is_element (kind_at f m)) f (order_of f n) (λ m is. is)) (λ f m is. try_at m is)
+
 pub define_gives : {h : List Hold} {l : List Event} (name : List ℕ) (class : ℕ) (facts : ClassFacts) (base : Option (List ℕ)) →
     GivesAt none h l (define_name name class facts base)
 define_gives name class facts base = give_seq_at (give_refuse_at (λ w. may_define w.page.definitions name class base))
     (give_bind_at {nodes = none} (keeps_at (at_read (λ p. length p.definitions)))
-    (λ d. give_seq_at (keeps_at (defined_at (record { name = name; local = local_of name base; class = class; facts = facts }))) (give_seq_at (keeps_at (at_where (λ w. w.page.upgrades) (candidates_at name base d))) (give_at d tt))))
+    (λ d. give_seq_at (keeps_at (defined_at (new_definition name class facts base))) (give_seq_at (keeps_at (candidates_at d (new_definition name class facts base))) (give_at d tt))))
 
 -- deeds on the page alone
 
@@ -134,4 +148,4 @@ page_gives (page_deeds.DelAttr n name) held = nothing_gives (keeps_at (unset_at 
 page_gives (page_deeds.Clone n deep) held = node_given (clone_gives deep n)
 page_gives (page_deeds.Adopt document n) held = nothing_gives (give_seq_at (give_throw_where_at (λ w. is_document (kind_at w.page.forest n)) NotSupportedError)
     (give_seq_at (give_throw_where_at (λ w. is_shadow_root (kind_at w.page.forest n)) HierarchyRequestError) (keeps_at (adopt_at document n (λ f apart k. tt) (λ m f k. tt)))))
-page_gives (page_deeds.Upgrade n) held = nothing_gives (keeps_at (at_bind (at_read (λ p. order_of p.forest n)) (λ walk. at_each walk (λ m. try_element_at m))))
+page_gives (page_deeds.Upgrade n) held = nothing_gives (keeps_at (all_at n))

@@ -44,10 +44,10 @@ found_at n (Some d) is = upgrade_at d n is
 
 pub try_at : {q : Trees → Type 0} {h : List Hold} {l : List Event} (n : ℕ) → ((f : Trees) → q f → is_element (kind_at f n) ≡ true) →
     KeepsAt q h l (try_upgrade n)
-try_at n is = at_where (λ w. w.page.upgrades) (at_bind (at_read (λ p. lookup_for p n)) (λ d. found_at n d is))
+try_at n is = at_bind (at_read (λ p. lookup_for p n)) (λ d. found_at n d is)
 
 -- an element, where it is one
-pub try_element_at : {q : Trees → Type 0} {h : List Hold} {l : List Event} (n : ℕ) →
+try_element_at : {q : Trees → Type 0} {h : List Hold} {l : List Event} (n : ℕ) →
     KeepsAt q h l (where_is (λ w. is_element (kind_at w.page.forest n)) (try_upgrade n))
 try_element_at n = at_where_forest (λ t. is_element (kind_at t n)) (try_at n (λ f k. k.0))
 

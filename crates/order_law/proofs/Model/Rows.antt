@@ -1,42 +1,13 @@
 -- Lists at places: reaction queues, and rows of elements.
-use Rattle.std.proofs.Common.{◌≡◌, ◌≢◌, ℕ, zero, suc, ◌-◌, ◌<◌, ◌≤◌, Bool, true, false, List, [], ◌∷◌, length, Some, refl, ap, ◌∙◌, subst, arith}
+use Rattle.std.proofs.Common.{◌≡◌, ◌≢◌, ℕ, zero, suc, ◌-◌, ◌<◌, ◌≤◌, Bool, true, false, List, [], ◌∷◌, length, Some, refl, ap, subst, arith}
 use Rattle.std.specs.Prelude.{slice_get, slice_set, ◌==◌}
 use Rattle.std.proofs.lemmas.Bool.{eqb-true, eqb-false}
 use Rattle.std.proofs.lemmas.List.{length-set}
 use Rattle.reaction_queue.specs.declared.reaction.Reaction.{Reaction}
-use Rattle.reaction_queue.specs.Queues.{Queues, ahead, list_at, with_list, waiting_at, with_waiting}
+use Rattle.reaction_queue.specs.Queues.{Queues, waiting_at, with_waiting}
+use Rattle.reaction_queue.proofs.PlaceLemmas.{list_same, list_other}
 use Rattle.ce_algorithms.specs.Page.{Page, Element, element_of, or_uncustomized, with_element}
 use Rattle.order_law.proofs.Model.Invariant.{Known}
-
-list_at_nil : {A : Type 0} (j : ℕ) → list_at {A = A} j [] ≡ []
-list_at_nil zero = refl
-list_at_nil (suc j) = refl
-
-list_at_head : {A : Type 0} (l : List A) (ls : List (List A)) → list_at zero (ahead l ls) ≡ l
-list_at_head [] [] = refl
-list_at_head [] (m ∷ ls) = refl
-list_at_head (x ∷ l) ls = refl
-
-list_at_ahead : {A : Type 0} (i : ℕ) (l : List A) (ls : List (List A)) → list_at (suc i) (ahead l ls) ≡ list_at i ls
-list_at_ahead zero [] [] = refl
-list_at_ahead (suc i) [] [] = refl
-list_at_ahead i [] (m ∷ ls) = refl
-list_at_ahead i (x ∷ l) ls = refl
-
-pub list_same : {A : Type 0} (i : ℕ) (xs : List A) (ls : List (List A)) → list_at i (with_list i xs ls) ≡ xs
-list_same zero xs [] = list_at_head xs []
-list_same zero xs (l ∷ ls) = list_at_head xs ls
-list_same (suc i) xs [] = list_at_ahead i [] (with_list i xs []) ∙ list_same i xs []
-list_same (suc i) xs (l ∷ ls) = list_at_ahead i l (with_list i xs ls) ∙ list_same i xs ls
-
-pub list_other : {A : Type 0} (i j : ℕ) (xs : List A) (ls : List (List A)) → i ≢ j → list_at j (with_list i xs ls) ≡ list_at j ls
-list_other zero zero xs ls n = absurd (n refl)
-list_other zero (suc j) xs [] n = list_at_ahead j xs [] ∙ list_at_nil j
-list_other zero (suc j) xs (l ∷ ls) n = list_at_ahead j xs ls
-list_other (suc i) zero xs [] n = list_at_head [] (with_list i xs [])
-list_other (suc i) zero xs (l ∷ ls) n = list_at_head l (with_list i xs ls)
-list_other (suc i) (suc j) xs [] n = list_at_ahead j [] (with_list i xs []) ∙ list_other i j xs [] (λ k. n (ap suc k)) ∙ list_at_nil j
-list_other (suc i) (suc j) xs (l ∷ ls) n = list_at_ahead j l (with_list i xs ls) ∙ list_other i j xs ls (λ k. n (ap suc k))
 
 -- places of elements differ
 apart : (n m : ℕ) → 2 ≤ n → n == m ≡ false → n - 1 ≢ m - 1

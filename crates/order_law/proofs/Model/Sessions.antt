@@ -20,7 +20,6 @@ use Rattle.order_law.specs.Lines.{is_reply}
 use Rattle.order_law.specs.Clauses.{calls_once, is_none}
 use Rattle.order_law.specs.After.{after}
 use Rattle.order_law.specs.Law.{Lawful}
-use Rattle.order_law.specs.Whole.{is_whole_command}
 use Rattle.order_law.proofs.Model.Reading.{Reads, Tests, is_line, line_tests, tested, reads_append, reads_one}
 use Rattle.order_law.proofs.Model.Invariant.{Hold, InDrain, HoldsIn, After}
 use Rattle.order_law.proofs.Model.Ending.{at_rest, spent_lawful}
@@ -105,22 +104,22 @@ given_backup (Spent s) k = k
 
 level_keeps : (again : Again) → KeepsLaw again → KeepsLaw (level again)
 level_keeps again keeps = record {
-  operates = λ this op h steps held. record { at = λ s k. (operate_gives again keeps this op h steps held).at s k };
+  operates = λ this op h held. record { at = λ s k. (operate_gives again keeps this op h held).at s k };
   drains = λ ns q h s k. given_calm (InDrain q [] ∷ h) (drain again ns s) (drain_after again keeps (construct_for_keeps again keeps) (body_keeps again keeps) ns q h s k);
   backups = λ s k. given_backup (drain_backup again s) (backup_after again keeps (construct_for_keeps again keeps) (body_keeps again keeps) s k);
 }
 
 -- any number of levels
 run_keeps : (n : ℕ) → KeepsLaw (run n)
-run_keeps zero = record { operates = λ this op h steps held. record { at = λ s k. k.holds.reads.lawful }; drains = λ ns q h s k. k.holds.reads.lawful; backups = λ s k. k.holds.reads.lawful }
+run_keeps zero = record { operates = λ this op h held. record { at = λ s k. k.holds.reads.lawful }; drains = λ ns q h s k. k.holds.reads.lawful; backups = λ s k. k.holds.reads.lawful }
 run_keeps (suc n) =
     let l = level_keeps (run n) (run_keeps n) in
-    record { operates = λ this op h steps held. record { at = λ s k. (l.operates this op h steps held).at s k }; drains = λ ns q h s k. l.drains ns q h s k; backups = λ s k. l.backups s k }
+    record { operates = λ this op h held. record { at = λ s k. (l.operates this op h held).at s k }; drains = λ ns q h s k. l.drains ns q h s k; backups = λ s k. l.backups s k }
 
 model_keeps : KeepsLaw model
 unfolding model
 model_keeps = record {
-  operates = λ this op h steps held. record { at = λ s k. ((run_keeps (suc (clock s))).operates this op h steps held).at s k };
+  operates = λ this op h held. record { at = λ s k. ((run_keeps (suc (clock s))).operates this op h held).at s k };
   drains = λ ns q h s k. (run_keeps (suc (clock s))).drains ns q h s k;
   backups = λ s k. (run_keeps (suc (clock s))).backups s k;
 }
@@ -137,14 +136,14 @@ performed_then line (Throws f s) k = command_then line (Err f) (checkpoint model
 performed_then line (Spent s) k = k
 
 -- what a command performs
-performs : (c : Cmd) → is_whole_command c ≡ true → Keeps [] (perform model c)
-performs (commands.Both op) whole = gives_keeps (operate_gives model model_keeps None op [] whole tt)
-performs (commands.Doc var) whole = gives_keeps (kept_gives (Some var) (gives_page (λ vs l. node_given document_gives)))
-performs c whole = record { at = λ s o. o }
+performs : (c : Cmd) → Keeps [] (perform model c)
+performs (commands.Both op) = gives_keeps (operate_gives model model_keeps None op [] tt)
+performs (commands.Doc var) = gives_keeps (kept_gives (Some var) (gives_page (λ vs l. node_given document_gives)))
+performs c = record { at = λ s o. o }
 
-pub command_ends : (line : ℕ) (c : Cmd) (s : State) → is_whole_command c ≡ true → Rests s → Ends (command model line c s)
-command_ends line c s whole r = go s.fuel
+pub command_ends : (line : ℕ) (c : Cmd) (s : State) → Rests s → Ends (command model line c s)
+command_ends line c s r = go s.fuel
   where
     go : (n : ℕ) → Ends {A = Unit {0}} (then_do (spend_from n s) (λ _. attempt (perform model c) >>= (λ result. checkpoint model >> log (reply line result))))
     go zero = spent_lawful [] s.log s.page r.holds.holds
-    go (suc n) = performed_then line (perform model c (record s { fuel = n })) ((performs c whole).at (record s { fuel = n }) (record { holds = r.holds.holds; notes = r.holds.notes; rest = r.holds.rest }))
+    go (suc n) = performed_then line (perform model c (record s { fuel = n })) ((performs c).at (record s { fuel = n }) (record { holds = r.holds.holds; notes = r.holds.notes; rest = r.holds.rest }))

@@ -1,5 +1,5 @@
 -- Sound pages: each node of the forest has its row, and each row its node.
-use Rattle.std.proofs.Common.{◌≡◌, ℕ, zero, suc, ◌+◌, ◌<◌, ◌≤◌, true, List, [], ◌∷◌, ◌++◌, Option, Some, None, refl, sym, ap, ◌∙◌, subst, arith, inl, inr, if◌then◌else◌, ◌==◌}
+use Rattle.std.proofs.Common.{◌≡◌, ℕ, zero, suc, ◌+◌, ◌<◌, ◌≤◌, true, List, [], ◌∷◌, Option, Some, None, refl, sym, ap, ◌∙◌, subst, arith, inl, inr, if◌then◌else◌, ◌==◌}
 use Rattle.std.specs.Prelude.{slice_get, slice_set}
 use Rattle.std.proofs.lemmas.Bool.Decides.{nat_tests}
 use Rattle.std.proofs.lemmas.Bool.{cases_lt, cases_eq}
@@ -8,7 +8,7 @@ use Rattle.node_trees.specs.Facts.{is_element}
 use Rattle.node_trees.specs.Trees.{Trees}
 use Rattle.node_trees.specs.Nodes.{weight, size, times}
 use Rattle.node_trees.specs.Spots.{kind_at}
-use Rattle.ce_algorithms.specs.Construction.{or_no_entries}
+use Rattle.construction.specs.Stacks.{or_no_entries, stack_of, with_stack, grown, pushed, popped, without_last}
 use Rattle.order_law.proofs.Model.Weights.{IsApart}
 use Rattle.order_law.proofs.Model.Forests.{Alike, HasMore, one_element, element_there, element_counts}
 
@@ -25,11 +25,7 @@ pub all_map : {A : Type 0} (P Q : A → Type 0) (xs : List A) → ((x : A) → P
 all_map P Q [] f all = tt
 all_map P Q (x ∷ xs) f all = (f x all.0, all_map P Q xs f all.1)
 
-pub all_append : {A : Type 0} (P : A → Type 0) (xs ys : List A) → All P xs → All P ys → All P (xs ++ ys)
-all_append P [] ys left right = right
-all_append P (x ∷ xs) ys left right = (left.0, all_append P xs ys left.1 right)
-
-pub all_set : {A : Type 0} (P : A → Type 0) (xs : List A) (i : ℕ) (y : A) → P y → All P xs → All P (slice_set xs i y)
+all_set : {A : Type 0} (P : A → Type 0) (xs : List A) (i : ℕ) (y : A) → P y → All P xs → All P (slice_set xs i y)
 all_set P [] i y new all = tt
 all_set P (x ∷ xs) zero y new all = (new, all.1)
 all_set P (x ∷ xs) (suc i) y new all = (all.0, all_set P xs i y new all.1)
@@ -109,17 +105,38 @@ sound_more f g rows stacks kind more k = record {
 pub sound_rows : (f : Trees) (rows others : ℕ) (stacks : List (List (Option ℕ))) → rows ≡ others → Sound f rows stacks → Sound f others stacks
 sound_rows f rows others stacks e k = subst (λ n. Sound f n stacks) e k
 
--- with a construction stack given anew, or one more
+-- with the construction stacks given anew
 pub sound_stacks : (f : Trees) (rows : ℕ) (stacks others : List (List (Option ℕ))) → All (All (IsEntry rows)) others → Sound f rows stacks → Sound f rows others
 sound_stacks f rows stacks others all k = record { size = k.size; some = k.some; once = k.once; only = k.only; first = k.first; stacked = all }
 
-pub stack_entries : (rows : ℕ) (stacks : List (List (Option ℕ))) (d : ℕ) → All (All (IsEntry rows)) stacks →
-    All (IsEntry rows) (or_no_entries (slice_get stacks d))
+-- construction stacks: their entries stay nodes
+
+pub stack_entries : (rows : ℕ) (stacks : List (List (Option ℕ))) (d : ℕ) → All (All (IsEntry rows)) stacks → All (IsEntry rows) (stack_of d stacks)
 stack_entries rows stacks d all = go (slice_get stacks d) refl
   where
     go : (o : Option (List (Option ℕ))) → slice_get stacks d ≡ o → All (IsEntry rows) (or_no_entries o)
     go None is = tt
     go (Some es) is = all_get (All (IsEntry rows)) stacks d es all is
+
+pub set_entries : (rows d : ℕ) (entries : List (Option ℕ)) (stacks : List (List (Option ℕ))) → All (IsEntry rows) entries →
+    All (All (IsEntry rows)) stacks → All (All (IsEntry rows)) (with_stack d entries stacks)
+set_entries rows d entries stacks new all = all_set (All (IsEntry rows)) stacks d entries new all
+
+grown_entries : (rows count : ℕ) (stacks : List (List (Option ℕ))) → All (All (IsEntry rows)) stacks → All (All (IsEntry rows)) (grown count stacks)
+grown_entries rows zero stacks all = all
+grown_entries rows (suc count) [] all = (tt, grown_entries rows count [] tt)
+grown_entries rows (suc count) (entries ∷ stacks) all = (all.0, grown_entries rows count stacks all.1)
+
+pub pushed_entries : (rows d n : ℕ) (stacks : List (List (Option ℕ))) → IsRow rows n → All (All (IsEntry rows)) stacks →
+    All (All (IsEntry rows)) (pushed d n stacks)
+pushed_entries rows d n stacks row all = set_entries rows d (Some n ∷ stack_of d stacks) (grown (d + 1) stacks) (row, stack_entries rows stacks d all) (grown_entries rows (d + 1) stacks all)
+
+pub popped_entries : (rows d : ℕ) (stacks : List (List (Option ℕ))) → All (All (IsEntry rows)) stacks → All (All (IsEntry rows)) (popped d stacks)
+popped_entries rows d stacks all = set_entries rows d (without_last (stack_of d stacks)) stacks (fewer (stack_of d stacks) (stack_entries rows stacks d all)) all
+  where
+    fewer : (entries : List (Option ℕ)) → All (IsEntry rows) entries → All (IsEntry rows) (without_last entries)
+    fewer [] entries = tt
+    fewer (e ∷ es) entries = entries.1
 
 -- an element's number: the first node is the document
 pub element_row : (f : Trees) (rows : ℕ) (stacks : List (List (Option ℕ))) (n : ℕ) → is_element (kind_at f n) ≡ true → Sound f rows stacks →

@@ -1,6 +1,6 @@
 -- Steps keep the law: those of a page with its notes, and those of a session.
 use Rattle.std.proofs.Common.{◌≡◌, ℕ, zero, suc, ◌+◌, ◌-◌, ◌<◌, ◌≤◌, Bool, true, false, List, [], ◌∷◌, ◌++◌, length, map, Option, Some, None, refl, sym, ap, ◌∙◌, subst, arith, append_assoc, append-nil}
-use Rattle.std.specs.Prelude.{slice_get, slice_set}
+use Rattle.std.specs.Prelude.{slice_get}
 use Rattle.std.specs.Option.{option_and_then}
 use Rattle.std.proofs.lemmas.List.{map-append}
 use Rattle.ce_base.specs.declared.fault.Fault.{Fault}
@@ -16,15 +16,14 @@ use Rattle.ce_algorithms.specs.Steps.{Step, Outcome, Goes, Throws, Spent, then_d
 use Rattle.ce_algorithms.specs.Page.{Page, Work, Element, element_of, or_uncustomized, definition_of, with_queues, with_forest}
 use Rattle.ce_algorithms.specs.Page as page
 use Rattle.ce_algorithms.specs.Enqueue.{noted, enqueue, enqueue_callback, gives_reaction, has_callback, is_observed}
-use Rattle.ce_algorithms.specs.State.{State, Class, event_of, with_work, with_outcome, work_of, on_page}
-use Rattle.ce_algorithms.specs.Construction.{with_stack}
+use Rattle.ce_algorithms.specs.State.{State, event_of, with_work, with_outcome, work_of, on_page}
+use Rattle.ce_algorithms.specs.Construction.{with_stacks}
 use Rattle.order_law.specs.Law.{Lawful}
 use Rattle.node_trees.specs.Trees.{Trees}
 use Rattle.order_law.proofs.Model.Weights.{IsApart}
-use Rattle.order_law.specs.Whole.{are_whole}
 use Rattle.order_law.proofs.Model.Reading.{both_true}
 use Rattle.order_law.proofs.Model.Forests.{Alike}
-use Rattle.order_law.proofs.Model.Sound.{All, all_set, IsEntry, Sound, sound_apart, sound_alike, sound_stacks}
+use Rattle.order_law.proofs.Model.Sound.{All, IsEntry, Sound, sound_apart, sound_alike, sound_stacks}
 use Rattle.order_law.proofs.Model.Invariant.{Hold, Known, fits, nodes_of, Holds, HoldsIn, After}
 use Rattle.order_law.proofs.Model.Hands.{with_hands, take_hands, drop_hands, hand_rows}
 use Rattle.order_law.proofs.Model.Closing.{enqueued_holds}
@@ -174,19 +173,18 @@ calm_any h (Throws f s) k = absurd k
 calm_any h (Spent s) k = k
 
 -- back in the session: what the variables hold was in hand
-pub came_back : (h : List Hold) (s : State) (w : Work) → All (λ (k : Class). are_whole k.bodies ≡ true) s.classes →
-    HoldsAt Any (with_hands (nodes_of s.variables) h) s.log w → HoldsIn h (with_work w s)
-came_back h s w whole k = record {
+pub came_back : (h : List Hold) (s : State) (w : Work) → HoldsAt Any (with_hands (nodes_of s.variables) h) s.log w → HoldsIn h (with_work w s)
+came_back h s w k = record {
   holds = same_page h (with_work w s).log w.page (with_work w s).page refl refl refl (drop_hands (nodes_of s.variables) h (with_work w s).log w.page k.holds);
   notes = refl;
-  rest = record { sound = k.sound; named = hand_rows (nodes_of s.variables) h (with_work w s).log w.page k.holds; whole = whole };
+  rest = record { sound = k.sound; named = hand_rows (nodes_of s.variables) h (with_work w s).log w.page k.holds };
 }
 
-pub back : {A : Type 0} (h : List Hold) (s : State) (o : Outcome Work A) → All (λ (k : Class). are_whole k.bodies ≡ true) s.classes →
-    AfterAt Any (with_hands (nodes_of s.variables) h) s.log o → AfterCalm h (with_outcome o s)
-back h s (Goes a w) whole k = came_back h s w whole k
-back h s (Throws f w) whole k = k
-back h s (Spent w) whole k = spent_lawful (with_hands (nodes_of s.variables) h) (s.log ++ map event_of w.page.notes) w.page k.holds
+pub back : {A : Type 0} (h : List Hold) (s : State) (o : Outcome Work A) → AfterAt Any (with_hands (nodes_of s.variables) h) s.log o →
+    AfterCalm h (with_outcome o s)
+back h s (Goes a w) k = came_back h s w k
+back h s (Throws f w) k = k
+back h s (Spent w) k = spent_lawful (with_hands (nodes_of s.variables) h) (s.log ++ map event_of w.page.notes) w.page k.holds
 
 -- into the page
 pub at_work : (h : List Hold) (s : State) → HoldsIn h s → HoldsAt Any (with_hands (nodes_of s.variables) h) s.log (work_of s)
@@ -221,18 +219,18 @@ at_where_forest {q} {h} {l} {f} test k = record { at = λ w o. go w o (test w.pa
     go w o true is = known (f w) (k.at w (record { holds = o.holds; sound = o.sound; known = (is, o.known) }))
     go w o false is = o
 
--- a construction stack is given anew
-pub stack_holds : (q : Trees → Type 0) (h : List Hold) (l : List Event) (d : ℕ) (entries : List (Option ℕ)) (w : Work) →
-    All (IsEntry (length w.page.elements)) entries → HoldsAt q h l w → HoldsAt q h l (record w { page = with_stack d entries w.page })
-stack_holds q h l d entries w rows o = record {
-  holds = same_page h (l ++ map event_of w.page.notes) w.page (with_stack d entries w.page) refl refl refl o.holds;
-  sound = sound_stacks w.page.forest (length w.page.elements) w.page.stacks (slice_set w.page.stacks d entries) (all_set (All (IsEntry (length w.page.elements))) w.page.stacks d entries rows o.sound.stacked) o.sound;
+-- the construction stacks are given anew
+pub stacks_hold : (q : Trees → Type 0) (h : List Hold) (l : List Event) (f : List (List (Option ℕ)) → List (List (Option ℕ))) (w : Work) →
+    All (All (IsEntry (length w.page.elements))) (f w.page.stacks) → HoldsAt q h l w → HoldsAt q h l (record w { page = with_stacks f w.page })
+stacks_hold q h l f w rows o = record {
+  holds = same_page h (l ++ map event_of w.page.notes) w.page (with_stacks f w.page) refl refl refl o.holds;
+  sound = sound_stacks w.page.forest (length w.page.elements) w.page.stacks (f w.page.stacks) rows o.sound;
   known = o.known;
 }
 
-pub at_stack : {q : Trees → Type 0} {h : List Hold} {l : List Event} (d : ℕ) (entries : Page → List (Option ℕ))
-    → ((w : Work) → HoldsAt q h l w → All (IsEntry (length w.page.elements)) (entries w.page)) → KeepsAt q h l (page.change_page (λ p. with_stack d (entries p) p))
-at_stack {q} {h} {l} d entries rows = record { at = λ w o. stack_holds q h l d (entries w.page) w (rows w o) o }
+pub at_stacks : {q : Trees → Type 0} {h : List Hold} {l : List Event} (f : List (List (Option ℕ)) → List (List (Option ℕ)))
+    → ((w : Work) → HoldsAt q h l w → All (All (IsEntry (length w.page.elements))) (f w.page.stacks)) → KeepsAt q h l (page.change_page (with_stacks f))
+at_stacks {q} {h} {l} f rows = record { at = λ w o. stacks_hold q h l f w (rows w o) o }
 
 -- a change of the forest that keeps its nodes
 pub forest_holds : (q r : Trees → Type 0) (h : List Hold) (l : List Event) (change : Trees → Trees) →
@@ -255,7 +253,7 @@ pub record Keeps {A : Type 0} (h : List Hold) (f : Step State A) : Type 0 where
   pub at : (s : State) → HoldsIn h s → After h (f s)
 
 pub keeps_page : {A : Type 0} {h : List Hold} {f : Step Work A} → ((vs : List ℕ) (l : List Event) → KeepsAt Any (with_hands vs h) l f) → Keeps h (on_page f)
-keeps_page {h} {f} n = record { at = λ s k. calm_any h (on_page f s) (back h s (f (work_of s)) k.rest.whole ((n (nodes_of s.variables) s.log).at (work_of s) (at_work h s k))) }
+keeps_page {h} {f} n = record { at = λ s k. calm_any h (on_page f s) (back h s (f (work_of s)) ((n (nodes_of s.variables) s.log).at (work_of s) (at_work h s k))) }
 
 keeps_then : {A B : Type 0} (h : List Hold) (o : Outcome State A) (k : A → Step State B) → After h o → ((a : A) → Keeps h (k a)) → After h (then_do o k)
 keeps_then h (Goes a s) k o n = (n a).at s o

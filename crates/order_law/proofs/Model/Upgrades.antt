@@ -338,9 +338,9 @@ done_holds n h l p k =
     }
 
 -- what holds beside, where a row was given anew
-pub rest_row : (n : ℕ) (e : Element) (s : State) → HoldsRest s.page.forest (length s.page.elements) s.page.stacks s.variables s.classes
-    → HoldsRest s.page.forest (length (with_element n e s.page).elements) s.page.stacks s.variables s.classes
-rest_row n e s k = rest_rows s.page.forest (length s.page.elements) (length (with_element n e s.page).elements) s.page.stacks s.variables s.classes (sym (length-set s.page.elements (n - 1) e)) k
+pub rest_row : (n : ℕ) (e : Element) (s : State) → HoldsRest s.page.forest (length s.page.elements) s.page.stacks s.variables
+    → HoldsRest s.page.forest (length (with_element n e s.page).elements) s.page.stacks s.variables
+rest_row n e s k = rest_rows s.page.forest (length s.page.elements) (length (with_element n e s.page).elements) s.page.stacks s.variables (sym (length-set s.page.elements (n - 1) e)) k
 
 -- and what would come next does not
 pub threw_then : {B : Type 0} (n : ℕ) (f : Fault) (h : List Hold) (s : State) (k : Unit {0} → State → Outcome State B) → HoldsIn (InUpgrade n ∷ h) s →
