@@ -1,5 +1,5 @@
 -- Where each node is kept, and is of the same kind, elements stay elements.
-use Rattle.std.proofs.Common.{◌≡◌, ℕ, ◌≤◌, List, [], ◌∷◌, Option, None, Some, IfSome, ◌∙◌, arith}
+use Rattle.std.proofs.Common.{ℕ, List, [], ◌∷◌, Option, None, Some, ◌∙◌, arith}
 use Rattle.node_trees.specs.Trees.{Trees}
 use Rattle.node_trees.specs.Nodes.{IsNode}
 use Rattle.node_trees.specs.Kinds.{IsElement, KeepsKinds}
@@ -10,7 +10,6 @@ use Rattle.ce_page.specs.Elements.{IsEntry, AreEntries}
 use Rattle.ce_page.specs.Sound.{IsSound}
 
 module _ (f g : Trees) (k : KeepsKinds f g) where
-
   node_kept : {n : ℕ} → IsNode f n → IsNode g n
   node_kept x = let high = x.high in let more = k.nodes in record { low = x.low; high = omega (arith, high, more) }
 

@@ -1,5 +1,5 @@
 -- What has a definition is an element.
-use Rattle.std.proofs.Common.{◌≡◌, ◌≢◌, ℕ, zero, suc, ◌+◌, ◌-◌, ◌<◌, ◌≤◌, Bool, true, false, List, [], ◌∷◌, ◌++◌, get_or, length, Option, Some, None, IfSome, refl, ap, sym, ◌∙◌, subst, inl, inr, arith, length-append}
+use Rattle.std.proofs.Common.{◌≡◌, ◌≢◌, ℕ, zero, suc, ◌+◌, ◌-◌, ◌<◌, List, [], ◌∷◌, ◌++◌, get_or, length, Option, Some, None, IfSome, refl, ap, sym, ◌∙◌, subst, inl, inr, arith, length-append}
 use Rattle.std.specs.Prelude.{slice_get, slice_set}
 use Rattle.std.proofs.lemmas.Bool.{cases_eq}
 use Rattle.std.proofs.lemmas.Bool.Decides.{nat_tests}
@@ -8,7 +8,6 @@ use Rattle.std.proofs.lemmas.List.{length-set}
 use Rattle.ce_base.specs.declared.custom_state.CustomState.{CustomState}
 use Rattle.node_trees.specs.declared.kind.NodeKind.TheVariants.{Document, Element as ElementKind}
 use Rattle.node_trees.specs.Trees.{Trees}
-use Rattle.node_trees.specs.Spots.{kind_at}
 use Rattle.node_trees.specs.Nodes.{size}
 use Rattle.node_trees.specs.Kinds.{IsElement, KeepsKinds}
 use Rattle.reaction_queue.specs.declared.reaction.Reaction.{Reaction}

@@ -1,10 +1,10 @@
 -- What waits, waits at elements after each change of what waits.
-use Rattle.std.proofs.Common.{◌≡◌, ◌≢◌, ℕ, ◌+◌, ◌-◌, List, [], ◌∷◌, ◌++◌, Option, Some, None, MatchOption, IfSome, IfNone, refl, ap, sym, ◌∙◌, subst, inl, inr}
+use Rattle.std.proofs.Common.{◌≡◌, ℕ, ◌+◌, ◌-◌, List, [], ◌∷◌, Option, Some, None, MatchOption, IfSome, refl, sym, ◌∙◌, subst, inl, inr}
 use Rattle.std.proofs.lemmas.Bool.{cases_eq}
 use Rattle.node_trees.specs.Trees.{Trees}
 use Rattle.node_trees.specs.Kinds.{IsElement}
 use Rattle.reaction_queue.specs.declared.reaction.Reaction.{Reaction}
-use Rattle.reaction_queue.specs.Queues.{Queues, Open, list_at, with_list, waiting_at, with_waiting, counted, with_reaction, appended_to, enqueued}
+use Rattle.reaction_queue.specs.Queues.{Queues, Open, with_list, waiting_at, with_waiting, counted, with_reaction, appended_to, enqueued}
 use Rattle.reaction_queue.specs.Changes.{DropsFirst}
 use Rattle.reaction_queue.proofs.PlaceLemmas.{list_other}
 use Rattle.ce_page.specs.Elements.{WaitAtElements}

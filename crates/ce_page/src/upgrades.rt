@@ -21,12 +21,7 @@ impl Page {
     /// Tries to upgrade an element (HTML Standard, section "Upgrades", "try to upgrade an element"): where the
     /// look-up for its node document, local name and `is` value gives a definition, an upgrade is enqueued,
     /// which spends one unit of fuel.
-    pub fn try_upgrade(
-        &mut self,
-        alloc: Global,
-        n: NodeNo,
-        fuel: &mut Fuel,
-    ) -> Result<(), PageStop>
+    pub fn try_upgrade(&mut self, alloc: Global, n: NodeNo, fuel: &mut Fuel) -> Result<(), PageStop>
         requires element { IsElement self.old.forest n }
         requires room { self.old.queues.reactions + fuel.old < 2 ^ 64 }
         ensures step { Does result (work self.new fuel.new) (try_upgrade n (work self.old fuel.old)) }
@@ -77,13 +72,7 @@ impl Page {
         ensures elements { IfOk result (All (IsElement self.now.forest)) }
     {
         let x = self.registry.definition(d);
-        upgrade_walk::candidates(
-            alloc,
-            &self.tree,
-            NodeNo(1),
-            x.local.as_str(),
-            x.is_value(),
-        )
+        upgrade_walk::candidates(alloc, &self.tree, NodeNo(1), x.local.as_str(), x.is_value())
     }
 
     /// An upgrade of each of these elements is enqueued.
