@@ -1,15 +1,9 @@
 -- The parts of a page.
-use Rattle.std.specs.Prelude.{ℕ, ◌-◌, nat_lt, if◌then◌else◌, List, [], ◌∷◌, Option, Some, None}
+use Rattle.std.specs.Prelude.{ℕ, ◌-◌, nat_lt, if◌then◌else◌, Option, Some, None}
 use Rattle.ce_base.specs.declared.fault.Refused.{Refused}
 use Rattle.ce_base.specs.declared.fault.Refused.TheVariants.{Fault as HasFault, NoMemory as LacksMemory}
-use Rattle.ce_registry.specs.declared.definition.Definition.{Definition}
 use Rattle.ce_page.specs.declared.stop.PageStop.{PageStop}
 use Rattle.ce_page.specs.declared.stop.PageStop.TheVariants.{Refused as IsRefused, NoMemory}
-
--- no class has a constructor body yet, so each definition's construction stack is empty
-abbrev pub empty_stacks : List Definition → List (List (Option ℕ))
-empty_stacks [] = []
-empty_stacks (d ∷ ds) = [] ∷ empty_stacks ds
 
 -- what a part's refusal is for the page
 abbrev pub stop_of : Refused → PageStop

@@ -7,6 +7,7 @@ ghost use Rattle.ce_registry.specs.Registry.{is_value_of};
 ghost use Rattle.ce_algorithms.specs.Define.{upgrade_candidates};
 ghost use Rattle.ce_algorithms.specs.Enqueue.{enqueue_found, enqueue_upgrade, lookup_for, try_upgrade};
 ghost use Rattle.ce_algorithms.specs.Page.{definition_at};
+ghost use Rattle.ce_algorithms.specs.Perform.{upgrade_all};
 ghost use Rattle.ce_algorithms.specs.Steps.{for_each};
 ghost use Rattle.ce_page.specs.Ends.{Does, NeverRefuses, work};
 ghost use Rattle.ce_page.specs.Numbers.{StaysWithin, OnlyEnqueues};
@@ -46,6 +47,36 @@ impl Page {
             self.tree.local(n),
             self.tree.is_value(n),
         )
+    }
+
+    /// Tries to upgrade each element among a node's shadow-including inclusive descendants, in shadow-including
+    /// tree order (HTML Standard, section "The CustomElementRegistry interface", `upgrade`).
+    pub fn upgrade_all(&mut self, alloc: Global, n: NodeNo, fuel: &mut Fuel) -> Result<(), PageStop>
+        requires node { IsNode self.old.forest n }
+        requires room { self.old.queues.reactions + fuel.old < 2 ^ 64 }
+        ensures step { Does result (work self.new fuel.new) (upgrade_all n (work self.old fuel.old)) }
+        ensures within { StaysWithin self.old self.new fuel.old fuel.new }
+        ensures rest { OnlyEnqueues self.old self.new }
+        ensures refused { NeverRefuses result }
+    {
+        let walk = upgrade_walk::walk(alloc, &self.tree, n)?;
+        self.try_upgrades(alloc, &walk, fuel)
+    }
+
+    /// Each of these elements is tried to upgrade.
+    fn try_upgrades(&mut self, alloc: Global, walk: &Nodes, fuel: &mut Fuel) -> Result<(), PageStop>
+        requires elements { All (IsElement self.old.forest) walk.now }
+        requires room { self.old.queues.reactions + fuel.old < 2 ^ 64 }
+        ensures step { Does result (work self.new fuel.new) (for_each walk.now try_upgrade (work self.old fuel.old)) }
+        ensures within { StaysWithin self.old self.new fuel.old fuel.new }
+        ensures rest { OnlyEnqueues self.old self.new }
+        ensures refused { NeverRefuses result }
+    {
+        for i in 0..walk.len() {
+            let n = node_at(walk, i);
+            self.try_upgrade(alloc, n, fuel)?;
+        }
+        Ok(())
     }
 
     /// Upgrades of the elements that a definition is for are enqueued.

@@ -1,5 +1,5 @@
 // The element queues, and what waits.
-ghost use Rattle.std.specs.Prelude.{◌≡◌, ◌+◌, ◌<◌, ◌^◌, ◌∷◌, [], length, MatchOption, IfOk, IfSome, OnOk};
+ghost use Rattle.std.specs.Prelude.{◌≡◌, ◌+◌, ◌<◌, ◌^◌, ◌∷◌, [], length, MatchOption, IfOk, IfNone, IfSome, OnOk};
 ghost use Rattle.node_trees.specs.Kinds.{IsElement};
 ghost use Rattle.reaction_queue.specs.Queues.{begun, ended, current_elements, waiting_at, with_waiting};
 ghost use Rattle.reaction_queue.specs.Changes.{DropsFirst};
@@ -69,6 +69,7 @@ impl Page {
     pub fn drop_first(&mut self, node: NodeNo) -> Option<ReactionNo>
         ensures first { MatchOption result (waiting_at self.old.queues node ≡ []) (λ number. DropsFirst self.old.queues self.new.queues node number) }
         ensures page { MatchOption result (self.new ≡ self.old) (λ number. self.new ≡ with_queues (with_waiting node (waiting_at self.new.queues node)) self.old) }
+        ensures empty { IfNone result (with_queues (with_waiting node []) self.old ≡ self.old) }
         ensures numbers { SameNumbers self.old self.new }
     {
         self.queues.drop_first(node)

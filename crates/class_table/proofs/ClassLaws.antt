@@ -15,9 +15,9 @@ first_stays (b ∷ bs) i h = h
 pub no_constructor : (call : CallName) (calls : Calls) → is_built_call call ≡ true → has_call Constructor calls ≡ false → has_call Constructor (with_call call calls) ≡ false
 no_constructor Connected calls is h = first_stays calls.0 0 h
 no_constructor Disconnected calls is h = first_stays calls.0 1 h
+no_constructor Adopted calls is h = first_stays calls.0 2 h
 no_constructor Attribute calls is h = first_stays calls.0 3 h
 no_constructor Constructor calls is h = cc
-no_constructor Adopted calls is h = cc
 no_constructor FormAssociated calls is h = cc
 no_constructor FormDisabled calls is h = cc
 no_constructor FormReset calls is h = cc

@@ -3,7 +3,7 @@ ghost use Rattle.std.specs.Prelude.{◌≡◌, ◌++◌, false, true, OnOk};
 ghost use Rattle.rule_script.specs.Built.{is_built_call};
 ghost use Rattle.rule_tokens.specs.declared.callback.CallName.TheVariants as calls;
 ghost use Rattle.ce_registry.specs.ClassFacts.{has_call};
-ghost use Rattle.ce_algorithms.specs.Parts.{change_facts, with_has, with_observed};
+ghost use Rattle.ce_algorithms.specs.Parts.{change_facts, with_has, with_observed, without_internals, without_shadow};
 ghost use Rattle.ce_algorithms.specs.State.{new_class};
 
 use ce_base::{NoMemory, Text, Texts};
@@ -94,6 +94,20 @@ impl Class {
         ensures name { self.new.name ≡ self.old.name }
     {
         push_all(alloc, &mut self.facts.observed, names)
+    }
+
+    /// The class disables shadow: its elements get no shadow root.
+    pub fn disable_shadow(&mut self)
+        ensures { self.new ≡ change_facts without_shadow self.old }
+    {
+        self.facts.no_shadow = true;
+    }
+
+    /// The class disables internals: its elements get none.
+    pub fn disable_internals(&mut self)
+        ensures { self.new ≡ change_facts without_internals self.old }
+    {
+        self.facts.no_internals = true;
     }
 }
 

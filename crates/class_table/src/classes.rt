@@ -1,7 +1,7 @@
 // The classes of a session.
 ghost use Rattle.std.specs.Prelude.{◌≡◌, ◌<◌, ◌++◌, ◌∷◌, [], true, None, Some, length, option_copied, slice_get, IfSome, OnOk};
 ghost use Rattle.rule_script.specs.Built.{is_built_call};
-ghost use Rattle.ce_algorithms.specs.Parts.{change_facts, with_has, with_observed};
+ghost use Rattle.ce_algorithms.specs.Parts.{change_facts, with_has, with_observed, without_internals, without_shadow};
 ghost use Rattle.ce_algorithms.specs.State.{Class as IsClass, class_named, new_class};
 ghost use Rattle.class_table.specs.Classes.{changed, frozen_class};
 
@@ -111,5 +111,21 @@ impl Classes {
         ensures { OnOk result (self.new ≡ changed k (change_facts (with_observed names.now)) self.old) }
     {
         self.items[k.0 as usize].observe(alloc, names)
+    }
+
+    /// A class disables shadow.
+    pub fn disable_shadow(&mut self, k: ClassNo)
+        requires { k < length self.old }
+        ensures { self.new ≡ changed k (change_facts without_shadow) self.old }
+    {
+        self.items[k.0 as usize].disable_shadow();
+    }
+
+    /// A class disables internals.
+    pub fn disable_internals(&mut self, k: ClassNo)
+        requires { k < length self.old }
+        ensures { self.new ≡ changed k (change_facts without_internals) self.old }
+    {
+        self.items[k.0 as usize].disable_internals();
     }
 }

@@ -1,5 +1,5 @@
 -- What is built already. A line that says something else is refused as later.
-use Rattle.std.specs.Prelude.{Bool, true, false, ◌&&◌, None}
+use Rattle.std.specs.Prelude.{Bool, true, false, ◌&&◌}
 use Rattle.rule_tokens.specs.declared.callback.CallName.{CallName}
 use Rattle.rule_tokens.specs.declared.callback.CallName.TheVariants as calls
 use Rattle.rule_lines.specs.declared.line.Cmd.{Cmd}
@@ -11,17 +11,18 @@ use Rattle.rule_lines.specs.declared.op.Op.TheVariants as ops
 use Rattle.rule_lines.specs.Acts.{Act, Part, Said, Blank, Command, Declares}
 use Rattle.rule_lines.specs.Acts as acts
 
--- the attributes, the parent and the children of a node can be asked
+-- the attributes, the parent, the children and the custom element state of a node can be asked
 abbrev pub is_built_word : AskWord → Bool
 is_built_word words.Attr = true
 is_built_word words.Parent = true
 is_built_word words.Kids = true
+is_built_word words.State = true
 is_built_word _ = false
 
--- making nodes without `is`, inserting and removing them, attributes with any values, definitions without `extends`,
--- variables, and the questions above
+-- making nodes, inserting, removing and adopting them, attributes with any values, definitions, upgrades, variables, and
+-- the questions above
 abbrev pub is_built_op : Op → Bool
-is_built_op (ops.Create var local None document) = true
+is_built_op (ops.Create var local is document) = true
 is_built_op (ops.MakeText var chars document) = true
 is_built_op (ops.Shadow var host) = true
 is_built_op (ops.Append parent target) = true
@@ -30,7 +31,9 @@ is_built_op (ops.Remove parent target) = true
 is_built_op (ops.Detach target) = true
 is_built_op (ops.SetAttr target name val) = true
 is_built_op (ops.DelAttr target name) = true
-is_built_op (ops.Define name class None) = true
+is_built_op (ops.Adopt document target) = true
+is_built_op (ops.Define name class base) = true
+is_built_op (ops.Upgrade target) = true
 is_built_op (ops.Ask word target name) = is_built_word word
 is_built_op (ops.Let var target) = true
 is_built_op _ = false
@@ -49,19 +52,22 @@ is_built_act (acts.If equal left right act) = is_built_act act
 is_built_act acts.Super = false
 is_built_act _ = true
 
--- the callbacks that are told of an insertion, a removal and an attribute; not the constructor
+-- the callbacks that are told of an insertion, a removal, an adoption and an attribute; not the constructor
 abbrev pub is_built_call : CallName → Bool
 is_built_call calls.Connected = true
 is_built_call calls.Disconnected = true
+is_built_call calls.Adopted = true
 is_built_call calls.Attribute = true
 is_built_call _ = false
 
--- classes, these callbacks, the actions above in their bodies, and observed names
+-- classes, these callbacks, the actions above in their bodies, observed names, and features that are disabled
 abbrev pub is_built_part : Part → Bool
 is_built_part (acts.Class name) = true
 is_built_part (acts.On class call act) = is_built_call call && is_built_act act
 is_built_part (acts.Has class call) = is_built_call call
 is_built_part (acts.Observe class names) = true
+is_built_part (acts.DisableShadow class) = true
+is_built_part (acts.DisableInternals class) = true
 is_built_part _ = false
 
 -- all of the line is built

@@ -10,11 +10,11 @@ fn is_built_op(op: &Op) -> bool
     ensures { result ≡ is_built_op op.now }
 {
     match op {
-        Op::Create { is_value: None, .. } | Op::MakeText { .. } => true,
-        Op::Shadow { .. } | Op::Append { .. } | Op::Before { .. } => true,
-        Op::Remove { .. } | Op::Detach { .. } => true,
+        Op::Create { .. } | Op::MakeText { .. } | Op::Shadow { .. } => true,
+        Op::Append { .. } | Op::Before { .. } => true,
+        Op::Remove { .. } | Op::Detach { .. } | Op::Adopt { .. } => true,
         Op::SetAttr { .. } | Op::DelAttr { .. } => true,
-        Op::Define { base: None, .. } | Op::Let { .. } => true,
+        Op::Define { .. } | Op::Upgrade { .. } | Op::Let { .. } => true,
         Op::Ask { word, .. } => is_built_word(*word),
         _ => false,
     }
@@ -23,7 +23,10 @@ fn is_built_op(op: &Op) -> bool
 fn is_built_word(word: AskWord) -> bool
     ensures { result ≡ is_built_word word }
 {
-    matches!(word, AskWord::Attr | AskWord::Parent | AskWord::Kids)
+    matches!(
+        word,
+        AskWord::Attr | AskWord::Parent | AskWord::Kids | AskWord::State
+    )
 }
 
 fn is_built_call(call: CallName) -> bool
@@ -31,7 +34,7 @@ fn is_built_call(call: CallName) -> bool
 {
     matches!(
         call,
-        CallName::Connected | CallName::Disconnected | CallName::Attribute
+        CallName::Connected | CallName::Disconnected | CallName::Adopted | CallName::Attribute
     )
 }
 
@@ -63,6 +66,7 @@ fn is_built_part(part: &ClassPart) -> bool
 {
     match part {
         ClassPart::Class(_) | ClassPart::Observe { .. } => true,
+        ClassPart::DisableShadow(_) | ClassPart::DisableInternals(_) => true,
         ClassPart::On { call, action, .. } => is_built_call(*call) && is_built_action(action),
         ClassPart::Has { call, .. } => is_built_call(*call),
         _ => false,

@@ -333,15 +333,29 @@ on A disconnected : bump
 on A disconnected : throw @3
 on A disconnected : return
 on A disconnected : ask kids this
+on A adopted : log x
+on A adopted : append $a $b
+on A connected : if eq a a : try upgrade $a
+on A connected : ask state $a
+on A connected : create $a p is x-b
+on A connected : define x-a A extends p
+on A connected : adopt doc this
 define "x-a" A
 define X-Ä  A
+define x-a A extends p
+define x-a A extends "x-b"
 create $a "x-a"
+create $a p is x-b
+create $a p is "" in $d
 create $a "a b" in doc
 setattr $a "k" "v"
 setattr doc K "\n"
 on A connected : log in
 on A disconnected : log @1
 has A attribute
+has A adopted
+disable A shadow
+disable A internals
 text $t "a b" in $d
 doc $d
 shadow $s $a
@@ -354,10 +368,18 @@ let $b doc
 ask attr $a k
 ask parent doc
 ask kids $a
+ask state $a
+adopt doc $a
+upgrade $a
+upgrade doc
 > Arity
 create $a
 text $t a b
 create $a p is
+create $a p in doc is x-b
+define x-a A extends
+adopt doc
+upgrade
 > Word
 frob
 user autofill $e @4
@@ -372,29 +394,24 @@ text $t "\u{D800}"
 > Quote
 text $t "a"b
 > Later
-create $a p is x-b
-define x-a A extends p
-on A adopted : log x
-on A adopted : append $a $b
 on A constructor : log x
 on A constructor : super
 on A constructor : return $a
 on A connected : clone $a $b
 on A connected : try new $a A
-on A connected : if eq a a : try upgrade $a
-on A connected : ask state $a
-on A connected : create $a p is x-b
-on A connected : define x-a A extends p
+on A connected : if eq a a : reset $a
+on A connected : ask owner $a
+on A formReset : log x
+on A adopted : internals this
 has A constructor
+has A formDisabled
 associate A
 new $a A
 clone $b $a
-adopt doc $a
-upgrade $a
 submit $f
 user reset $f
 user edit $e x
-ask state $a"#;
+ask states $a"#;
 
 #[test]
 fn what_is_not_built_is_refused_last(rt: HostRuntime) {

@@ -1,0 +1,13 @@
+use Rattle.std.proofs.Common.{◌≡◌, drop}
+use Rattle.ce_algorithms.specs.Enqueue.{try_upgrade}
+use Rattle.ce_algorithms.specs.Steps.{for_each}
+use Rattle.ce_page.specs.Ends.{work}
+use Rattle.ce_page.specs.Numbers.{StaysWithin, OnlyEnqueues}
+use Rattle.ce_page.proofs.page.Page.try_upgrades.Given as goal
+
+abbrev pub invariant-loop-i : goal.invariant-loop-i
+invariant-loop-i l = record {
+  step : for_each (drop l.i l.walk) try_upgrade (work l.self l.fuel) ≡ for_each l.walk try_upgrade (work l.initial.self l.initial.fuel);
+  within : StaysWithin l.initial.self l.self l.initial.fuel l.fuel;
+  rest : OnlyEnqueues l.initial.self l.self;
+}
