@@ -10,7 +10,7 @@ use Rattle.reaction_queue.specs.ElementQueues.{is_empty}
 use Rattle.ce_frames.specs.Frames.{Frame}
 use Rattle.ce_frames.specs.Places.{Held, Homes, Stands, Wait, Body, seen}
 use Rattle.frame_stack.specs.declared.waiting.Waiting.{Waiting}
-use Rattle.frame_stack.specs.declared.waiting.Waiting.TheVariants.{Replying, Checking, DrainingBackup, Naming, Stepping, Draining, InReaction, CreatingFit}
+use Rattle.frame_stack.specs.declared.waiting.Waiting.TheVariants.{Replying, Checking, DrainingBackup, Naming, Stepping, Draining, InReaction, CreatingFit, CreatingExtended, Upgrading}
 use Rattle.frame_stack.specs.Frames.{IsPlain, guarded_in, is_body, is_waiting, this_in, waiting_of}
 use Rattle.frame_stack.specs.Order.{AreInOrder}
 use Rattle.frame_stack.specs.Stacked.{Stacked, HasBody, behaviours_of, bodies_in, frames_of, guarded_of, in_body, placed_from, this_of, top_of}
@@ -78,6 +78,8 @@ this_seen (Wait f) plain bodies = waiting_read this_of None each f plain
     each (Draining queue n elements kept) = refl
     each (InReaction number) = refl
     each (CreatingFit local document) = refl
+    each (CreatingExtended n) = refl
+    each (Upgrading n d) = refl
 this_seen (Body k p held) plain bodies = refl
 
 pub guarded_seen : (f : Held) → IsPlain f → (bodies : List (List (CallName × Act))) → guarded_in f ≡ guarded_of (Some (seen bodies f))
@@ -92,6 +94,8 @@ guarded_seen (Wait f) plain bodies = waiting_read guarded_of false each f plain
     each (Draining queue n elements kept) = refl
     each (InReaction number) = refl
     each (CreatingFit local document) = refl
+    each (CreatingExtended n) = refl
+    each (Upgrading n d) = refl
 guarded_seen (Body k p held) plain bodies = refl
 
 -- where it is of a body

@@ -6,7 +6,7 @@ use Rattle.ce_frames.specs.Frames.{Frame}
 use Rattle.ce_frames.specs.Frames as frames
 use Rattle.ce_frames.specs.Places.{Held, Place, Wait, Body}
 use Rattle.frame_stack.specs.declared.waiting.Waiting.{Waiting}
-use Rattle.frame_stack.specs.declared.waiting.Waiting.TheVariants.{Replying, Checking, DrainingBackup, Naming, Stepping, Draining, InReaction, CreatingFit}
+use Rattle.frame_stack.specs.declared.waiting.Waiting.TheVariants.{Replying, Checking, DrainingBackup, Naming, Stepping, Draining, InReaction, CreatingFit, CreatingExtended, Upgrading}
 
 abbrev pub waiting_of : Waiting → Frame
 waiting_of (Replying line) = frames.Replying line
@@ -17,6 +17,8 @@ waiting_of (Stepping queue) = frames.Stepping queue
 waiting_of (Draining queue n elements kept) = frames.Draining queue (n ∷ elements) kept
 waiting_of (InReaction number) = frames.InReaction number
 waiting_of (CreatingFit local document) = frames.CreatingFit local document
+waiting_of (CreatingExtended n) = frames.CreatingExtended n
+waiting_of (Upgrading n d) = frames.Upgrading n d
 
 -- the frame of a body
 abbrev pub is_body : Held → Bool

@@ -1,7 +1,7 @@
 // What waits while others run, but for bodies.
 
 use ce_algorithms::Given;
-use ce_base::{Fault, NodeNo, QueueNo, ReactionNo, Text};
+use ce_base::{DefNo, Fault, NodeNo, QueueNo, ReactionNo, Text};
 use reaction_queue::ElementQueue;
 
 /// What waits for an outcome from above, and goes on with it: all frames but those of bodies.
@@ -24,4 +24,8 @@ pub enum Waiting {
     InReaction(ReactionNo),
     /// A creation that waits for a construction: the local name, and the document.
     CreatingFit(Text, NodeNo),
+    /// A creation by a definition that extends an element: the new element, whose upgrade runs.
+    CreatingExtended(NodeNo),
+    /// An upgrade that waits for the construction of its definition's class: the element, and the definition.
+    Upgrading(NodeNo, DefNo),
 }

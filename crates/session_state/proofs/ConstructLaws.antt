@@ -1,42 +1,20 @@
--- The base call where no element waits for its constructor.
-use Rattle.std.proofs.Common.{◌≡◌, ℕ, zero, suc, Bool, false, List, [], ◌∷◌, Option, Some, None, refl, ap, sym, ◌∙◌, subst}
-use Rattle.std.specs.Prelude.{slice_get, Result, Ok, Err, if◌then◌else◌}
+-- Constructing a class without a constructor of its own: its constructor is the base call alone.
+use Rattle.std.proofs.Common.{◌≡◌, ℕ, Bool, false, Some, None, ap, sym, ◌∙◌, subst}
+use Rattle.std.specs.Prelude.{Result, Ok, Err, if◌then◌else◌}
 use Rattle.rule_tokens.specs.declared.callback.CallName.TheVariants.{Constructor}
-use Rattle.ce_base.specs.declared.fault.Fault.TheVariants.{TypeError, ReferenceError}
-use Rattle.ce_registry.specs.declared.definition.Definition.{Definition}
+use Rattle.ce_base.specs.declared.fault.Fault.TheVariants.{ReferenceError}
 use Rattle.ce_registry.specs.ClassFacts.{has_call}
-use Rattle.ce_registry.specs.Registry.{by_class}
 use Rattle.ce_algorithms.specs.declared.event.Event.TheVariants.{Construct}
 use Rattle.ce_algorithms.specs.Construct.{construct, base_alone}
-use Rattle.ce_algorithms.specs.Construction.{base_call, base_entry, make_custom, or_no_entries, stack_of}
+use Rattle.ce_algorithms.specs.Construction.{base_call}
 use Rattle.ce_algorithms.specs.Body.{actions_of, body}
 use Rattle.ce_algorithms.specs.Values.{no_args}
 use Rattle.ce_algorithms.specs.Model.{model}
-use Rattle.ce_algorithms.specs.Page.{Work, definition_at, or_no_definition, read_page}
 use Rattle.ce_algorithms.specs.State.{State, class_of, logged, on_page}
-use Rattle.ce_algorithms.specs.Steps.{Step, Outcome, ◌>>=◌, found, then_do, give}
+use Rattle.ce_algorithms.specs.Steps.{Step, Outcome, found, then_do, give}
 use Rattle.ce_page.specs.Ends.{Ends}
-use Rattle.ce_page.specs.Parts.{empty_stacks}
 use Rattle.ce_page.specs.declared.stop.PageStop.{PageStop}
 use Rattle.ce_page.specs.declared.stop.PageStop.TheVariants.{Refused, FuelSpent, NoMemory}
-
-no_entries : (ds : List Definition) (d : ℕ) → or_no_entries (slice_get (empty_stacks ds) d) ≡ []
-no_entries [] d = refl
-no_entries (x ∷ ds) zero = refl
-no_entries (x ∷ ds) (suc d) = no_entries ds d
-
--- the base call by the definition that was found
-by_found : Option ℕ → Step Work ℕ
-by_found o = found o TypeError >>= (λ d. read_page (λ p. definition_at p d) >>= (λ x. read_page (λ p. stack_of p d) >>= (λ entries. base_entry d x entries)))
-
-pub base_makes : (class d : ℕ) (x : Definition) (w : Work) → Some d ≡ by_class w.page.definitions class → slice_get w.page.definitions d ≡ Some x → w.page.stacks ≡ empty_stacks w.page.definitions → base_call class w ≡ make_custom d x w
-unfolding by_found
-base_makes class d x w is has plain =
-    ap (λ o. by_found o w) (sym is)
-    ∙ (ap (λ o. base_entry d (or_no_definition o) (stack_of w.page d) w) has
-    ∙ ap (λ entries. base_entry d x entries w) (ap (λ stacks. or_no_entries (slice_get stacks d)) plain ∙ no_entries w.page.definitions d))
-
--- a class without a constructor of its own
 
 by_constructor : ℕ → Bool → Step State ℕ
 by_constructor class has s = then_do ((if has then body model class no_args None (actions_of Constructor (class_of s class).bodies) else base_alone class) (logged (Construct (class_of s class).name) s)) (λ r. found r ReferenceError)

@@ -5,3 +5,5 @@ pub mod QueueLaws
 pub mod ConstructLaws
 pub mod PageLaws
 pub mod PartLaws
+pub mod DropsLaws
+pub mod UpgradeLaws

@@ -3,6 +3,7 @@ use Rattle.std.specs.Prelude.{◌≡◌, ◌≤◌, ◌<◌, ◌+◌, ◌^◌, �
 use Rattle.rule_tokens.specs.declared.callback.CallName.{CallName}
 use Rattle.node_trees.specs.Nodes.{size}
 use Rattle.reaction_queue.specs.declared.reaction.Reaction.{Reaction}
+use Rattle.reaction_queue.specs.declared.reaction.Reaction.TheVariants.{Upgrade, Connected, Disconnected, Adopted, Attribute, FormAssociated, FormDisabled, FormReset, FormStateRestore}
 use Rattle.reaction_queue.specs.Queues.{waiting_at, with_waiting}
 use Rattle.ce_registry.specs.declared.definition.Definition.{Definition}
 use Rattle.ce_algorithms.specs.declared.event.Event.TheVariants.{FuelLine}
@@ -43,6 +44,18 @@ with_frozen k s = record s { classes = changed k frozen_class s.classes }
 abbrev pub with_call_at : ℕ → CallName → State → State
 with_call_at k call s = record s { classes = changed k (change_facts (with_has call)) s.classes }
 
+-- a reaction that is a callback
+abbrev pub is_callback : Reaction → Bool
+is_callback (Upgrade d) = false
+is_callback Connected = true
+is_callback Disconnected = true
+is_callback (Adopted old new) = true
+is_callback (Attribute name old new) = true
+is_callback (FormAssociated owner) = true
+is_callback (FormDisabled disabled) = true
+is_callback FormReset = true
+is_callback (FormStateRestore state mode) = true
+
 -- the class whose callback a reaction of an element runs, where the element has a definition
 abbrev pub callee : Option Definition → Option ℕ
 callee None = None
@@ -60,7 +73,12 @@ pub record TakesBackup (old new : State) (e : ℕ) : Type 0 where
   pub first : old.page.queues.backup ≡ e ∷ new.page.queues.backup
   pub taken : new ≡ record old { page = with_queues (with_backup new.page.queues.backup) old.page }
 
--- the first reaction that waits at a node is taken
+-- the first reaction that waits at an element is taken
 pub record TakesReaction (old new : State) (e : ℕ) (w : ℕ × Reaction) : Type 0 where
   pub first : waiting_at old.page.queues e ≡ w ∷ waiting_at new.page.queues e
   pub taken : new ≡ record old { page = with_queues (with_waiting e (waiting_at new.page.queues e)) old.page }
+
+-- it is dropped, and has this number
+pub record DropsReaction (old new : State) (e number : ℕ) : Type 0 where
+  pub reaction : Reaction
+  pub takes : TakesReaction old new e (number, reaction)

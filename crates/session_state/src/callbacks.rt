@@ -1,15 +1,14 @@
 // Callbacks: whose they are, their lines, their bodies.
 ghost use Rattle.std.specs.Prelude.{◌≡◌, ◌+◌, ◌<◌, ◌^◌, true, IfOk, IfSome, OnOk};
-ghost use Rattle.node_trees.specs.Nodes.{IsNode};
+ghost use Rattle.node_trees.specs.Kinds.{IsElement};
 ghost use Rattle.behaviours.specs.Next.{stop_of};
 ghost use Rattle.ce_algorithms.specs.Drain.{log_call};
 ghost use Rattle.ce_algorithms.specs.Page.{definition_of};
 ghost use Rattle.ce_algorithms.specs.State.{log};
 ghost use Rattle.ce_algorithms.specs.Steps.{Goes};
-ghost use Rattle.ce_page.specs.Callbacks.{is_callback};
 ghost use Rattle.frame_stack.specs.Resumes.{IsBuiltStop, Proceeds, Resumes};
 ghost use Rattle.frame_stack.specs.Stacked.{HasBody, frames_of};
-ghost use Rattle.session_state.specs.Steps.{callee};
+ghost use Rattle.session_state.specs.Steps.{callee, is_callback};
 
 use crate::State;
 use crate::construct::copy_of;
@@ -21,11 +20,10 @@ use reaction_queue::Reaction;
 use std::alloc::Global;
 
 impl State {
-    /// The class of an element's definition. None exactly where it has none. What has one is a node that was
-    /// made.
+    /// The class of an element's definition. None exactly where it has none. What has one is an element.
     pub fn callee(&self, e: NodeNo) -> Option<ClassNo>
         ensures class { result ≡ callee (definition_of self.now.page e) }
-        ensures made { IfSome result (λ class. IsNode self.now.page.forest e) }
+        ensures element { IfSome result (λ class. IsElement self.now.page.forest e) }
     {
         match self.page.definition_of(e) {
             None => None,
@@ -36,7 +34,8 @@ impl State {
     /// Logs the line of a callback that starts.
     pub fn log_call(&mut self, alloc: Global, e: NodeNo, r: &Reaction) -> Result<(), NoMemory>
         requires { is_callback r.now ≡ true }
-        ensures { OnOk result (Goes tt self.new ≡ log_call e r.now self.old) }
+        ensures logged { OnOk result (Goes tt self.new ≡ log_call e r.now self.old) }
+        ensures page { self.new.page ≡ self.old.page }
     {
         let line = call_event(alloc, e, r)?;
         self.log(line)?;

@@ -1,15 +1,17 @@
 // Constructing classes, and defining them.
-ghost use Rattle.std.specs.Prelude.{◌≡◌, ◌≤◌, ◌<◌, false, length, slice_get, Some, IfOk, IfSome};
+ghost use Rattle.std.specs.Prelude.{◌≡◌, ◌≤◌, ◌<◌, false, length, IfOk, IfSome};
 ghost use Rattle.std.specs.Str.{str_to_ascii_lowercase};
 ghost use Rattle.rule_tokens.specs.declared.callback.CallName.TheVariants as calls;
 ghost use Rattle.node_trees.specs.Nodes.{IsNode, size};
 ghost use Rattle.ce_registry.specs.declared.definition.Definition.{Definition as IsDefinition};
 ghost use Rattle.ce_registry.specs.ClassFacts.{has_call};
-ghost use Rattle.ce_registry.specs.Registry.{by_class, is_autonomous, may_define};
+ghost use Rattle.ce_registry.specs.Registry.{by_class, is_value_of, may_define};
+ghost use Rattle.construction.specs.Stacks.{stack_of};
 ghost use Rattle.ce_algorithms.specs.Construct.{construct};
-ghost use Rattle.ce_algorithms.specs.Construction.{base_call, is_value_of, make_custom};
+ghost use Rattle.ce_algorithms.specs.Construction.{base_call, base_entry, make_custom};
 ghost use Rattle.ce_algorithms.specs.Define.{define_name};
 ghost use Rattle.ce_algorithms.specs.Model.{model};
+ghost use Rattle.ce_algorithms.specs.Page.{definition_at};
 ghost use Rattle.ce_algorithms.specs.Perform.{define_element};
 ghost use Rattle.ce_algorithms.specs.State.{class_of, on_page};
 ghost use Rattle.ce_page.specs.Ends.{Ends, Does, work};
@@ -21,6 +23,7 @@ use ce_algorithms::Event;
 use ce_base::{ClassNo, CustomState, DefNo, Fault, Fuel, NoMemory, NodeNo, Text};
 use ce_page::{Page, PageStop};
 use ce_registry::{ClassFacts, Definition};
+use construction::Base;
 use std::alloc::Global;
 
 impl State {
@@ -118,8 +121,7 @@ impl State {
     }
 }
 
-// The base call of a constructor: a new element of the class's definition, custom at once. No element waits
-// for its constructor yet.
+// The base call of a constructor (HTML Standard, section "HTML element constructors").
 fn base_call(
     alloc: Global,
     page: &mut Page,
@@ -130,16 +132,9 @@ fn base_call(
     ensures within { GrowsWithin page.old page.new fuel.old fuel.new }
     ensures made { IfOk result (IsNode page.new.forest) }
 {
-    // No element waits for its constructor: the tree's clause says that the page upgrades nothing.
-    let _tree = page.tree();
     match defined(page, class) {
         None => Err(PageStop::Refused(Fault::TypeError)),
-        Some(d) => {
-            let x = page.registry().definition(d);
-            let local = x.local.copy(alloc)?;
-            let is_value = is_value_of(alloc, x)?;
-            make_custom(alloc, page, fuel, d, local, is_value)
-        }
+        Some(d) => base_entry(alloc, page, fuel, d),
     }
 }
 
@@ -151,14 +146,52 @@ fn defined(page: &Page, class: ClassNo) -> Option<DefNo>
     page.registry().by_class(class)
 }
 
-// An autonomous custom element has no `is` value.
+// By the last entry of the definition's construction stack: where there is none, a new element is made; one that is
+// constructed is given once.
+fn base_entry(
+    alloc: Global,
+    page: &mut Page,
+    fuel: &mut Fuel,
+    d: DefNo,
+) -> Result<NodeNo, PageStop>
+    requires { d < length page.old.definitions }
+    ensures step { Ends (λ n. n) result (work page.new fuel.new) (base_entry d (definition_at page.old d) (stack_of d page.old.stacks) (work page.old fuel.old)) }
+    ensures within { GrowsWithin page.old page.new fuel.old fuel.new }
+    ensures made { IfOk result (IsNode page.new.forest) }
+{
+    match page.base(d) {
+        Base::Fresh => make_of(alloc, page, fuel, d),
+        Base::Of(n) => Ok(n),
+        Base::Already => Err(PageStop::Refused(Fault::TypeError)),
+    }
+}
+
+// A new element of a definition, custom at once.
+fn make_of(
+    alloc: Global,
+    page: &mut Page,
+    fuel: &mut Fuel,
+    d: DefNo,
+) -> Result<NodeNo, PageStop>
+    requires { d < length page.old.definitions }
+    ensures step { Ends (λ n. n) result (work page.new fuel.new) (make_custom d (definition_at page.old d) (work page.old fuel.old)) }
+    ensures within { GrowsWithin page.old page.new fuel.old fuel.new }
+    ensures made { IfOk result (IsNode page.new.forest) }
+{
+    let x = page.registry().definition(d);
+    let local = x.local.copy(alloc)?;
+    let is_value = is_value_of(alloc, x)?;
+    make_custom(alloc, page, fuel, d, local, is_value)
+}
+
+// The `is` value of a definition's elements.
 fn is_value_of(alloc: Global, d: &Definition) -> Result<Option<Text>, NoMemory>
     ensures { IfOk result (λ is. is ≡ is_value_of d.now) }
 {
-    if d.local.as_str() == d.name.as_str() {
-        return Ok(None);
+    match d.is_value() {
+        None => Ok(None),
+        Some(name) => Ok(Some(Text::of(alloc, name)?)),
     }
-    Ok(Some(d.name.copy(alloc)?))
 }
 
 // Spends one unit of fuel, and makes an element that is custom at once.

@@ -12,6 +12,7 @@ mod primitives;
 mod queues;
 mod shadow;
 mod state;
+mod upgrade;
 mod variables;
 
 pub use state::State;

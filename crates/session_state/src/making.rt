@@ -1,5 +1,6 @@
 // New nodes.
 ghost use Rattle.std.specs.Prelude.{◌≡◌, ◌≤◌, IfOk};
+ghost use Rattle.node_trees.specs.Kinds.{IsElement};
 ghost use Rattle.node_trees.specs.Nodes.{IsNode, size};
 ghost use Rattle.ce_algorithms.specs.CreateLater.{make_in_state};
 ghost use Rattle.ce_algorithms.specs.Making.{make_document, make_text};
@@ -53,6 +54,7 @@ impl State {
     ) -> Result<NodeNo, PageStop>
         ensures step { Ends (λ n. n) result self.new (on_page (make_in_state local is document state) self.old) }
         ensures made { IfOk result (IsNode self.new.page.forest) }
+        ensures element { IfOk result (IsElement self.new.page.forest) }
         ensures grows { size self.old.page.forest ≤ size self.new.page.forest }
     {
         let outcome = make_in_state(
@@ -111,6 +113,7 @@ fn make_in_state(
     ensures step { Ends (λ n. n) result (work page.new fuel.new) (make_in_state local is document state (work page.old fuel.old)) }
     ensures within { GrowsWithin page.old page.new fuel.old fuel.new }
     ensures made { IfOk result (IsNode page.new.forest) }
+    ensures element { IfOk result (IsElement page.new.forest) }
 {
     if !fuel.spend() {
         return Err(PageStop::FuelSpent);

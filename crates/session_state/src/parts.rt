@@ -2,7 +2,7 @@
 ghost use Rattle.std.specs.Prelude.{◌≡◌, ◌<◌, [], true, length, IfOk};
 ghost use Rattle.rule_lines.specs.Acts.{act_of, part_of};
 ghost use Rattle.rule_script.specs.Built.{is_built_act, is_built_call, is_built_part};
-ghost use Rattle.ce_algorithms.specs.Parts.{add_class, change_facts, change_open, open_class, part, with_body, with_has, with_observed};
+ghost use Rattle.ce_algorithms.specs.Parts.{add_class, change_facts, change_open, open_class, part, with_body, with_has, with_observed, without_internals, without_shadow};
 ghost use Rattle.frame_stack.specs.Sessions.{ArePaired, session};
 ghost use Rattle.session_state.specs.Steps.{with_call_at};
 ghost use Rattle.session_state.specs.Taking.{Counts, Names, Rests, Takes};
@@ -35,8 +35,8 @@ impl State {
             ClassPart::Has { class, call } => self.add_call(&class, call),
             ClassPart::Observe { class, names } => self.observe(alloc, &class, &names),
             ClassPart::Associate(_) => unreachable!(),
-            ClassPart::DisableShadow(_) => unreachable!(),
-            ClassPart::DisableInternals(_) => unreachable!(),
+            ClassPart::DisableShadow(class) => self.disable_shadow(&class),
+            ClassPart::DisableInternals(class) => self.disable_internals(&class),
         }
     }
 }
@@ -140,6 +140,22 @@ impl State {
     {
         let k = self.open_class(class.as_str())?;
         self.classes.observe(alloc, k, names)?;
+        Ok(())
+    }
+
+    fn disable_shadow(&mut self, class: &Text) -> Result<(), Refused>
+        ensures { Takes result self.new (change_open class.now (change_facts without_shadow) self.old) }
+    {
+        let k = self.open_class(class.as_str())?;
+        self.classes.disable_shadow(k);
+        Ok(())
+    }
+
+    fn disable_internals(&mut self, class: &Text) -> Result<(), Refused>
+        ensures { Takes result self.new (change_open class.now (change_facts without_internals) self.old) }
+    {
+        let k = self.open_class(class.as_str())?;
+        self.classes.disable_internals(k);
         Ok(())
     }
 }

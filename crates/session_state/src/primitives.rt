@@ -6,7 +6,7 @@ ghost use Rattle.node_trees.specs.Nodes.{IsNode, IsNodeOrNone, size};
 ghost use Rattle.node_trees.specs.Spots.{kind_at};
 ghost use Rattle.ce_algorithms.specs.Attributes.{remove_attribute};
 ghost use Rattle.ce_algorithms.specs.Mutation.{pre_insert};
-ghost use Rattle.ce_algorithms.specs.Perform.{remove_child, detach, set_named};
+ghost use Rattle.ce_algorithms.specs.Perform.{adopt_node, detach, remove_child, set_named, upgrade_all};
 ghost use Rattle.ce_algorithms.specs.State.{on_page};
 ghost use Rattle.ce_page.specs.Ends.{Does, work};
 ghost use Rattle.ce_page.specs.Numbers.{StaysWithin};
@@ -15,7 +15,7 @@ use crate::State;
 use crate::construct::lowercased;
 use crate::state::is_out_of_fuel;
 use ce_base::{Fault, Fuel, NodeNo, Text};
-use ce_page::{Page, PageStop};
+use ce_page::{NodeKind, Page, PageStop};
 use element_names::is_attr_name;
 use std::alloc::Global;
 
@@ -66,6 +66,31 @@ impl State {
         ensures grows { size self.old.page.forest ≤ size self.new.page.forest }
     {
         let outcome = detach(alloc, &mut self.page, &mut self.fuel, node);
+        self.after_call(is_out_of_fuel(&outcome))?;
+        outcome
+    }
+
+    /// Adopts a node, with all below it, into a document (DOM Standard, section "Interface Document",
+    /// `adoptNode`). A document is refused with NotSupportedError, a shadow root with HierarchyRequestError, and then
+    /// nothing has changed.
+    pub fn adopt(&mut self, alloc: Global, document: NodeNo, node: NodeNo) -> Result<(), PageStop>
+        requires { IsNode self.old.page.forest node }
+        ensures step { Does result self.new (on_page (adopt_node document node) self.old) }
+        ensures grows { size self.old.page.forest ≤ size self.new.page.forest }
+    {
+        let outcome = adopt(alloc, &mut self.page, &mut self.fuel, document, node);
+        self.after_call(is_out_of_fuel(&outcome))?;
+        outcome
+    }
+
+    /// Tries to upgrade each element among a node's shadow-including inclusive descendants, in shadow-including
+    /// tree order (HTML Standard, section "The CustomElementRegistry interface", `upgrade`).
+    pub fn upgrade_all(&mut self, alloc: Global, n: NodeNo) -> Result<(), PageStop>
+        requires { IsNode self.old.page.forest n }
+        ensures step { Does result self.new (on_page (upgrade_all n) self.old) }
+        ensures grows { size self.old.page.forest ≤ size self.new.page.forest }
+    {
+        let outcome = self.page.upgrade_all(alloc, n, &mut self.fuel);
         self.after_call(is_out_of_fuel(&outcome))?;
         outcome
     }
@@ -131,6 +156,26 @@ fn detach(alloc: Global, page: &mut Page, fuel: &mut Fuel, node: NodeNo) -> Resu
         return Ok(());
     }
     page.remove_node(alloc, node, fuel)
+}
+
+fn adopt(
+    alloc: Global,
+    page: &mut Page,
+    fuel: &mut Fuel,
+    document: NodeNo,
+    node: NodeNo,
+) -> Result<(), PageStop>
+    requires node { IsNode page.old.forest node }
+    requires room { page.old.queues.reactions + fuel.old < 2 ^ 64 }
+    ensures step { Does result (work page.new fuel.new) (adopt_node document node (work page.old fuel.old)) }
+    ensures within { StaysWithin page.old page.new fuel.old fuel.new }
+{
+    match page.tree().kind(node) {
+        NodeKind::Document => Err(PageStop::Refused(Fault::NotSupportedError)),
+        NodeKind::ShadowRoot => Err(PageStop::Refused(Fault::HierarchyRequestError)),
+        NodeKind::Element => page.adopt_node(alloc, document, node, fuel),
+        NodeKind::TextNode => page.adopt_node(alloc, document, node, fuel),
+    }
 }
 
 fn set_named(

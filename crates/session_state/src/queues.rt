@@ -1,10 +1,10 @@
 // What a turn takes from the queues.
 ghost use Rattle.std.specs.Prelude.{◌≡◌, ◌<◌, ◌+◌, ◌^◌, ◌∷◌, [], true, not, MatchOption, IfOk, IfSome, IfNone, OnOk};
+ghost use Rattle.node_trees.specs.Kinds.{IsElement};
 ghost use Rattle.reaction_queue.specs.ElementQueues.{is_empty};
 ghost use Rattle.reaction_queue.specs.Queues.{waiting_at};
 ghost use Rattle.ce_algorithms.specs.Drain.{open_queue, pop_queue};
 ghost use Rattle.ce_algorithms.specs.Steps.{Goes};
-ghost use Rattle.ce_page.specs.Callbacks.{is_callback};
 ghost use Rattle.session_state.specs.Steps.{TakesBackup, TakesReaction};
 
 use crate::State;
@@ -27,7 +27,8 @@ impl State {
 
     /// Pops the current element queue, and gives its elements: none where no queue is on the stack.
     pub fn pop_queue(&mut self) -> ElementQueue
-        ensures { Goes result self.new ≡ pop_queue self.old }
+        ensures step { Goes result self.new ≡ pop_queue self.old }
+        ensures forest { self.new.page.forest ≡ self.old.page.forest }
     {
         self.page.end()
     }
@@ -55,11 +56,11 @@ impl State {
         self.page.next_backup()
     }
 
-    /// Takes the first reaction that waits at an element. It is no upgrade. None exactly where none waits.
+    /// Takes the first reaction that waits at a node, which then is an element. None exactly where none waits.
     pub fn next_reaction(&mut self, e: NodeNo) -> Option<(ReactionNo, Reaction)>
         ensures none { IfNone result ((waiting_at self.old.page.queues e ≡ []) × (self.new ≡ self.old)) }
         ensures first { IfSome result (λ w. TakesReaction self.old self.new e w) }
-        ensures callback { IfSome result (λ w. is_callback w.1 ≡ true) }
+        ensures element { IfSome result (λ w. IsElement self.old.page.forest e) }
     {
         self.page.next(e)
     }

@@ -3,7 +3,6 @@ ghost use Rattle.std.specs.Prelude.{◌≡◌, ◌≤◌, ℕ, option_copied, If
 ghost use Rattle.node_trees.specs.declared.kind.NodeKind.TheVariants.{Element as ElementKind};
 ghost use Rattle.node_trees.specs.Nodes.{IsNode, size};
 ghost use Rattle.node_trees.specs.Spots.{kind_at, shadow_at};
-ghost use Rattle.ce_algorithms.specs.Enqueue.{lookup_for};
 ghost use Rattle.ce_algorithms.specs.Making.{make_shadow_root};
 ghost use Rattle.ce_algorithms.specs.Perform.{attach_shadow, disables_shadow, is_shadow_disabled};
 ghost use Rattle.ce_algorithms.specs.State.{on_page};
@@ -65,25 +64,13 @@ fn is_shadow_disabled(page: &Page, n: NodeNo) -> bool
     ensures { result ≡ is_shadow_disabled page.now n }
 {
     if is_custom_name(page.tree().local(n)) || page.tree().is_value(n).is_some() {
-        return disables_shadow(page, lookup_for(page, n));
+        return disables_shadow(page, page.lookup_for(n));
     }
     false
 }
 
-// The definition that is looked up for an element. None exactly where there is none.
-fn lookup_for(page: &Page, n: NodeNo) -> Option<DefNo>
-    requires { IsNode page.now.forest n }
-    ensures { result ≡ lookup_for page.now n }
-{
-    let tree = page.tree();
-    page.registry().lookup(
-        tree.document(n) == NodeNo(1),
-        tree.local(n),
-        tree.is_value(n),
-    )
-}
-
-fn disables_shadow(page: &Page, d: Option<DefNo>) -> bool
+/// Whether a definition disables shadow. None does not, and neither does a number that was not given.
+pub(crate) fn disables_shadow(page: &Page, d: Option<DefNo>) -> bool
     ensures { result ≡ disables_shadow page.now d }
 {
     match d {

@@ -4,8 +4,8 @@ ghost use Rattle.node_trees.specs.Nodes.{IsNode};
 ghost use Rattle.ce_algorithms.specs.Session.{start};
 ghost use Rattle.ce_algorithms.specs.State.{class_named, logged, set_variable, spend, value_of, with_work, work_of};
 ghost use Rattle.ce_algorithms.specs.Steps.{Goes};
-ghost use Rattle.ce_page.specs.Callbacks.{IsPlain};
 ghost use Rattle.ce_page.specs.Ends.{Does};
+ghost use Rattle.ce_page.specs.Sound.{IsSoundPage};
 ghost use Rattle.session_state.specs.Steps.{after_call, is_out_of_fuel};
 
 use crate::variables::Variables;
@@ -52,9 +52,9 @@ impl Model for State {
 }
 
 impl State {
-    /// The state before the first line. Elements that are there already are not upgraded yet.
+    /// The state before the first line.
     pub fn make(alloc: Global, settings: Settings) -> Result<State, NoMemory>
-        ensures { IfOk result (λ s. s ≡ start false settings) }
+        ensures { IfOk result (λ s. s ≡ start settings) }
     {
         Ok(State {
             page: Page::make(alloc)?,
@@ -68,7 +68,7 @@ impl State {
     /// The page's nodes. Node 1 is the page's document.
     pub fn tree(&self) -> &Tree
         ensures tree { result.now ≡ self.now.page.forest }
-        ensures plain { IsPlain self.now.page }
+        ensures sound { IsSoundPage self.now.page }
         ensures first { IsNode self.now.page.forest 1 }
     {
         self.page.tree()
