@@ -1,6 +1,6 @@
 -- What doing a deed asks of the page: the nodes that it speaks of are there, and are what its steps need. A deed that is
 -- not built yet is never ready.
-use Rattle.std.specs.Prelude.{◌≡◌, true, None, Some}
+use Rattle.std.specs.Prelude.{◌≡◌, true}
 use Rattle.node_trees.specs.declared.kind.NodeKind.TheVariants.{Element as ElementKind}
 use Rattle.node_trees.specs.Nodes.{IsNode, IsNodeOrNone}
 use Rattle.node_trees.specs.Spots.{kind_at}
@@ -21,8 +21,8 @@ IsReadyOnPage f (page_deeds.Detach n) = IsNode f n
 IsReadyOnPage f (page_deeds.SetAttr n name value) = IsNode f n × (kind_at f n ≡ ElementKind)
 IsReadyOnPage f (page_deeds.DelAttr n name) = IsNode f n × (kind_at f n ≡ ElementKind)
 IsReadyOnPage f (page_deeds.Clone n deep) = ⊥
-IsReadyOnPage f (page_deeds.Adopt document n) = ⊥
-IsReadyOnPage f (page_deeds.Upgrade n) = ⊥
+IsReadyOnPage f (page_deeds.Adopt document n) = IsNode f n
+IsReadyOnPage f (page_deeds.Upgrade n) = IsNode f n
 
 -- its steps wait for nothing: no class is constructed in them
 abbrev pub IsStill : Deed → Type 0
@@ -31,8 +31,7 @@ IsStill (deeds.New class) = ⊥
 IsStill deed = Unit {0}
 
 abbrev pub IsReady : Trees → Deed → Type 0
-IsReady f (deeds.Create local None document) = Unit {0}
-IsReady f (deeds.Create local (Some is) document) = ⊥
+IsReady f (deeds.Create local is document) = Unit {0}
 IsReady f (deeds.New class) = ⊥
 IsReady f (deeds.Define name class base) = Unit {0}
 IsReady f (OnPage what) = IsReadyOnPage f what

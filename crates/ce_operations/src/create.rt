@@ -1,7 +1,8 @@
 // What creating an element takes (DOM Standard, section "Interface Element", "create an element").
-ghost use Rattle.std.specs.Prelude.{◌≡◌, ◌≤◌, None, IfOk};
+ghost use Rattle.std.specs.Prelude.{◌≡◌, ◌≤◌, IfOk};
 ghost use Rattle.std.specs.Str.{str_to_ascii_lowercase};
 ghost use Rattle.node_trees.specs.Nodes.{IsNode, size};
+ghost use Rattle.ce_registry.specs.Registry.{is_autonomous};
 ghost use Rattle.ce_algorithms.specs.Create.{create_failed, fitting, is_no_element, is_unfit};
 ghost use Rattle.ce_algorithms.specs.CreateLater.{first_state, make_undefined};
 ghost use Rattle.ce_algorithms.specs.Enqueue.{lookup_in};
@@ -25,11 +26,20 @@ pub fn lowercased(alloc: Global, name: &Text) -> Result<Text, NoMemory>
     Text::of(alloc, lower.as_str())
 }
 
-/// The definition that creation by a local name goes by, in a document. None exactly where there is none.
-pub fn lookup(state: &State, local: &str, document: NodeNo) -> Option<DefNo>
-    ensures { result ≡ lookup_in state.now.page document local.now None }
+/// The definition that creation by a local name and an `is` value goes by, in a document. None exactly where there
+/// is none.
+pub fn lookup(
+    state: &State,
+    local: &Text,
+    is: &Option<Text>,
+    document: NodeNo,
+) -> Option<DefNo>
+    ensures { result ≡ lookup_in state.now.page document local.now is.now }
 {
-    state.registry().lookup(document == NodeNo(1), local, None)
+    let is = is.as_ref().map(|t| t.as_str());
+    state
+        .registry()
+        .lookup(document == NodeNo(1), local.as_str(), is)
 }
 
 /// An element without a definition. FuelSpent exactly where no fuel is left for it; it refuses nothing.
@@ -37,23 +47,35 @@ pub fn create_undefined(
     state: &mut State,
     alloc: Global,
     local: Text,
+    is: Option<Text>,
     document: NodeNo,
 ) -> Result<NodeNo, PageStop>
-    ensures step { Ends (λ n. n) result state.new (on_page (make_undefined local None document) state.old) }
+    ensures step { Ends (λ n. n) result state.new (on_page (make_undefined local is document) state.old) }
     ensures made { IfOk result (IsNode state.new.page.forest) }
     ensures grows { size state.old.page.forest ≤ size state.new.page.forest }
 {
-    let first = first_state(local.as_str());
-    state.make_in_state(alloc, local, None, document, first)
+    let first = first_state(&local, &is);
+    state.make_in_state(alloc, local, is, document, first)
 }
 
-fn first_state(local: &str) -> CustomState
-    ensures { result ≡ first_state local.now None }
+// The state of an element without a definition.
+fn first_state(local: &Text, is: &Option<Text>) -> CustomState
+    ensures { result ≡ first_state local.now is.now }
 {
-    if is_custom_name(local) {
+    if is_custom_name(local.as_str()) || is.is_some() {
         return CustomState::Undefined;
     }
     CustomState::Uncustomized
+}
+
+/// Whether a definition extends no element (HTML Standard, section "Core concepts", "autonomous custom element").
+pub fn is_autonomous(state: &State, d: DefNo) -> bool
+    ensures { result ≡ is_autonomous (definition_at state.now.page d) }
+{
+    match state.registry().at(d) {
+        None => true,
+        Some(x) => x.local.as_str() == x.name.as_str(),
+    }
 }
 
 /// The class of a definition.

@@ -66,12 +66,13 @@ pub fn run_on_page(state: &mut State, alloc: Global, what: PageDeed) -> Result<G
             gives_nothing(state.remove_named(alloc, node, name.as_str()))
         }
         PageDeed::Clone { .. } => unreachable!(),
-        PageDeed::Adopt { .. } => unreachable!(),
-        PageDeed::Upgrade { .. } => unreachable!(),
+        PageDeed::Adopt { document, node } => gives_nothing(state.adopt(alloc, document, node)),
+        PageDeed::Upgrade { node } => gives_nothing(state.upgrade_all(alloc, node)),
     }
 }
 
-fn gives_nothing(done: Result<(), PageStop>) -> Result<Given, PageStop>
+/// What steps that give nothing come to.
+pub fn gives_nothing(done: Result<(), PageStop>) -> Result<Given, PageStop>
     ensures { result ≡ nothing_of done }
 {
     match done {

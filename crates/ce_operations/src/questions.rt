@@ -39,6 +39,7 @@ pub fn answer(
         AskWord::Attr => attribute(state, alloc, n, name),
         AskWord::Parent => Ok(parent(state, n)),
         AskWord::Kids => Ok(Answer::Nodes(state.tree().children(alloc, n)?)),
+        AskWord::State => Ok(Answer::State(state.custom_state(n))),
         _ => unreachable!(),
     }
 }

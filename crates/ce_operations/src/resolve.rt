@@ -31,14 +31,15 @@ pub fn resolve(
         Op::Create {
             var: _,
             local,
-            is_value: _,
+            is_value,
             document,
         } => {
             let document = document_or_page(state, this, document)?;
             let local = local.copy(alloc)?;
+            let is_value = copy_of(alloc, is_value)?;
             Ok(Deed::Create {
                 local,
-                is_value: None,
+                is_value,
                 document,
             })
         }
@@ -107,6 +108,14 @@ pub fn resolve(
             let name = name.copy(alloc)?;
             Ok(Deed::OnPage(PageDeed::DelAttr { node, name }))
         }
+        Op::Adopt {
+            document,
+            node: operand,
+        } => {
+            let document = node_that(Fit::Document, state, this, document)?;
+            let node = node(state, this, operand)?;
+            Ok(Deed::OnPage(PageDeed::Adopt { document, node }))
+        }
         Op::Define {
             name,
             class: class_name,
@@ -116,6 +125,10 @@ pub fn resolve(
             let name = name.copy(alloc)?;
             let base = copy_of(alloc, base)?;
             Ok(Deed::Define { name, class, base })
+        }
+        Op::Upgrade { node: operand } => {
+            let node = node(state, this, operand)?;
+            Ok(Deed::OnPage(PageDeed::Upgrade { node }))
         }
         Op::Ask { word, node, name } => {
             let node = node_that(asked_of(*word), state, this, node)?;
