@@ -41,14 +41,15 @@ use Rattle.frame_stack.specs.Resumes.{Proceeds, Resumes, is_guarded, resumed_of}
 use Rattle.frame_stack.specs.Sessions.{ArePaired, session}
 use Rattle.frame_stack.specs.Stacked.{Stacked, HasBody, Running, behaviour_at, behaviours_of, below_top, frames_of, guarded_of, in_body, or_new, this_of, top_of}
 use Rattle.frame_stack.proofs.TopLaws.{below_push, top_below, top_push}
-use Rattle.ce_machine.specs.Blind.{BlindAt}
+use Rattle.ce_reactions.specs.Blind.{BlindAt}
 use Rattle.ce_machine.specs.Bodies.{GoesOn, StopsAt, acting_turn, answer, frame_on_top, given_node, or_constructing, running_turn, stopped_turn}
-use Rattle.ce_machine.specs.declared.came.Came.{Came}
-use Rattle.ce_machine.specs.declared.came.Came.TheVariants.{Went, Threw, Over}
-use Rattle.ce_machine.specs.Placed.{StaysPlaced}
-use Rattle.ce_machine.specs.Turns.{Turns, came_in}
-use Rattle.ce_machine.proofs.SessionLaws.{lifted, lifted_stays, session_is}
-use Rattle.ce_machine.proofs.TurnLaws.{turns_as, turns_ended, turns_pushed}
+use Rattle.ce_reactions.specs.declared.came.Came.{Came}
+use Rattle.ce_reactions.specs.declared.came.Came.TheVariants.{Went, Threw, Over}
+use Rattle.ce_reactions.specs.Placed.{StaysPlaced}
+use Rattle.ce_reactions.specs.Turns.{Turns, came_in}
+use Rattle.ce_reactions.proofs.SessionLaws.{lifted, session_is}
+use Rattle.ce_machine.proofs.FrameLaws.{lifted_stays}
+use Rattle.ce_reactions.proofs.TurnLaws.{turns_as, turns_ended, turns_pushed}
 
 -- the frame on top
 

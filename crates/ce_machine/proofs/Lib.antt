@@ -1,5 +1,5 @@
 pub mod TurnLaws
-pub mod SessionLaws
+pub mod FrameLaws
 pub mod DrainLaws
 pub mod BodyLaws
 pub mod OperateLaws

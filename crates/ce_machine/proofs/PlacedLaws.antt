@@ -25,21 +25,21 @@ use Rattle.ce_frames.specs.Turned.{Turned, ended}
 use Rattle.ce_frames.specs.OperateTurns.{next_turn, pop_turn}
 use Rattle.ce_frames.specs.DrainTurns.{call_turn, reaction_turn, taken_turn, next_backup_turn, taken_backup_turn, checked_turn}
 use Rattle.ce_frames.specs.Turns.{turn}
-use Rattle.ce_page.specs.Callbacks.{is_callback, are_callbacks, all_callbacks}
 use Rattle.ce_frames.specs.Frames.{Frame}
-use Rattle.ce_machine.specs.declared.came.Came.{Came}
-use Rattle.ce_machine.specs.declared.came.Came.TheVariants.{Went, Threw, Over}
+use Rattle.ce_reactions.specs.declared.came.Came.{Came}
+use Rattle.ce_reactions.specs.declared.came.Came.TheVariants.{Went, Threw, Over}
 use Rattle.frame_stack.specs.declared.waiting.Waiting.{Waiting}
-use Rattle.frame_stack.specs.declared.waiting.Waiting.TheVariants.{Replying, Checking, DrainingBackup, Naming, Stepping, Draining, InReaction, CreatingFit}
+use Rattle.frame_stack.specs.declared.waiting.Waiting.TheVariants.{Replying, Checking, DrainingBackup, Naming, Stepping, Draining, InReaction, CreatingFit, CreatingExtended, Upgrading}
 use Rattle.frame_stack.specs.Frames.{waiting_of}
 use Rattle.ce_page.specs.Rows.{HasRows}
-use Rattle.ce_page.proofs.RowLemmas.{node_of_definition}
+use Rattle.ce_page.proofs.RowLemmas.{defined_element}
 use Rattle.frame_stack.specs.Stacked.{Stacked, HasBody, Running, below_top, frames_of, in_body, this_of, top_of}
 use Rattle.ce_machine.specs.Bodies.{frame_on_top}
-use Rattle.ce_machine.specs.Turns.{Turns, end_of}
+use Rattle.ce_reactions.specs.Turns.{Turns, end_of}
+use Rattle.ce_reactions.proofs.SettleLaws.{threw_settles, upgrade_settles, went_settles}
 use Rattle.ce_machine.proofs.BodyLaws.{on_top, popped_body}
 use Rattle.ce_operations.specs.Given.{IsThere}
-use Rattle.ce_machine.specs.Placed.{IsEndThere, IsKeptThere, Reaches, Gives, IsNamed, ArePlaced, Creates, IfCreating, StaysPlaced}
+use Rattle.ce_reactions.specs.Placed.{IsEndThere, IsKeptThere, Reaches, Gives, IsNamed, ArePlaced, Creates, IfCreating, StaysPlaced}
 
 -- where the forest has grown
 
@@ -64,6 +64,7 @@ given_below F G le [] above above' e e' g h = g h
 given_below F G le (waiting.Draining queue ns kept ∷ xs) above above' e e' g h = kept_grows F G le kept h
 given_below F G le (waiting.Stepping queue ∷ xs) above above' e e' g h = given_below F G le xs above above' e e' g h
 given_below F G le (waiting.CreatingFit local document ∷ xs) above above' e e' g h = given_below F G le xs above above' e e' g h
+given_below F G le (waiting.CreatingExtended n ∷ xs) above above' e e' g h = record { low = h.low; high = let high = h.high in omega (arith, high, le) }
 given_below F G le (x ∷ xs) above above' e e' g h = h
 
 named_below : (F G : Trees) → size F ≤ size G → (x : Frame) (xs above above' : List Frame) (e e' : End) → (Gives F above e → Gives G above' e') → IsNamed F x (xs ++ above) e → IsNamed G x (xs ++ above') e'
@@ -84,51 +85,41 @@ placed_above F (x ∷ xs) above e h = placed_above F xs above e h.1
 
 -- a turn
 
-record Stays (F : Trees) (f : Frame) (e : End) (t : Turned) : Type 0 where
-  pub forest : t.state.page.forest ≡ F
-  pub gives : Gives F (f ∷ []) e → Gives F t.pushed t.end
-  pub placed : ArePlaced F t.pushed t.end
-
--- one that pushes no variable's frame
-record Calm (F : Trees) (t : Turned) : Type 0 where
-  pub forest : t.state.page.forest ≡ F
-  pub placed : ArePlaced F t.pushed t.end
+-- what it hands down to a variable stays there, where the forest has grown
+record Stays (F G : Trees) (f : Frame) (e : End) (t : Turned) : Type 0 where
+  pub gives : Gives F (f ∷ []) e → Gives G t.pushed t.end
+  pub placed : ArePlaced G t.pushed t.end
 
 -- callbacks
 
-both : (a b : Bool) → (a && b) ≡ true → (a ≡ true) × (b ≡ true)
-both true b h = (refl, h)
-both false b h = cc
+call_placed : (G : Trees) (n : ℕ) (r : Reaction) (d : Option Definition) (s : State) → (((x : Definition) → d ≡ Some x → IsNode G n)) → ArePlaced G (call_turn n r d s).pushed (call_turn n r d s).end
+call_placed G n r None s there = tt
+call_placed G n (Upgrade c) (Some d) s there = (there d refl, tt)
+call_placed G n Connected (Some d) s there = (there d refl, tt)
+call_placed G n Disconnected (Some d) s there = (there d refl, tt)
+call_placed G n (Adopted old new) (Some d) s there = (there d refl, tt)
+call_placed G n (Attribute name old new) (Some d) s there = (there d refl, tt)
+call_placed G n (FormAssociated form) (Some d) s there = (there d refl, tt)
+call_placed G n (FormDisabled disabled) (Some d) s there = (there d refl, tt)
+call_placed G n FormReset (Some d) s there = (there d refl, tt)
+call_placed G n (FormStateRestore state why) (Some d) s there = (there d refl, tt)
 
--- what waits in one place
-list_calls : (i : ℕ) (ls : List (List (ℕ × Reaction))) → all_callbacks ls ≡ true → are_callbacks (list_at i ls) ≡ true
-list_calls i [] h = refl
-list_calls zero (l ∷ ls) h = (both (are_callbacks l) (all_callbacks ls) h).0
-list_calls (suc i) (l ∷ ls) h = list_calls i ls (both (are_callbacks l) (all_callbacks ls) h).1
+-- what has a definition is a node
+defined_placed : (G : Trees) (n : ℕ) (r : Reaction) (s : State) → HasRows s.page.elements s.page.forest → size s.page.forest ≤ size G → ArePlaced G (call_turn n r (definition_of s.page n) s).pushed (call_turn n r (definition_of s.page n) s).end
+defined_placed G n r s rows le =
+    call_placed G n r (definition_of s.page n) s (λ d is. let x = (defined_element s.page n d rows is).node in record { low = x.low; high = let high = x.high in omega (arith, high, le) })
 
-call_calm : (n : ℕ) (r : Reaction) (d : Option Definition) (s : State) → (((x : Definition) → d ≡ Some x → IsNode s.page.forest n)) → Calm s.page.forest (call_turn n r d s)
-call_calm n r None s there = record { forest = refl; placed = tt }
-call_calm n (Upgrade c) (Some d) s there = record { forest = refl; placed = (there d refl, tt) }
-call_calm n Connected (Some d) s there = record { forest = refl; placed = (there d refl, tt) }
-call_calm n Disconnected (Some d) s there = record { forest = refl; placed = (there d refl, tt) }
-call_calm n (Adopted old new) (Some d) s there = record { forest = refl; placed = (there d refl, tt) }
-call_calm n (Attribute name old new) (Some d) s there = record { forest = refl; placed = (there d refl, tt) }
-call_calm n (FormAssociated form) (Some d) s there = record { forest = refl; placed = (there d refl, tt) }
-call_calm n (FormDisabled disabled) (Some d) s there = record { forest = refl; placed = (there d refl, tt) }
-call_calm n FormReset (Some d) s there = record { forest = refl; placed = (there d refl, tt) }
-call_calm n (FormStateRestore state why) (Some d) s there = record { forest = refl; placed = (there d refl, tt) }
-
-reaction_calm : (n : ℕ) (r : Reaction) (s : State) → HasRows s.page.elements s.page.forest → is_callback r ≡ true → Calm s.page.forest (reaction_turn n r s)
+reaction_placed : (G : Trees) (n : ℕ) (r : Reaction) (s : State) → HasRows s.page.elements s.page.forest → size s.page.forest ≤ size G → ArePlaced G (reaction_turn n r s).pushed (reaction_turn n r s).end
 unfolding reaction_turn
-reaction_calm n (Upgrade d) s rows h = cc
-reaction_calm n Connected s rows h = call_calm n Connected (definition_of s.page n) s (λ d is. node_of_definition s.page n d rows is)
-reaction_calm n Disconnected s rows h = call_calm n Disconnected (definition_of s.page n) s (λ d is. node_of_definition s.page n d rows is)
-reaction_calm n (Adopted old new) s rows h = call_calm n (Adopted old new) (definition_of s.page n) s (λ d is. node_of_definition s.page n d rows is)
-reaction_calm n (Attribute name old new) s rows h = call_calm n (Attribute name old new) (definition_of s.page n) s (λ d is. node_of_definition s.page n d rows is)
-reaction_calm n (FormAssociated form) s rows h = call_calm n (FormAssociated form) (definition_of s.page n) s (λ d is. node_of_definition s.page n d rows is)
-reaction_calm n (FormDisabled disabled) s rows h = call_calm n (FormDisabled disabled) (definition_of s.page n) s (λ d is. node_of_definition s.page n d rows is)
-reaction_calm n FormReset s rows h = call_calm n FormReset (definition_of s.page n) s (λ d is. node_of_definition s.page n d rows is)
-reaction_calm n (FormStateRestore state why) s rows h = call_calm n (FormStateRestore state why) (definition_of s.page n) s (λ d is. node_of_definition s.page n d rows is)
+reaction_placed G n (Upgrade d) s rows le = upgrade_settles n d s G
+reaction_placed G n Connected s rows le = defined_placed G n Connected s rows le
+reaction_placed G n Disconnected s rows le = defined_placed G n Disconnected s rows le
+reaction_placed G n (Adopted old new) s rows le = defined_placed G n (Adopted old new) s rows le
+reaction_placed G n (Attribute name old new) s rows le = defined_placed G n (Attribute name old new) s rows le
+reaction_placed G n (FormAssociated form) s rows le = defined_placed G n (FormAssociated form) s rows le
+reaction_placed G n (FormDisabled disabled) s rows le = defined_placed G n (FormDisabled disabled) s rows le
+reaction_placed G n FormReset s rows le = defined_placed G n FormReset s rows le
+reaction_placed G n (FormStateRestore state why) s rows le = defined_placed G n (FormStateRestore state why) s rows le
 
 -- the state where a reaction was taken, and has started
 abbrev taken : ℕ → ℕ → List (ℕ × Reaction) → State → State
@@ -137,91 +128,87 @@ taken n number ws s = logged (Started number) (record s { page = with_queues (wi
 -- drains
 
 -- what was kept
-kept_gives : (F : Trees) (kept : Result Given Fault) (s : State) → s.page.forest ≡ F → (f : Frame) (e : End) → (Gives F (f ∷ []) e → IsKeptThere F kept) → Stays F f e (ended (settle kept s))
-kept_gives F (Ok given) s same f e k = record { forest = same; gives = k; placed = tt }
-kept_gives F (Err x) s same f e k = record { forest = same; gives = λ _. tt; placed = tt }
+kept_gives : (F G : Trees) → size F ≤ size G → (kept : Result Given Fault) (s : State) (f : Frame) (e : End) → (Gives F (f ∷ []) e → IsKeptThere F kept) → Stays F G f e (ended (settle kept s))
+kept_gives F G le (Ok given) s f e k = record { gives = λ h. there_grows F G le given (k h); placed = tt }
+kept_gives F G le (Err x) s f e k = record { gives = λ _. tt; placed = tt }
 
 -- a queue was popped
-popped_stays : (F : Trees) (f : Frame) (e : End) (queue : ℕ) (es : List ℕ) (kept : Result Given Fault) (s : State) → s.page.forest ≡ F → (Gives F (f ∷ []) e → IsKeptThere F kept) → Stays F f e (next_turn queue es kept s)
-popped_stays F f e queue [] kept s same k = kept_gives F kept (logged (QueueClosed queue) s) same f e k
-popped_stays F f e queue (n ∷ ns) kept s same k = record { forest = same; gives = k; placed = (tt, tt) }
+next_stays : (F G : Trees) → size F ≤ size G → (f : Frame) (e : End) (queue : ℕ) (es : List ℕ) (kept : Result Given Fault) (s : State) → (Gives F (f ∷ []) e → IsKeptThere F kept) → Stays F G f e (next_turn queue es kept s)
+next_stays F G le f e queue [] kept s k = kept_gives F G le kept (logged (QueueClosed queue) s) f e k
+next_stays F G le f e queue (n ∷ ns) kept s k = record { gives = λ h. kept_grows F G le kept (k h); placed = (tt, tt) }
 
-stepped_stays : (queue : ℕ) (kept : Result Given Fault) (e : End) (s : State) → (Gives s.page.forest (waiting.Stepping queue ∷ []) e → IsKeptThere s.page.forest kept) → Stays s.page.forest (waiting.Stepping queue) e (pop_turn queue kept s)
-stepped_stays queue kept e s k =
-    popped_stays s.page.forest (waiting.Stepping queue) e queue (current_elements s.page.queues) kept (logged (DrainBegun queue) (record s { page = with_queues popped s.page })) refl k
+stepped_stays : (F G : Trees) → size F ≤ size G → (queue : ℕ) (kept : Result Given Fault) (e : End) (s : State) → (Gives F (waiting.Stepping queue ∷ []) e → IsKeptThere F kept) → Stays F G (waiting.Stepping queue) e (pop_turn queue kept s)
+stepped_stays F G le queue kept e s k =
+    next_stays F G le (waiting.Stepping queue) e queue (current_elements s.page.queues) kept (logged (DrainBegun queue) (record s { page = with_queues popped s.page })) k
 
-next_stays : (queue n : ℕ) (ns es : List ℕ) (kept : Result Given Fault) (e : End) (s : State) → Stays s.page.forest (waiting.Draining queue (n ∷ ns) kept) e (next_turn queue es kept s)
-next_stays queue n ns [] kept e s = kept_gives s.page.forest kept _ refl (waiting.Draining queue (n ∷ ns) kept) e (λ h. h)
-next_stays queue n ns (m ∷ ms) kept e s = record { forest = refl; gives = λ h. h; placed = (tt, tt) }
+drain_stays : (G : Trees) (queue n : ℕ) (ns : List ℕ) (kept : Result Given Fault) (e : End) (s : State) (ws : List (ℕ × Reaction)) → HasRows s.page.elements s.page.forest → size s.page.forest ≤ size G → Stays s.page.forest G (waiting.Draining queue (n ∷ ns) kept) e (taken_turn queue n ns kept ws s)
+drain_stays G queue n ns kept e s [] rows le = next_stays s.page.forest G le (waiting.Draining queue (n ∷ ns) kept) e queue ns kept s (λ h. h)
+drain_stays G queue n ns kept e s (w ∷ ws) rows le = record { gives = λ h. kept_grows s.page.forest G le kept h; placed = (tt, (tt, reaction_placed G n w.1 (taken n w.0 ws s) rows le)) }
 
-drain_stays : (queue n : ℕ) (ns : List ℕ) (kept : Result Given Fault) (e : End) (s : State) (ws : List (ℕ × Reaction)) → HasRows s.page.elements s.page.forest → are_callbacks ws ≡ true → Stays s.page.forest (waiting.Draining queue (n ∷ ns) kept) e (taken_turn queue n ns kept ws s)
-drain_stays queue n ns kept e s [] rows h = next_stays queue n ns ns kept e s
-drain_stays queue n ns kept e s (w ∷ ws) rows h =
-    let c = reaction_calm n w.1 (taken n w.0 ws s) rows (both (is_callback w.1) (are_callbacks ws) h).0 in
-    record { forest = c.forest; gives = λ k. k; placed = (tt, (tt, c.placed)) }
+next_backup_stays : (F G : Trees) (f : Frame) (e : End) (es : List ℕ) (s : State) → (Gives F (f ∷ []) e → ⊥) → Stays F G f e (next_backup_turn es s)
+next_backup_stays F G f e [] s never = record { gives = λ h. absurd (never h); placed = tt }
+next_backup_stays F G f e (n ∷ ns) s never = record { gives = λ h. absurd (never h); placed = (tt, tt) }
 
-next_backup_stays : (f : Frame) (e : End) (es : List ℕ) (s : State) → (Gives s.page.forest (f ∷ []) e → ⊥) → Stays s.page.forest f e (next_backup_turn es s)
-next_backup_stays f e [] s never = record { forest = refl; gives = λ h. absurd (never h); placed = tt }
-next_backup_stays f e (n ∷ ns) s never = record { forest = refl; gives = λ h. absurd (never h); placed = (tt, tt) }
+backup_stays : (G : Trees) (n : ℕ) (e : End) (s : State) (ws : List (ℕ × Reaction)) → HasRows s.page.elements s.page.forest → size s.page.forest ≤ size G → Stays s.page.forest G (waiting.DrainingBackup n) e (taken_backup_turn n ws s)
+backup_stays G n e s [] rows le = next_backup_stays s.page.forest G (waiting.DrainingBackup n) e s.page.queues.backup s (λ k. k)
+backup_stays G n e s (w ∷ ws) rows le = record { gives = λ k. absurd k; placed = (tt, (tt, reaction_placed G n w.1 (taken n w.0 ws s) rows le)) }
 
-backup_stays : (n : ℕ) (e : End) (s : State) (ws : List (ℕ × Reaction)) → HasRows s.page.elements s.page.forest → are_callbacks ws ≡ true → Stays s.page.forest (waiting.DrainingBackup n) e (taken_backup_turn n ws s)
-backup_stays n e s [] rows h = next_backup_stays (waiting.DrainingBackup n) e s.page.queues.backup s (λ k. k)
-backup_stays n e s (w ∷ ws) rows h =
-    let c = reaction_calm n w.1 (taken n w.0 ws s) rows (both (is_callback w.1) (are_callbacks ws) h).0 in
-    record { forest = c.forest; gives = λ k. absurd k; placed = (tt, (tt, c.placed)) }
-
-check_stays : (line : ℕ) (kept : Result Given Fault) (e : End) (s : State) (es : List ℕ) → Stays s.page.forest (waiting.Replying line) e (checked_turn line kept es s)
-check_stays line kept e s [] = record { forest = refl; gives = λ h. absurd h; placed = tt }
-check_stays line kept e s (n ∷ ns) = record { forest = refl; gives = λ h. absurd h; placed = (tt, (tt, tt)) }
+check_stays : (F G : Trees) (line : ℕ) (kept : Result Given Fault) (e : End) (s : State) (es : List ℕ) → Stays F G (waiting.Replying line) e (checked_turn line kept es s)
+check_stays F G line kept e s [] = record { gives = λ h. absurd h; placed = tt }
+check_stays F G line kept e s (n ∷ ns) = record { gives = λ h. absurd h; placed = (tt, (tt, tt)) }
 
 -- a variable
 
-named_stays : (var : List ℕ) (given : Given) (s : State) → Stays s.page.forest (waiting.Naming var) (ends.Went given) (ended (named (Some var) given s))
-named_stays var Nothing s = record { forest = refl; gives = λ h. absurd h; placed = tt }
-named_stays var (Node n) s = record { forest = refl; gives = λ h. absurd h; placed = tt }
-named_stays var (Answers a) s = record { forest = refl; gives = λ h. absurd h; placed = tt }
-named_stays var Ignored s = record { forest = refl; gives = λ h. absurd h; placed = tt }
+named_stays : (F G : Trees) (var : List ℕ) (given : Given) (s : State) → Stays F G (waiting.Naming var) (ends.Went given) (ended (named (Some var) given s))
+named_stays F G var Nothing s = record { gives = λ h. absurd h; placed = tt }
+named_stays F G var (Node n) s = record { gives = λ h. absurd h; placed = tt }
+named_stays F G var (Answers a) s = record { gives = λ h. absurd h; placed = tt }
+named_stays F G var Ignored s = record { gives = λ h. absurd h; placed = tt }
 
 -- all frames
 
-at_waiting : (n : ℕ) (s : State) → all_callbacks s.page.queues.waiting ≡ true → are_callbacks (waiting_at s.page.queues n) ≡ true
-at_waiting n s h = list_calls (n - 1) s.page.queues.waiting h
-
-over_stays : (f : Frame) (s : State) → Stays s.page.forest f ends.Over (turn f ends.Over s)
+over_stays : (F G : Trees) (f : Frame) (s : State) → Stays F G f ends.Over (turn f ends.Over s)
 unfolding turn
-over_stays f s = record { forest = refl; gives = λ h. tt; placed = tt }
+over_stays F G f s = record { gives = λ h. tt; placed = tt }
 
--- all but creations, which make a node
+-- all but creations by an autonomous definition, which hand down what they were given
 abbrev IsQuick : Waiting → Type 0
 IsQuick (CreatingFit local document) = ⊥
 IsQuick w = Unit {0}
 
-threw_stays : (w : Waiting) (x : Fault) (s : State) → IsQuick w → Stays s.page.forest (waiting_of w) (ends.Threw x) (turn (waiting_of w) (ends.Threw x) s)
-unfolding turn
-threw_stays (CreatingFit local document) x s q = absurd q
-threw_stays (Stepping queue) x s q = stepped_stays queue (Err x) (ends.Threw x) s (λ h. h)
-threw_stays (Replying line) x s q = check_stays line (Err x) (ends.Threw x) s s.page.queues.backup
-threw_stays (Checking line kept) x s q = record { forest = refl; gives = λ h. tt; placed = tt }
-threw_stays (DrainingBackup n) x s q = record { forest = refl; gives = λ h. tt; placed = tt }
-threw_stays (Naming var) x s q = record { forest = refl; gives = λ h. tt; placed = tt }
-threw_stays (Draining queue n ns kept) x s q = record { forest = refl; gives = λ h. tt; placed = tt }
-threw_stays (InReaction number) x s q = record { forest = refl; gives = λ h. tt; placed = tt }
+node_stays : (F G : Trees) → size F ≤ size G → (n : ℕ) → IsNode F n → IsNode G n
+node_stays F G le n h = record { low = h.low; high = let high = h.high in omega (arith, high, le) }
 
-went_stays : (w : Waiting) (given : Given) (s : State) → all_callbacks s.page.queues.waiting ≡ true → HasRows s.page.elements s.page.forest → IsQuick w → Stays s.page.forest (waiting_of w) (ends.Went given) (turn (waiting_of w) (ends.Went given) s)
+threw_stays : (F G : Trees) → size F ≤ size G → (w : Waiting) (x : Fault) (s : State) → IsQuick w → Stays F G (waiting_of w) (ends.Threw x) (turn (waiting_of w) (ends.Threw x) s)
 unfolding turn
-went_stays (CreatingFit local document) given s h rows q = absurd q
-went_stays (Stepping queue) given s h rows q = stepped_stays queue (Ok given) (ends.Went given) s (λ h. h)
-went_stays (Replying line) given s h rows q = check_stays line (Ok given) (ends.Went given) s s.page.queues.backup
-went_stays (Checking line kept) given s h rows q = record { forest = refl; gives = λ h. tt; placed = tt }
-went_stays (DrainingBackup n) given s h rows q = backup_stays n (ends.Went given) s (waiting_at s.page.queues n) rows (at_waiting n s h)
-went_stays (Naming var) given s h rows q = named_stays var given s
-went_stays (Draining queue n ns kept) given s h rows q = drain_stays queue n ns kept (ends.Went given) s (waiting_at s.page.queues n) rows (at_waiting n s h)
-went_stays (InReaction number) given s h rows q = record { forest = refl; gives = λ h. tt; placed = tt }
+threw_stays F G le (CreatingFit local document) x s q = absurd q
+threw_stays F G le (CreatingExtended n) x s q = record { gives = λ h. node_stays F G le n h; placed = tt }
+threw_stays F G le (Upgrading n d) x s q = record { gives = λ h. absurd h; placed = threw_settles n d x s G }
+threw_stays F G le (Stepping queue) x s q = stepped_stays F G le queue (Err x) (ends.Threw x) s (λ h. h)
+threw_stays F G le (Replying line) x s q = check_stays F G line (Err x) (ends.Threw x) s s.page.queues.backup
+threw_stays F G le (Checking line kept) x s q = record { gives = λ h. tt; placed = tt }
+threw_stays F G le (DrainingBackup n) x s q = record { gives = λ h. tt; placed = tt }
+threw_stays F G le (Naming var) x s q = record { gives = λ h. tt; placed = tt }
+threw_stays F G le (Draining queue n ns kept) x s q = record { gives = λ h. tt; placed = tt }
+threw_stays F G le (InReaction number) x s q = record { gives = λ h. tt; placed = tt }
 
-stays : (w : Waiting) (end : Came) (s : State) → all_callbacks s.page.queues.waiting ≡ true → HasRows s.page.elements s.page.forest → IsQuick w → Stays s.page.forest (waiting_of w) (end_of end) (turn (waiting_of w) (end_of end) s)
-stays w (Went given) s h rows q = went_stays w given s h rows q
-stays w (Threw x) s h rows q = threw_stays w x s q
-stays w Over s h rows q = over_stays (waiting_of w) s
+went_stays : (G : Trees) (w : Waiting) (given : Given) (s : State) → HasRows s.page.elements s.page.forest → size s.page.forest ≤ size G → IsQuick w → Stays s.page.forest G (waiting_of w) (ends.Went given) (turn (waiting_of w) (ends.Went given) s)
+unfolding turn
+went_stays G (CreatingFit local document) given s rows le q = absurd q
+went_stays G (CreatingExtended n) given s rows le q = record { gives = λ h. node_stays s.page.forest G le n h; placed = tt }
+went_stays G (Upgrading n d) given s rows le q = record { gives = λ h. absurd h; placed = went_settles n d given s G }
+went_stays G (Stepping queue) given s rows le q = stepped_stays s.page.forest G le queue (Ok given) (ends.Went given) s (λ h. h)
+went_stays G (Replying line) given s rows le q = check_stays s.page.forest G line (Ok given) (ends.Went given) s s.page.queues.backup
+went_stays G (Checking line kept) given s rows le q = record { gives = λ h. tt; placed = tt }
+went_stays G (DrainingBackup n) given s rows le q = backup_stays G n (ends.Went given) s (waiting_at s.page.queues n) rows le
+went_stays G (Naming var) given s rows le q = named_stays s.page.forest G var given s
+went_stays G (Draining queue n ns kept) given s rows le q = drain_stays G queue n ns kept (ends.Went given) s (waiting_at s.page.queues n) rows le
+went_stays G (InReaction number) given s rows le q = record { gives = λ h. tt; placed = tt }
+
+stays : (G : Trees) (w : Waiting) (end : Came) (s : State) → HasRows s.page.elements s.page.forest → size s.page.forest ≤ size G → IsQuick w → Stays s.page.forest G (waiting_of w) (end_of end) (turn (waiting_of w) (end_of end) s)
+stays G w (Went given) s rows le q = went_stays G w given s rows le q
+stays G w (Threw x) s rows le q = threw_stays s.page.forest G le w x s q
+stays G w Over s rows le q = over_stays s.page.forest G (waiting_of w) s
 
 -- the topmost of them
 pub topmost_placed : (F : Trees) (old under : List Frame) (f : Frame) (e : End) → old ≡ under ++ f ∷ [] → ArePlaced F old e → ArePlaced F (f ∷ []) e
@@ -229,15 +216,15 @@ topmost_placed F old under f e popped h = placed_above F under (f ∷ []) e (sub
 
 -- a turn keeps it
 
-quick_placed : (old under new : List Frame) (w : Waiting) (end now : Came) (s s1 : State) → IsQuick w → all_callbacks s.page.queues.waiting ≡ true → HasRows s.page.elements s.page.forest → old ≡ under ++ waiting_of w ∷ [] → Turns under new now s1 (turn (waiting_of w) (end_of end) s) → ArePlaced s.page.forest old (end_of end)
+quick_placed : (old under new : List Frame) (w : Waiting) (end now : Came) (s s1 : State) → IsQuick w → HasRows s.page.elements s.page.forest → size s.page.forest ≤ size s1.page.forest → old ≡ under ++ waiting_of w ∷ [] → Turns under new now s1 (turn (waiting_of w) (end_of end) s) → ArePlaced s.page.forest old (end_of end)
     → ArePlaced s1.page.forest new (end_of now)
-quick_placed old under new w end now s s1 q calls rows popped h placed =
+quick_placed old under new w end now s s1 q rows le popped h placed =
     let t : Turned = turn (waiting_of w) (end_of end) s in
     let F : Trees = s.page.forest in
-    let k = stays w end s calls rows q in
-    let after : ArePlaced F (under ++ t.pushed) t.end = placed_below F F (omega arith) under (waiting_of w ∷ []) t.pushed (end_of end) t.end k.gives k.placed (subst (λ l. ArePlaced F l (end_of end)) popped placed) in
-    let at : F ≡ s1.page.forest = sym (ap (λ (x : State). x.page.forest) h.state ∙ k.forest) in
-    subst (λ G. ArePlaced G new (end_of now)) at (subst (λ e. ArePlaced F new e) (sym h.end) (subst (λ l. ArePlaced F l t.end) (sym h.frames) after))
+    let G : Trees = s1.page.forest in
+    let k = stays G w end s rows le q in
+    let after : ArePlaced G (under ++ t.pushed) t.end = placed_below F G le under (waiting_of w ∷ []) t.pushed (end_of end) t.end k.gives k.placed (subst (λ l. ArePlaced F l (end_of end)) popped placed) in
+    subst (λ e. ArePlaced G new e) (sym h.end) (subst (λ l. ArePlaced G l t.end) (sym h.frames) after)
 
 end_there : (F : Trees) (now : Came) → IsEndThere F now → Reaches F (end_of now)
 end_there F (Went given) h = h
@@ -250,16 +237,18 @@ created_placed old under new local document end now F G popped c placed =
     placed_below F G c.grows under (waiting.CreatingFit local document ∷ []) [] (end_of end) (end_of now) (λ _. end_there G now c.there) tt (subst (λ l. ArePlaced F l (end_of end)) popped placed) in
     subst (λ l. ArePlaced G l (end_of now)) (append-nil under ∙ sym c.same) after
 
-pub turned_placed : (old under new : List Frame) (w : Waiting) (end now : Came) (s s1 : State) → all_callbacks s.page.queues.waiting ≡ true → HasRows s.page.elements s.page.forest → old ≡ under ++ waiting_of w ∷ [] → Turns under new now s1 (turn (waiting_of w) (end_of end) s)
+pub turned_placed : (old under new : List Frame) (w : Waiting) (end now : Came) (s s1 : State) → HasRows s.page.elements s.page.forest → size s.page.forest ≤ size s1.page.forest → old ≡ under ++ waiting_of w ∷ [] → Turns under new now s1 (turn (waiting_of w) (end_of end) s)
     → IfCreating (waiting_of w) (Creates s.page.forest s1.page.forest under new now) → ArePlaced s.page.forest old (end_of end) → ArePlaced s1.page.forest new (end_of now)
-turned_placed old under new (CreatingFit local document) end now s s1 calls rows popped h c placed = created_placed old under new local document end now s.page.forest s1.page.forest popped c placed
-turned_placed old under new (Stepping queue) end now s s1 calls rows popped h c placed = quick_placed old under new (Stepping queue) end now s s1 tt calls rows popped h placed
-turned_placed old under new (Replying line) end now s s1 calls rows popped h c placed = quick_placed old under new (Replying line) end now s s1 tt calls rows popped h placed
-turned_placed old under new (Checking line kept) end now s s1 calls rows popped h c placed = quick_placed old under new (Checking line kept) end now s s1 tt calls rows popped h placed
-turned_placed old under new (DrainingBackup n) end now s s1 calls rows popped h c placed = quick_placed old under new (DrainingBackup n) end now s s1 tt calls rows popped h placed
-turned_placed old under new (Naming var) end now s s1 calls rows popped h c placed = quick_placed old under new (Naming var) end now s s1 tt calls rows popped h placed
-turned_placed old under new (Draining queue n ns kept) end now s s1 calls rows popped h c placed = quick_placed old under new (Draining queue n ns kept) end now s s1 tt calls rows popped h placed
-turned_placed old under new (InReaction number) end now s s1 calls rows popped h c placed = quick_placed old under new (InReaction number) end now s s1 tt calls rows popped h placed
+turned_placed old under new (CreatingFit local document) end now s s1 rows le popped h c placed = created_placed old under new local document end now s.page.forest s1.page.forest popped c placed
+turned_placed old under new (CreatingExtended n) end now s s1 rows le popped h c placed = quick_placed old under new (CreatingExtended n) end now s s1 tt rows le popped h placed
+turned_placed old under new (Upgrading n d) end now s s1 rows le popped h c placed = quick_placed old under new (Upgrading n d) end now s s1 tt rows le popped h placed
+turned_placed old under new (Stepping queue) end now s s1 rows le popped h c placed = quick_placed old under new (Stepping queue) end now s s1 tt rows le popped h placed
+turned_placed old under new (Replying line) end now s s1 rows le popped h c placed = quick_placed old under new (Replying line) end now s s1 tt rows le popped h placed
+turned_placed old under new (Checking line kept) end now s s1 rows le popped h c placed = quick_placed old under new (Checking line kept) end now s s1 tt rows le popped h placed
+turned_placed old under new (DrainingBackup n) end now s s1 rows le popped h c placed = quick_placed old under new (DrainingBackup n) end now s s1 tt rows le popped h placed
+turned_placed old under new (Naming var) end now s s1 rows le popped h c placed = quick_placed old under new (Naming var) end now s s1 tt rows le popped h placed
+turned_placed old under new (Draining queue n ns kept) end now s s1 rows le popped h c placed = quick_placed old under new (Draining queue n ns kept) end now s s1 tt rows le popped h placed
+turned_placed old under new (InReaction number) end now s s1 rows le popped h c placed = quick_placed old under new (InReaction number) end now s s1 tt rows le popped h placed
 
 -- a turn of a body keeps it
 

@@ -1,6 +1,3 @@
 pub mod Ended
 pub mod Turns
-pub mod Blind
-pub mod Callbacks
-pub mod Placed
 pub mod Bodies

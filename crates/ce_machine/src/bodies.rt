@@ -8,13 +8,13 @@ ghost use Rattle.ce_frames.specs.Turns.{turn};
 ghost use Rattle.frame_stack.specs.Sessions.{ArePaired, session};
 ghost use Rattle.frame_stack.specs.Stacked.{HasBody, below_top, frames_of, this_of, top_of};
 ghost use Rattle.ce_machine.specs.Bodies.{frame_on_top, running_turn};
-ghost use Rattle.ce_machine.specs.Placed.{StaysPlaced};
-ghost use Rattle.ce_machine.specs.Turns.{Turns};
+ghost use Rattle.ce_reactions.specs.Placed.{StaysPlaced};
+ghost use Rattle.ce_reactions.specs.Turns.{Turns};
 
-use crate::came::Came;
 use crate::stops::go_on;
 use ce_algorithms::{Event, Given};
 use ce_base::{Fault, NoMemory};
+use ce_reactions::Came;
 use frame_stack::Stack;
 use session_state::State;
 use std::alloc::Global;

@@ -13,11 +13,11 @@ ghost use Rattle.frame_stack.specs.Sessions.{ArePaired, session};
 ghost use Rattle.ce_machine.specs.Ended.{IsNoFault, end_for, outcome_of};
 
 use crate::End;
-use crate::came::Came;
 use crate::looping::run;
 use crate::operate::begin;
 use ce_algorithms::Event;
 use ce_base::{NoMemory, Refused, Sink, Stop};
+use ce_reactions::Came;
 use frame_stack::Stack;
 use rule_lines::{ClassPart, Cmd};
 use session_state::State;

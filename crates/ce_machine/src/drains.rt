@@ -1,16 +1,17 @@
 // Turns of drains: a popped queue, the backup element queue, and the checkpoint of a command.
-ghost use Rattle.std.specs.Prelude.{◌≡◌, ◌∷◌, Ok, IfOk, OnOk};
+ghost use Rattle.std.specs.Prelude.{◌≡◌, ◌≤◌, ◌∷◌, Ok, IfOk, OnOk};
+ghost use Rattle.node_trees.specs.Nodes.{size};
 ghost use Rattle.ce_algorithms.specs.Session.{reply};
 ghost use Rattle.ce_frames.specs.DrainTurns.{backup_turn, check_turn, drain_turn, next_backup_turn};
 ghost use Rattle.ce_frames.specs.OperateTurns.{next_turn, pop_turn};
 ghost use Rattle.frame_stack.specs.Sessions.{ArePaired, session};
 ghost use Rattle.frame_stack.specs.Stacked.{behaviours_of, frames_of};
-ghost use Rattle.ce_machine.specs.Turns.{Turns};
+ghost use Rattle.ce_reactions.specs.Turns.{Turns};
 
-use crate::came::{Came, came_of};
-use crate::reactions::start;
 use ce_algorithms::{Event, Given};
 use ce_base::{Fault, NoMemory, NodeNo, QueueNo};
+use ce_reactions::reactions::start;
+use ce_reactions::{Came, came_of};
 use frame_stack::{Stack, Waiting};
 use reaction_queue::ElementQueue;
 use session_state::State;
@@ -25,6 +26,7 @@ pub(crate) fn pop_turn(
 ) -> Result<Came, NoMemory>
     ensures turn { IfOk result (λ now. Turns (frames_of stack.old) (frames_of stack.new) now state.new (pop_turn queue kept state.old)) }
     ensures same { OnOk result (behaviours_of stack.new ≡ behaviours_of stack.old) }
+    ensures forest { state.new.page.forest ≡ state.old.page.forest }
 {
     let elements = state.pop_queue();
     match state.log(Event::DrainBegun(queue)) {
@@ -46,6 +48,7 @@ fn next_turn(
 ) -> Result<Came, NoMemory>
     ensures turn { IfOk result (λ now. Turns (frames_of stack.old) (frames_of stack.new) now state.new (next_turn queue elements kept state.old)) }
     ensures same { OnOk result (behaviours_of stack.new ≡ behaviours_of stack.old) }
+    ensures forest { state.new.page.forest ≡ state.old.page.forest }
 {
     let mut elements = elements;
     match state.next_element(&mut elements) {
@@ -73,6 +76,7 @@ pub(crate) fn drain_turn(
     requires paired { ArePaired stack.old state.old }
     ensures turn { IfOk result (λ now. Turns (frames_of stack.old) (frames_of stack.new) now (session stack.new state.new) (drain_turn queue (e ∷ elements) kept (session stack.old state.old))) }
     ensures paired { OnOk result (ArePaired stack.new state.new) }
+    ensures grows { size state.old.page.forest ≤ size state.new.page.forest }
 {
     match state.next_reaction(e) {
         Some((number, r)) => {
@@ -97,6 +101,7 @@ pub(crate) fn backup_turn(
     requires paired { ArePaired stack.old state.old }
     ensures turn { IfOk result (λ now. Turns (frames_of stack.old) (frames_of stack.new) now (session stack.new state.new) (backup_turn e (session stack.old state.old))) }
     ensures paired { OnOk result (ArePaired stack.new state.new) }
+    ensures grows { size state.old.page.forest ≤ size state.new.page.forest }
 {
     match state.next_reaction(e) {
         Some((number, r)) => {
@@ -115,6 +120,7 @@ pub(crate) fn backup_turn(
 fn next_backup_turn(state: &mut State, stack: &mut Stack) -> Result<Came, NoMemory>
     ensures turn { IfOk result (λ now. Turns (frames_of stack.old) (frames_of stack.new) now state.new (next_backup_turn state.old.page.queues.backup state.old)) }
     ensures same { OnOk result (behaviours_of stack.new ≡ behaviours_of stack.old) }
+    ensures forest { state.new.page.forest ≡ state.old.page.forest }
 {
     match state.next_backup() {
         None => {
@@ -138,6 +144,7 @@ pub(crate) fn check_turn(
 ) -> Result<Came, NoMemory>
     ensures turn { IfOk result (λ now. Turns (frames_of stack.old) (frames_of stack.new) now state.new (check_turn line kept state.old)) }
     ensures same { OnOk result (behaviours_of stack.new ≡ behaviours_of stack.old) }
+    ensures forest { state.new.page.forest ≡ state.old.page.forest }
 {
     if state.has_backup() {
         stack.push(Waiting::Checking(line, kept))?;

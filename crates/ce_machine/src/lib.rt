@@ -2,16 +2,13 @@
 #![tactic(auto)]
 
 mod bodies;
-mod came;
 mod command;
-mod creations;
 mod drains;
 mod end;
 mod looping;
 mod machine;
 mod operate;
 mod react;
-mod reactions;
 mod stops;
 mod turns;
 mod writing;

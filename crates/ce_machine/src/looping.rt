@@ -7,12 +7,13 @@ ghost use Rattle.ce_algorithms.specs.Text.{text};
 ghost use Rattle.ce_algorithms.specs.Written.{Did};
 ghost use Rattle.frame_stack.specs.Sessions.{ArePaired, session};
 ghost use Rattle.frame_stack.specs.Stacked.{frames_of};
-ghost use Rattle.ce_machine.specs.Placed.{ArePlaced};
-ghost use Rattle.ce_machine.specs.Turns.{came_in, end_of, over};
+ghost use Rattle.ce_reactions.specs.Placed.{ArePlaced};
+ghost use Rattle.ce_machine.specs.Turns.{over};
+ghost use Rattle.ce_reactions.specs.Turns.{came_in, end_of};
 
-use crate::came::Came;
 use crate::turns::turn;
 use ce_base::{Sink, Stop};
+use ce_reactions::Came;
 use frame_stack::Stack;
 use session_state::State;
 use std::alloc::Global;

@@ -1,5 +1,5 @@
 // The machine: parsed lines of a script, one after another.
-ghost use Rattle.std.specs.Prelude.{◌≡◌, ◌≤◌, [], Err, Ok, false, true, IfOk, IfErr, OnErr, OnOk, IsErrOf};
+ghost use Rattle.std.specs.Prelude.{◌≡◌, ◌≤◌, [], Err, Ok, true, IfOk, IfErr, OnErr, OnOk, IsErrOf};
 ghost use Rattle.ce_base.specs.Faults.{Rose};
 ghost use Rattle.ce_base.specs.Outside.{AppendsPart};
 ghost use Rattle.rule_lines.specs.Acts.{part_of};
@@ -52,7 +52,7 @@ impl Model for Machine {
 impl Machine {
     /// The machine before the first line, with so much fuel.
     pub fn make(alloc: Global, fuel: u32) -> Result<Machine, NoMemory>
-        ensures { IfOk result (λ m. m ≡ start false (record { fuel = fuel })) }
+        ensures { IfOk result (λ m. m ≡ start (record { fuel = fuel })) }
     {
         let state = State::make(alloc, Settings { fuel })?;
         let state = Box::new(alloc, state)?;

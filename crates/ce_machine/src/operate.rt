@@ -11,19 +11,20 @@ ghost use Rattle.ce_frames.specs.OperateTurns.{deed_turn, named_turn, operate_tu
 ghost use Rattle.ce_frames.specs.Turned.{hand_down};
 ghost use Rattle.ce_page.specs.Ends.{Ends};
 ghost use Rattle.frame_stack.specs.Stacked.{behaviours_of, frames_of};
-ghost use Rattle.ce_machine.specs.Blind.{BlindAt};
-ghost use Rattle.ce_machine.specs.Turns.{Turns, naming};
+ghost use Rattle.ce_reactions.specs.Blind.{BlindAt};
+ghost use Rattle.ce_machine.specs.Turns.{naming};
+ghost use Rattle.ce_reactions.specs.Turns.{Turns};
 ghost use Rattle.ce_operations.specs.Given.{IsThere};
-ghost use Rattle.ce_machine.specs.Placed.{Lasts, StaysPlaced};
+ghost use Rattle.ce_reactions.specs.Placed.{Lasts, StaysPlaced};
 ghost use Rattle.ce_operations.specs.Ready.{IsReady};
 
-use crate::came::{Came, came_from};
 use crate::react::deed_turn;
 use ce_algorithms::{Deed, Given};
 use ce_base::{NoMemory, NodeNo, Refused, Text};
 use ce_operations::deeds::gives_node;
 use ce_operations::resolve::resolve;
 use ce_page::PageStop;
+use ce_reactions::{Came, came_from};
 use frame_stack::{Stack, Waiting};
 use rule_lines::{Cmd, Op};
 use session_state::State;

@@ -1,5 +1,5 @@
 // Deeds that react: a queue is pushed, the steps are done, the queue is popped and is to be drained.
-ghost use Rattle.std.specs.Prelude.{◌≡◌, ◌≤◌, ◌+◌, ◌<◌, ◌^◌, None, IfOk, OnOk};
+ghost use Rattle.std.specs.Prelude.{◌≡◌, ◌≤◌, ◌+◌, ◌<◌, ◌^◌, IfOk, OnOk};
 ghost use Rattle.node_trees.specs.Nodes.{size};
 ghost use Rattle.node_trees.specs.Trees.{Trees};
 ghost use Rattle.ce_algorithms.specs.declared.deed.Deed.TheVariants as deeds;
@@ -12,19 +12,19 @@ ghost use Rattle.ce_frames.specs.OperateTurns.{deed_turn, pop_turn, steps_turn};
 ghost use Rattle.ce_frames.specs.Turned.{turn_after};
 ghost use Rattle.ce_page.specs.Ends.{Ends};
 ghost use Rattle.frame_stack.specs.Stacked.{behaviours_of, frames_of};
-ghost use Rattle.ce_machine.specs.Blind.{BlindAt};
-ghost use Rattle.ce_machine.specs.Turns.{Turns};
+ghost use Rattle.ce_reactions.specs.Blind.{BlindAt};
+ghost use Rattle.ce_reactions.specs.Turns.{Turns};
 ghost use Rattle.ce_operations.specs.Given.{IsThere};
-ghost use Rattle.ce_machine.specs.Placed.{Lasts};
+ghost use Rattle.ce_reactions.specs.Placed.{Lasts};
 ghost use Rattle.ce_operations.specs.Ready.{IsReady, IsStill};
 
-use crate::came::{Came, came_from};
-use crate::creations::create_named;
 use crate::drains::pop_turn;
 use ce_algorithms::{Deed, Given};
 use ce_base::{NoMemory, NodeNo, QueueNo, Text};
 use ce_operations::deeds::run;
 use ce_page::PageStop;
+use ce_reactions::creations::create_named;
+use ce_reactions::{Came, came_from};
 use frame_stack::{Stack, Waiting};
 use session_state::State;
 use std::alloc::Global;
@@ -46,9 +46,9 @@ pub(crate) fn deed_turn(
     match deed {
         Deed::Create {
             local,
-            is_value: _,
+            is_value,
             document,
-        } => create_turn(state, alloc, stack, &local, document),
+        } => create_turn(state, alloc, stack, &local, is_value, document),
         deed => still_turn(state, alloc, stack, deed),
     }
 }
@@ -59,19 +59,20 @@ fn create_turn(
     alloc: Global,
     stack: &mut Stack,
     name: &Text,
+    is: Option<Text>,
     document: NodeNo,
 ) -> Result<Came, NoMemory>
     requires room { state.old.page.queues.pushed + state.old.fuel + 1 < 2 ^ 64 }
-    ensures turn { IfOk result (λ now. Turns (frames_of stack.old) (frames_of stack.new) now state.new (deed_turn (deeds.Create name.now None document) state.old)) }
+    ensures turn { IfOk result (λ now. Turns (frames_of stack.old) (frames_of stack.new) now state.new (deed_turn (deeds.Create name.now is document) state.old)) }
     ensures same { OnOk result (behaviours_of stack.new ≡ behaviours_of stack.old) }
-    ensures blind { OnOk result (BlindAt (deed_turn (deeds.Create name.now None document)) state.old) }
-    ensures lasts { OnOk result (Lasts state.old.page.forest (deed_turn (deeds.Create name.now None document) state.old)) }
+    ensures blind { OnOk result (BlindAt (deed_turn (deeds.Create name.now is document)) state.old) }
+    ensures lasts { OnOk result (Lasts state.old.page.forest (deed_turn (deeds.Create name.now is document) state.old)) }
 {
     match state.open_queue(alloc) {
         Err(NoMemory) => Err(NoMemory),
         Ok(queue) => {
             stack.push(Waiting::Stepping(queue))?;
-            let now = create_named(state, alloc, stack, name, document)?;
+            let now = create_named(state, alloc, stack, name, is, document)?;
             Ok(now)
         }
     }

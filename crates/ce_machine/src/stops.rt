@@ -11,15 +11,15 @@ ghost use Rattle.frame_stack.specs.Resumes.{IsBuiltStop};
 ghost use Rattle.frame_stack.specs.Sessions.{ArePaired, session};
 ghost use Rattle.frame_stack.specs.Stacked.{HasBody, below_top, frames_of, this_of, top_of};
 ghost use Rattle.ce_machine.specs.Bodies.{GoesOn, acting_turn, answer, frame_on_top, running_turn, stopped_turn};
-ghost use Rattle.ce_machine.specs.Placed.{StaysPlaced};
-ghost use Rattle.ce_machine.specs.Turns.{Turns};
+ghost use Rattle.ce_reactions.specs.Placed.{StaysPlaced};
+ghost use Rattle.ce_reactions.specs.Turns.{Turns};
 
-use crate::came::Came;
 use crate::operate::operate;
 use behaviours::Next;
 use ce_algorithms::{Event, Given};
 use ce_base::{Fault, NoMemory, NodeNo};
 use ce_operations::operands::{fixed_texts, node};
+use ce_reactions::Came;
 use frame_stack::Stack;
 use rule_lines::{Action, Op, Vals};
 use rule_tokens::Operand;

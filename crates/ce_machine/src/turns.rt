@@ -1,5 +1,6 @@
 // Turns: the topmost frame takes the outcome of what it waited for, and goes on.
-ghost use Rattle.std.specs.Prelude.{◌≡◌, ◌<◌, ◌∷◌, [], Some, length, IfOk, OnOk};
+ghost use Rattle.std.specs.Prelude.{◌≡◌, ◌≤◌, ◌<◌, ◌∷◌, [], Some, length, IfOk, OnOk};
+ghost use Rattle.node_trees.specs.Nodes.{size};
 ghost use Rattle.ce_algorithms.specs.Perform.{named as named_step};
 ghost use Rattle.ce_frames.specs.Frames as waiting;
 ghost use Rattle.ce_frames.specs.Turned.{ended};
@@ -10,15 +11,17 @@ ghost use Rattle.frame_stack.specs.Sessions.{ArePaired, session};
 ghost use Rattle.frame_stack.specs.Stacked.{HasBody, behaviours_of, below_top, frames_of};
 ghost use Rattle.ce_operations.specs.Given.{IsThere};
 ghost use Rattle.ce_machine.specs.Bodies.{frame_on_top};
-ghost use Rattle.ce_machine.specs.Placed.{ArePlaced, Creates, IfCreating, StaysPlaced};
-ghost use Rattle.ce_machine.specs.Turns.{Turns, came_in, end_of, left, over};
+ghost use Rattle.ce_reactions.specs.Placed.{ArePlaced, Creates, IfCreating, StaysPlaced};
+ghost use Rattle.ce_machine.specs.Turns.{left, over};
+ghost use Rattle.ce_reactions.specs.Turns.{Turns, came_in, end_of};
 
 use crate::bodies::{body_over, body_threw, body_went};
-use crate::came::Came;
-use crate::creations::{failed_turn, fit_turn};
 use crate::drains::{backup_turn, check_turn, drain_turn, pop_turn, reply};
 use ce_algorithms::{Event, Given};
 use ce_base::{Fault, NoMemory, ReactionNo, Text};
+use ce_reactions::Came;
+use ce_reactions::creations::{extended_threw, failed_turn, fit_turn};
+use ce_reactions::upgrades::{constructed_turn, upgraded_turn};
 use frame_stack::{Stack, Waiting};
 use session_state::State;
 use std::alloc::Global;
@@ -38,7 +41,7 @@ pub(crate) fn turn(
     ensures paired { OnOk result (ArePaired stack.new state.new) }
     ensures placed { IfOk result (λ now. ArePlaced state.new.page.forest (frames_of stack.new) (end_of now)) }
 {
-    // No reaction that waits is an upgrade, and what has a definition is a node: the clause of `tree` says so.
+    // What has a definition is an element: the clause of `tree` says so.
     let _tree = state.tree();
     match stack.pop() {
         None => {
@@ -91,6 +94,7 @@ fn resume(
     requires placed { ArePlaced state.old.page.forest (waiting_of frame ∷ []) (end_of end) }
     ensures turn { IfOk result (λ now. Turns (frames_of stack.old) (frames_of stack.new) now (session stack.new state.new) (turn (waiting_of frame) (end_of end) (session stack.old state.old))) }
     ensures paired { OnOk result (ArePaired stack.new state.new) }
+    ensures grows { size state.old.page.forest ≤ size state.new.page.forest }
     ensures created { IfOk result (λ now. IfCreating (waiting_of frame) (Creates state.old.page.forest state.new.page.forest (frames_of stack.old) (frames_of stack.new) now)) }
 {
     match end {
@@ -121,6 +125,7 @@ fn went(
     requires placed { ArePlaced state.old.page.forest (waiting_of frame ∷ []) (end_of (Came.Went given)) }
     ensures turn { IfOk result (λ now. Turns (frames_of stack.old) (frames_of stack.new) now (session stack.new state.new) (turn_went (waiting_of frame) given (session stack.old state.old))) }
     ensures paired { OnOk result (ArePaired stack.new state.new) }
+    ensures grows { size state.old.page.forest ≤ size state.new.page.forest }
     ensures created { IfOk result (λ now. IfCreating (waiting_of frame) (Creates state.old.page.forest state.new.page.forest (frames_of stack.old) (frames_of stack.new) now)) }
 {
     match frame {
@@ -152,6 +157,7 @@ fn go_on(
     requires placed { ArePlaced state.old.page.forest (waiting_of frame ∷ []) (end_of (Came.Went given)) }
     ensures turn { IfOk result (λ now. Turns (frames_of stack.old) (frames_of stack.new) now (session stack.new state.new) (turn_went (waiting_of frame) given (session stack.old state.old))) }
     ensures paired { OnOk result (ArePaired stack.new state.new) }
+    ensures grows { size state.old.page.forest ≤ size state.new.page.forest }
     ensures created { IfOk result (λ now. IfCreating (waiting_of frame) (Creates state.old.page.forest state.new.page.forest (frames_of stack.old) (frames_of stack.new) now)) }
 {
     let now = settled(state, alloc, stack, frame, given)?;
@@ -169,6 +175,7 @@ fn settled(
     requires placed { ArePlaced state.old.page.forest (waiting_of frame ∷ []) (end_of (Came.Went given)) }
     ensures turn { IfOk result (λ now. Turns (frames_of stack.old) (frames_of stack.new) now state.new (turn_went (waiting_of frame) given state.old)) }
     ensures same { OnOk result (behaviours_of stack.new ≡ behaviours_of stack.old) }
+    ensures grows { size state.old.page.forest ≤ size state.new.page.forest }
     ensures created { IfOk result (λ now. IfCreating (waiting_of frame) (Creates state.old.page.forest state.new.page.forest (frames_of stack.old) (frames_of stack.new) now)) }
 {
     match frame {
@@ -196,6 +203,11 @@ fn settled(
             let now = fit_turn(state, alloc, local, document, given)?;
             Ok(now)
         }
+        Waiting::CreatingExtended(n) => Ok(Came::Went(Given::Node(n))),
+        Waiting::Upgrading(n, d) => {
+            let now = constructed_turn(state, alloc, n, d, given)?;
+            Ok(now)
+        }
         Waiting::DrainingBackup(_) => unreachable!(),
         Waiting::Draining(_, _, _, _) => unreachable!(),
     }
@@ -211,6 +223,7 @@ fn threw(
 ) -> Result<Came, NoMemory>
     ensures turn { IfOk result (λ now. Turns (frames_of stack.old) (frames_of stack.new) now state.new (turn_threw (waiting_of frame) f state.old)) }
     ensures same { OnOk result (behaviours_of stack.new ≡ behaviours_of stack.old) }
+    ensures grows { size state.old.page.forest ≤ size state.new.page.forest }
     ensures created { IfOk result (λ now. IfCreating (waiting_of frame) (Creates state.old.page.forest state.new.page.forest (frames_of stack.old) (frames_of stack.new) now)) }
 {
     match frame {
@@ -230,6 +243,14 @@ fn threw(
             let now = failed_turn(state, alloc, local, document, f)?;
             Ok(now)
         }
+        Waiting::CreatingExtended(n) => {
+            let now = extended_threw(state, n, f)?;
+            Ok(now)
+        }
+        Waiting::Upgrading(n, d) => {
+            let now = upgraded_turn(state, alloc, n, d, Err(f))?;
+            Ok(now)
+        }
         Waiting::Checking(_, _) => Ok(Came::Threw(f)),
         Waiting::DrainingBackup(_) => Ok(Came::Threw(f)),
         Waiting::Naming(_) => Ok(Came::Threw(f)),
@@ -239,7 +260,8 @@ fn threw(
 
 // The reply behind a checkpoint.
 fn checked(state: &mut State, line: u64, kept: Result<Given, Fault>) -> Result<Came, NoMemory>
-    ensures { IfOk result (λ now. ended (came_in now state.new) ≡ turn_went (waiting.Checking line kept) Given.Nothing state.old) }
+    ensures turn { IfOk result (λ now. ended (came_in now state.new) ≡ turn_went (waiting.Checking line kept) Given.Nothing state.old) }
+    ensures page { state.new.page ≡ state.old.page }
 {
     state.log(reply(line, kept))?;
     Ok(Came::Went(Given::Nothing))
@@ -248,7 +270,8 @@ fn checked(state: &mut State, line: u64, kept: Result<Given, Fault>) -> Result<C
 // The variable of an operation is set to the node that it gave.
 fn named(state: &mut State, var: Text, given: Given) -> Result<Came, NoMemory>
     requires { IsThere state.old.page.forest given }
-    ensures { IfOk result (λ now. came_in now state.new ≡ named_step (Some var) given state.old) }
+    ensures step { IfOk result (λ now. came_in now state.new ≡ named_step (Some var) given state.old) }
+    ensures page { state.new.page ≡ state.old.page }
 {
     match given {
         Given::Node(n) => {
@@ -263,7 +286,8 @@ fn named(state: &mut State, var: Text, given: Given) -> Result<Came, NoMemory>
 
 // A reaction has ended.
 fn finished(state: &mut State, number: ReactionNo) -> Result<Came, NoMemory>
-    ensures { IfOk result (λ now. ended (came_in now state.new) ≡ turn_went (waiting.InReaction number) Given.Nothing state.old) }
+    ensures turn { IfOk result (λ now. ended (came_in now state.new) ≡ turn_went (waiting.InReaction number) Given.Nothing state.old) }
+    ensures page { state.new.page ≡ state.old.page }
 {
     state.log(Event::Finished(number))?;
     Ok(Came::Went(Given::Nothing))
@@ -271,7 +295,8 @@ fn finished(state: &mut State, number: ReactionNo) -> Result<Came, NoMemory>
 
 // A reaction has thrown.
 fn reported(state: &mut State, number: ReactionNo, f: Fault) -> Result<Came, NoMemory>
-    ensures { IfOk result (λ now. ended (came_in now state.new) ≡ turn_threw (waiting.InReaction number) f state.old) }
+    ensures turn { IfOk result (λ now. ended (came_in now state.new) ≡ turn_threw (waiting.InReaction number) f state.old) }
+    ensures page { state.new.page ≡ state.old.page }
 {
     state.log(Event::Reported(f))?;
     let now = finished(state, number)?;

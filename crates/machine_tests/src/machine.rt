@@ -1,5 +1,6 @@
 mod nested;
 mod sessions;
+mod upgrades;
 
 use ce_base::{MemSink, Sink, Stop, SureSink, write_all};
 use ce_machine::*;
@@ -9,6 +10,7 @@ use sessions::*;
 use std::alloc::Global;
 use std::process::Abort;
 use std::test::Fail;
+use upgrades::*;
 
 // Reads a line, and gives what was read to the machine.
 fn take<K: Sink>(
@@ -136,6 +138,16 @@ fn a_class_remembers_one_thing(rt: HostRuntime) -> Result<(), Fail> {
     compare(&rt, rt.alloc(), false, REMEMBERED)
 }
 
+#[test]
+fn what_is_there_when_it_is_defined_is_upgraded(rt: HostRuntime) -> Result<(), Fail> {
+    compare(&rt, rt.alloc(), true, UPGRADED)
+}
+
+#[test]
+fn an_insertion_in_a_body_upgrades(rt: HostRuntime) -> Result<(), Fail> {
+    compare(&rt, rt.alloc(), true, UPGRADED_WITHIN)
+}
+
 // Lines that spend nine units: the definition one, the creation two, the attribute three, the text two, the
 // variable one.
 const LINES: &str = "class A
@@ -204,6 +216,11 @@ fn a_command_ends_where_the_fuel_is_spent(rt: HostRuntime) -> Result<(), Fail> {
 #[test]
 fn a_callback_within_another_ends_the_session(rt: HostRuntime) -> Result<(), Fail> {
     compare_endings(&rt, rt.alloc(), NESTED_LINES, NESTED_ENDINGS)
+}
+
+#[test]
+fn an_upgrade_ends_the_session(rt: HostRuntime) -> Result<(), Fail> {
+    compare_endings(&rt, rt.alloc(), UPGRADED_LINES, UPGRADED_ENDINGS)
 }
 
 fn bad(word: &str) -> Bad {

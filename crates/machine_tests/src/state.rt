@@ -133,6 +133,16 @@ fn a_class_is_constructed_where_it_is_defined(rt: HostRuntime) -> Result<(), Fai
 }
 
 #[test]
+fn an_adopted_tree_is_told_unless_it_is_refused(rt: HostRuntime) -> Result<(), Fail> {
+    begin(&rt, rt.alloc(), 9, ADOPTED)
+}
+
+#[test]
+fn a_call_upgrades_a_tree_in_its_order(rt: HostRuntime) -> Result<(), Fail> {
+    begin(&rt, rt.alloc(), 8, UPGRADED)
+}
+
+#[test]
 fn what_waits_is_taken_in_its_order(rt: HostRuntime) -> Result<(), Fail> {
     go_on(&rt, rt.alloc(), 11, WAITING, true)
 }

@@ -8,7 +8,7 @@ use Rattle.ce_algorithms.specs.Session.{start, log_of}
 use Rattle.ce_algorithms.specs.State.{State}
 use Rattle.ce_algorithms.specs.Steps.{Step, Outcome, Goes, Throws, Spent, then_do, is_spent}
 use Rattle.ce_algorithms.specs.Text.{text}
-use Rattle.page_runner.specs.Script.{has_bad, session, upgrades}
+use Rattle.page_runner.specs.Script.{has_bad, session}
 use Rattle.page_runner.specs.Table.{limit, counted, lines_that_count, spends_all, transcript, Call, ReadsAll, WritesAll, Row, IsAsSaid, RunMeets, RunsWhole, script_status}
 use Rattle.page_runner.specs.declared.status.Status.{Status}
 use Rattle.page_runner.specs.declared.status.Status.TheVariants.{Done, BadLines, Usage, Fuel, ReadFault, WriteFault, NoMemory, TooLong}
@@ -26,7 +26,7 @@ then_spent (Throws f s) next h = cc
 then_spent (Spent s) next h = refl
 
 session-spent : (set : Options) (xs ys : List (List ℕ)) → spends_all set xs ≡ true → session set.session (xs ++ ys) ≡ session set.session xs
-session-spent set xs ys h = run_from-append 1 xs ys (start upgrades set.session) ∙ then_spent (session set.session xs) _ h
+session-spent set xs ys h = run_from-append 1 xs ys (start set.session) ∙ then_spent (session set.session xs) _ h
 
 -- the bytes that were taken are a front of the script
 front_taken : (script : List ℕ) (left : Option (List ℕ)) (taken : List ℕ) → Consumes (Some script) left taken → (rest : List ℕ) × (script ≡ taken ++ rest)

@@ -27,10 +27,6 @@ has_bad lines = list_any is_bad (readings lines)
 abbrev pub run_from : ℕ → List (List ℕ) → Step State (Unit {0})
 run_from number lines = run_lines model number (readings lines)
 
--- a definition and an insertion upgrade no element so far
-abbrev pub upgrades : Bool
-upgrades = false
-
 -- the session of the lines of a script
 abbrev pub session : Settings → List (List ℕ) → Outcome State (Unit {0})
-session settings lines = run_from 1 lines (start upgrades settings)
+session settings lines = run_from 1 lines (start settings)

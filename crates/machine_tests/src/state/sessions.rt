@@ -108,6 +108,114 @@ Err(Fault(NotSupportedError))
 Ok(())
 > observe A k j
 Ok(())
+> disable A shadow
+Ok(())
+> disable A internals
+Ok(())
+> disable B shadow
+Err(Fault(NotSupportedError))
+> disable C internals
+Err(Fault(TypeError))
+"#;
+
+// Nodes that are adopted, for nine units of fuel: a host (3) and an element in its shadow tree (4).
+pub(super) const ADOPTED: &str = r#"> class A
+Ok(())
+> has A adopted
+Ok(())
+> has A disconnected
+Ok(())
+> define x-a 0
+Ok(())
+> document
+Ok(NodeNo(2))
+> construct 0
+construct A
+Ok(NodeNo(3))
+> construct 0
+construct A
+Ok(NodeNo(4))
+> shadow 3
+Ok(NodeNo(5))
+> insert 5 4
+Ok(())
+> insert 1 3
+Ok(())
+> adopt 2 1
+Err(Refused(NotSupportedError))
+> adopt 1 2
+Err(Refused(NotSupportedError))
+> adopt 2 5
+Err(Refused(HierarchyRequestError))
+> adopt 2 3
+Ok(())
+> backup
+Some(NodeNo(3))
+> backup
+Some(NodeNo(4))
+> next 4
+Some((ReactionNo(2), Disconnected))
+> next 4
+Some((ReactionNo(4), Adopted(NodeNo(1), NodeNo(2))))
+# it is in that document already
+> adopt 2 3
+Ok(())
+> next 4
+None
+# what is adopted is taken out of the shadow tree first
+> adopt 1 4
+Ok(())
+> next 4
+Some((ReactionNo(5), Adopted(NodeNo(2), NodeNo(1))))
+> adopt 2 4
+fuel
+Err(FuelSpent)
+"#;
+
+// Upgrades by call, for eight units of fuel: a host (2), an element in its shadow tree (4), a text (5) and a child (6).
+pub(super) const UPGRADED: &str = r#"> element 1 x-a
+Ok(NodeNo(2))
+> shadow 2
+Ok(NodeNo(3))
+> element 1 x-a
+Ok(NodeNo(4))
+> text 1 hi
+Ok(NodeNo(5))
+> element 1 x-a
+Ok(NodeNo(6))
+> insert 3 4
+Ok(())
+> insert 2 5
+Ok(())
+> insert 2 6
+Ok(())
+> upgrade 2
+Ok(())
+> class A
+Ok(())
+> define x-a 0
+Ok(())
+> backup
+None
+> upgrade 2
+Ok(())
+> backup
+Some(NodeNo(2))
+> backup
+Some(NodeNo(4))
+> backup
+Some(NodeNo(6))
+> backup
+None
+> next 4
+Some((ReactionNo(2), Upgrade(DefNo(0))))
+> state 4
+Uncustomized
+> upgrade 5
+Ok(())
+> upgrade 6
+fuel
+Err(FuelSpent)
 "#;
 
 // Classes that are constructed, with two units of fuel.

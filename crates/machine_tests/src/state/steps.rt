@@ -135,6 +135,23 @@ fn unset(rt: &impl Abort, alloc: Global, state: &mut State, words: &str) -> Resu
     ended(alloc, &end)
 }
 
+fn adopt(rt: &impl Abort, alloc: Global, state: &mut State, words: &str) -> Result<String, Fail>
+    ensures { OnOk result (length state.new.classes ≡ length state.old.classes) }
+{
+    let (document, n) = cut(words);
+    let n = node(rt, state, n);
+    let end = state.adopt(alloc, NodeNo(number(document)), n);
+    ended(alloc, &end)
+}
+
+fn upgrade(rt: &impl Abort, alloc: Global, state: &mut State, word: &str) -> Result<String, Fail>
+    ensures { OnOk result (length state.new.classes ≡ length state.old.classes) }
+{
+    let n = node(rt, state, word);
+    let end = state.upgrade_all(alloc, n);
+    ended(alloc, &end)
+}
+
 // A step that may enqueue reactions.
 fn change(rt: &impl Abort, alloc: Global, state: &mut State, row: &str) -> Result<String, Fail>
     ensures { OnOk result (length state.new.classes ≡ length state.old.classes) }
@@ -144,6 +161,8 @@ fn change(rt: &impl Abort, alloc: Global, state: &mut State, row: &str) -> Resul
         "insert" => insert(rt, alloc, state, words),
         "remove" => remove(rt, alloc, state, words),
         "detach" => detach(rt, alloc, state, words),
+        "adopt" => adopt(rt, alloc, state, words),
+        "upgrade" => upgrade(rt, alloc, state, words),
         "set" => set(rt, alloc, state, words),
         "unset" => unset(rt, alloc, state, words),
         _ => Err("a change".into()),
@@ -283,6 +302,7 @@ fn ask(alloc: Global, state: &State, row: &str) -> Result<String, Fail> {
         "defined" => told(alloc, &state.registry().get(name)),
         "named" => told(alloc, &state.class_named(name)),
         "get" => told(alloc, &state.variable(name)),
+        "state" => told(alloc, &state.custom_state(NodeNo(number(name)))),
         _ => Err("a question".into()),
     }
 }
@@ -357,8 +377,8 @@ pub(super) fn step(
     let (word, _) = cut(row);
     match word {
         "next" | "backup" => next(alloc, state, row),
-        "class" | "has" | "observe" | "on" => part(alloc, state, stack, row),
-        "count" | "defined" | "named" | "get" => ask(alloc, state, row),
+        "class" | "has" | "observe" | "on" | "disable" => part(alloc, state, stack, row),
+        "count" | "defined" | "named" | "get" | "state" => ask(alloc, state, row),
         "spend" | "log" | "let" | "define" => note(rt, alloc, state, row),
         "document" | "text" | "element" | "shadow" | "construct" => make(rt, alloc, state, row),
         _ => change(rt, alloc, state, row),

@@ -3,7 +3,7 @@ use Rattle.ce_frames.specs.Loop.{command_turn}
 use Rattle.frame_stack.specs.Sessions.{session}
 use Rattle.frame_stack.specs.Stacked.{frames_of}
 use Rattle.ce_machine.proofs.CommandLaws.{begun_placed, command_ran, command_is_quiet, command_part, none_seen}
-use Rattle.ce_machine.proofs.SessionLaws.{lifted}
+use Rattle.ce_reactions.proofs.SessionLaws.{lifted}
 use Rattle.ce_machine.proofs.command.run_command.Goals as goal
 
 pub run-requires-clause-placed : goal.run-requires-clause-placed

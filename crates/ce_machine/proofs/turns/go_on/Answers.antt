@@ -2,7 +2,8 @@ use Rattle.frame_stack.specs.Sessions.{session}
 use Rattle.frame_stack.specs.Stacked.{frames_of}
 use Rattle.frame_stack.specs.Frames.{waiting_of}
 use Rattle.ce_frames.specs.Turns.{turn_went}
-use Rattle.ce_machine.proofs.SessionLaws.{lifted, lifted_paired, went_at}
+use Rattle.ce_reactions.proofs.SessionLaws.{lifted, lifted_paired}
+use Rattle.ce_machine.proofs.FrameLaws.{went_at}
 use Rattle.ce_machine.proofs.turns.go_on.Goals as goal
 
 pub returns-clause-turn : goal.returns-clause-turn

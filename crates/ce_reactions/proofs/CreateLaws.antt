@@ -1,0 +1,178 @@
+-- The turns of creations.
+use Rattle.std.proofs.Common.{◌≡◌, ℕ, true, false, Bool, List, [], ◌∷◌, ◌++◌, Some, None, Option, ◌≤◌, refl, ap, sym, ◌∙◌, subst, arith}
+use Rattle.std.specs.Prelude.{if◌then◌else◌, not}
+use Rattle.std.specs.Str.{str_to_ascii_lowercase}
+use Rattle.ce_base.specs.declared.custom_state.CustomState.TheVariants.{Failed, Undefined}
+use Rattle.ce_base.specs.declared.fault.Fault.{Fault}
+use Rattle.ce_base.specs.declared.fault.Fault.TheVariants.{InvalidCharacterError}
+use Rattle.element_names.specs.Names.{local_name}
+use Rattle.node_trees.specs.Nodes.{IsNode, size}
+use Rattle.node_trees.specs.Trees.{Trees}
+use Rattle.ce_registry.specs.declared.definition.Definition.{Definition}
+use Rattle.ce_registry.specs.Registry.{is_autonomous}
+use Rattle.ce_algorithms.specs.declared.event.Event.TheVariants.{Reported}
+use Rattle.ce_algorithms.specs.declared.event.Given.TheVariants.{Node}
+use Rattle.ce_algorithms.specs.Create.{fitting}
+use Rattle.ce_algorithms.specs.CreateLater.{make_in_state, make_undefined}
+use Rattle.ce_algorithms.specs.Enqueue.{lookup_in}
+use Rattle.ce_algorithms.specs.Page.{definition_at, with_state}
+use Rattle.ce_algorithms.specs.Perform as algorithms
+use Rattle.ce_algorithms.specs.State.{State, change_page, logged, on_page}
+use Rattle.ce_algorithms.specs.Steps.{Outcome, Goes, Throws, Spent, attempt_in, give}
+use Rattle.ce_frames.specs.ConstructTurns.{construct_turn, create_extended_turn, create_found_turn, create_turn, created_turn, upgrade_turn}
+use Rattle.ce_frames.specs.Frames as waiting
+use Rattle.ce_frames.specs.Frames.{Frame}
+use Rattle.ce_frames.specs.OperateTurns.{create_named_turn}
+use Rattle.ce_frames.specs.Turned.{Turn, Turned, below, ended, hand_down, turn_after}
+use Rattle.ce_frames.specs.Turns.{turn_threw, turn_went}
+use Rattle.ce_frames.specs.Whole.{whole}
+use Rattle.ce_frames.proofs.BlindSteps.{blind_on_page}
+use Rattle.ce_frames.proofs.BlindTurns.{blind_node}
+use Rattle.ce_reactions.specs.declared.came.Came.{Came}
+use Rattle.ce_reactions.specs.declared.came.Came.TheVariants.{Threw, Over}
+use Rattle.ce_reactions.specs.Blind.{BlindAt}
+use Rattle.ce_reactions.specs.Placed.{IsEndThere, Lasts}
+use Rattle.ce_reactions.specs.Turns.{Turns, came_in}
+use Rattle.ce_reactions.proofs.ConstructLaws.{came_lasts_in, down_lasts}
+use Rattle.ce_reactions.proofs.SessionLaws.{after_at, as_at, below_at, blind_at, spent_at, tested_at, throws_at}
+use Rattle.ce_reactions.proofs.SettleLaws.{upgrade_settles}
+use Rattle.ce_reactions.proofs.TurnLaws.{turns_as, turns_below, turns_same}
+
+-- its name is tested
+pub create_named_at : (name : List ℕ) (is : Option (List ℕ)) (document : ℕ) (s : State) → (not (local_name name) ≡ false → BlindAt (create_turn (str_to_ascii_lowercase name) is document) s) → BlindAt (create_named_turn name is document) s
+create_named_at name is document s h = let b = tested_at (not (local_name name)) InvalidCharacterError (create_turn (str_to_ascii_lowercase name) is document) s h in record { same = b.same; classes = b.classes }
+
+-- by what was looked up
+
+create_is : (local : List ℕ) (is : Option (List ℕ)) (document : ℕ) (d : Option ℕ) (s : State) → d ≡ lookup_in s.page document local is → create_found_turn local is document d s ≡ create_turn local is document s
+unfolding create_turn
+create_is local is document d s found = ap (λ o. create_found_turn local is document o s) found
+
+found_at : (local : List ℕ) (is : Option (List ℕ)) (document : ℕ) (d : Option ℕ) (s : State) → d ≡ lookup_in s.page document local is → BlindAt (create_found_turn local is document d) s → BlindAt (create_turn local is document) s
+found_at local is document d s found h = as_at (create_found_turn local is document d) (create_turn local is document) s (λ bs. create_is local is document d (whole bs s) found) (create_is local is document d s found) h
+
+-- there is no definition
+pub none_turns : (frames : List Frame) (now : Came) (local : List ℕ) (is : Option (List ℕ)) (document : ℕ) (s s1 : State) → None ≡ lookup_in s.page document local is → came_in now s1 ≡ algorithms.gives_node (on_page (make_undefined local is document)) s
+    → Turns frames frames now s1 (create_turn local is document s)
+none_turns frames now local is document s s1 none made = turns_as frames frames now s1 _ _ (create_is local is document None s none) (turns_same frames now s1 _ made)
+
+pub none_lasts : (F : Trees) (now : Came) (local : List ℕ) (is : Option (List ℕ)) (document : ℕ) (s s1 : State) → None ≡ lookup_in s.page document local is → came_in now s1 ≡ algorithms.gives_node (on_page (make_undefined local is document)) s → size F ≤ size s1.page.forest → IsEndThere s1.page.forest now
+    → Lasts F (create_turn local is document s)
+none_lasts F now local is document s s1 none made le there = subst (Lasts F) (create_is local is document None s none) (down_lasts F now s1 _ made le there)
+
+pub none_at : (local : List ℕ) (is : Option (List ℕ)) (document : ℕ) (s : State) → None ≡ lookup_in s.page document local is → BlindAt (create_turn local is document) s
+none_at local is document s none = found_at local is document None s none (blind_at (create_found_turn local is document None) (blind_node (make_undefined local is document)) s)
+
+-- there is one
+pub some_turns : (frames new : List Frame) (now : Came) (local : List ℕ) (is : Option (List ℕ)) (document d : ℕ) (s s1 : State) → Some d ≡ lookup_in s.page document local is → Turns frames new now s1 (create_found_turn local is document (Some d) s)
+    → Turns frames new now s1 (create_turn local is document s)
+some_turns frames new now local is document d s s1 some h = turns_as frames new now s1 _ _ (create_is local is document (Some d) s some) h
+
+pub some_lasts : (F : Trees) (local : List ℕ) (is : Option (List ℕ)) (document d : ℕ) (s : State) → Some d ≡ lookup_in s.page document local is → Lasts F (create_found_turn local is document (Some d) s) → Lasts F (create_turn local is document s)
+some_lasts F local is document d s some h = subst (Lasts F) (create_is local is document (Some d) s some) h
+
+pub some_at : (local : List ℕ) (is : Option (List ℕ)) (document d : ℕ) (s : State) → Some d ≡ lookup_in s.page document local is → BlindAt (create_found_turn local is document (Some d)) s → BlindAt (create_turn local is document) s
+some_at local is document d s some h = found_at local is document (Some d) s some h
+
+-- by its kind
+
+by_kind : List ℕ → Option (List ℕ) → ℕ → ℕ → Definition → Bool → Turn
+by_kind local is document d x autonomous = if autonomous then below (waiting.CreatingFit local document) (construct_turn x.class) else create_extended_turn local is document d
+
+-- it is autonomous: its class is constructed, above the creation's frame
+
+fit_is : (local : List ℕ) (is : Option (List ℕ)) (document d class : ℕ) (s : State) → is_autonomous (definition_at s.page d) ≡ true → class ≡ (definition_at s.page d).class → below (waiting.CreatingFit local document) (construct_turn class) s ≡ create_found_turn local is document (Some d) s
+unfolding by_kind
+fit_is local is document d class s on same =
+    ap (λ c. below (waiting.CreatingFit local document) (construct_turn c) s) same
+    ∙ ap (λ b. by_kind local is document d (definition_at s.page d) b s) (sym on)
+
+pub fit_turns : (frames frames' : List Frame) (now : Came) (local : List ℕ) (is : Option (List ℕ)) (document d class : ℕ) (s s1 : State) → is_autonomous (definition_at s.page d) ≡ true → class ≡ (definition_at s.page d).class
+    → frames' ≡ frames ++ waiting.CreatingFit local document ∷ [] → ended (came_in now s1) ≡ construct_turn class s → Turns frames frames' now s1 (create_found_turn local is document (Some d) s)
+fit_turns frames frames' now local is document d class s s1 on same pushed constructed =
+    turns_as frames frames' now s1 _ _ (fit_is local is document d class s on same)
+    (turns_below frames frames' frames' (waiting.CreatingFit local document) now (construct_turn class) s s s1 pushed refl
+    (turns_as frames' frames' now s1 _ _ constructed (turns_same frames' now s1 (came_in now s1) refl)))
+
+pub fit_lasts : (F : Trees) (now : Came) (local : List ℕ) (is : Option (List ℕ)) (document d class : ℕ) (s s1 : State) → is_autonomous (definition_at s.page d) ≡ true → class ≡ (definition_at s.page d).class → ended (came_in now s1) ≡ construct_turn class s → size F ≤ size s1.page.forest → IsEndThere s1.page.forest now
+    → Lasts F (create_found_turn local is document (Some d) s)
+fit_lasts F now local is document d class s s1 on same constructed le there =
+    subst (Lasts F) (fit_is local is document d class s on same)
+    (let h = subst (Lasts F) constructed (came_lasts_in F now s1 le there) in record { grows = h.grows; gives = h.gives; placed = (h.gives, h.placed) })
+
+pub fit_at : (local : List ℕ) (is : Option (List ℕ)) (document d class : ℕ) (s : State) → is_autonomous (definition_at s.page d) ≡ true → class ≡ (definition_at s.page d).class → BlindAt (construct_turn class) s → BlindAt (create_found_turn local is document (Some d)) s
+fit_at local is document d class s on same h =
+    as_at (below (waiting.CreatingFit local document) (construct_turn class)) (create_found_turn local is document (Some d)) s (λ bs. fit_is local is document d class (whole bs s) on same) (fit_is local is document d class s on same)
+    (below_at (waiting.CreatingFit local document) (construct_turn class) s h)
+
+-- what was constructed does not fit
+pub misfit_is : (local : List ℕ) (document n : ℕ) (f : Fault) (s : State) → Throws f s ≡ fitting local document n s → turn_threw (waiting.CreatingFit local document) f s ≡ turn_went (waiting.CreatingFit local document) (Node n) s
+misfit_is local document n f s is = ap (λ (o : Outcome State ℕ). turn_after (attempt_in o) (created_turn local document)) is
+
+-- it extends an element
+
+extends_is : (local : List ℕ) (is : Option (List ℕ)) (document d : ℕ) (s : State) → is_autonomous (definition_at s.page d) ≡ false → create_extended_turn local is document d s ≡ create_found_turn local is document (Some d) s
+unfolding by_kind
+extends_is local is document d s off = ap (λ b. by_kind local is document d (definition_at s.page d) b s) (sym off)
+
+pub extends_turns : (frames new : List Frame) (now : Came) (local : List ℕ) (is : Option (List ℕ)) (document d : ℕ) (s s1 : State) → is_autonomous (definition_at s.page d) ≡ false → Turns frames new now s1 (create_extended_turn local is document d s) → Turns frames new now s1 (create_found_turn local is document (Some d) s)
+extends_turns frames new now local is document d s s1 off h = turns_as frames new now s1 _ _ (extends_is local is document d s off) h
+
+pub extends_lasts : (F : Trees) (local : List ℕ) (is : Option (List ℕ)) (document d : ℕ) (s : State) → is_autonomous (definition_at s.page d) ≡ false → Lasts F (create_extended_turn local is document d s) → Lasts F (create_found_turn local is document (Some d) s)
+extends_lasts F local is document d s off h = subst (Lasts F) (extends_is local is document d s off) h
+
+pub extends_at : (local : List ℕ) (is : Option (List ℕ)) (document d : ℕ) (s : State) → is_autonomous (definition_at s.page d) ≡ false → BlindAt (create_extended_turn local is document d) s → BlindAt (create_found_turn local is document (Some d)) s
+extends_at local is document d s off h =
+    as_at (create_extended_turn local is document d) (create_found_turn local is document (Some d)) s (λ bs. extends_is local is document d (whole bs s) off) (extends_is local is document d s off) h
+
+-- a new element is made, and upgraded above the creation's frame
+
+module _ (local : List ℕ) (is : Option (List ℕ)) (document d : ℕ) (s : State) where
+  abbrev made : Outcome State ℕ
+  made = on_page (make_in_state local is document Undefined) s
+
+  abbrev upgrading : ℕ → Turn
+  upgrading n = below (waiting.CreatingExtended n) (upgrade_turn n d)
+
+  pub extended_turns : (frames frames' new : List Frame) (now : Came) (n : ℕ) (s1 s2 : State) → Goes n s1 ≡ made → frames' ≡ frames ++ waiting.CreatingExtended n ∷ [] → Turns frames' new now s2 (upgrade_turn n d s1) → Turns frames new now s2 (create_extended_turn local is document d s)
+  extended_turns frames frames' new now n s1 s2 went pushed h =
+      turns_as frames new now s2 (upgrading n s1) _ (ap (λ (o : Outcome State ℕ). turn_after o upgrading) went)
+      (turns_below frames frames' new (waiting.CreatingExtended n) now (upgrade_turn n d) s1 s1 s2 pushed refl h)
+
+  pub extended_lasts : (F : Trees) (frames new : List Frame) (now : Came) (n : ℕ) (s1 s2 : State) → Goes n s1 ≡ made → IsNode s1.page.forest n → size F ≤ size s1.page.forest → size s1.page.forest ≤ size s2.page.forest → Turns frames new now s2 (upgrade_turn n d s1)
+      → Lasts F (create_extended_turn local is document d s)
+  extended_lasts F frames new now n s1 s2 went there le more h =
+      let t : Turned = upgrade_turn n d s1 in
+      let same = ap (λ (x : State). size x.page.forest) h.state in
+      let node : IsNode t.state.page.forest n = record { low = there.low; high = let x = there.high in omega (arith, x, more, same) } in
+      subst (λ (o : Outcome State ℕ). Lasts F (turn_after o upgrading)) went
+      (record { grows = omega (arith, le, more, same); gives = node; placed = (tt, upgrade_settles n d s1 t.state.page.forest) })
+
+  pub extended_at : (n : ℕ) (s1 : State) → Goes n s1 ≡ made → BlindAt (upgrade_turn n d) s1 → BlindAt (create_extended_turn local is document d) s
+  extended_at n s1 went h =
+      let b = after_at (on_page (make_in_state local is document Undefined)) upgrading n s s1 (blind_on_page (make_in_state local is document Undefined)) went (below_at (waiting.CreatingExtended n) (upgrade_turn n d) s1 h) in
+      record { same = b.same; classes = b.classes }
+
+  -- it was not made
+
+  pub threw_turns : (frames : List Frame) (f : Fault) (s1 : State) → Throws f s1 ≡ made → Turns frames frames (Threw f) s1 (create_extended_turn local is document d s)
+  threw_turns frames f s1 threw = turns_as frames frames (Threw f) s1 (ended (Throws f s1)) _ (ap (λ (o : Outcome State ℕ). turn_after o upgrading) threw) (turns_same frames (Threw f) s1 (Throws f s1) refl)
+
+  pub threw_lasts : (F : Trees) (f : Fault) (s1 : State) → Throws f s1 ≡ made → size F ≤ size s1.page.forest → Lasts F (create_extended_turn local is document d s)
+  threw_lasts F f s1 threw le = subst (λ (o : Outcome State ℕ). Lasts F (turn_after o upgrading)) threw (came_lasts_in F (Threw f) s1 le tt)
+
+  pub threw_at : (f : Fault) (s1 : State) → Throws f s1 ≡ made → BlindAt (create_extended_turn local is document d) s
+  threw_at f s1 threw = let b = throws_at (on_page (make_in_state local is document Undefined)) upgrading f s s1 (blind_on_page (make_in_state local is document Undefined)) threw in record { same = b.same; classes = b.classes }
+
+  pub spent_turns : (frames : List Frame) (s1 : State) → Spent s1 ≡ made → Turns frames frames Over s1 (create_extended_turn local is document d s)
+  spent_turns frames s1 spent = turns_as frames frames Over s1 (ended (Spent s1)) _ (ap (λ (o : Outcome State ℕ). turn_after o upgrading) spent) (turns_same frames Over s1 (Spent s1) refl)
+
+  pub spent_lasts : (F : Trees) (s1 : State) → Spent s1 ≡ made → size F ≤ size s1.page.forest → Lasts F (create_extended_turn local is document d s)
+  spent_lasts F s1 spent le = subst (λ (o : Outcome State ℕ). Lasts F (turn_after o upgrading)) spent (came_lasts_in F Over s1 le tt)
+
+  pub spent_blind : (s1 : State) → Spent s1 ≡ made → BlindAt (create_extended_turn local is document d) s
+  spent_blind s1 spent = let b = spent_at (on_page (make_in_state local is document Undefined)) upgrading s s1 (blind_on_page (make_in_state local is document Undefined)) spent in record { same = b.same; classes = b.classes }
+
+-- its upgrade threw
+pub extended_is : (n : ℕ) (f : Fault) (s s0 s1 : State) → s0 ≡ logged (Reported f) s → Goes tt s1 ≡ change_page (with_state n Failed) s0 → ended (Goes (Node n) s1) ≡ turn_threw (waiting.CreatingExtended n) f s
+extended_is n f s s0 s1 told set = ap (λ (o : Outcome State (Unit {0})). turn_after o (λ _. hand_down (give (Node n)))) (set ∙ ap (change_page (with_state n Failed)) told)

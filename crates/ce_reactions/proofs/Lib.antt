@@ -1,0 +1,7 @@
+pub mod TurnLaws
+pub mod SessionLaws
+pub mod ConstructLaws
+pub mod SettleLaws
+pub mod UpgradeLaws
+pub mod CreateLaws
+pub mod CallLaws

@@ -1,0 +1,4 @@
+pub mod Turns
+pub mod Blind
+pub mod Callbacks
+pub mod Placed

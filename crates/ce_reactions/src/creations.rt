@@ -1,0 +1,203 @@
+// Turns of creations (DOM Standard, section "Interface Element", "create an element").
+ghost use Rattle.std.specs.Prelude.{◌≡◌, ◌≤◌, ℕ, List, Option, Some, true, IfOk, OnOk};
+ghost use Rattle.node_trees.specs.Nodes.{size};
+ghost use Rattle.ce_registry.specs.Registry.{is_autonomous};
+ghost use Rattle.ce_algorithms.specs.Page.{definition_at};
+ghost use Rattle.ce_frames.specs.Frames as waiting;
+ghost use Rattle.ce_frames.specs.ConstructTurns.{create_extended_turn, create_found_turn, create_turn};
+ghost use Rattle.ce_frames.specs.OperateTurns.{create_named_turn};
+ghost use Rattle.ce_frames.specs.Turned.{ended};
+ghost use Rattle.ce_frames.specs.Turns.{turn_threw, turn_went};
+ghost use Rattle.frame_stack.specs.Stacked.{behaviours_of, frames_of};
+ghost use Rattle.ce_operations.specs.Given.{IsThere};
+ghost use Rattle.ce_reactions.specs.Blind.{BlindAt};
+ghost use Rattle.ce_reactions.specs.Placed.{IsEndThere, Lasts};
+ghost use Rattle.ce_reactions.specs.Turns.{Turns, came_in};
+
+use crate::came::{Came, came_from};
+use crate::constructions::construct;
+use crate::upgrades::upgrade_turn;
+use ce_algorithms::{Event, Given};
+use ce_base::{CustomState, DefNo, Fault, NoMemory, NodeNo, Text};
+use ce_operations::create::{
+    class_of, create_failed, create_undefined, is_autonomous, lookup, lowercased, misfit,
+};
+use ce_operations::deeds::gives_node;
+use ce_page::PageStop;
+use element_names::is_local_name;
+use frame_stack::{Stack, Waiting};
+use session_state::State;
+use std::alloc::Global;
+
+/// A creation begins: its name is tested (DOM Standard, section "Interface Document", `createElement`).
+pub fn create_named(
+    state: &mut State,
+    alloc: Global,
+    stack: &mut Stack,
+    name: &Text,
+    is: Option<Text>,
+    document: NodeNo,
+) -> Result<Came, NoMemory>
+    ensures turn { IfOk result (λ now. Turns (frames_of stack.old) (frames_of stack.new) now state.new (create_named_turn name.now is document state.old)) }
+    ensures same { OnOk result (behaviours_of stack.new ≡ behaviours_of stack.old) }
+    ensures blind { OnOk result (BlindAt (create_named_turn name.now is document) state.old) }
+    ensures lasts { OnOk result (Lasts state.old.page.forest (create_named_turn name.now is document state.old)) }
+{
+    if !is_local_name(name.as_str()) {
+        return Ok(Came::Threw(Fault::InvalidCharacterError));
+    }
+    let local = lowercased(alloc, name)?;
+    let now = create(state, alloc, stack, local, is, document)?;
+    Ok(now)
+}
+
+// By what the look-up gives.
+fn create(
+    state: &mut State,
+    alloc: Global,
+    stack: &mut Stack,
+    local: Text,
+    is: Option<Text>,
+    document: NodeNo,
+) -> Result<Came, NoMemory>
+    ensures turn { IfOk result (λ now. Turns (frames_of stack.old) (frames_of stack.new) now state.new (create_turn local is document state.old)) }
+    ensures same { OnOk result (behaviours_of stack.new ≡ behaviours_of stack.old) }
+    ensures blind { OnOk result (BlindAt (create_turn local is document) state.old) }
+    ensures lasts { OnOk result (Lasts state.old.page.forest (create_turn local is document state.old)) }
+{
+    match lookup(state, &local, &is, document) {
+        None => {
+            let made = gives_node(create_undefined(state, alloc, local, is, document));
+            let now = came_from(made)?;
+            Ok(now)
+        }
+        Some(d) => {
+            let now = create_found(state, alloc, stack, local, is, document, d)?;
+            Ok(now)
+        }
+    }
+}
+
+// By the definition that was found: it extends an element, or it is autonomous.
+fn create_found(
+    state: &mut State,
+    alloc: Global,
+    stack: &mut Stack,
+    local: Text,
+    is: Option<Text>,
+    document: NodeNo,
+    d: DefNo,
+) -> Result<Came, NoMemory>
+    ensures turn { IfOk result (λ now. Turns (frames_of stack.old) (frames_of stack.new) now state.new (create_found_turn local is document (Some d) state.old)) }
+    ensures same { OnOk result (behaviours_of stack.new ≡ behaviours_of stack.old) }
+    ensures blind { OnOk result (BlindAt (create_found_turn local is document (Some d)) state.old) }
+    ensures lasts { OnOk result (Lasts state.old.page.forest (create_found_turn local is document (Some d) state.old)) }
+{
+    if is_autonomous(state, d) {
+        drop(is);
+        let now = create_fit(state, alloc, stack, local, document, d)?;
+        return Ok(now);
+    }
+    let now = create_extended(state, alloc, stack, local, is, document, d)?;
+    Ok(now)
+}
+
+// The definition is autonomous: its class is constructed.
+fn create_fit(
+    state: &mut State,
+    alloc: Global,
+    stack: &mut Stack,
+    local: Text,
+    document: NodeNo,
+    d: DefNo,
+) -> Result<Came, NoMemory>
+    requires { is_autonomous (definition_at state.old.page d) ≡ true }
+    ensures turn { (is : Option (List ℕ)) → IfOk result (λ now. Turns (frames_of stack.old) (frames_of stack.new) now state.new (create_found_turn local is document (Some d) state.old)) }
+    ensures same { OnOk result (behaviours_of stack.new ≡ behaviours_of stack.old) }
+    ensures blind { (is : Option (List ℕ)) → OnOk result (BlindAt (create_found_turn local is document (Some d)) state.old) }
+    ensures lasts { (is : Option (List ℕ)) → OnOk result (Lasts state.old.page.forest (create_found_turn local is document (Some d) state.old)) }
+{
+    let class = class_of(state, d);
+    stack.push(Waiting::CreatingFit(local, document))?;
+    let now = construct(state, alloc, class)?;
+    Ok(now)
+}
+
+// The definition extends an element: a new element is made, and upgraded.
+fn create_extended(
+    state: &mut State,
+    alloc: Global,
+    stack: &mut Stack,
+    local: Text,
+    is: Option<Text>,
+    document: NodeNo,
+    d: DefNo,
+) -> Result<Came, NoMemory>
+    ensures turn { IfOk result (λ now. Turns (frames_of stack.old) (frames_of stack.new) now state.new (create_extended_turn local is document d state.old)) }
+    ensures same { OnOk result (behaviours_of stack.new ≡ behaviours_of stack.old) }
+    ensures blind { OnOk result (BlindAt (create_extended_turn local is document d) state.old) }
+    ensures lasts { OnOk result (Lasts state.old.page.forest (create_extended_turn local is document d state.old)) }
+{
+    match state.make_in_state(alloc, local, is, document, CustomState::Undefined) {
+        Ok(n) => {
+            stack.push(Waiting::CreatingExtended(n))?;
+            let now = upgrade_turn(state, alloc, stack, n, d)?;
+            Ok(now)
+        }
+        Err(PageStop::Refused(f)) => Ok(Came::Threw(f)),
+        Err(PageStop::FuelSpent) => Ok(Came::Over),
+        Err(PageStop::NoMemory) => Err(NoMemory),
+    }
+}
+
+/// What was constructed for a creation is tested, and is the answer; or the fault is reported, and a failed element
+/// is.
+pub fn fit_turn(
+    state: &mut State,
+    alloc: Global,
+    local: Text,
+    document: NodeNo,
+    given: Given,
+) -> Result<Came, NoMemory>
+    requires { IsThere state.old.page.forest given }
+    ensures turn { IfOk result (λ now. ended (came_in now state.new) ≡ turn_went (waiting.CreatingFit local document) given state.old) }
+    ensures grows { size state.old.page.forest ≤ size state.new.page.forest }
+    ensures there { IfOk result (IsEndThere state.new.page.forest) }
+{
+    match given {
+        Given::Node(n) => match misfit(state, local.as_str(), document, n) {
+            None => Ok(Came::Went(Given::Node(n))),
+            Some(f) => failed_turn(state, alloc, local, document, f),
+        },
+        Given::Nothing => failed_turn(state, alloc, local, document, Fault::TypeError),
+        Given::Answers(_) => failed_turn(state, alloc, local, document, Fault::TypeError),
+        Given::Ignored => failed_turn(state, alloc, local, document, Fault::TypeError),
+    }
+}
+
+/// The construction for a creation threw: the fault is reported, and a failed element is the answer.
+pub fn failed_turn(
+    state: &mut State,
+    alloc: Global,
+    local: Text,
+    document: NodeNo,
+    f: Fault,
+) -> Result<Came, NoMemory>
+    ensures turn { IfOk result (λ now. ended (came_in now state.new) ≡ turn_threw (waiting.CreatingFit local document) f state.old) }
+    ensures grows { size state.old.page.forest ≤ size state.new.page.forest }
+    ensures there { IfOk result (IsEndThere state.new.page.forest) }
+{
+    let made = gives_node(create_failed(state, alloc, local, document, f));
+    let now = came_from(made)?;
+    Ok(now)
+}
+
+/// The upgrade for a creation threw: the fault is reported, and the new element, which is failed, is the answer.
+pub fn extended_threw(state: &mut State, n: NodeNo, f: Fault) -> Result<Came, NoMemory>
+    ensures turn { IfOk result (λ now. ended (came_in now state.new) ≡ turn_threw (waiting.CreatingExtended n) f state.old) }
+    ensures grows { size state.old.page.forest ≤ size state.new.page.forest }
+{
+    state.log(Event::Reported(f))?;
+    state.set_state(n, CustomState::Failed);
+    Ok(Came::Went(Given::Node(n)))
+}
