@@ -1,8 +1,10 @@
 -- What a turn hands down is there.
 use Rattle.std.proofs.Common.{◌≡◌, ℕ, suc, zero, true, false, Bool, List, [], ◌∷◌, ◌++◌, map, Some, None, Option, refl, ap, sym, ◌∙◌, subst, ◌≤◌, append-nil, arith}
-use Rattle.std.specs.Prelude.{Result, Ok, Err, IfSome, ◌&&◌, ◌-◌}
+use Rattle.std.specs.Prelude.{Result, Ok, Err, IfSome, ◌&&◌, ◌-◌, slice_get}
+use Rattle.std.specs.Option.{option_and_then}
 use Rattle.std.proofs.lemmas.List.{map-append}
 use Rattle.ce_base.specs.declared.fault.Fault.{Fault}
+use Rattle.node_trees.specs.Kinds.{IsElement}
 use Rattle.node_trees.specs.Nodes.{IsNode, size}
 use Rattle.node_trees.specs.Trees.{Trees}
 use Rattle.rule_tokens.specs.declared.operand.Val.{Val}
@@ -13,7 +15,7 @@ use Rattle.ce_registry.specs.declared.definition.Definition.{Definition}
 use Rattle.ce_algorithms.specs.declared.event.Event.TheVariants.{DrainBegun, QueueClosed, Started}
 use Rattle.ce_algorithms.specs.declared.event.Given.{Given}
 use Rattle.ce_algorithms.specs.declared.event.Given.TheVariants.{Nothing, Node, Answers, Ignored}
-use Rattle.ce_algorithms.specs.Page.{definition_of, with_queues}
+use Rattle.ce_algorithms.specs.Page.{Page, definition_of, element_of, with_queues}
 use Rattle.ce_algorithms.specs.Perform.{named}
 use Rattle.ce_algorithms.specs.State.{State, logged}
 use Rattle.ce_algorithms.specs.Steps.{Outcome, Goes, Throws, Spent, settle}
@@ -32,7 +34,7 @@ use Rattle.frame_stack.specs.declared.waiting.Waiting.{Waiting}
 use Rattle.frame_stack.specs.declared.waiting.Waiting.TheVariants.{Replying, Checking, DrainingBackup, Naming, Stepping, Draining, InReaction, CreatingFit, CreatingExtended, Upgrading}
 use Rattle.frame_stack.specs.Frames.{waiting_of}
 use Rattle.ce_page.specs.Rows.{HasRows}
-use Rattle.ce_page.proofs.RowLemmas.{defined_element}
+use Rattle.ce_page.proofs.RowLemmas.{row_element}
 use Rattle.frame_stack.specs.Stacked.{Stacked, HasBody, Running, below_top, frames_of, in_body, this_of, top_of}
 use Rattle.ce_machine.specs.Bodies.{frame_on_top}
 use Rattle.ce_reactions.specs.Turns.{Turns, end_of}
@@ -104,7 +106,15 @@ call_placed G n (FormDisabled disabled) (Some d) s there = (there d refl, tt)
 call_placed G n FormReset (Some d) s there = (there d refl, tt)
 call_placed G n (FormStateRestore state why) (Some d) s there = (there d refl, tt)
 
--- what has a definition is a node
+-- what has a definition is an element
+defined_element : (p : Page) (n : ℕ) (d : Definition) → HasRows p.elements p.forest → definition_of p n ≡ Some d → IsElement p.forest n
+defined_element p n d rows is = go (element_of p n).definition refl
+  where
+    go : (o : Option ℕ) → (element_of p n).definition ≡ o → IsElement p.forest n
+    go None e = let f : None ≡ Some d = sym (ap (option_and_then (slice_get p.definitions)) e) ∙ is in absurd cc
+    go (Some k) e = row_element p n k rows e
+
+-- so it is a node
 defined_placed : (G : Trees) (n : ℕ) (r : Reaction) (s : State) → HasRows s.page.elements s.page.forest → size s.page.forest ≤ size G → ArePlaced G (call_turn n r (definition_of s.page n) s).pushed (call_turn n r (definition_of s.page n) s).end
 defined_placed G n r s rows le =
     call_placed G n r (definition_of s.page n) s (λ d is. let x = (defined_element s.page n d rows is).node in record { low = x.low; high = let high = x.high in omega (arith, high, le) })

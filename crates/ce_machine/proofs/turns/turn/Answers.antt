@@ -52,5 +52,5 @@ returns-in_ok-now-in-Some-clause-work c =
 
 pub returns-in_ok-now-in-Some-clause-placed : goal.returns-in_ok-now-in-Some-clause-placed
 returns-in_ok-now-in-Some-clause-placed c =
-    turned_placed (frames_of c.args.stack.now) (frames_of c.pop.new.self) (frames_of c.resume.new.stack) c.in-Some.frame c.args.end c.in_ok-now-in-Some.now (session c.args.stack.now c.args.state.now) (session c.resume.new.stack c.resume.new.state) c.tree-tree.ensures.plain.callbacks c.tree-tree.ensures.plain.rows c.in-Some.ensures.frames (frame_turns c)
+    turned_placed (frames_of c.args.stack.now) (frames_of c.pop.new.self) (frames_of c.resume.new.stack) c.in-Some.frame c.args.end c.in_ok-now-in-Some.now (session c.args.stack.now c.args.state.now) (session c.resume.new.stack c.resume.new.state) c.tree-tree.ensures.sound.rows c.in_ok-now-in-Some.ensures.grows c.in-Some.ensures.frames (frame_turns c)
     c.in_ok-now-in-Some.ensures.created c.requires.placed
