@@ -3,7 +3,6 @@ use Rattle.std.proofs.Common.{◌≡◌, ℕ, zero, suc, ◌<◌, ◌≤◌, Boo
 use Rattle.std.specs.Prelude.{Result, Ok, Err, IfOk, OnOk, IfSome, IfNone, slice_get, slice_set, ◌⊎◌}
 use Rattle.std.proofs.Common.{inl, inr}
 use Rattle.std.proofs.lemmas.Bool.{cases_lt}
-use Rattle.std.proofs.lemmas.Option.{slice_get_past}
 use Rattle.ce_base.specs.declared.fault.Fault.{Fault}
 use Rattle.ce_base.specs.declared.memory.NoMemory.{NoMemory}
 use Rattle.node_trees.specs.Nodes.{IsNode, size}
@@ -17,13 +16,13 @@ use Rattle.behaviours.proofs.Resumes.{body_resumes}
 use Rattle.behaviours.specs.declared.next.Next.{Next}
 use Rattle.behaviours.specs.Next.{stop_of}
 use Rattle.behaviours.specs.Resume.{Doing, OutOfFuel, Resumed, Returning, Stop, Throwing, resumed}
-use Rattle.behaviours.specs.Turns.{remembering, resumed_turn, stop_turn}
-use Rattle.ce_algorithms.specs.Body.{Ended, caught, told}
+use Rattle.behaviours.specs.Turns.{remembering, stop_turn}
+use Rattle.ce_algorithms.specs.Body.{Ended, told}
 use Rattle.ce_algorithms.specs.declared.event.Event.TheVariants.{Caught, FuelLine, Logged}
 use Rattle.ce_algorithms.specs.declared.event.Given.{Given}
 use Rattle.ce_algorithms.specs.declared.event.Given.TheVariants.{Answers, Ignored, Node, Nothing}
 use Rattle.ce_algorithms.specs.Operands.{node}
-use Rattle.ce_algorithms.specs.State.{Class, Memory, State, class_of, logged, view}
+use Rattle.ce_algorithms.specs.State.{Class, State, logged, view}
 use Rattle.ce_algorithms.specs.Steps.{Goes, Outcome, Spent, Throws, give, settle, then_do}
 use Rattle.ce_algorithms.specs.Values.{Args, fixed_text}
 use Rattle.ce_frames.specs.After.{guard}
@@ -35,18 +34,18 @@ use Rattle.ce_frames.specs.Places.{Behaviour}
 use Rattle.ce_frames.specs.Rest as ends
 use Rattle.ce_frames.specs.Turned.{Turn, Turned, ended, turn_after, with_below}
 use Rattle.ce_frames.specs.Turns.{turn}
-use Rattle.ce_frames.specs.Whole.{joined, whole, whole_in}
-use Rattle.ce_frames.proofs.Wholes.{found_joined, missing_joined, remembering_joined}
+use Rattle.ce_frames.specs.Whole.{whole, whole_in}
+use Rattle.ce_frames.proofs.Wholes.{found_joined, remembering_joined}
 use Rattle.frame_stack.specs.Resumes.{Proceeds, Resumes, is_guarded, resumed_of}
 use Rattle.frame_stack.specs.Sessions.{ArePaired, session}
-use Rattle.frame_stack.specs.Stacked.{Stacked, HasBody, Running, behaviour_at, behaviours_of, below_top, frames_of, guarded_of, in_body, or_new, this_of, top_of}
+use Rattle.frame_stack.specs.Stacked.{Stacked, HasBody, Running, behaviour_at, behaviours_of, below_top, frames_of, guarded_of, in_body, this_of, top_of}
 use Rattle.frame_stack.proofs.TopLaws.{below_push, top_below, top_push}
 use Rattle.ce_reactions.specs.Blind.{BlindAt}
 use Rattle.ce_machine.specs.Bodies.{GoesOn, StopsAt, acting_turn, answer, frame_on_top, given_node, or_constructing, running_turn, stopped_turn}
 use Rattle.ce_reactions.specs.declared.came.Came.{Came}
 use Rattle.ce_reactions.specs.declared.came.Came.TheVariants.{Went, Threw, Over}
 use Rattle.ce_reactions.specs.Placed.{StaysPlaced}
-use Rattle.ce_reactions.specs.Turns.{Turns, came_in}
+use Rattle.ce_reactions.specs.Turns.{Turns}
 use Rattle.ce_reactions.proofs.SessionLaws.{lifted, session_is}
 use Rattle.ce_machine.proofs.FrameLaws.{lifted_stays}
 use Rattle.ce_reactions.proofs.TurnLaws.{turns_as, turns_ended, turns_pushed}

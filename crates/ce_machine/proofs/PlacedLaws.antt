@@ -1,16 +1,14 @@
 -- What a turn hands down is there.
-use Rattle.std.proofs.Common.{◌≡◌, ℕ, suc, zero, true, false, Bool, List, [], ◌∷◌, ◌++◌, map, Some, None, Option, refl, ap, sym, ◌∙◌, subst, ◌≤◌, append-nil, arith}
-use Rattle.std.specs.Prelude.{Result, Ok, Err, IfSome, ◌&&◌, ◌-◌, slice_get}
+use Rattle.std.proofs.Common.{◌≡◌, ℕ, List, [], ◌∷◌, ◌++◌, Some, None, Option, refl, ap, sym, ◌∙◌, subst, ◌≤◌, append-nil, arith}
+use Rattle.std.specs.Prelude.{Result, Ok, Err, IfSome, slice_get}
 use Rattle.std.specs.Option.{option_and_then}
-use Rattle.std.proofs.lemmas.List.{map-append}
 use Rattle.ce_base.specs.declared.fault.Fault.{Fault}
 use Rattle.node_trees.specs.Kinds.{IsElement}
 use Rattle.node_trees.specs.Nodes.{IsNode, size}
 use Rattle.node_trees.specs.Trees.{Trees}
-use Rattle.rule_tokens.specs.declared.operand.Val.{Val}
 use Rattle.reaction_queue.specs.declared.reaction.Reaction.{Reaction}
 use Rattle.reaction_queue.specs.declared.reaction.Reaction.TheVariants.{Upgrade, Connected, Disconnected, Adopted, Attribute, FormAssociated, FormDisabled, FormReset, FormStateRestore}
-use Rattle.reaction_queue.specs.Queues.{current_elements, ended as popped, list_at, waiting_at, with_waiting}
+use Rattle.reaction_queue.specs.Queues.{current_elements, ended as popped, waiting_at, with_waiting}
 use Rattle.ce_registry.specs.declared.definition.Definition.{Definition}
 use Rattle.ce_algorithms.specs.declared.event.Event.TheVariants.{DrainBegun, QueueClosed, Started}
 use Rattle.ce_algorithms.specs.declared.event.Given.{Given}
@@ -18,8 +16,7 @@ use Rattle.ce_algorithms.specs.declared.event.Given.TheVariants.{Nothing, Node, 
 use Rattle.ce_algorithms.specs.Page.{Page, definition_of, element_of, with_queues}
 use Rattle.ce_algorithms.specs.Perform.{named}
 use Rattle.ce_algorithms.specs.State.{State, logged}
-use Rattle.ce_algorithms.specs.Steps.{Outcome, Goes, Throws, Spent, settle}
-use Rattle.ce_algorithms.specs.Values.{Args}
+use Rattle.ce_algorithms.specs.Steps.{settle}
 use Rattle.ce_frames.specs.Frames as waiting
 use Rattle.ce_frames.specs.Rest as ends
 use Rattle.ce_frames.specs.Rest.{End}

@@ -28,12 +28,7 @@ pub fn lowercased(alloc: Global, name: &Text) -> Result<Text, NoMemory>
 
 /// The definition that creation by a local name and an `is` value goes by, in a document. None exactly where there
 /// is none.
-pub fn lookup(
-    state: &State,
-    local: &Text,
-    is: &Option<Text>,
-    document: NodeNo,
-) -> Option<DefNo>
+pub fn lookup(state: &State, local: &Text, is: &Option<Text>, document: NodeNo) -> Option<DefNo>
     ensures { result ≡ lookup_in state.now.page document local.now is.now }
 {
     let is = is.as_ref().map(|t| t.as_str());

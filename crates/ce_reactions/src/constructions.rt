@@ -14,11 +14,7 @@ use session_state::State;
 use std::alloc::Global;
 
 /// A class is constructed. So far its constructor is the base call alone, which waits for nothing.
-pub(crate) fn construct(
-    state: &mut State,
-    alloc: Global,
-    class: ClassNo,
-) -> Result<Came, NoMemory>
+pub(crate) fn construct(state: &mut State, alloc: Global, class: ClassNo) -> Result<Came, NoMemory>
     ensures turn { IfOk result (λ now. ended (came_in now state.new) ≡ construct_turn class state.old) }
     ensures blind { OnOk result (BlindAt (construct_turn class) state.old) }
     ensures grows { size state.old.page.forest ≤ size state.new.page.forest }

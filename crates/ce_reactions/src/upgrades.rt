@@ -85,12 +85,7 @@ fn upgrade_now(
 }
 
 // The class of its definition is constructed, unless the definition disables shadow and it has a shadow root.
-fn construct_for(
-    state: &mut State,
-    alloc: Global,
-    n: NodeNo,
-    d: DefNo,
-) -> Result<Came, NoMemory>
+fn construct_for(state: &mut State, alloc: Global, n: NodeNo, d: DefNo) -> Result<Came, NoMemory>
     requires { IsNode state.old.page.forest n }
     ensures turn { IfOk result (λ now. ended (came_in now state.new) ≡ construct_for_turn n d state.old) }
     ensures blind { OnOk result (BlindAt (construct_for_turn n d) state.old) }

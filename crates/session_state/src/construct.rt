@@ -148,12 +148,7 @@ fn defined(page: &Page, class: ClassNo) -> Option<DefNo>
 
 // By the last entry of the definition's construction stack: where there is none, a new element is made; one that is
 // constructed is given once.
-fn base_entry(
-    alloc: Global,
-    page: &mut Page,
-    fuel: &mut Fuel,
-    d: DefNo,
-) -> Result<NodeNo, PageStop>
+fn base_entry(alloc: Global, page: &mut Page, fuel: &mut Fuel, d: DefNo) -> Result<NodeNo, PageStop>
     requires { d < length page.old.definitions }
     ensures step { Ends (λ n. n) result (work page.new fuel.new) (base_entry d (definition_at page.old d) (stack_of d page.old.stacks) (work page.old fuel.old)) }
     ensures within { GrowsWithin page.old page.new fuel.old fuel.new }
@@ -167,12 +162,7 @@ fn base_entry(
 }
 
 // A new element of a definition, custom at once.
-fn make_of(
-    alloc: Global,
-    page: &mut Page,
-    fuel: &mut Fuel,
-    d: DefNo,
-) -> Result<NodeNo, PageStop>
+fn make_of(alloc: Global, page: &mut Page, fuel: &mut Fuel, d: DefNo) -> Result<NodeNo, PageStop>
     requires { d < length page.old.definitions }
     ensures step { Ends (λ n. n) result (work page.new fuel.new) (make_custom d (definition_at page.old d) (work page.old fuel.old)) }
     ensures within { GrowsWithin page.old page.new fuel.old fuel.new }

@@ -170,12 +170,7 @@ fn tell_attributes(
 }
 
 // The name and the value of the attribute at a place.
-fn attribute_at(
-    alloc: Global,
-    page: &Page,
-    n: NodeNo,
-    i: usize,
-) -> Result<(Text, Text), NoMemory>
+fn attribute_at(alloc: Global, page: &Page, n: NodeNo, i: usize) -> Result<(Text, Text), NoMemory>
     requires node { IsNode page.now.forest n }
     requires within { i < length (facts_at page.now.forest n).attributes }
     ensures { IfOk result (λ a. drop i (facts_at page.now.forest n).attributes ≡ a ∷ drop (i + 1) (facts_at page.now.forest n).attributes) }

@@ -1,4 +1,3 @@
-use Rattle.std.proofs.Common.{◌≡◌}
 use Rattle.ce_machine.specs.Bodies.{GoesOn, running_turn}
 use Rattle.ce_machine.proofs.bodies.run.Given as goal
 

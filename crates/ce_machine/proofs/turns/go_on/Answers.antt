@@ -1,4 +1,3 @@
-use Rattle.frame_stack.specs.Sessions.{session}
 use Rattle.frame_stack.specs.Stacked.{frames_of}
 use Rattle.frame_stack.specs.Frames.{waiting_of}
 use Rattle.ce_frames.specs.Turns.{turn_went}
