@@ -53,7 +53,7 @@ first_shared n i (tree m x s k r) apart pos low =
           ∙ ap first_of (sym (path-rest n m x s k r ne a b))
     ]
 
-same_first : (xs ys : List ℕ) (i j : ℕ) → 0 < length xs → first_of xs ≡ first_of ys → or_number (first_of xs) i ≡ or_number (first_of ys) j
+pub same_first : (xs ys : List ℕ) (i j : ℕ) → 0 < length xs → first_of xs ≡ first_of ys → or_number (first_of xs) i ≡ or_number (first_of ys) j
 same_first [] ys i j pos e = absurd (omega arith)
 same_first (x ∷ xs) ys i j pos e = ap (λ v. or_number v j) e
 

@@ -46,7 +46,10 @@ pub mod ForestLemmas
 pub mod ReadLemmas
 pub mod MakeLemmas
 pub mod LinkLemmas
-pub mod LinkedBelow
+pub mod PartsBelow
 pub mod SpotLemmas
 pub mod KindLemmas
 pub mod CallLemmas
+pub mod ReadBelow
+pub mod AloneLemmas
+pub mod ApartLemmas

@@ -21,7 +21,7 @@ pub among_above : (f : Trees) (i n q : ℕ) → IsUp f n (Some q) → eqb n i �
 among_above f i n q up ne = rw up.1 (rw is_among-push (grind (arith, nat_tests)))
 
 -- the first of a path
-first_of-append : (xs ys : List ℕ) → 0 < length xs → first_of (xs ++ ys) ≡ first_of xs
+pub first_of-append : (xs ys : List ℕ) → 0 < length xs → first_of (xs ++ ys) ≡ first_of xs
 first_of-append [] ys pos = absurd (omega arith)
 first_of-append (x ∷ xs) ys pos = refl
 

@@ -6,7 +6,7 @@ ghost use Rattle.node_trees.specs.Trees.{with_attribute, without_attribute, with
 ghost use Rattle.node_trees.specs.Spots.{parent_at, Spot, facts_at, kind_at, attribute_at};
 ghost use Rattle.node_trees.specs.Nodes.{size, IsNode};
 ghost use Rattle.node_trees.specs.Kinds.{KeepsKinds};
-ghost use Rattle.node_trees.specs.Links.{KeepsSpots};
+ghost use Rattle.node_trees.specs.Links.{IsAlone, KeepsApart, KeepsSpots};
 ghost use Rattle.node_trees.specs.Insertion.{may_insert};
 ghost use Rattle.node_arena.specs.NodeRows.{rows, row};
 ghost use Rattle.node_arena.specs.Rows.{row_at, Changed};
@@ -96,6 +96,8 @@ impl Tree {
         ensures size { size self.new ≡ size self.old }
         ensures kinds { KeepsKinds self.old self.new }
         ensures others { KeepsSpots node node self.old self.new }
+        ensures alone { (n : ℕ) → IsAlone self.old n → IsAlone self.new n }
+        ensures apart { KeepsApart self.old self.new }
         ensures err { OnErr result (self.new ≡ self.old) }
     {
         set_attribute(alloc, &mut self.nodes, node, name, value)
@@ -121,6 +123,8 @@ impl Tree {
         ensures document { self.new ≡ with_document node document self.old }
         ensures size { size self.new ≡ size self.old }
         ensures kinds { KeepsKinds self.old self.new }
+        ensures others { KeepsSpots node node self.old self.new }
+        ensures apart { KeepsApart self.old self.new }
         ensures parents { (n : ℕ) → parent_at self.new n ≡ parent_at self.old n }
         ensures may { (p n : ℕ) (b : Option ℕ) → may_insert self.new p n b ≡ may_insert self.old p n b }
     {

@@ -1,12 +1,13 @@
 // Insertion.
-ghost use Rattle.std.specs.Prelude.{◌≡◌, ◌≢◌, ◌<◌, ◌≤◌, Some, None, length, OnOk, OnErr};
+ghost use Rattle.std.specs.Prelude.{◌≡◌, ◌≢◌, ◌<◌, ◌≤◌, Some, None, false, length, OnOk, OnErr};
 ghost use Rattle.std.specs.Result.{result_err};
 ghost use Rattle.node_trees.specs.Trees.{graft};
 ghost use Rattle.node_trees.specs.Spots.{parent_at};
 ghost use Rattle.node_trees.specs.Insertion.{may_insert, has_element_child};
 ghost use Rattle.node_trees.specs.Nodes.{size, IsNode, IsNodeOrNone};
 ghost use Rattle.node_trees.specs.Kinds.{KeepsKinds};
-ghost use Rattle.node_trees.specs.Links.{KeepsSpots};
+ghost use Rattle.node_trees.specs.Links.{KeepsApart, KeepsSpots};
+ghost use Rattle.node_trees.specs.Paths.{connected};
 ghost use Rattle.node_arena.specs.NodeRows.{rows};
 ghost use Rattle.node_arena.specs.Rows.{Grafted};
 
@@ -108,6 +109,7 @@ impl Tree {
         ensures size { size self.new ≡ size self.old }
         ensures kinds { KeepsKinds self.old self.new }
         ensures others { OnOk result (KeepsSpots parent node self.old self.new) }
+        ensures apart { OnOk result (connected self.old parent ≡ false → KeepsApart self.old self.new) }
         ensures err { OnErr result (self.new ≡ self.old) }
     {
         link(&mut self.nodes, parent, node, before)

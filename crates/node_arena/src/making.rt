@@ -1,11 +1,12 @@
 // New nodes.
 ghost use Rattle.std.specs.Prelude.{◌≡◌, ℕ, ◌+◌, ◌<◌, ◌≤◌, ◌∷◌, [], None, false, length, IfOk, OnOk, OnErr};
-ghost use Rattle.node_trees.specs.declared.kind.NodeKind.TheVariants.{Document, Element, ShadowRoot};
+ghost use Rattle.node_trees.specs.declared.kind.NodeKind.TheVariants.{Document, Element, ShadowRoot, TextNode};
 ghost use Rattle.node_trees.specs.Facts.{blank, new_element, new_text, is_shadow_root};
 ghost use Rattle.node_trees.specs.Trees.{single, with_node, with_shadow};
 ghost use Rattle.node_trees.specs.Spots.{spot_at, kind_at, document_at, parent_at, shadow_at};
 ghost use Rattle.node_trees.specs.Nodes.{size, surplus_at, IsNode};
 ghost use Rattle.node_trees.specs.Kinds.{IsElement, KeepsKinds};
+ghost use Rattle.node_trees.specs.Links.{IsAlone, KeepsApart};
 ghost use Rattle.node_arena.specs.NodeRows.{facts_of, rows, IsLoose, IsRootOf};
 ghost use Rattle.node_arena.specs.Rows.{Attached};
 
@@ -51,6 +52,8 @@ impl Tree {
         ensures kinds { KeepsKinds self.old self.new }
         ensures others { (m : ℕ) → IsNode self.old m → spot_at self.new m ≡ spot_at self.old m }
         ensures free { IfOk result (λ n. parent_at self.new n ≡ None) }
+        ensures alone { IfOk result (IsAlone self.new) }
+        ensures apart { KeepsApart self.old self.new }
         ensures made { IfOk result (λ n. IsNode self.new n × (kind_at self.new n ≡ node.kind)) }
         ensures ok { OnOk result (self.new ≡ with_node (size self.old + 1) (facts_of node) self.old) }
         ensures err { OnErr result (self.new ≡ self.old) }
@@ -67,6 +70,8 @@ impl Tree {
         ensures kinds { KeepsKinds self.old self.new }
         ensures others { (m : ℕ) → IsNode self.old m → spot_at self.new m ≡ spot_at self.old m }
         ensures free { IfOk result (λ n. parent_at self.new n ≡ None) }
+        ensures alone { IfOk result (IsAlone self.new) }
+        ensures apart { KeepsApart self.old self.new }
         ensures made { OnOk result (self.new ≡ with_node (size self.old + 1) (blank Document (size self.old + 1)) self.old) }
         ensures err { OnErr result (self.new ≡ self.old) }
     {
@@ -88,6 +93,8 @@ impl Tree {
         ensures kinds { KeepsKinds self.old self.new }
         ensures others { (m : ℕ) → IsNode self.old m → spot_at self.new m ≡ spot_at self.old m }
         ensures free { IfOk result (λ n. parent_at self.new n ≡ None) }
+        ensures alone { IfOk result (IsAlone self.new) }
+        ensures apart { KeepsApart self.old self.new }
         ensures element { IfOk result (λ n. IsElement self.new n) }
         ensures made { OnOk result (self.new ≡ with_node (size self.old + 1) (new_element local is_value document) self.old) }
         ensures err { OnErr result (self.new ≡ self.old) }
@@ -111,6 +118,9 @@ impl Tree {
         ensures kinds { KeepsKinds self.old self.new }
         ensures others { (m : ℕ) → IsNode self.old m → spot_at self.new m ≡ spot_at self.old m }
         ensures free { IfOk result (λ n. parent_at self.new n ≡ None) }
+        ensures alone { IfOk result (IsAlone self.new) }
+        ensures apart { KeepsApart self.old self.new }
+        ensures text { IfOk result (λ n. IsNode self.new n × (kind_at self.new n ≡ TextNode)) }
         ensures made { OnOk result (self.new ≡ with_node (size self.old + 1) (new_text chars document) self.old) }
         ensures err { OnErr result (self.new ≡ self.old) }
     {

@@ -1,11 +1,11 @@
 // What is known of a node, and who stands next to it.
-ghost use Rattle.std.specs.Prelude.{◌≡◌, ◌<◌, ◌∷◌, ◌++◌, [], Some, None, false, IfOk, IfSome, length, option_copied, slice_get};
+ghost use Rattle.std.specs.Prelude.{◌≡◌, ◌<◌, ◌∷◌, ◌++◌, [], Some, None, true, false, IfOk, IfSome, length, option_copied, slice_get};
 ghost use Rattle.node_trees.specs.Facts.{is_element, is_text};
-ghost use Rattle.node_trees.specs.Trees.{tree_of};
+ghost use Rattle.node_trees.specs.Trees.{none, roots, tree_of};
 ghost use Rattle.node_trees.specs.Spots.{spot, facts_at, kind_at, attribute_at, document_at, parent_at, host_at, shadow_at, children_at, first_child_at, next_sibling_at};
 ghost use Rattle.node_trees.specs.Orders.{order};
 ghost use Rattle.node_trees.specs.Nodes.{size, HasOwnParts, IsNode, IsNodeOrNone, IsTidy};
-ghost use Rattle.node_trees.specs.Links.{below, AreLinked};
+ghost use Rattle.node_trees.specs.Links.{below, AreRead};
 ghost use Rattle.node_arena.specs.NodeRows.{row, text_in};
 ghost use Rattle.node_arena.specs.Walks.{above, orders, AreNodes, IsUp};
 
@@ -142,7 +142,12 @@ impl Tree {
     /// The children, in order (DOM Standard, section "Trees", "child").
     pub fn children(&self, alloc: Global, n: NodeNo) -> Result<Nodes, NoMemory>
         requires { IsNode self.now n }
-        ensures { IfOk result (λ ns. ns ≡ children_at self.now n) }
+        ensures children { IfOk result (λ ns. ns ≡ children_at self.now n) }
+
+        // They are the roots of the trees below the node, which are read node by node. Below a text there are none.
+        ensures below { children_at self.now n ≡ roots (below (tree_of n self.now)) }
+        ensures read { AreRead self.now (below (tree_of n self.now)) }
+        ensures lacking { is_text (kind_at self.now n) ≡ true → below (tree_of n self.now) ≡ none }
     {
         listed(alloc, &self.node(n).children)
     }
@@ -153,9 +158,6 @@ impl Tree {
         requires { IsNode self.now n }
         ensures child { result ≡ first_child_at self.now n }
         ensures node { IsNodeOrNone self.now result }
-
-        // The trees of the children are found from the first child on, by first children and next siblings.
-        ensures linked { AreLinked self.now (first_child_at self.now n) (below (tree_of n self.now)) }
     {
         self.node(n).children.first().copied()
     }

@@ -6,6 +6,8 @@ use Rattle.node_arena.specs.Seen.{seen_fact, seen_is, seen_size}
 use Rattle.node_arena.proofs.CallLemmas.{pushed, pushed_or_not, new_free}
 use Rattle.node_arena.proofs.KindLemmas.{kinds-same, kinds-new, kind-new}
 use Rattle.node_arena.proofs.SpotLemmas.{spots-same, spot_at-new}
+use Rattle.node_arena.proofs.AloneLemmas.{new_alone}
+use Rattle.node_arena.proofs.ApartLemmas.{apart-new, apart-same}
 use Rattle.node_arena.proofs.tree.Tree.add.Goals as goal
 
 pub invariant_of-self-inside : goal.invariant_of-self-inside
@@ -47,3 +49,18 @@ returns-in_err-push-clause-others c = λ m at. spots-same _ _ m (seen_is _ _ _ (
 
 pub returns-clause-others : goal.returns-clause-others
 returns-clause-others c = λ m at. spots-same _ _ m (returns-clause-ok c) ∙ spot_at-new _ _ _ m (seen_fact _ _ _ c.self.view_is).tidy at
+
+pub returns-clause-alone : goal.returns-clause-alone
+returns-clause-alone c =
+    let a = seen_fact _ _ _ c.self.view_is in
+    let b = pushed _ _ _ _ a c.requires.loose c.requires.kind c.requires.parts c.in_ok-push.ensures.items in
+    new_alone c.args.self.now _ (facts_of c.args.node) _ a.tidy (rw (returns-clause-ok c) b.tidy) (returns-clause-ok c) (returns-clause-number c)
+
+pub returns-in_err-push-clause-apart : goal.returns-in_err-push-clause-apart
+returns-in_err-push-clause-apart c = apart-same c.args.self.now _ (seen_is _ _ _ (rw c.in_err-push.ensures.items (seen_fact _ _ _ c.self.view_is)))
+
+pub returns-clause-apart : goal.returns-clause-apart
+returns-clause-apart c =
+    let a = seen_fact _ _ _ c.self.view_is in
+    let b = pushed _ _ _ _ a c.requires.loose c.requires.kind c.requires.parts c.in_ok-push.ensures.items in
+    apart-new _ _ _ _ a.tidy (rw (returns-clause-ok c) b.tidy) (returns-clause-ok c)

@@ -5,6 +5,7 @@ use Rattle.node_arena.proofs.CallLemmas.{size_written, written, regrafted, inser
 use Rattle.node_arena.proofs.ReadLemmas.{in_range}
 use Rattle.node_arena.proofs.KindLemmas.{by_result, kinds-same, kinds-grafted}
 use Rattle.node_arena.proofs.SpotLemmas.{spots-grafted}
+use Rattle.node_arena.proofs.ApartLemmas.{apart-grafted}
 use Rattle.node_arena.proofs.tree.Tree.insert.Goals as goal
 
 pub link-requires-clause-parent : goal.link-requires-clause-parent
@@ -50,3 +51,8 @@ pub returns-clause-others : goal.returns-clause-others
 returns-clause-others c =
     on_ok_weaker c.link.result (λ g. spots-grafted _ _ _ _ _ _ _ (seen_fact _ _ _ c.self.view_is) (seen_fact _ _ _ refl)
     (regrafted c.deref_mut.ensures.value (written _ _ _ _ c.deref_mut.ensures.value c.self.inside.nodes.ok.0 c.link.auto.nodes) g)) c.link.ensures.ok
+
+pub returns-clause-apart : goal.returns-clause-apart
+returns-clause-apart c =
+    on_ok_weaker c.link.result (λ g apart. apart-grafted _ _ _ _ _ _ _ (seen_fact _ _ _ c.self.view_is) (seen_fact _ _ _ refl)
+    (regrafted c.deref_mut.ensures.value (written _ _ _ _ c.deref_mut.ensures.value c.self.inside.nodes.ok.0 c.link.auto.nodes) g) c.requires.parent apart) c.link.ensures.ok

@@ -8,6 +8,8 @@ use Rattle.node_arena.proofs.ReadLemmas.{in_range}
 use Rattle.node_arena.proofs.Surplus.{keeps-attributes}
 use Rattle.node_arena.proofs.KindLemmas.{by_result, kinds-same, kinds-with}
 use Rattle.node_arena.proofs.SpotLemmas.{spots-same, spots-with}
+use Rattle.node_arena.proofs.AloneLemmas.{alone-same, alone-with}
+use Rattle.node_arena.proofs.ApartLemmas.{apart-same, apart-with}
 use Rattle.node_arena.proofs.tree.Tree.set_attr.Goals as goal
 
 pub set_attribute-requires : goal.set_attribute-requires
@@ -49,3 +51,11 @@ returns-clause-kinds c =
 pub returns-clause-others : goal.returns-clause-others
 returns-clause-others c =
     by_result c.set_attribute.result (spots-with c.args.node (λ x. record x { attributes = with_value c.args.name c.args.value x.attributes }) _ _) (λ e m _ _. spots-same _ _ m e) (returns-clause-set c) (returns-clause-err c)
+
+pub returns-clause-alone : goal.returns-clause-alone
+returns-clause-alone c =
+    by_result c.set_attribute.result (alone-with c.args.node (λ x. record x { attributes = with_value c.args.name c.args.value x.attributes }) _ _) (alone-same _ _) (returns-clause-set c) (returns-clause-err c)
+
+pub returns-clause-apart : goal.returns-clause-apart
+returns-clause-apart c =
+    by_result c.set_attribute.result (apart-with c.args.node (λ x. record x { attributes = with_value c.args.name c.args.value x.attributes }) _ _ (λ x. refl)) (apart-same _ _) (returns-clause-set c) (returns-clause-err c)

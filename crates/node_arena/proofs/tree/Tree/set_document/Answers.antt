@@ -6,6 +6,8 @@ use Rattle.node_arena.proofs.Surplus.{keeps-document}
 use Rattle.node_arena.proofs.Allowed.{may_insert-with_document}
 use Rattle.node_arena.proofs.ChangedReads.{parent_at-with}
 use Rattle.node_arena.proofs.KindLemmas.{kinds-with}
+use Rattle.node_arena.proofs.SpotLemmas.{spots-with}
+use Rattle.node_arena.proofs.ApartLemmas.{apart-with}
 use Rattle.node_arena.proofs.tree.Tree.set_document.Goals as goal
 
 pub move_to-requires : goal.move_to-requires
@@ -38,3 +40,9 @@ returns-clause-parents c = λ n.
 
 pub returns-clause-kinds : goal.returns-clause-kinds
 returns-clause-kinds c = kinds-with c.args.node (λ x. record x { document = c.args.document }) _ _ (λ x. refl) (returns-clause-document c)
+
+pub returns-clause-others : goal.returns-clause-others
+returns-clause-others c = spots-with c.args.node (λ x. record x { document = c.args.document }) _ _ (returns-clause-document c)
+
+pub returns-clause-apart : goal.returns-clause-apart
+returns-clause-apart c = apart-with c.args.node (λ x. record x { document = c.args.document }) _ _ (λ x. refl) (returns-clause-document c)

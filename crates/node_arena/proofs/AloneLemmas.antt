@@ -1,0 +1,103 @@
+-- A node that stands alone.
+use Rattle.std.proofs.Common.{◌≡◌, ◌≢◌, ℕ, ◌+◌, false, ◌||◌, List, [], ◌∷◌, ◌++◌, Some, None, refl, ap, ◌∙◌, subst, sym, arith, append_assoc}
+use Rattle.std.proofs.lemmas.Bool.Decides.{nat_tests}
+use Rattle.node_trees.specs.Facts.{Facts}
+use Rattle.node_trees.specs.Trees.{Trees, none, tree, join, single, tree_of, with_node, with_facts}
+use Rattle.node_trees.specs.Spots.{spot, spot_of}
+use Rattle.node_trees.specs.Orders.{order, order_of}
+use Rattle.node_trees.specs.Paths.{path, under, is_among}
+use Rattle.node_trees.specs.Nodes.{size, times, IsNode, IsTidy}
+use Rattle.node_trees.specs.Links.{IsAlone}
+use Rattle.node_arena.proofs.Changed.{path-with}
+use Rattle.node_arena.proofs.ChangedReads.{parent_at-with}
+use Rattle.node_arena.proofs.NewReads.{spot-new-here}
+use Rattle.node_arena.proofs.OrderLemmas.{order_step}
+use Rattle.node_arena.proofs.AtNode.{parent_at-is}
+use Rattle.node_arena.proofs.Pieces.{path-absent, path-here}
+use Rattle.node_arena.proofs.CutSpots.{path-join-right}
+use Rattle.node_arena.proofs.Sizes.{new-absent, size-with_node}
+
+-- a number that no node has is on no path
+
+among-append : (n : ℕ) (ms ns : List ℕ) → is_among n (ms ++ ns) ≡ (is_among n ms || is_among n ns)
+among-append n [] ns = refl
+among-append n (m ∷ ms) ns = grind (arith, nat_tests, among-append n ms ns)
+
+among-under : (n m : ℕ) (ms : List ℕ) → m ≢ n → is_among n ms ≡ false → is_among n (under m ms) ≡ false
+among-under n m [] ne h = refl
+among-under n m (k ∷ ks) ne h = grind (arith, nat_tests)
+
+absent-path : (n p : ℕ) (f : Trees) → times n f ≡ 0 → is_among n (path p f) ≡ false
+absent-path n p none z = refl
+absent-path n p (tree m x s k r) z =
+    let ne : m ≢ n = grind (arith, nat_tests) in
+    let in_s = absent-path n p s (grind (arith, nat_tests)) in
+    let in_k = absent-path n p k (grind (arith, nat_tests)) in
+    let in_r = absent-path n p r (grind (arith, nat_tests)) in
+    let sides : is_among n (path p s ++ path p k) ≡ false = among-append n (path p s) (path p k) ∙ cc in
+    let high : is_among n (under m (path p s ++ path p k)) ≡ false = among-under n m (path p s ++ path p k) ne sides in
+    grind (arith, nat_tests, among-append n (under m (path p s ++ path p k)) (path p r))
+
+path-join : (p : ℕ) (f g : Trees) → times p g ≡ 0 → path p (join f g) ≡ path p f
+path-join p none g z = path-absent p g z
+path-join p (tree m x s k r) g z = grind (arith, nat_tests, path-join p r g z)
+
+-- a new root
+module _ (f g : Trees) (x : Facts) (n : ℕ) (tidy : IsTidy f) (tidy_after : IsTidy g) (is : g ≡ with_node (size f + 1) x f) (number : n ≡ size f + 1) where
+  there : spot g n ≡ Some (spot_of x None None none none)
+  there = rw (is, number) (spot-new-here (size f + 1) x f (new-absent f tidy))
+
+  node : IsNode g n
+  node = record { low = omega arith; high = omega (arith, size-with_node (size f + 1) x f, ap size is) }
+
+  gone : times n f ≡ 0
+  gone = subst (λ v. times v f ≡ 0) (sym number) (new-absent f tidy)
+
+  off_path : (p : ℕ) → p ≢ n → is_among n (path p (with_node n x f)) ≡ false
+  off_path p ne = rw (path-join p f (single n x) (grind (arith, nat_tests))) (absent-path n p f gone)
+
+  pub new_alone : IsAlone g n
+  new_alone = record {
+    free = parent_at-is g n _ there;
+    above = rw (is, sym number) (path-join-right n f (single n x) gone ∙ path-here n n x none none none refl);
+    walk = order_step g n _ tidy_after node there;
+    apart = λ p ne. rw (is, sym number) (off_path p ne);
+  }
+
+-- a change of a node's facts
+
+order-join : (f g : Trees) → order (join f g) ≡ order f ++ order g
+order-join none g = refl
+order-join (tree m x s k r) g = ap (λ xs. m ∷ xs) (rw (order-join r g, append_assoc (order s) (order k ++ order r) (order g), append_assoc (order k) (order r) (order g)) refl)
+
+module _ (n : ℕ) (c : Facts → Facts) where
+  order-with : (f : Trees) → order (with_facts n c f) ≡ order f
+  order-with none = refl
+  order-with (tree m x s k r) = grind (arith, nat_tests, order-with s, order-with k, order-with r)
+
+  order_of-with : (i : ℕ) (f : Trees) → order_of (with_facts n c f) i ≡ order_of f i
+  order_of-with i none = refl
+  order_of-with i (tree m x s k r) = grind (
+    arith,
+    nat_tests,
+    order-with s,
+    order-with k,
+    order_of-with i s,
+    order_of-with i k,
+    order_of-with i r,
+    order-join (tree_of i s) (join (tree_of i k) (tree_of i r)),
+    order-join (tree_of i k) (tree_of i r),
+    order-join (tree_of i (with_facts n c s)) (join (tree_of i (with_facts n c k)) (tree_of i (with_facts n c r))),
+    order-join (tree_of i (with_facts n c k)) (tree_of i (with_facts n c r)),
+  )
+
+  pub alone-with : (f g : Trees) → g ≡ with_facts n c f → (m : ℕ) → IsAlone f m → IsAlone g m
+  alone-with f g is m a = rw is (record {
+    free = parent_at-with n c f m ∙ a.free;
+    above = path-with n c m f ∙ a.above;
+    walk = order_of-with m f ∙ a.walk;
+    apart = λ p ne. ap (is_among m) (path-with n c p f) ∙ a.apart p ne;
+  })
+
+pub alone-same : (f g : Trees) → g ≡ f → (m : ℕ) → IsAlone f m → IsAlone g m
+alone-same f g is m a = rw is a
