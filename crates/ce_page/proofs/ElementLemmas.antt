@@ -10,7 +10,7 @@ use Rattle.ce_page.specs.Elements.{IsEntry, AreEntries}
 use Rattle.ce_page.specs.Sound.{IsSound}
 
 module _ (f g : Trees) (k : KeepsKinds f g) where
-  node_kept : {n : ℕ} → IsNode f n → IsNode g n
+  pub node_kept : {n : ℕ} → IsNode f n → IsNode g n
   node_kept x = let high = x.high in let more = k.nodes in record { low = x.low; high = omega (arith, high, more) }
 
   pub element_kept : {n : ℕ} → IsElement f n → IsElement g n

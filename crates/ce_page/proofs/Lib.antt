@@ -1,5 +1,7 @@
+pub mod CopyLemmas
 pub mod ElementLemmas
 pub mod LooseLemmas
 pub mod RowLemmas
 pub mod StackLemmas
 pub mod WaitLemmas
+pub mod TodoLemmas

@@ -5,3 +5,4 @@ pub mod Elements
 pub mod Sound
 pub mod Numbers
 pub mod Loose
+pub mod Copies

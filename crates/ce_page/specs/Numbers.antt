@@ -18,6 +18,14 @@ pub record StaysWithin (old new : Page) (before now : ℕ) : Type 0 where
   pub depth : length new.queues.stack ≡ length old.queues.stack
   pub nodes : size new.forest ≡ size old.forest
 
+-- the same where nodes may have been made
+pub record GrowsWithin (old new : Page) (before now : ℕ) : Type 0 where
+  pub reactions : new.queues.reactions + now ≤ old.queues.reactions + before
+  pub fuel : now ≤ before
+  pub pushed : new.queues.pushed ≡ old.queues.pushed
+  pub depth : length new.queues.stack ≡ length old.queues.stack
+  pub nodes : size old.forest ≤ size new.forest
+
 -- nothing but the queues and the notes has changed
 pub record OnlyEnqueues (old new : Page) : Type 0 where
   pub forest : new.forest ≡ old.forest

@@ -1,13 +1,15 @@
 // Adoption.
-ghost use Rattle.std.specs.Prelude.{◌≡◌, ◌+◌, ◌<◌, ◌^◌, ℕ, All, OnOk, is_some};
+ghost use Rattle.std.specs.Prelude.{◌≡◌, ◌+◌, ◌<◌, ◌^◌, ◌∷◌, [], ℕ, All, None, OnOk, is_some};
 ghost use Rattle.node_trees.specs.Trees.{with_document};
 ghost use Rattle.node_trees.specs.Spots.{parent_at};
+ghost use Rattle.node_trees.specs.Orders.{order_of};
 ghost use Rattle.node_trees.specs.Nodes.{IsNode};
 ghost use Rattle.ce_algorithms.specs.Steps.{Goes, for_each, where_is};
 ghost use Rattle.ce_algorithms.specs.Page.{with_forest};
 ghost use Rattle.ce_algorithms.specs.Mutation.{adopt, adopted, move_to, remove};
 ghost use Rattle.ce_page.specs.Ends.{Does, NeverRefuses, work};
 ghost use Rattle.ce_page.specs.Numbers.{StaysWithin, OnlyEnqueues};
+ghost use Rattle.ce_page.specs.Copies.{OnlyMoves};
 ghost use Rattle.ce_page.specs.Loose.{IsLoosed, SamePlaces, move_one};
 
 use crate::walk::node_at;
@@ -32,6 +34,7 @@ impl Page {
         ensures step { Does result (work self.new fuel.new) (adopt document node (work self.old fuel.old)) }
         ensures within { StaysWithin self.old self.new fuel.old fuel.new }
         ensures loose { OnOk result (IsLoosed self.old.forest self.new.forest node) }
+        ensures moves { parent_at self.old.forest node ≡ None → OnlyMoves (order_of self.old.forest node) self.old.forest self.new.forest }
         ensures refused { NeverRefuses result }
     {
         self.detach(alloc, node, fuel)?;
@@ -50,6 +53,7 @@ impl Page {
         ensures step { Does result (work self.new fuel.new) (where_is (λ w. is_some (parent_at w.page.forest node)) (remove node) (work self.old fuel.old)) }
         ensures within { StaysWithin self.old self.new fuel.old fuel.new }
         ensures loose { OnOk result (IsLoosed self.old.forest self.new.forest node) }
+        ensures still { parent_at self.old.forest node ≡ None → self.new ≡ self.old }
         ensures refused { NeverRefuses result }
     {
         if self.tree.parent(node).is_none() {
@@ -73,6 +77,7 @@ impl Page {
         ensures step { Does result (work self.new fuel.new) (move_to old document node (work self.old fuel.old)) }
         ensures within { StaysWithin self.old self.new fuel.old fuel.new }
         ensures places { OnOk result (SamePlaces self.old.forest self.new.forest) }
+        ensures moves { OnlyMoves (order_of self.old.forest node) self.old.forest self.new.forest }
         ensures refused { NeverRefuses result }
     {
         let walk = self.tree.shadow_order(alloc, node)?;
@@ -87,6 +92,7 @@ impl Page {
         ensures step { (fuel : ℕ) → Goes tt (work self.new fuel) ≡ for_each walk.now (move_one document) (work self.old fuel) }
         ensures within { StaysWithin self.old self.new 0 0 }
         ensures places { SamePlaces self.old.forest self.new.forest }
+        ensures moves { OnlyMoves walk.now self.old.forest self.new.forest }
     {
         for i in 0..walk.len() {
             let n = node_at(walk, i);
@@ -100,6 +106,7 @@ impl Page {
         ensures page { self.new ≡ with_forest (with_document n document) self.old }
         ensures within { StaysWithin self.old self.new 0 0 }
         ensures places { SamePlaces self.old.forest self.new.forest }
+        ensures moves { OnlyMoves (n ∷ []) self.old.forest self.new.forest }
     {
         self.tree.set_document(n, document);
     }

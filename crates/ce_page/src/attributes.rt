@@ -6,6 +6,7 @@ ghost use Rattle.node_trees.specs.Nodes.{IsNode};
 ghost use Rattle.ce_algorithms.specs.Attributes.{set_attribute, remove_attribute};
 ghost use Rattle.ce_page.specs.Ends.{Does, NeverRefuses, work};
 ghost use Rattle.ce_page.specs.Numbers.{StaysWithin};
+ghost use Rattle.ce_page.specs.Copies.{OnlyChanges};
 
 use crate::{Page, PageStop};
 use ce_base::{Fuel, NodeNo, Text};
@@ -29,6 +30,7 @@ impl Page {
         requires room { self.old.queues.reactions + fuel.old < 2 ^ 64 }
         ensures step { Does result (work self.new fuel.new) (set_attribute n name value (work self.old fuel.old)) }
         ensures within { StaysWithin self.old self.new fuel.old fuel.new }
+        ensures changes { OnlyChanges n self.old.forest self.new.forest }
         ensures refused { NeverRefuses result }
     {
         let kept = name.copy(alloc)?;

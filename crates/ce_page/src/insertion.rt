@@ -1,9 +1,11 @@
 // Insertion.
-ghost use Rattle.std.specs.Prelude.{◌≡◌, ◌+◌, ◌<◌, ◌^◌, [], None, All};
+ghost use Rattle.std.specs.Prelude.{◌≡◌, ◌+◌, ◌<◌, ◌^◌, [], None, false, All, OnOk};
 ghost use Rattle.node_trees.specs.Spots.{parent_at};
 ghost use Rattle.node_trees.specs.Paths.{connected};
 ghost use Rattle.node_trees.specs.Insertion.{may_insert};
 ghost use Rattle.node_trees.specs.Nodes.{IsNode, IsNodeOrNone};
+ghost use Rattle.node_trees.specs.Kinds.{KeepsKinds};
+ghost use Rattle.node_trees.specs.Links.{KeepsApart, KeepsSpots};
 ghost use Rattle.ce_algorithms.specs.Steps.{for_each};
 ghost use Rattle.ce_algorithms.specs.Mutation.{inserted, pre_insert, put_in, reference_child};
 ghost use Rattle.ce_page.specs.Ends.{Does, Keeps, NeverRefuses, work};
@@ -87,6 +89,34 @@ impl Page {
         let now_connected = self.tree.is_connected(node);
         let walk = self.tree.shadow_order(alloc, node)?;
         self.tell_inserted(alloc, &walk, now_connected, fuel)?;
+        Ok(())
+    }
+
+    /// Puts a node that stands nowhere at the end of a parent that is not connected. So nobody is told.
+    pub(crate) fn put_apart(
+        &mut self,
+        alloc: Global,
+        parent: NodeNo,
+        node: NodeNo,
+        fuel: &mut Fuel,
+    ) -> Result<(), PageStop>
+        requires parent { IsNode self.old.forest parent }
+        requires node { IsNode self.old.forest node }
+        requires may { may_insert self.old.forest parent node None ≡ None }
+        requires free { parent_at self.old.forest node ≡ None }
+        requires apart { connected self.old.forest parent ≡ false }
+        requires loose { connected self.old.forest node ≡ false }
+        requires room { self.old.queues.reactions + fuel.old < 2 ^ 64 }
+        ensures step { Does result (work self.new fuel.new) (put_in parent node None (work self.old fuel.old)) }
+        ensures within { StaysWithin self.old self.new fuel.old fuel.new }
+        ensures others { OnOk result (KeepsSpots parent node self.old.forest self.new.forest) }
+        ensures kinds { KeepsKinds self.old.forest self.new.forest }
+        ensures apart { OnOk result (KeepsApart self.old.forest self.new.forest) }
+        ensures refused { NeverRefuses result }
+    {
+        self.tree.insert(alloc, parent, node, None)?;
+        let walk = self.tree.shadow_order(alloc, node)?;
+        self.tell_inserted(alloc, &walk, false, fuel)?;
         Ok(())
     }
 

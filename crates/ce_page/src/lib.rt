@@ -3,6 +3,9 @@
 
 mod adoption;
 mod attributes;
+mod clone;
+mod copying;
+mod create;
 mod define;
 mod element;
 mod enqueue;

@@ -1,6 +1,6 @@
 // New nodes, and what they are as custom elements.
 ghost use Rattle.std.specs.Prelude.{◌≡◌, ◌+◌, None, IfOk, IfSome, OnOk};
-ghost use Rattle.node_trees.specs.declared.kind.NodeKind.TheVariants.{Document, Element as ElementKind, ShadowRoot};
+ghost use Rattle.node_trees.specs.declared.kind.NodeKind.TheVariants.{Document, Element as ElementKind, ShadowRoot, TextNode};
 ghost use Rattle.node_trees.specs.Facts.{blank, new_element, new_text};
 ghost use Rattle.node_trees.specs.Trees.{single, with_node, with_shadow};
 ghost use Rattle.node_trees.specs.Spots.{document_at, kind_at, shadow_at};
@@ -9,6 +9,7 @@ ghost use Rattle.node_trees.specs.Kinds.{IsElement};
 ghost use Rattle.ce_algorithms.specs.Page.{with_state, with_definition};
 ghost use Rattle.ce_algorithms.specs.Making.{next_number, with_new};
 ghost use Rattle.ce_page.specs.Numbers.{SameNumbers};
+ghost use Rattle.ce_page.specs.Copies.{IsFresh};
 
 use crate::Page;
 use crate::element::Element;
@@ -45,6 +46,7 @@ impl Page {
         ensures nodes { OnOk result (size self.new.forest ≡ size self.old.forest + 1) }
         ensures numbers { SameNumbers self.old self.new }
         ensures element { IfOk result (IsElement self.new.forest) }
+        ensures fresh { IfOk result (IsFresh self.old.forest self.new.forest ElementKind) }
     {
         let n = self.tree.make_element(alloc, local, is_value, document)?;
         self.elements.push(Element::uncustomized())?;
@@ -63,6 +65,7 @@ impl Page {
         ensures made { IfOk result (IsNode self.new.forest) }
         ensures nodes { OnOk result (size self.new.forest ≡ size self.old.forest + 1) }
         ensures numbers { SameNumbers self.old self.new }
+        ensures fresh { IfOk result (IsFresh self.old.forest self.new.forest TextNode) }
     {
         let n = self.tree.make_text(alloc, chars, document)?;
         self.elements.push(Element::uncustomized())?;

@@ -428,3 +428,85 @@ Fresh
 fn a_base_call_gives_an_element_once(rt: HostRuntime) -> Result<(), Fail> {
     play(&rt, rt.alloc(), 0, CONSTRUCTED)
 }
+
+const CLONED: &str = "> set 4 k 1
+ok
+> set 4 j 2
+ok
+> set 4 k 3
+ok
+> text
+#7
+> insert 3 7
+ok
+> clone-deep 3
+#8
+enqueued 1 #9 upgrade 0
+> fuel
+3
+> count
+10
+> stands 8
+null null
+> stands 9
+#8 #10
+> stands 10
+#8 null
+> what 8
+div
+> what 9
+x-a k=3 j=2
+> what 10
+a
+> is 9
+Undefined None None
+> next 9
+1 upgrade
+> stands 4
+#3 #7
+> clone-deep 10
+#11
+> what 11
+a
+";
+
+#[test]
+fn a_deep_clone_has_all_below_but_shadow_trees(rt: HostRuntime) -> Result<(), Fail> {
+    play_with_tree(&rt, rt.alloc(), 9, CLONED)
+}
+
+const CLONED_ALONE: &str = "> clone 1
+NotSupportedError
+> clone-deep 5
+NotSupportedError
+> count
+6
+> document
+#7
+> adopt 7 4
+ok
+enqueued 1 #4 adopted 0
+> set 4 k 1
+ok
+> clone 4
+#8
+> what 8
+x-a k=1
+> owner 8
+#7
+> clone 3
+#9
+> stands 9
+null null
+> set 4 j 1
+ok
+> clone 4
+FuelSpent
+> what 10
+x-a k=1
+";
+
+#[test]
+fn a_clone_without_depth_is_the_node_alone(rt: HostRuntime) -> Result<(), Fail> {
+    play_with_tree(&rt, rt.alloc(), 6, CLONED_ALONE)
+}

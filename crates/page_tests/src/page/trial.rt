@@ -75,6 +75,7 @@ impl Trial {
         match word(step, 0) {
             "element" | "text" | "document" | "root" => self.making(rt, alloc, step),
             "insert" | "remove" | "adopt" => self.moving(rt, alloc, step),
+            "clone" | "clone-deep" => self.cloning(rt, alloc, step),
             "set" | "unset" => self.attributes(rt, alloc, step),
             _ => self.step_of_elements(rt, alloc, step),
         }
@@ -92,7 +93,7 @@ impl Trial {
             "push" | "base" | "pop" => self.constructing(rt, alloc, step),
             "enqueue" | "within" => self.enqueuing(alloc, step),
             "next" | "drop" | "next-backup" => self.taking(alloc, step),
-            "stands" | "owner" => self.placed(rt, alloc, step),
+            "stands" | "owner" | "what" => self.placed(rt, alloc, step),
             _ => self.reading(alloc, step),
         }
     }
@@ -117,6 +118,16 @@ impl Trial {
             _ => self.adopt(rt, alloc, n, number(step, 2)),
         };
         ended(alloc, end)
+    }
+
+    // clone NODE, clone-deep NODE: the copy.
+    fn cloning(&mut self, rt: &impl Abort, alloc: Global, step: &str) -> Result<String, Fail> {
+        let n = self.node(rt, number(step, 1));
+        let deep = word(step, 0) == "clone-deep";
+        match self.page.clone_node(alloc, deep, n, &mut self.fuel) {
+            Ok(copy) => id(alloc, Some(copy)),
+            Err(stop) => stopped(alloc, stop),
+        }
     }
 
     // set NODE NAME VALUE, unset NODE NAME
@@ -182,12 +193,14 @@ impl Trial {
         }
     }
 
-    // stands NODE: its parent and its next sibling. owner NODE: its document.
+    // stands NODE: its parent and its next sibling. owner NODE: its document. what NODE: its local name, its
+    // characters and its attributes.
     fn placed(&self, rt: &impl Abort, alloc: Global, step: &str) -> Result<String, Fail> {
         let n = number(step, 1);
         match word(step, 0) {
             "stands" => self.stands(rt, alloc, n),
-            _ => self.owner(rt, alloc, n),
+            "owner" => self.owner(rt, alloc, n),
+            _ => self.what(rt, alloc, n),
         }
     }
 
@@ -382,6 +395,18 @@ impl Trial {
         let mut out = id(alloc, self.page.tree().parent(n))?;
         out.push(' ')?;
         out.push_str(id(alloc, self.page.tree().next_sibling(n))?.as_str())?;
+        Ok(out)
+    }
+
+    fn what(&self, rt: &impl Abort, alloc: Global, n: u64) -> Result<String, Fail> {
+        let n = self.node(rt, n);
+        let tree = self.page.tree();
+        let mut out = String::from_str(alloc, tree.local(n))?;
+        out.push_str(tree.chars(n))?;
+        for i in 0..tree.attr_count(n) {
+            let (name, value) = tree.attr_at(n, i);
+            write!(out, " {name}={value}")?;
+        }
         Ok(out)
     }
 
