@@ -19,10 +19,11 @@ is_built_word words.Kids = true
 is_built_word words.State = true
 is_built_word _ = false
 
--- making nodes, inserting, removing and adopting them, attributes with any values, definitions, upgrades, variables, and
--- the questions above
+-- making, constructing and cloning nodes, inserting, removing and adopting them, attributes with any values, definitions,
+-- upgrades, variables, and the questions above
 abbrev pub is_built_op : Op → Bool
 is_built_op (ops.Create var local is document) = true
+is_built_op (ops.New var class) = true
 is_built_op (ops.MakeText var chars document) = true
 is_built_op (ops.Shadow var host) = true
 is_built_op (ops.Append parent target) = true
@@ -31,6 +32,7 @@ is_built_op (ops.Remove parent target) = true
 is_built_op (ops.Detach target) = true
 is_built_op (ops.SetAttr target name val) = true
 is_built_op (ops.DelAttr target name) = true
+is_built_op (ops.Clone var deep target) = true
 is_built_op (ops.Adopt document target) = true
 is_built_op (ops.Define name class base) = true
 is_built_op (ops.Upgrade target) = true
@@ -44,16 +46,16 @@ is_built_command (commands.Both op) = is_built_op op
 is_built_command (commands.Doc var) = true
 is_built_command _ = false
 
--- in a body: the operations that are built, also inside `try` and `if`, and each other action but `super`, with any values
+-- in a body: the operations that are built, also inside `try` and `if`, and each other action, with any values
 abbrev pub is_built_act : Act → Bool
 is_built_act (acts.Both op) = is_built_op op
 is_built_act (acts.Try act) = is_built_act act
 is_built_act (acts.If equal left right act) = is_built_act act
-is_built_act acts.Super = false
 is_built_act _ = true
 
--- the callbacks that are told of an insertion, a removal, an adoption and an attribute; not the constructor
+-- the constructor, and the callbacks that are told of an insertion, a removal, an adoption and an attribute
 abbrev pub is_built_call : CallName → Bool
+is_built_call calls.Constructor = true
 is_built_call calls.Connected = true
 is_built_call calls.Disconnected = true
 is_built_call calls.Adopted = true

@@ -10,9 +10,10 @@ fn is_built_op(op: &Op) -> bool
     ensures { result ≡ is_built_op op.now }
 {
     match op {
-        Op::Create { .. } | Op::MakeText { .. } | Op::Shadow { .. } => true,
+        Op::Create { .. } | Op::New { .. } | Op::MakeText { .. } | Op::Shadow { .. } => true,
         Op::Append { .. } | Op::Before { .. } => true,
-        Op::Remove { .. } | Op::Detach { .. } | Op::Adopt { .. } => true,
+        Op::Remove { .. } | Op::Detach { .. } => true,
+        Op::Clone { .. } | Op::Adopt { .. } => true,
         Op::SetAttr { .. } | Op::DelAttr { .. } => true,
         Op::Define { .. } | Op::Upgrade { .. } | Op::Let { .. } => true,
         Op::Ask { word, .. } => is_built_word(*word),
@@ -34,7 +35,11 @@ fn is_built_call(call: CallName) -> bool
 {
     matches!(
         call,
-        CallName::Connected | CallName::Disconnected | CallName::Adopted | CallName::Attribute
+        CallName::Constructor
+            | CallName::Connected
+            | CallName::Disconnected
+            | CallName::Adopted
+            | CallName::Attribute
     )
 }
 
@@ -55,9 +60,8 @@ fn is_built_action(action: &Action) -> bool
         Action::Both(op) => is_built_op(op),
         Action::Try(inner) => is_built_action(inner),
         Action::If { then, .. } => is_built_action(then),
-        Action::Super => false,
-        Action::Log(_) | Action::Return(_) | Action::Throw(_) | Action::Bump | Action::Keep(_) =>
-            true,
+        Action::Log(_) | Action::Super | Action::Return(_) | Action::Throw(_) => true,
+        Action::Bump | Action::Keep(_) => true,
     }
 }
 

@@ -340,6 +340,12 @@ on A connected : ask state $a
 on A connected : create $a p is x-b
 on A connected : define x-a A extends p
 on A connected : adopt doc this
+on A connected : clone $a $b
+on A connected : try new $a A
+on A constructor : log x
+on A constructor : super
+on A constructor : try super
+on A constructor : return $a
 define "x-a" A
 define X-Ä  A
 define x-a A extends p
@@ -354,6 +360,7 @@ on A connected : log in
 on A disconnected : log @1
 has A attribute
 has A adopted
+has A constructor
 disable A shadow
 disable A internals
 text $t "a b" in $d
@@ -372,6 +379,9 @@ ask state $a
 adopt doc $a
 upgrade $a
 upgrade doc
+new $a A
+clone $b $a
+clone $b $a deep
 > Arity
 create $a
 text $t a b
@@ -394,20 +404,13 @@ text $t "\u{D800}"
 > Quote
 text $t "a"b
 > Later
-on A constructor : log x
-on A constructor : super
-on A constructor : return $a
-on A connected : clone $a $b
-on A connected : try new $a A
+on A constructor : internals this
 on A connected : if eq a a : reset $a
 on A connected : ask owner $a
 on A formReset : log x
 on A adopted : internals this
-has A constructor
 has A formDisabled
 associate A
-new $a A
-clone $b $a
 submit $f
 user reset $f
 user edit $e x
