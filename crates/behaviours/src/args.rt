@@ -69,8 +69,8 @@ impl Args {
         }
     }
 
-    // No arguments.
-    fn none(alloc: Global) -> Result<Args, NoMemory>
+    /// No arguments.
+    pub fn none(alloc: Global) -> Result<Args, NoMemory>
         ensures { IfOk result (λ a. a ≡ no_args) }
     {
         Ok(Args {

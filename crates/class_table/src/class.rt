@@ -1,8 +1,5 @@
 // A class, as the lines of a script made it.
-ghost use Rattle.std.specs.Prelude.{◌≡◌, ◌++◌, false, true, OnOk};
-ghost use Rattle.rule_script.specs.Built.{is_built_call};
-ghost use Rattle.rule_tokens.specs.declared.callback.CallName.TheVariants as calls;
-ghost use Rattle.ce_registry.specs.ClassFacts.{has_call};
+ghost use Rattle.std.specs.Prelude.{◌≡◌, ◌++◌, true, OnOk};
 ghost use Rattle.ce_algorithms.specs.Parts.{change_facts, with_has, with_observed, without_internals, without_shadow};
 ghost use Rattle.ce_algorithms.specs.State.{new_class};
 
@@ -13,8 +10,7 @@ use std::alloc::Global;
 use std::marker::Model;
 
 /// A class: its name, what its definition takes over from it, and whether a definition has it. What it does and
-/// remembers is kept apart, so a contract sees a class without bodies, whose memory is blank. So far it has no
-/// constructor of its own.
+/// remembers is kept apart, so a contract sees a class without bodies, whose memory is blank.
 #[derive(Drop)]
 pub struct Class {
     name: Text,
@@ -23,11 +19,9 @@ pub struct Class {
 }
 
 impl Model for Class {
-    ghost use Rattle.std.specs.Prelude.{◌≡◌, [], false};
+    ghost use Rattle.std.specs.Prelude.{[]};
     ghost use Rattle.std.specs.Coded.{codes};
     ghost use Rattle.rule_lines.specs.ActCode.{act_code};
-    ghost use Rattle.rule_tokens.specs.declared.callback.CallName.TheVariants.{Constructor};
-    ghost use Rattle.ce_registry.specs.ClassFacts.{has_call};
     ghost use Rattle.ce_algorithms.specs.State.{Class as IsClass, blank_memory};
 
     ghost Value = { IsClass };
@@ -35,8 +29,6 @@ impl Model for Class {
     ghost coded = { Prim.hlevel (codes, act_code) };
 
     ghost view = { λ c. record { name = c.name; facts = c.facts; bodies = []; frozen = c.frozen; memory = blank_memory } };
-
-    ghost invariant = { λ c. has_call Constructor c.facts.calls ≡ false };
 }
 
 impl Class {
@@ -53,8 +45,7 @@ impl Class {
 
     /// The class's name.
     pub fn name(&self) -> &str
-        ensures name { result.now ≡ self.now.name }
-        ensures plain { has_call calls.Constructor self.now.facts.calls ≡ false }
+        ensures { result.now ≡ self.now.name }
     {
         self.name.as_str()
     }
@@ -82,7 +73,6 @@ impl Class {
 
     /// The class has the callback.
     pub fn add_call(&mut self, call: CallName)
-        requires { is_built_call call ≡ true }
         ensures { self.new ≡ change_facts (with_has call) self.old }
     {
         self.facts.calls.add(call);

@@ -1,6 +1,5 @@
 // The classes of a session.
-ghost use Rattle.std.specs.Prelude.{◌≡◌, ◌<◌, ◌++◌, ◌∷◌, [], true, None, Some, length, option_copied, slice_get, IfSome, OnOk};
-ghost use Rattle.rule_script.specs.Built.{is_built_call};
+ghost use Rattle.std.specs.Prelude.{◌≡◌, ◌<◌, ◌++◌, ◌∷◌, [], None, Some, length, option_copied, slice_get, IfSome, OnOk};
 ghost use Rattle.ce_algorithms.specs.Parts.{change_facts, with_has, with_observed, without_internals, without_shadow};
 ghost use Rattle.ce_algorithms.specs.State.{Class as IsClass, class_named, new_class};
 ghost use Rattle.class_table.specs.Classes.{changed, frozen_class};
@@ -98,8 +97,7 @@ impl Classes {
 
     /// A class has the callback.
     pub fn add_call(&mut self, k: ClassNo, call: CallName)
-        requires call { is_built_call call ≡ true }
-        requires within { k < length self.old }
+        requires { k < length self.old }
         ensures { self.new ≡ changed k (change_facts (with_has call)) self.old }
     {
         self.items[k.0 as usize].add_call(call);

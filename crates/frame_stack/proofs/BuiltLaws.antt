@@ -60,7 +60,7 @@ IsBuiltOr (Some stop) = IsBuiltStop stop
 acted_built : (args : Args) (guarded : Bool) (a : Act) → is_built_act a ≡ true → (memory : Memory) (fuel : ℕ) → IsBuiltOr (acted args guarded a memory fuel).stop
 acted_built args guarded (Both op) h memory fuel = fixed_built memory args op h
 acted_built args guarded (Log vals) h memory fuel = tt
-acted_built args guarded Super h memory fuel = absurd (let e : false ≡ true = h in cc)
+acted_built args guarded Super h memory fuel = tt
 acted_built args guarded (Return operand) h memory fuel = tt
 acted_built args guarded (Throw val) h memory fuel = tt
 acted_built args guarded Bump h memory fuel = tt

@@ -8,5 +8,6 @@ pub mod Tops
 pub mod BeginLaws
 pub mod EndLaws
 pub mod ResumeLaws
+pub mod ThisLaws
 pub mod ClassLaws
 pub mod BodyCalls

@@ -3,7 +3,7 @@ use Rattle.std.proofs.Common.{◌≡◌, ◌-◌, ◌<◌, List, [], ◌∷◌, 
 use Rattle.std.specs.Prelude.{slice_get}
 use Rattle.ce_frames.specs.Frames.{Frame}
 use Rattle.frame_stack.specs.declared.waiting.Waiting.{Waiting}
-use Rattle.frame_stack.specs.declared.waiting.Waiting.TheVariants.{Replying, Checking, DrainingBackup, Naming, Stepping, Draining, InReaction, CreatingFit, CreatingExtended, Upgrading}
+use Rattle.frame_stack.specs.declared.waiting.Waiting.TheVariants.{Replying, Checking, DrainingBackup, Naming, Stepping, Draining, InReaction, CreatingFit, CreatingExtended, Upgrading, Constructing}
 use Rattle.frame_stack.specs.Frames.{waiting_of}
 use Rattle.frame_stack.specs.Stacked.{Running, below_top, in_body, top_of}
 
@@ -38,6 +38,7 @@ plain_body (InReaction number) r e = cc
 plain_body (CreatingFit local document) r e = cc
 plain_body (CreatingExtended n) r e = cc
 plain_body (Upgrading n d) r e = cc
+plain_body Constructing r e = cc
 
 -- the last frame, as it is kept
 

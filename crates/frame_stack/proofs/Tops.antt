@@ -10,10 +10,10 @@ use Rattle.reaction_queue.specs.ElementQueues.{is_empty}
 use Rattle.ce_frames.specs.Frames.{Frame}
 use Rattle.ce_frames.specs.Places.{Held, Homes, Stands, Wait, Body, seen}
 use Rattle.frame_stack.specs.declared.waiting.Waiting.{Waiting}
-use Rattle.frame_stack.specs.declared.waiting.Waiting.TheVariants.{Replying, Checking, DrainingBackup, Naming, Stepping, Draining, InReaction, CreatingFit, CreatingExtended, Upgrading}
-use Rattle.frame_stack.specs.Frames.{IsPlain, guarded_in, is_body, is_waiting, this_in, waiting_of}
+use Rattle.frame_stack.specs.declared.waiting.Waiting.TheVariants.{Replying, Checking, DrainingBackup, Naming, Stepping, Draining, InReaction, CreatingFit, CreatingExtended, Upgrading, Constructing}
+use Rattle.frame_stack.specs.Frames.{IsPlain, guarded_in, is_body, is_waiting, owner_in, this_in, waiting_of}
 use Rattle.frame_stack.specs.Order.{AreInOrder}
-use Rattle.frame_stack.specs.Stacked.{Stacked, HasBody, behaviours_of, bodies_in, frames_of, guarded_of, in_body, placed_from, this_of, top_of}
+use Rattle.frame_stack.specs.Stacked.{Stacked, HasBody, behaviours_of, bodies_in, frames_of, guarded_of, in_body, owner_of, placed_from, this_of, top_of}
 use Rattle.frame_stack.proofs.PushLaws.{pop_order, push_behaviours, push_frames}
 use Rattle.frame_stack.proofs.TopLaws.{Ends, AtNone, AtLast, ends, last_push, plain_body, some_top, top_push}
 
@@ -80,7 +80,25 @@ this_seen (Wait f) plain bodies = waiting_read this_of None each f plain
     each (CreatingFit local document) = refl
     each (CreatingExtended n) = refl
     each (Upgrading n d) = refl
+    each Constructing = refl
 this_seen (Body k p held) plain bodies = refl
+
+pub owner_seen : (f : Held) → IsPlain f → (bodies : List (List (CallName × Act))) → owner_in f ≡ owner_of (Some (seen bodies f))
+owner_seen (Wait f) plain bodies = waiting_read owner_of None each f plain
+  where
+    each : (w : Waiting) → None ≡ owner_of (Some (waiting_of w))
+    each (Replying line) = refl
+    each (Checking line kept) = refl
+    each (DrainingBackup n) = refl
+    each (Naming var) = refl
+    each (Stepping queue) = refl
+    each (Draining queue n elements kept) = refl
+    each (InReaction number) = refl
+    each (CreatingFit local document) = refl
+    each (CreatingExtended n) = refl
+    each (Upgrading n d) = refl
+    each Constructing = refl
+owner_seen (Body k p held) plain bodies = refl
 
 pub guarded_seen : (f : Held) → IsPlain f → (bodies : List (List (CallName × Act))) → guarded_in f ≡ guarded_of (Some (seen bodies f))
 guarded_seen (Wait f) plain bodies = waiting_read guarded_of false each f plain
@@ -96,6 +114,7 @@ guarded_seen (Wait f) plain bodies = waiting_read guarded_of false each f plain
     each (CreatingFit local document) = refl
     each (CreatingExtended n) = refl
     each (Upgrading n d) = refl
+    each Constructing = refl
 guarded_seen (Body k p held) plain bodies = refl
 
 -- where it is of a body

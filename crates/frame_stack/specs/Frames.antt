@@ -6,7 +6,7 @@ use Rattle.ce_frames.specs.Frames.{Frame}
 use Rattle.ce_frames.specs.Frames as frames
 use Rattle.ce_frames.specs.Places.{Held, Place, Wait, Body}
 use Rattle.frame_stack.specs.declared.waiting.Waiting.{Waiting}
-use Rattle.frame_stack.specs.declared.waiting.Waiting.TheVariants.{Replying, Checking, DrainingBackup, Naming, Stepping, Draining, InReaction, CreatingFit, CreatingExtended, Upgrading}
+use Rattle.frame_stack.specs.declared.waiting.Waiting.TheVariants.{Replying, Checking, DrainingBackup, Naming, Stepping, Draining, InReaction, CreatingFit, CreatingExtended, Upgrading, Constructing}
 
 abbrev pub waiting_of : Waiting → Frame
 waiting_of (Replying line) = frames.Replying line
@@ -19,6 +19,7 @@ waiting_of (InReaction number) = frames.InReaction number
 waiting_of (CreatingFit local document) = frames.CreatingFit local document
 waiting_of (CreatingExtended n) = frames.CreatingExtended n
 waiting_of (Upgrading n d) = frames.Upgrading n d
+waiting_of Constructing = frames.Constructing
 
 -- the frame of a body
 abbrev pub is_body : Held → Bool
@@ -40,10 +41,20 @@ abbrev pub this_in : Held → Option ℕ
 this_in (Wait f) = None
 this_in (Body class place held) = place.this
 
+-- the frame of a body in which `this` is this node
+abbrev pub with_this : ℕ → Held → Held
+with_this n (Wait f) = Wait f
+with_this n (Body class place held) = Body class (record place { this = Some n }) held
+
 -- its action stands in a `try`
 abbrev pub guarded_in : Held → Bool
 guarded_in (Wait f) = false
 guarded_in (Body class place held) = place.guarded
+
+-- the class whose body it is of
+abbrev pub owner_in : Held → Option ℕ
+owner_in (Wait f) = None
+owner_in (Body class place held) = Some class
 
 -- the class of a body
 abbrev pub class_in : Held → ℕ

@@ -1,6 +1,6 @@
 -- A body goes on, in its frame.
 use Rattle.std.specs.Prelude.{◌≡◌, ◌≤◌, ℕ, Bool, true, false, List, [], ◌∷◌, ◌++◌, drop, length, Some, None, slice_set}
-use Rattle.rule_lines.specs.Acts.{Both, Log}
+use Rattle.rule_lines.specs.Acts.{Both, Log, Super}
 use Rattle.rule_script.specs.Built.{is_built_op}
 use Rattle.ce_algorithms.specs.Body.{actions_of}
 use Rattle.ce_algorithms.specs.State.{Memory}
@@ -24,10 +24,11 @@ Proceeds (Returning value guarded) = guarded ≡ true
 Proceeds (Throwing fault guarded) = guarded ≡ true
 Proceeds OutOfFuel = ⊥
 
--- where it stops, the operation that is next is built
+-- where it stops, what is next is an operation that is built, a log or a base call
 abbrev pub IsBuiltStop : Stop → Type 0
 IsBuiltStop (Doing (Both op) guarded) = is_built_op op ≡ true
 IsBuiltStop (Doing (Log vals) guarded) = Unit {0}
+IsBuiltStop (Doing Super guarded) = Unit {0}
 IsBuiltStop (Doing action guarded) = ⊥
 IsBuiltStop stop = Unit {0}
 

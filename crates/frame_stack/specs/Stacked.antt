@@ -87,6 +87,11 @@ abbrev pub this_of : Option Frame → Option ℕ
 this_of (Some (InBody class args this guarded actions)) = this
 this_of f = None
 
+-- the class whose body it is of
+abbrev pub owner_of : Option Frame → Option ℕ
+owner_of (Some (InBody class args this guarded actions)) = Some class
+owner_of f = None
+
 -- whether its action stands in a `try`
 abbrev pub guarded_of : Option Frame → Bool
 guarded_of (Some (InBody class args this guarded actions)) = guarded

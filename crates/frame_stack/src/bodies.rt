@@ -2,8 +2,9 @@
 ghost use Rattle.std.specs.Prelude.{◌≡◌, ◌≤◌, ◌<◌, ◌++◌, ◌∷◌, [], false, IfOk, OnOk};
 ghost use Rattle.ce_frames.specs.Frames.{InBody};
 ghost use Rattle.behaviours.specs.Next.{stop_of};
+ghost use Rattle.frame_stack.specs.Changes.{SetsThis};
 ghost use Rattle.frame_stack.specs.Resumes.{IsBuiltStop, Proceeds, Resumes};
-ghost use Rattle.frame_stack.specs.Stacked.{HasBody, actions_at, behaviours_of, below_top, frames_of, guarded_of, this_of, top_of};
+ghost use Rattle.frame_stack.specs.Stacked.{HasBody, actions_at, behaviours_of, below_top, frames_of, guarded_of, owner_of, this_of, top_of};
 
 use crate::Stack;
 use crate::chain::{link, topmost, unlink};
@@ -45,6 +46,16 @@ impl Stack {
         }
     }
 
+    /// The class whose body is on top. None where the topmost frame is of no body.
+    pub fn owner(&self) -> Option<ClassNo>
+        ensures { result ≡ owner_of (top_of (frames_of self.now)) }
+    {
+        match self.frames.last() {
+            None => None,
+            Some(f) => f.owner(),
+        }
+    }
+
     /// What `this` is in the topmost frame. None also where it is of no body.
     pub fn this(&self) -> Option<NodeNo>
         ensures { result ≡ this_of (top_of (frames_of self.now)) }
@@ -53,6 +64,19 @@ impl Stack {
             None => None,
             Some(f) => f.this(),
         }
+    }
+
+    /// The base call of the body on top gave a node, which is `this` from now on.
+    pub fn set_this(&mut self, n: NodeNo)
+        requires { HasBody (frames_of self.old) }
+        ensures { SetsThis self.old self.new n }
+    {
+        let last = self.frames.len() - 1;
+        let f = &mut self.frames[last];
+        if !f.is_body() {
+            unreachable!()
+        }
+        f.set_this(n);
     }
 
     /// Whether the action of the body on top stands in a `try`. Not where it is of no body.

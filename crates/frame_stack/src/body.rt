@@ -2,7 +2,7 @@
 ghost use Rattle.std.specs.Prelude.{◌≡◌, ◌≤◌, None, IfOk};
 ghost use Rattle.ce_frames.specs.Places.{Body as BodyHeld, held_in, holding};
 ghost use Rattle.behaviours.specs.Next.{stop_of};
-ghost use Rattle.frame_stack.specs.Frames.{first_place};
+ghost use Rattle.frame_stack.specs.Frames.{first_place, with_this};
 ghost use Rattle.frame_stack.specs.Kinds.{body_of};
 ghost use Rattle.frame_stack.specs.Resumes.{FrameResumes, IsSameBody, is_guarded};
 
@@ -46,6 +46,13 @@ impl Body {
         (self.class, self.held)
     }
 
+    /// Its class.
+    pub(crate) fn class(&self) -> ClassNo
+        ensures { result ≡ self.now.class }
+    {
+        self.class
+    }
+
     /// What `this` is.
     pub(crate) fn this(&self) -> Option<NodeNo>
         ensures { result ≡ self.now.this }
@@ -58,6 +65,13 @@ impl Body {
         ensures { result ≡ self.now.guarded }
     {
         self.guarded
+    }
+
+    /// From now on `this` is this node.
+    pub(crate) fn set_this(&mut self, n: NodeNo)
+        ensures { body_of self.new ≡ with_this n (body_of self.old) }
+    {
+        self.this = Some(n);
     }
 
     /// Takes the behaviour.

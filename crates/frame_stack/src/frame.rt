@@ -1,7 +1,7 @@
 // A frame.
 ghost use Rattle.std.specs.Prelude.{◌≡◌, ◌≤◌, false, true, None, IfOk};
 ghost use Rattle.ce_frames.specs.Places.{Body as BodyHeld, Wait as WaitHeld, held_in, holding};
-ghost use Rattle.frame_stack.specs.Frames.{IsPlain, class_in, first_place, guarded_in, is_body, this_in, waiting_of};
+ghost use Rattle.frame_stack.specs.Frames.{IsPlain, class_in, first_place, guarded_in, is_body, owner_in, this_in, waiting_of, with_this};
 ghost use Rattle.frame_stack.specs.Resumes.{FrameResumes, IsSameBody};
 
 use crate::body::Body;
@@ -91,6 +91,17 @@ impl Frame {
         }
     }
 
+    /// The class whose body it is of.
+    pub(crate) fn owner(&self) -> Option<ClassNo>
+        ensures owner { result ≡ owner_in self.now }
+        ensures plain { IsPlain self.now }
+    {
+        match &self.kind {
+            Kind::Wait(_) => None,
+            Kind::Body(b) => Some(b.class()),
+        }
+    }
+
     /// What `this` is there.
     pub(crate) fn this(&self) -> Option<NodeNo>
         ensures this { result ≡ this_in self.now }
@@ -110,6 +121,16 @@ impl Frame {
         match &self.kind {
             Kind::Wait(_) => false,
             Kind::Body(b) => b.is_guarded(),
+        }
+    }
+
+    /// From now on `this` is this node there.
+    pub(crate) fn set_this(&mut self, n: NodeNo)
+        ensures { self.new ≡ with_this n self.old }
+    {
+        match &mut self.kind {
+            Kind::Wait(_) => {}
+            Kind::Body(b) => b.set_this(n),
         }
     }
 

@@ -28,4 +28,6 @@ pub enum Waiting {
     CreatingExtended(NodeNo),
     /// An upgrade that waits for the construction of its definition's class: the element, and the definition.
     Upgrading(NodeNo, DefNo),
+    /// A construction whose constructor's body runs.
+    Constructing,
 }
