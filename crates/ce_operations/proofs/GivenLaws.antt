@@ -36,3 +36,6 @@ node_ends (Err PageNoMemory) s o e = tt
 -- the same of steps of the page
 pub page_nothing_ends : (r : Result (Unit {0}) PageStop) (s t : State) (step : Step Work (Unit {0})) → Does r s (on_page step t) → Ends (λ g. g) (nothing_of r) s (on_page (gives_nothing step) t)
 page_nothing_ends r s t step e = subst (λ o. Ends (λ g. g) (nothing_of r) s o) (sym (after_page (step (work_of t)) (λ _. Nothing) t)) (nothing_ends r s (on_page step t) e)
+
+pub page_node_ends : (r : Result ℕ PageStop) (s t : State) (step : Step Work ℕ) → Ends (λ n. n) r s (on_page step t) → Ends (λ g. g) (node_of r) s (on_page (gives_node step) t)
+page_node_ends r s t step e = subst (λ o. Ends (λ g. g) (node_of r) s o) (sym (after_page (step (work_of t)) (λ (n : ℕ). Node n) t)) (node_ends r s (on_page step t) e)

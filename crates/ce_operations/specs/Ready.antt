@@ -1,5 +1,5 @@
--- What doing a deed asks of the page: the nodes that it speaks of are there, and are what its steps need. A deed that is
--- not built yet is never ready.
+-- What doing a deed asks of the page: the nodes that it speaks of are there, and are what its steps need. A question that
+-- is not built yet is never ready.
 use Rattle.std.specs.Prelude.{◌≡◌, true}
 use Rattle.node_trees.specs.declared.kind.NodeKind.TheVariants.{Element as ElementKind}
 use Rattle.node_trees.specs.Nodes.{IsNode, IsNodeOrNone}
@@ -20,7 +20,7 @@ IsReadyOnPage f (page_deeds.Remove parent n) = IsNode f n
 IsReadyOnPage f (page_deeds.Detach n) = IsNode f n
 IsReadyOnPage f (page_deeds.SetAttr n name value) = IsNode f n × (kind_at f n ≡ ElementKind)
 IsReadyOnPage f (page_deeds.DelAttr n name) = IsNode f n × (kind_at f n ≡ ElementKind)
-IsReadyOnPage f (page_deeds.Clone n deep) = ⊥
+IsReadyOnPage f (page_deeds.Clone n deep) = IsNode f n
 IsReadyOnPage f (page_deeds.Adopt document n) = IsNode f n
 IsReadyOnPage f (page_deeds.Upgrade n) = IsNode f n
 
@@ -32,7 +32,7 @@ IsStill deed = Unit {0}
 
 abbrev pub IsReady : Trees → Deed → Type 0
 IsReady f (deeds.Create local is document) = Unit {0}
-IsReady f (deeds.New class) = ⊥
+IsReady f (deeds.New class) = Unit {0}
 IsReady f (deeds.Define name class base) = Unit {0}
 IsReady f (OnPage what) = IsReadyOnPage f what
 IsReady f (deeds.Ask word n name) = IsNode f n × (is_built_word word ≡ true)

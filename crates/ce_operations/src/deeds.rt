@@ -65,7 +65,7 @@ pub fn run_on_page(state: &mut State, alloc: Global, what: PageDeed) -> Result<G
         PageDeed::DelAttr { node, name } => {
             gives_nothing(state.remove_named(alloc, node, name.as_str()))
         }
-        PageDeed::Clone { .. } => unreachable!(),
+        PageDeed::Clone { node, deep } => gives_node(state.clone_node(alloc, deep, node)),
         PageDeed::Adopt { document, node } => gives_nothing(state.adopt(alloc, document, node)),
         PageDeed::Upgrade { node } => gives_nothing(state.upgrade_all(alloc, node)),
     }

@@ -43,6 +43,13 @@ pub fn resolve(
                 document,
             })
         }
+        Op::New {
+            var: _,
+            class: class_name,
+        } => {
+            let class = class(state, class_name.as_str())?;
+            Ok(Deed::New { class })
+        }
         Op::MakeText {
             var: _,
             chars,
@@ -107,6 +114,14 @@ pub fn resolve(
             let node = element(state, this, node)?;
             let name = name.copy(alloc)?;
             Ok(Deed::OnPage(PageDeed::DelAttr { node, name }))
+        }
+        Op::Clone {
+            var: _,
+            node: operand,
+            deep,
+        } => {
+            let node = node(state, this, operand)?;
+            Ok(Deed::OnPage(PageDeed::Clone { node, deep: *deep }))
         }
         Op::Adopt {
             document,

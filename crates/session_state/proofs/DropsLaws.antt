@@ -3,7 +3,7 @@ use Rattle.std.proofs.Common.{◌≡◌, ℕ, zero, suc, ◌-◌, List, [], ◌�
 use Rattle.std.specs.Prelude.{MatchOption, IfNone}
 use Rattle.reaction_queue.specs.declared.reaction.Reaction.{Reaction}
 use Rattle.reaction_queue.specs.Changes.{DropsFirst}
-use Rattle.reaction_queue.specs.Queues.{Queues, ahead, waiting_at, with_list, with_waiting}
+use Rattle.reaction_queue.specs.Queues.{ahead, waiting_at, with_list, with_waiting}
 use Rattle.ce_algorithms.specs.declared.event.Event.TheVariants.{Dropped}
 use Rattle.ce_algorithms.specs.Page.{Page, with_queues}
 use Rattle.ce_algorithms.specs.State.{State, log, logged}

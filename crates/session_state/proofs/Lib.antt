@@ -2,8 +2,6 @@ pub mod VariableLaws
 pub mod PlaceLaws
 pub mod FlushLaws
 pub mod QueueLaws
-pub mod ConstructLaws
 pub mod PageLaws
 pub mod PartLaws
 pub mod DropsLaws
-pub mod UpgradeLaws

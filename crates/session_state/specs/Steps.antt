@@ -61,13 +61,6 @@ abbrev pub callee : Option Definition → Option ℕ
 callee None = None
 callee (Some d) = Some d.class
 
--- a call of the page may have made nodes; each reaction that got a number has spent fuel
-pub record GrowsWithin (old new : Page) (before now : ℕ) : Type 0 where
-  pub reactions : new.queues.reactions + now ≤ old.queues.reactions + before
-  pub fuel : now ≤ before
-  pub pushed : new.queues.pushed ≡ old.queues.pushed
-  pub nodes : size old.forest ≤ size new.forest
-
 -- the first element of the backup element queue is taken
 pub record TakesBackup (old new : State) (e : ℕ) : Type 0 where
   pub first : old.page.queues.backup ≡ e ∷ new.page.queues.backup

@@ -1,5 +1,5 @@
 // Constructing classes, and defining them.
-ghost use Rattle.std.specs.Prelude.{◌≡◌, ◌≤◌, ◌<◌, false, length, IfOk, IfSome};
+ghost use Rattle.std.specs.Prelude.{◌≡◌, ◌≤◌, ◌<◌, length, IfOk, IfSome, OnOk};
 ghost use Rattle.std.specs.Str.{str_to_ascii_lowercase};
 ghost use Rattle.rule_tokens.specs.declared.callback.CallName.TheVariants as calls;
 ghost use Rattle.node_trees.specs.Nodes.{IsNode, size};
@@ -7,15 +7,15 @@ ghost use Rattle.ce_registry.specs.declared.definition.Definition.{Definition as
 ghost use Rattle.ce_registry.specs.ClassFacts.{has_call};
 ghost use Rattle.ce_registry.specs.Registry.{by_class, is_value_of, may_define};
 ghost use Rattle.construction.specs.Stacks.{stack_of};
-ghost use Rattle.ce_algorithms.specs.Construct.{construct};
+ghost use Rattle.ce_algorithms.specs.declared.event.Event.TheVariants.{Construct};
 ghost use Rattle.ce_algorithms.specs.Construction.{base_call, base_entry, make_custom};
 ghost use Rattle.ce_algorithms.specs.Define.{define_name};
-ghost use Rattle.ce_algorithms.specs.Model.{model};
 ghost use Rattle.ce_algorithms.specs.Page.{definition_at};
 ghost use Rattle.ce_algorithms.specs.Perform.{define_element};
-ghost use Rattle.ce_algorithms.specs.State.{class_of, on_page};
+ghost use Rattle.ce_algorithms.specs.State.{class_of, logged, on_page};
 ghost use Rattle.ce_page.specs.Ends.{Ends, Does, work};
-ghost use Rattle.session_state.specs.Steps.{GrowsWithin, with_frozen};
+ghost use Rattle.ce_page.specs.Numbers.{GrowsWithin};
+ghost use Rattle.session_state.specs.Steps.{with_frozen};
 
 use crate::State;
 use crate::state::is_out_of_fuel;
@@ -24,6 +24,7 @@ use ce_base::{ClassNo, CustomState, DefNo, Fault, Fuel, NoMemory, NodeNo, Text};
 use ce_page::{Page, PageStop};
 use ce_registry::{ClassFacts, Definition};
 use construction::Base;
+use rule_tokens::CallName;
 use std::alloc::Global;
 
 impl State {
@@ -94,30 +95,51 @@ impl State {
         self.classes.freeze(class);
     }
 
-    /// Constructs a class (Web IDL, section "Invoking callback functions", "construct a callback
-    /// function"). Its constructor is the base call, since no class has one of its own yet.
-    pub fn construct(&mut self, alloc: Global, class: ClassNo) -> Result<NodeNo, PageStop>
-        ensures step { Ends (λ n. n) result self.new (construct model class self.old) }
-        ensures plain { has_call calls.Constructor (class_of self.old class).facts.calls ≡ false }
-        ensures made { IfOk result (IsNode self.new.page.forest) }
-        ensures grows { size self.old.page.forest ≤ size self.new.page.forest }
+    /// Logs that a class is constructed (Web IDL, section "Invoking callback functions", "construct a callback
+    /// function").
+    pub fn log_construction(&mut self, alloc: Global, class: ClassNo) -> Result<(), NoMemory>
+        ensures logged { OnOk result (self.new ≡ logged (Construct (class_of self.old class).name) self.old) }
+        ensures page { self.new.page ≡ self.old.page }
     {
         let name = self.class_name(alloc, class)?;
         self.log(Event::Construct(name))?;
-        let outcome = base_call(alloc, &mut self.page, &mut self.fuel, class);
-        self.after_call(is_out_of_fuel(&outcome))?;
-        outcome
+        Ok(())
     }
 
     // A class's name.
     fn class_name(&self, alloc: Global, class: ClassNo) -> Result<Text, NoMemory>
-        ensures name { IfOk result (λ name. name ≡ (class_of self.now class).name) }
-        ensures plain { has_call calls.Constructor (class_of self.now class).facts.calls ≡ false }
+        ensures { IfOk result (λ name. name ≡ (class_of self.now class).name) }
     {
         match self.classes.get(class) {
             None => Text::of(alloc, ""),
             Some(c) => Text::of(alloc, c.name()),
         }
+    }
+
+    /// Whether a class has a constructor of its own. Else its constructor is the base call alone.
+    pub fn has_constructor(&self, class: ClassNo) -> bool
+        ensures { result ≡ has_call calls.Constructor (class_of self.now class).facts.calls }
+    {
+        match self.classes.get(class) {
+            None => false,
+            Some(c) => c.facts().calls.has(CallName::Constructor),
+        }
+    }
+
+    /// The base call of a class's constructor (HTML Standard, section "HTML element constructors"). Where the
+    /// construction stack of its definition is empty, a new element is made, for one unit of fuel. Else the last
+    /// entry's element is given, and the already constructed marker takes its place.
+    ///
+    /// TypeError: the class has no definition, or the last entry is the marker.
+    pub fn base_call(&mut self, alloc: Global, class: ClassNo) -> Result<NodeNo, PageStop>
+        ensures step { Ends (λ n. n) result self.new (on_page (base_call class) self.old) }
+        ensures made { IfOk result (IsNode self.new.page.forest) }
+        ensures grows { size self.old.page.forest ≤ size self.new.page.forest }
+        ensures less { self.new.fuel ≤ self.old.fuel }
+    {
+        let outcome = base_call(alloc, &mut self.page, &mut self.fuel, class);
+        self.after_call(is_out_of_fuel(&outcome))?;
+        outcome
     }
 }
 

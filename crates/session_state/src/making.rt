@@ -6,7 +6,7 @@ ghost use Rattle.ce_algorithms.specs.CreateLater.{make_in_state};
 ghost use Rattle.ce_algorithms.specs.Making.{make_document, make_text};
 ghost use Rattle.ce_algorithms.specs.State.{on_page};
 ghost use Rattle.ce_page.specs.Ends.{Ends, work};
-ghost use Rattle.session_state.specs.Steps.{GrowsWithin};
+ghost use Rattle.ce_page.specs.Numbers.{GrowsWithin};
 
 use crate::State;
 use crate::state::is_out_of_fuel;
@@ -37,7 +37,9 @@ impl State {
         ensures made { IfOk result (IsNode self.new.page.forest) }
         ensures grows { size self.old.page.forest ≤ size self.new.page.forest }
     {
-        let outcome = make_text(alloc, &mut self.page, &mut self.fuel, chars, document);
+        let outcome = self
+            .page
+            .create_text(alloc, chars, document, &mut self.fuel);
         self.after_call(is_out_of_fuel(&outcome))?;
         outcome
     }
@@ -57,15 +59,9 @@ impl State {
         ensures element { IfOk result (IsElement self.new.page.forest) }
         ensures grows { size self.old.page.forest ≤ size self.new.page.forest }
     {
-        let outcome = make_in_state(
-            alloc,
-            &mut self.page,
-            &mut self.fuel,
-            local,
-            is,
-            document,
-            state,
-        );
+        let outcome = self
+            .page
+            .create_in_state(alloc, local, is, document, state, &mut self.fuel);
         self.after_call(is_out_of_fuel(&outcome))?;
         outcome
     }
@@ -80,45 +76,5 @@ fn make_document(alloc: Global, page: &mut Page, fuel: &mut Fuel) -> Result<Node
         return Err(PageStop::FuelSpent);
     }
     let n = page.make_document(alloc)?;
-    Ok(n)
-}
-
-fn make_text(
-    alloc: Global,
-    page: &mut Page,
-    fuel: &mut Fuel,
-    chars: Text,
-    document: NodeNo,
-) -> Result<NodeNo, PageStop>
-    ensures step { Ends (λ n. n) result (work page.new fuel.new) (make_text chars document (work page.old fuel.old)) }
-    ensures within { GrowsWithin page.old page.new fuel.old fuel.new }
-    ensures made { IfOk result (IsNode page.new.forest) }
-{
-    if !fuel.spend() {
-        return Err(PageStop::FuelSpent);
-    }
-    let n = page.make_text(alloc, chars, document)?;
-    Ok(n)
-}
-
-fn make_in_state(
-    alloc: Global,
-    page: &mut Page,
-    fuel: &mut Fuel,
-    local: Text,
-    is: Option<Text>,
-    document: NodeNo,
-    state: CustomState,
-) -> Result<NodeNo, PageStop>
-    ensures step { Ends (λ n. n) result (work page.new fuel.new) (make_in_state local is document state (work page.old fuel.old)) }
-    ensures within { GrowsWithin page.old page.new fuel.old fuel.new }
-    ensures made { IfOk result (IsNode page.new.forest) }
-    ensures element { IfOk result (IsElement page.new.forest) }
-{
-    if !fuel.spend() {
-        return Err(PageStop::FuelSpent);
-    }
-    let n = page.make_element(alloc, local, is, document)?;
-    page.set_state(n, state);
     Ok(n)
 }

@@ -1,7 +1,7 @@
 // The parts of classes.
 ghost use Rattle.std.specs.Prelude.{◌≡◌, ◌<◌, [], true, length, IfOk};
 ghost use Rattle.rule_lines.specs.Acts.{act_of, part_of};
-ghost use Rattle.rule_script.specs.Built.{is_built_act, is_built_call, is_built_part};
+ghost use Rattle.rule_script.specs.Built.{is_built_act, is_built_part};
 ghost use Rattle.ce_algorithms.specs.Parts.{add_class, change_facts, change_open, open_class, part, with_body, with_has, with_observed, without_internals, without_shadow};
 ghost use Rattle.frame_stack.specs.Sessions.{ArePaired, session};
 ghost use Rattle.session_state.specs.Steps.{with_call_at};
@@ -94,7 +94,6 @@ impl State {
         call: CallName,
         action: Action,
     ) -> Result<(), Refused>
-        requires call { is_built_call call ≡ true }
         requires action { is_built_act (act_of action) ≡ true }
         requires rest { stack.old.frames ≡ [] }
         requires paired { ArePaired stack.old self.old }
@@ -119,15 +118,13 @@ impl State {
 
     // The class has the callback.
     fn call_added(&mut self, k: ClassNo, call: CallName)
-        requires call { is_built_call call ≡ true }
-        requires within { k < length self.old.classes }
+        requires { k < length self.old.classes }
         ensures { self.new ≡ with_call_at k call self.old }
     {
         self.classes.add_call(k, call);
     }
 
     fn add_call(&mut self, class: &Text, call: CallName) -> Result<(), Refused>
-        requires { is_built_call call ≡ true }
         ensures { Takes result self.new (change_open class.now (change_facts (with_has call)) self.old) }
     {
         let k = self.open_class(class.as_str())?;

@@ -1,14 +1,15 @@
 // The primitives of the page, as steps of a session.
-ghost use Rattle.std.specs.Prelude.{◌≡◌, ◌≤◌, ◌+◌, ◌<◌, ◌^◌};
+ghost use Rattle.std.specs.Prelude.{◌≡◌, ◌≤◌, ◌+◌, ◌<◌, ◌^◌, IfOk};
 ghost use Rattle.std.specs.Str.{str_to_ascii_lowercase};
 ghost use Rattle.node_trees.specs.declared.kind.NodeKind.TheVariants.{Element as ElementKind};
 ghost use Rattle.node_trees.specs.Nodes.{IsNode, IsNodeOrNone, size};
 ghost use Rattle.node_trees.specs.Spots.{kind_at};
 ghost use Rattle.ce_algorithms.specs.Attributes.{remove_attribute};
+ghost use Rattle.ce_algorithms.specs.Clone.{clone};
 ghost use Rattle.ce_algorithms.specs.Mutation.{pre_insert};
 ghost use Rattle.ce_algorithms.specs.Perform.{adopt_node, detach, remove_child, set_named, upgrade_all};
 ghost use Rattle.ce_algorithms.specs.State.{on_page};
-ghost use Rattle.ce_page.specs.Ends.{Does, work};
+ghost use Rattle.ce_page.specs.Ends.{Does, Ends, work};
 ghost use Rattle.ce_page.specs.Numbers.{StaysWithin};
 
 use crate::State;
@@ -79,6 +80,26 @@ impl State {
         ensures grows { size self.old.page.forest ≤ size self.new.page.forest }
     {
         let outcome = adopt(alloc, &mut self.page, &mut self.fuel, document, node);
+        self.after_call(is_out_of_fuel(&outcome))?;
+        outcome
+    }
+
+    /// Clones a node, with all below it where the clone is deep, and gives the copy, which stands nowhere (DOM
+    /// Standard, section "Interface Node", `cloneNode`). Shadow trees are not cloned, and the upgrade of a
+    /// custom element is enqueued. A document or a shadow root is refused with NotSupportedError, and then
+    /// nothing has changed.
+    pub fn clone_node(
+        &mut self,
+        alloc: Global,
+        deep: bool,
+        node: NodeNo,
+    ) -> Result<NodeNo, PageStop>
+        requires { IsNode self.old.page.forest node }
+        ensures step { Ends (λ n. n) result self.new (on_page (clone deep node) self.old) }
+        ensures made { IfOk result (IsNode self.new.page.forest) }
+        ensures grows { size self.old.page.forest ≤ size self.new.page.forest }
+    {
+        let outcome = self.page.clone_node(alloc, deep, node, &mut self.fuel);
         self.after_call(is_out_of_fuel(&outcome))?;
         outcome
     }

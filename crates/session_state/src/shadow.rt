@@ -7,7 +7,7 @@ ghost use Rattle.ce_algorithms.specs.Making.{make_shadow_root};
 ghost use Rattle.ce_algorithms.specs.Perform.{attach_shadow, disables_shadow, is_shadow_disabled};
 ghost use Rattle.ce_algorithms.specs.State.{on_page};
 ghost use Rattle.ce_page.specs.Ends.{Ends, work};
-ghost use Rattle.session_state.specs.Steps.{GrowsWithin};
+ghost use Rattle.ce_page.specs.Numbers.{GrowsWithin};
 
 use crate::State;
 use crate::state::is_out_of_fuel;

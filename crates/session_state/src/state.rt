@@ -110,6 +110,7 @@ impl State {
     pub fn log(&mut self, e: Event) -> Result<(), NoMemory>
         ensures logged { OnOk result (self.new ≡ logged e self.old) }
         ensures page { self.new.page ≡ self.old.page }
+        ensures fuel { self.new.fuel ≡ self.old.fuel }
     {
         self.log.push(e)?;
         Ok(())
@@ -133,6 +134,7 @@ impl State {
         ensures logged { OnOk result (self.new ≡ after_call spent self.old) }
         ensures queues { self.new.page.queues ≡ self.old.page.queues }
         ensures forest { self.new.page.forest ≡ self.old.page.forest }
+        ensures fuel { self.new.fuel ≡ self.old.fuel }
     {
         self.log_notes()?;
         if spent {
@@ -146,6 +148,7 @@ impl State {
         ensures logged { OnOk result (self.new ≡ with_work (work_of self.old) self.old) }
         ensures queues { self.new.page.queues ≡ self.old.page.queues }
         ensures forest { self.new.page.forest ≡ self.old.page.forest }
+        ensures fuel { self.new.fuel ≡ self.old.fuel }
     {
         while let Some(note) = self.next_note() {
             self.log(Event::Enqueued(note.number, note.node, note.what, note.queue))?;
@@ -157,6 +160,7 @@ impl State {
         ensures first { MatchOption result ((self.old.page.notes ≡ []) × (self.new ≡ self.old)) (λ n. (self.old.page.notes ≡ n ∷ self.new.page.notes) × (self.new ≡ record self.old { page = record (self.old.page) { notes = self.new.page.notes } })) }
         ensures queues { self.new.page.queues ≡ self.old.page.queues }
         ensures forest { self.new.page.forest ≡ self.old.page.forest }
+        ensures fuel { self.new.fuel ≡ self.old.fuel }
     {
         self.page.take_note()
     }

@@ -13,7 +13,8 @@ ghost use Rattle.ce_algorithms.specs.State.{change_page, on_page};
 ghost use Rattle.ce_algorithms.specs.Steps.{Goes, Throws, for_each, where_is};
 ghost use Rattle.ce_algorithms.specs.Upgrade.{begin_upgrade, drop_reactions, enqueue_attribute, is_shadow_refused, upgrade_ends, upgrade_threw};
 ghost use Rattle.ce_page.specs.Ends.{Does, work};
-ghost use Rattle.session_state.specs.Steps.{DropsReaction, GrowsWithin};
+ghost use Rattle.ce_page.specs.Numbers.{GrowsWithin};
+ghost use Rattle.session_state.specs.Steps.{DropsReaction};
 
 use crate::State;
 use crate::shadow::disables_shadow;

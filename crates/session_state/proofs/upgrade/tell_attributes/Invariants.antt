@@ -3,7 +3,7 @@ use Rattle.node_trees.specs.Spots.{facts_at}
 use Rattle.ce_algorithms.specs.Steps.{for_each}
 use Rattle.ce_algorithms.specs.Upgrade.{enqueue_attribute}
 use Rattle.ce_page.specs.Ends.{work}
-use Rattle.session_state.specs.Steps.{GrowsWithin}
+use Rattle.ce_page.specs.Numbers.{GrowsWithin}
 use Rattle.session_state.proofs.upgrade.tell_attributes.Given as goal
 
 abbrev pub invariant-loop-i : goal.invariant-loop-i

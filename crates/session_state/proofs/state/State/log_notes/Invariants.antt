@@ -7,6 +7,7 @@ invariant-loop-note l = record {
   work : with_work (work_of l.self) l.self ≡ with_work (work_of l.initial.self) l.initial.self;
   queues : l.self.page.queues ≡ l.initial.self.page.queues;
   forest : l.self.page.forest ≡ l.initial.self.page.forest;
+  fuel : l.self.fuel ≡ l.initial.self.fuel;
 }
 
 abbrev pub decreases-loop-note : goal.decreases-loop-note
