@@ -1,6 +1,6 @@
 -- Turns of bodies, of the whole session.
 use Rattle.std.proofs.Common.{◌≡◌, ℕ, zero, suc, ◌<◌, ◌≤◌, Bool, true, false, List, [], ◌∷◌, ◌++◌, length, map, Option, Some, None, refl, ap, sym, ◌∙◌, subst, arith, length-set}
-use Rattle.std.specs.Prelude.{Result, Ok, Err, IfOk, OnOk, IfSome, IfNone, slice_get, slice_set, ◌⊎◌}
+use Rattle.std.specs.Prelude.{Result, Ok, Err, IfOk, IfSome, IfNone, slice_get, slice_set, ◌⊎◌}
 use Rattle.std.proofs.Common.{inl, inr}
 use Rattle.std.proofs.lemmas.Bool.{cases_lt}
 use Rattle.ce_base.specs.declared.fault.Fault.{Fault}
@@ -40,15 +40,20 @@ use Rattle.frame_stack.specs.Resumes.{Proceeds, Resumes, is_guarded, resumed_of}
 use Rattle.frame_stack.specs.Sessions.{ArePaired, session}
 use Rattle.frame_stack.specs.Stacked.{Stacked, HasBody, Running, behaviour_at, behaviours_of, below_top, frames_of, guarded_of, in_body, this_of, top_of}
 use Rattle.frame_stack.proofs.TopLaws.{below_push, top_below, top_push}
-use Rattle.ce_reactions.specs.Blind.{BlindAt}
 use Rattle.ce_machine.specs.Bodies.{GoesOn, StopsAt, acting_turn, answer, frame_on_top, given_node, or_constructing, running_turn, stopped_turn}
 use Rattle.ce_reactions.specs.declared.came.Came.{Came}
 use Rattle.ce_reactions.specs.declared.came.Came.TheVariants.{Went, Threw, Over}
-use Rattle.ce_reactions.specs.Placed.{StaysPlaced}
+use Rattle.ce_operations.specs.Given.{IsThere}
+use Rattle.ce_reactions.specs.Placed.{Lasts, StaysPlaced}
 use Rattle.ce_reactions.specs.Turns.{Turns}
-use Rattle.ce_reactions.proofs.SessionLaws.{lifted, session_is}
-use Rattle.ce_machine.proofs.FrameLaws.{lifted_stays}
+use Rattle.ce_reactions.proofs.SessionLaws.{session_is}
 use Rattle.ce_reactions.proofs.TurnLaws.{turns_as, turns_ended, turns_pushed}
+
+-- where the forest has grown
+
+this_grows : (F G : Trees) (o : Option ℕ) → size F ≤ size G → IfSome o (IsNode F) → IfSome o (IsNode G)
+this_grows F G None le h = tt
+this_grows F G (Some n) le h = record { low = h.low; high = let x = h.high in omega (arith, x, le) }
 
 -- the frame on top
 
@@ -64,18 +69,24 @@ top_as stack b f g s t e = ap (λ (x : Frame). f x s) (on_top stack b) ∙ e ∙
 
 -- the body has ended
 
+-- what it gave is there, where it ended
+abbrev pub IsDown : Outcome State Given → Type 0
+IsDown (Goes given s) = IsThere s.page.forest given
+IsDown (Throws f s) = Unit {0}
+IsDown (Spent s) = Unit {0}
+
 abbrev pub forest_in : Outcome State Given → Trees
 forest_in (Goes given s) = s.page.forest
 forest_in (Throws f s) = s.page.forest
 forest_in (Spent s) = s.page.forest
 
-stays_in : (F : Trees) (o : Outcome State Given) → forest_in o ≡ F → StaysPlaced F (ended o)
-stays_in F (Goes given s) same = let n = ap size same in record { grows = omega (arith, n); placed = tt }
-stays_in F (Throws f s) same = let n = ap size same in record { grows = omega (arith, n); placed = tt }
-stays_in F (Spent s) same = let n = ap size same in record { grows = omega (arith, n); placed = tt }
+lasts_in : (F : Trees) (o : Outcome State Given) → size F ≤ size (forest_in o) → IsDown o → Lasts F (ended o)
+lasts_in F (Goes given s) le h = record { grows = le; gives = h; placed = tt }
+lasts_in F (Throws f s) le h = record { grows = le; gives = tt; placed = tt }
+lasts_in F (Spent s) le h = record { grows = le; gives = tt; placed = tt }
 
-pub stays_ended : (F : Trees) (o : Outcome State Given) (t : Turned) → forest_in o ≡ F → ended o ≡ t → StaysPlaced F t
-stays_ended F o t same e = subst (StaysPlaced F) e (stays_in F o same)
+pub lasts_ended : (F : Trees) (o : Outcome State Given) (t : Turned) → size F ≤ size (forest_in o) → IsDown o → ended o ≡ t → Lasts F t
+lasts_ended F o t le h e = subst (Lasts F) e (lasts_in F o le h)
 
 -- with no fuel left
 
@@ -87,8 +98,8 @@ pub spent_turns : (old new : Stacked) (s s1 : State) → HasBody (frames_of old)
 spent_turns old new s s1 b fs same is =
     turns_ended (below_top (frames_of old)) (frames_of new) Over (session new s1) (Spent (logged FuelLine (session old s))) _ fs (ap (λ (t : State). Spent t) (session_is old new s1 (logged FuelLine s) same is)) (spent_is old b s)
 
-pub spent_stays : (old : Stacked) (s : State) → HasBody (frames_of old) → StaysPlaced s.page.forest (stopped_turn OutOfFuel (frame_on_top old) (session old s))
-spent_stays old s b = stays_ended s.page.forest (Spent (logged FuelLine (session old s))) _ refl (spent_is old b s)
+pub spent_lasts : (old : Stacked) (s : State) → HasBody (frames_of old) → Lasts s.page.forest (stopped_turn OutOfFuel (frame_on_top old) (session old s))
+spent_lasts old s b = lasts_ended s.page.forest (Spent (logged FuelLine (session old s))) _ (omega arith) tt (spent_is old b s)
 
 -- by a fault
 
@@ -101,8 +112,8 @@ pub thrown_turns : (old new : Stacked) (s : State) (f : Fault) (guarded : Bool) 
 thrown_turns old new s f guarded b off fs same =
     turns_ended (below_top (frames_of old)) (frames_of new) (Threw f) (session new s) (Throws f (session old s)) _ fs (ap (λ (t : State). Throws f t) (session_is old new s s same refl)) (thrown_is old b s f guarded off)
 
-pub thrown_stays : (old : Stacked) (s : State) (f : Fault) (guarded : Bool) → HasBody (frames_of old) → guarded ≡ false → StaysPlaced s.page.forest (stopped_turn (Throwing f guarded) (frame_on_top old) (session old s))
-thrown_stays old s f guarded b off = stays_ended s.page.forest (Throws f (session old s)) _ refl (thrown_is old b s f guarded off)
+pub thrown_lasts : (old : Stacked) (s : State) (f : Fault) (guarded : Bool) → HasBody (frames_of old) → guarded ≡ false → Lasts s.page.forest (stopped_turn (Throwing f guarded) (frame_on_top old) (session old s))
+thrown_lasts old s f guarded b off = lasts_ended s.page.forest (Throws f (session old s)) _ (omega arith) tt (thrown_is old b s f guarded off)
 
 -- what it returns
 
@@ -157,23 +168,25 @@ pub returned_turns : (old new : Stacked) (s : State) (this : Option ℕ) (value 
 returned_turns old new s this value guarded given b is h fs same =
     turns_ended (below_top (frames_of old)) (frames_of new) (Went given) (session new s) (Goes given (session old s)) _ fs (ap (λ (t : State). Goes given t) (session_is old new s s same refl)) (returned_is old b s this value guarded given is h)
 
-pub returned_stays : (old : Stacked) (s : State) (this : Option ℕ) (value : Option Operand) (guarded : Bool) (given : Given) → HasBody (frames_of old) → this ≡ this_of (top_of (frames_of old)) → answer this s value ≡ Ok given
-    → StaysPlaced s.page.forest (stopped_turn (Returning value guarded) (frame_on_top old) (session old s))
-returned_stays old s this value guarded given b is h = stays_ended s.page.forest (Goes given (session old s)) _ refl (returned_is old b s this value guarded given is h)
+pub returned_lasts : (old : Stacked) (s : State) (this : Option ℕ) (value : Option Operand) (guarded : Bool) (given : Given) → HasBody (frames_of old) → this ≡ this_of (top_of (frames_of old)) → answer this s value ≡ Ok given → IsThere s.page.forest given
+    → Lasts s.page.forest (stopped_turn (Returning value guarded) (frame_on_top old) (session old s))
+returned_lasts old s this value guarded given b is h there = lasts_ended s.page.forest (Goes given (session old s)) _ (omega arith) there (returned_is old b s this value guarded given is h)
 
 -- the body goes on
 
 -- behind an event that was logged
 logged_goes_on : (old : Stacked) (s s1 t : State) (f : Frame → Turn) → HasBody (frames_of old) → ArePaired old s → s1 ≡ t → t.classes ≡ s.classes → t.page ≡ s.page → t.fuel ≡ s.fuel → running_turn (frame_on_top old) (session old t) ≡ f (frame_on_top old) (session old s) → GoesOn old old s s1 f
-logged_goes_on old s s1 t f b paired is classes page fuel same = record {
-  body = b;
-  below = refl;
-  this = refl;
-  same = ap (λ (x : State). running_turn (frame_on_top old) (session old x)) is ∙ same;
-  paired = ap length (ap (λ (x : State). x.classes) is ∙ classes) ∙ paired;
-  forest = ap (λ (x : State). x.page.forest) is ∙ ap (λ p. p.forest) page;
-  fuel = let e = ap (λ (x : State). x.fuel) is in omega (arith, e, fuel);
-}
+logged_goes_on old s s1 t f b paired is classes page fuel same =
+    let forest : s1.page.forest ≡ s.page.forest = ap (λ (x : State). x.page.forest) is ∙ ap (λ p. p.forest) page in
+    record {
+      body = b;
+      below = refl;
+      this = λ there. subst (λ (F : Trees). IfSome (this_of (top_of (frames_of old))) (IsNode F)) (sym forest) there;
+      same = ap (λ (x : State). running_turn (frame_on_top old) (session old x)) is ∙ same;
+      paired = ap length (ap (λ (x : State). x.classes) is ∙ classes) ∙ paired;
+      grows = let e = ap size forest in omega (arith, e);
+      fuel = let e = ap (λ (x : State). x.fuel) is in omega (arith, e, fuel);
+    }
 
 -- a fault was caught
 pub caught_goes_on : (old : Stacked) (s s1 : State) (f : Fault) (guarded : Bool) → HasBody (frames_of old) → ArePaired old s → guarded ≡ true → s1 ≡ logged (Caught f) s → GoesOn old old s s1 (stopped_turn (Throwing f guarded))
@@ -187,20 +200,32 @@ log_goes_on old s s1 vals b paired is =
     logged_goes_on old s s1 (logged (Logged (map fixed_text vals)) s) (acting_turn (Log vals)) b paired is refl refl refl
     (top_as old b running_turn (acting_turn (Log vals)) (session old (logged (Logged (map fixed_text vals)) s)) (session old s) refl)
 
+-- from an earlier state on, by a turn that comes to the same
+pub goes_on_from : (old new : Stacked) (s s1 s2 : State) (f g : Frame → Turn) → f (frame_on_top old) (session old s1) ≡ g (frame_on_top old) (session old s) → size s.page.forest ≤ size s1.page.forest → s1.fuel ≤ s.fuel → GoesOn old new s1 s2 f → GoesOn old new s s2 g
+goes_on_from old new s s1 s2 f g e le less h = record {
+  body = h.body;
+  below = h.below;
+  this = λ there. h.this (this_grows s.page.forest s1.page.forest (this_of (top_of (frames_of old))) le there);
+  same = h.same ∙ e;
+  paired = h.paired;
+  grows = let x = h.grows in omega (arith, x, le);
+  fuel = let x = h.fuel in omega (arith, x, less);
+}
+
 pub goes_on_as : (old new : Stacked) (s s1 : State) (f g : Frame → Turn) → f (frame_on_top old) (session old s) ≡ g (frame_on_top old) (session old s) → GoesOn old new s s1 f → GoesOn old new s s1 g
-goes_on_as old new s s1 f g e h = record { body = h.body; below = h.below; this = h.this; same = h.same ∙ e; paired = h.paired; forest = h.forest; fuel = h.fuel }
+goes_on_as old new s s1 f g e h = goes_on_from old new s s s1 f g e (omega arith) (omega arith) h
 
 pub goes_on_here : (old : Stacked) (s : State) → HasBody (frames_of old) → ArePaired old s → GoesOn old old s s running_turn
-goes_on_here old s b paired = record { body = b; below = refl; this = refl; same = refl; paired = paired; forest = refl; fuel = omega arith }
+goes_on_here old s b paired = record { body = b; below = refl; this = λ there. there; same = refl; paired = paired; grows = omega arith; fuel = omega arith }
 
 pub goes_on_then : (first mid last : Stacked) (s t u : State) (f : Frame → Turn) → GoesOn first mid s t running_turn → GoesOn mid last t u f → f (frame_on_top mid) (session mid t) ≡ running_turn (frame_on_top mid) (session mid t) → GoesOn first last s u running_turn
 goes_on_then first mid last s t u f a b e = record {
   body = b.body;
   below = b.below ∙ a.below;
-  this = b.this ∙ a.this;
+  this = λ there. b.this (a.this there);
   same = b.same ∙ e ∙ a.same;
   paired = b.paired;
-  forest = b.forest ∙ a.forest;
+  grows = let x = a.grows in let y = b.grows in omega (arith, x, y);
   fuel = let x = a.fuel in let y = b.fuel in omega (arith, x, y);
 }
 
@@ -211,34 +236,23 @@ this_there old new s t this forest h =
 
 -- an operation runs above it
 
-this_grows : (F G : Trees) (o : Option ℕ) → size F ≤ size G → IfSome o (IsNode F) → IfSome o (IsNode G)
-this_grows F G None le h = tt
-this_grows F G (Some n) le h = record { low = h.low; high = let x = h.high in omega (arith, x, le) }
-
 acting_is : (old : Stacked) (b : HasBody (frames_of old)) (s : State) (this : Option ℕ) (op : Op) → this ≡ this_of (top_of (frames_of old)) → with_below (in_body b.body) (operate_turn this op (session old s)) ≡ acting_turn (Both op) (frame_on_top old) (session old s)
 acting_is old b s this op is =
     ap (λ (t : Option ℕ). with_below (in_body b.body) (operate_turn t op (session old s))) (is ∙ ap this_of b.top)
     ∙ sym (ap (λ (x : Frame). acting_turn (Both op) x (session old s)) (on_top old b))
 
-pub operation_turns : (old new : Stacked) (s s1 : State) (now : Came) (this : Option ℕ) (op : Op) → HasBody (frames_of old) → this ≡ this_of (top_of (frames_of old)) → BlindAt (operate_turn this op) s
-    → Turns (frames_of old) (frames_of new) now s1 (operate_turn this op s) → behaviours_of new ≡ behaviours_of old → Turns (below_top (frames_of old)) (frames_of new) now (session new s1) (acting_turn (Both op) (frame_on_top old) (session old s))
-operation_turns old new s s1 now this op b is blind h same =
-    turns_as (below_top (frames_of old)) (frames_of new) now (session new s1) _ _ (acting_is old b s this op is)
-    (turns_pushed (below_top (frames_of old)) (frames_of old) (frames_of new) (in_body b.body) now (session new s1) (operate_turn this op (session old s)) (top_below (frames_of old) (in_body b.body) b.top)
-    (lifted (operate_turn this op) old new (frames_of old) (frames_of new) now s s1 blind h same))
+pub operation_turns : (old new : Stacked) (s t : State) (this : Option ℕ) (op : Op) (r : Result Came NoMemory) → HasBody (frames_of old) → this ≡ this_of (top_of (frames_of old)) → IfOk r (λ (now : Came). Turns (frames_of old) (frames_of new) now t (operate_turn this op (session old s)))
+    → IfOk r (λ (now : Came). Turns (below_top (frames_of old)) (frames_of new) now t (acting_turn (Both op) (frame_on_top old) (session old s)))
+operation_turns old new s t this op (Ok now) b is h =
+    turns_as (below_top (frames_of old)) (frames_of new) now t _ _ (acting_is old b s this op is)
+    (turns_pushed (below_top (frames_of old)) (frames_of old) (frames_of new) (in_body b.body) now t (operate_turn this op (session old s)) (top_below (frames_of old) (in_body b.body) b.top) h)
+operation_turns old new s t this op (Err x) b is h = tt
 
-pub operation_ok : (old new : Stacked) (s s1 : State) (this : Option ℕ) (op : Op) (r : Result Came NoMemory) → HasBody (frames_of old) → this ≡ this_of (top_of (frames_of old)) → OnOk r (BlindAt (operate_turn this op) s)
-    → IfOk r (λ (now : Came). Turns (frames_of old) (frames_of new) now s1 (operate_turn this op s)) → OnOk r (behaviours_of new ≡ behaviours_of old)
-    → IfOk r (λ (now : Came). Turns (below_top (frames_of old)) (frames_of new) now (session new s1) (acting_turn (Both op) (frame_on_top old) (session old s)))
-operation_ok old new s s1 this op (Ok now) b is blind h same = operation_turns old new s s1 now this op b is blind h same
-operation_ok old new s s1 this op (Err x) b is blind h same = tt
-
-pub operation_stays : (old : Stacked) (s : State) (this : Option ℕ) (op : Op) → HasBody (frames_of old) → this ≡ this_of (top_of (frames_of old)) → IfSome (this_of (top_of (frames_of old))) (IsNode s.page.forest) → BlindAt (operate_turn this op) s
-    → StaysPlaced s.page.forest (operate_turn this op s) → StaysPlaced s.page.forest (acting_turn (Both op) (frame_on_top old) (session old s))
-operation_stays old s this op b is there blind h =
-    let k = lifted_stays (operate_turn this op) old s.page.forest s blind h in
-    subst (StaysPlaced s.page.forest) (acting_is old b s this op is)
-    (record { grows = k.grows; placed = (this_grows s.page.forest (operate_turn this op (session old s)).state.page.forest b.body.this k.grows (subst (λ (o : Option ℕ). IfSome o (IsNode s.page.forest)) (ap this_of b.top) there), k.placed) })
+pub operation_lasts : (old : Stacked) (s : State) (this : Option ℕ) (op : Op) → HasBody (frames_of old) → this ≡ this_of (top_of (frames_of old)) → IfSome (this_of (top_of (frames_of old))) (IsNode s.page.forest)
+    → StaysPlaced s.page.forest (operate_turn this op (session old s)) → Lasts s.page.forest (acting_turn (Both op) (frame_on_top old) (session old s))
+operation_lasts old s this op b is there k =
+    subst (Lasts s.page.forest) (acting_is old b s this op is)
+    (record { grows = k.grows; gives = tt; placed = (this_grows s.page.forest (operate_turn this op (session old s)).state.page.forest b.body.this k.grows (subst (λ (o : Option ℕ). IfSome o (IsNode s.page.forest)) (ap this_of b.top) there), k.placed) })
 
 -- where a body has stopped, it goes on
 
@@ -346,23 +360,25 @@ stops_turns old mid s s1 t stop new o k h =
     subst (λ (u : Turned). IfSome o (λ (now : Came). Turns (below_top (frames_of old)) new now t u)) k.same
     (subst (λ (l : List Frame). IfSome o (λ (now : Came). Turns l new now t (stopped_turn stop (frame_on_top mid) (session mid s1)))) k.below h)
 
-pub stops_stays : (old mid : Stacked) (s s1 : State) (stop : Stop) (o : Option Came) → StopsAt old mid s s1 stop → s1 ≡ record s { fuel = s1.fuel }
-    → IfSome o (λ (now : Came). StaysPlaced s1.page.forest (stopped_turn stop (frame_on_top mid) (session mid s1))) → IfSome o (λ (now : Came). StaysPlaced s.page.forest (running_turn (frame_on_top old) (session old s)))
-stops_stays old mid s s1 stop o k is h =
-    subst (λ (F : Trees). IfSome o (λ (now : Came). StaysPlaced F (running_turn (frame_on_top old) (session old s)))) (ap (λ (x : State). x.page.forest) is)
-    (subst (λ (u : Turned). IfSome o (λ (now : Came). StaysPlaced s1.page.forest u)) k.same h)
+pub stops_lasts : (old mid : Stacked) (s s1 : State) (stop : Stop) (o : Option Came) → StopsAt old mid s s1 stop → s1 ≡ record s { fuel = s1.fuel }
+    → IfSome o (λ (now : Came). Lasts s1.page.forest (stopped_turn stop (frame_on_top mid) (session mid s1))) → IfSome o (λ (now : Came). Lasts s.page.forest (running_turn (frame_on_top old) (session old s)))
+stops_lasts old mid s s1 stop o k is h =
+    subst (λ (F : Trees). IfSome o (λ (now : Came). Lasts F (running_turn (frame_on_top old) (session old s)))) (ap (λ (x : State). x.page.forest) is)
+    (subst (λ (u : Turned). IfSome o (λ (now : Came). Lasts s1.page.forest u)) k.same h)
 
 pub stops_goes_on : (old mid new : Stacked) (s s1 t : State) (stop : Stop) (o : Option Came) → StopsAt old mid s s1 stop → s1 ≡ record s { fuel = s1.fuel } → IfNone o (s1.fuel < s.fuel) → IfNone o (GoesOn mid new s1 t (stopped_turn stop)) → IfNone o (GoesOn old new s t running_turn)
 stops_goes_on old mid new s s1 t stop (Some now) k is less h = tt
-stops_goes_on old mid new s s1 t stop None k is less h = record {
-  body = h.body;
-  below = h.below ∙ k.below;
-  this = h.this ∙ k.this;
-  same = h.same ∙ k.same;
-  paired = h.paired;
-  forest = h.forest ∙ ap (λ (x : State). x.page.forest) is;
-  fuel = let x = h.fuel in omega (arith, x, less);
-}
+stops_goes_on old mid new s s1 t stop None k is less h =
+    let forest : s1.page.forest ≡ s.page.forest = ap (λ (x : State). x.page.forest) is in
+    record {
+      body = h.body;
+      below = h.below ∙ k.below;
+      this = λ there. h.this (this_there old mid s s1 k.this forest there);
+      same = h.same ∙ k.same;
+      paired = h.paired;
+      grows = let x = h.grows in let e = ap size forest in omega (arith, x, e);
+      fuel = let x = h.fuel in omega (arith, x, less);
+    }
 
 pub stops_spends : (s s1 : State) (next : Next) (stop : Stop) (o : Option Came) → stop_of next ≡ stop → (Proceeds (stop_of next) → s1.fuel < s.fuel) → IfNone o (Proceeds stop) → IfNone o (s1.fuel < s.fuel)
 stops_spends s s1 next stop (Some now) is spends h = tt
@@ -375,6 +391,10 @@ then_spends mid new s s1 t f None h less = let x = h.fuel in omega (arith, x, le
 pub none_goes_on_as : (o : Option Came) (old new : Stacked) (s s1 : State) (f g : Frame → Turn) → f (frame_on_top old) (session old s) ≡ g (frame_on_top old) (session old s) → IfNone o (GoesOn old new s s1 f) → IfNone o (GoesOn old new s s1 g)
 none_goes_on_as (Some now) old new s s1 f g e h = tt
 none_goes_on_as None old new s s1 f g e h = goes_on_as old new s s1 f g e h
+
+pub none_goes_on_from : (o : Option Came) (old new : Stacked) (s s1 s2 : State) (f g : Frame → Turn) → f (frame_on_top old) (session old s1) ≡ g (frame_on_top old) (session old s) → size s.page.forest ≤ size s1.page.forest → s1.fuel ≤ s.fuel → IfNone o (GoesOn old new s1 s2 f) → IfNone o (GoesOn old new s s2 g)
+none_goes_on_from (Some now) old new s s1 s2 f g e le less h = tt
+none_goes_on_from None old new s s1 s2 f g e le less h = goes_on_from old new s s1 s2 f g e le less h
 
 pub always : (o : Option Came) → IfNone o (Unit {0})
 always None = tt
@@ -437,24 +457,32 @@ pub over_turns : (old new : Stacked) (s : State) → frames_of new ≡ below_top
 over_turns old new s fs same =
     turns_ended (below_top (frames_of old)) (frames_of new) Over (session new s) (Spent (session old s)) _ fs (ap (λ (t : State). Spent t) (session_is old new s s same refl)) (over_is old s)
 
-pub over_stays : (old : Stacked) (s : State) → StaysPlaced s.page.forest (turn (frame_on_top old) ends.Over (session old s))
-over_stays old s = stays_ended s.page.forest (Spent (session old s)) _ refl (over_is old s)
+pub over_lasts : (old : Stacked) (s : State) → Lasts s.page.forest (turn (frame_on_top old) ends.Over (session old s))
+over_lasts old s = lasts_ended s.page.forest (Spent (session old s)) _ (omega arith) tt (over_is old s)
 
 pub threw_turns : (old new : Stacked) (s : State) (f : Fault) → HasBody (frames_of old) → false ≡ guarded_of (top_of (frames_of old)) → frames_of new ≡ below_top (frames_of old) → behaviours_of new ≡ behaviours_of old
     → Turns (below_top (frames_of old)) (frames_of new) (Threw f) (session new s) (turn (frame_on_top old) (ends.Threw f) (session old s))
 threw_turns old new s f b off fs same =
     turns_ended (below_top (frames_of old)) (frames_of new) (Threw f) (session new s) (Throws f (session old s)) _ fs (ap (λ (t : State). Throws f t) (session_is old new s s same refl)) (threw_is old b s f off)
 
-pub threw_stays : (old : Stacked) (s : State) (f : Fault) → HasBody (frames_of old) → false ≡ guarded_of (top_of (frames_of old)) → StaysPlaced s.page.forest (turn (frame_on_top old) (ends.Threw f) (session old s))
-threw_stays old s f b off = stays_ended s.page.forest (Throws f (session old s)) _ refl (threw_is old b s f off)
+pub threw_lasts : (old : Stacked) (s : State) (f : Fault) → HasBody (frames_of old) → false ≡ guarded_of (top_of (frames_of old)) → Lasts s.page.forest (turn (frame_on_top old) (ends.Threw f) (session old s))
+threw_lasts old s f b off = lasts_ended s.page.forest (Throws f (session old s)) _ (omega arith) tt (threw_is old b s f off)
 
 -- a turn of the same body, written otherwise
 
 pub some_turns_as : (o : Option Came) (under new : List Frame) (s : State) (t u : Turned) → t ≡ u → IfSome o (λ (now : Came). Turns under new now s t) → IfSome o (λ (now : Came). Turns under new now s u)
 some_turns_as o under new s t u e h = subst (λ (x : Turned). IfSome o (λ (now : Came). Turns under new now s x)) e h
 
-pub some_stays_as : (o : Option Came) (F : Trees) (t u : Turned) → t ≡ u → IfSome o (λ (now : Came). StaysPlaced F t) → IfSome o (λ (now : Came). StaysPlaced F u)
-some_stays_as o F t u e h = subst (λ (x : Turned). IfSome o (λ (now : Came). StaysPlaced F x)) e h
+pub some_lasts_as : (o : Option Came) (F : Trees) (t u : Turned) → t ≡ u → IfSome o (λ (now : Came). Lasts F t) → IfSome o (λ (now : Came). Lasts F u)
+some_lasts_as o F t u e h = subst (λ (x : Turned). IfSome o (λ (now : Came). Lasts F x)) e h
 
-pub running_stays : (F : Trees) (t u : Turned) (G : Trees) → t ≡ u → G ≡ F → StaysPlaced G t → StaysPlaced F u
-running_stays F t u G e same h = subst (λ (x : Trees). StaysPlaced x u) same (subst (StaysPlaced G) e h)
+-- from an earlier forest on
+lasts_from : (F G : Trees) (t u : Turned) → t ≡ u → size F ≤ size G → Lasts G t → Lasts F u
+lasts_from F G t u e le h = subst (Lasts F) e (let x = h.grows in record { grows = omega (arith, x, le); gives = h.gives; placed = h.placed })
+
+pub running_lasts : (F : Trees) (t u : Turned) (G : Trees) → t ≡ u → G ≡ F → Lasts G t → Lasts F u
+running_lasts F t u G e same h = lasts_from F G t u e (let n = ap size same in omega (arith, n)) h
+
+pub some_lasts_from : (o : Option Came) (F G : Trees) (t u : Turned) → t ≡ u → size F ≤ size G → IfSome o (λ (now : Came). Lasts G t) → IfSome o (λ (now : Came). Lasts F u)
+some_lasts_from None F G t u e le h = tt
+some_lasts_from (Some now) F G t u e le h = lasts_from F G t u e le h

@@ -10,7 +10,7 @@ use Rattle.ce_frames.specs.Turns.{turn, turn_threw, turn_went}
 use Rattle.ce_frames.specs.Whole.{CatchesBlind, GoesBlind}
 use Rattle.ce_frames.proofs.BlindTurns.{threw_blind, went_blind}
 use Rattle.frame_stack.specs.declared.waiting.Waiting.{Waiting}
-use Rattle.frame_stack.specs.declared.waiting.Waiting.TheVariants.{Replying, Checking, DrainingBackup, Naming, Stepping, Draining, InReaction, CreatingFit, CreatingExtended, Upgrading}
+use Rattle.frame_stack.specs.declared.waiting.Waiting.TheVariants.{Replying, Checking, DrainingBackup, Naming, Stepping, Draining, InReaction, CreatingFit, CreatingExtended, Upgrading, Constructing}
 use Rattle.frame_stack.specs.Frames.{waiting_of}
 use Rattle.frame_stack.specs.Sessions.{session}
 use Rattle.frame_stack.specs.Stacked.{Stacked, behaviours_of}
@@ -41,3 +41,4 @@ threw_at w x s = let b = threw_blind (waiting_of w) x (catches w) in record { sa
     catches (CreatingFit local document) = tt
     catches (CreatingExtended n) = tt
     catches (Upgrading n d) = tt
+    catches Constructing = tt

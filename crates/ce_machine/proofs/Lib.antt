@@ -2,6 +2,7 @@ pub mod TurnLaws
 pub mod FrameLaws
 pub mod DrainLaws
 pub mod BodyLaws
+pub mod BaseLaws
 pub mod OperateLaws
 pub mod PlacedLaws
 pub mod LoopLaws

@@ -1,5 +1,5 @@
 -- The turns of operations and of commands.
-use Rattle.std.proofs.Common.{◌≡◌, ℕ, true, false, Bool, List, [], ◌∷◌, ◌++◌, Some, None, Option, ◌≤◌, refl, ap, sym, ◌∙◌, subst, arith}
+use Rattle.std.proofs.Common.{◌≡◌, ℕ, true, false, Bool, List, [], ◌∷◌, ◌++◌, Some, None, Option, ◌≤◌, refl, ap, sym, ◌∙◌, subst, append-nil, arith}
 use Rattle.std.specs.Prelude.{Result, Ok, Err, IfOk, if◌then◌else◌}
 use Rattle.ce_base.specs.declared.fault.Fault.{Fault}
 use Rattle.ce_base.specs.declared.fault.Refused.{Refused as RefusedWith}
@@ -22,26 +22,32 @@ use Rattle.ce_algorithms.specs.Model.{model}
 use Rattle.ce_algorithms.specs.Page.{with_queues}
 use Rattle.ce_algorithms.specs.Perform.{steps}
 use Rattle.ce_algorithms.specs.Perform as algorithms
-use Rattle.ce_algorithms.specs.State.{State, logged, look, on_page, spend, view}
+use Rattle.ce_algorithms.specs.State.{State, logged, on_page, spend, view}
 use Rattle.ce_algorithms.specs.Steps.{Step, Outcome, Goes, Throws, Spent, attempt_in, settle}
 use Rattle.ce_frames.specs.Frames as waiting
 use Rattle.ce_frames.specs.Frames.{Frame}
+use Rattle.ce_frames.specs.ConstructTurns.{construct_turn}
 use Rattle.ce_frames.specs.Loop.{command_turn, perform_turn}
 use Rattle.ce_frames.specs.OperateTurns.{create_named_turn, deed_turn, named_turn, next_turn, operate_turn, pop_turn, steps_turn}
 use Rattle.ce_frames.specs.Turned.{Turn, ended, turn_after, below, hand_down}
-use Rattle.ce_frames.proofs.BlindSteps.{blind_open_queue, blind_spend, look_blind}
+use Rattle.ce_frames.proofs.BlindSteps.{resolve_blind}
 use Rattle.ce_frames.proofs.BlindTurns.{blind_below, blind_page, deed_turn_blind}
 use Rattle.ce_page.specs.Ends.{Ends}
 use Rattle.ce_page.specs.declared.stop.PageStop.{PageStop}
 use Rattle.ce_operations.specs.Given.{IsThere}
 use Rattle.ce_operations.specs.Resolved.{Resolves}
 use Rattle.ce_operations.specs.Ready.{IsStill}
+use Rattle.frame_stack.specs.Sessions.{ArePaired, session}
+use Rattle.frame_stack.specs.Stacked.{Stacked, behaviours_of, frames_of}
 use Rattle.ce_reactions.specs.declared.came.Came.{Came}
+use Rattle.ce_reactions.specs.declared.came.Came.TheVariants.{Threw, Over}
 use Rattle.ce_reactions.specs.Blind.{BlindAt}
 use Rattle.ce_reactions.specs.Placed.{IsKeptThere, Lasts, StaysPlaced}
 use Rattle.ce_reactions.specs.Turns.{Turns, came_in}
-use Rattle.ce_reactions.proofs.SessionLaws.{after_at, below_at, blind_at, spent_at, throws_at}
-use Rattle.ce_reactions.proofs.TurnLaws.{turns_as, turns_below, turns_same}
+use Rattle.ce_reactions.proofs.SessionLaws.{blind_at, lifted, lifted_paired}
+use Rattle.ce_reactions.proofs.TurnLaws.{turns_as, turns_below, turns_pushed, turns_same}
+use Rattle.ce_machine.specs.Turns.{naming}
+use Rattle.ce_machine.proofs.FrameLaws.{lifted_stays}
 
 -- steps and their queue
 
@@ -128,58 +134,105 @@ create_lasts F queue name is document s s1 opened same h =
     subst (λ (o : Outcome State ℕ). Lasts F (turn_after o (λ q. below (waiting.Stepping q) (create_named_turn name is document)))) opened
     (record { grows = omega (arith, n, le); gives = h.gives; placed = (h.gives, h.placed) })
 
-pub create_at : (queue : ℕ) (name : List ℕ) (is : Option (List ℕ)) (document : ℕ) (s s1 : State) → Goes queue s1 ≡ open_queue s → BlindAt (create_named_turn name is document) s1 → BlindAt (deed_turn (deeds.Create name is document)) s
+-- a construction
+pub new_is : (class : ℕ) (s : State) → construct_turn class s ≡ deed_turn (deeds.New class) s
 unfolding deed_turn
-create_at queue name is document s s1 opened h =
-    let b = after_at open_queue (λ q. below (waiting.Stepping q) (create_named_turn name is document)) queue s s1 blind_open_queue opened (below_at (waiting.Stepping queue) (create_named_turn name is document) s1 h) in
-    record { same = b.same; classes = b.classes }
+new_is class s = refl
 
--- operations and commands
+-- operations
+
+-- a variable waits for what it gives
+pub named_turns : (frames frames' new : List Frame) (now : Came) (var : Option (List ℕ)) (turn : Turn) (s s1 : State) → frames' ≡ frames ++ naming var → Turns frames' new now s1 (turn s) → Turns frames new now s1 (named_turn var turn s)
+named_turns frames frames' new now None turn s s1 put h = subst (λ l. Turns l new now s1 (turn s)) (put ∙ append-nil frames) h
+named_turns frames frames' new now (Some var) turn s s1 put h = turns_pushed frames frames' new (waiting.Naming var) now s1 (turn s) put h
 
 pub named_placed : (F : Trees) (var : Option (List ℕ)) (turn : Turn) (s : State) → Lasts F (turn s) → StaysPlaced F (named_turn var turn s)
 named_placed F None turn s h = record { grows = h.grows; placed = h.placed }
 named_placed F (Some var) turn s h = record { grows = h.grows; placed = (h.gives, h.placed) }
 
-pub named_at : (var : Option (List ℕ)) (turn : Turn) (s : State) → BlindAt turn s → BlindAt (named_turn var turn) s
-named_at None turn s h = h
-named_at (Some var) turn s h = below_at (waiting.Naming var) turn s h
+-- its operands are read
 
-abbrev resolving : Option ℕ → Op → Step State Deed
-resolving this op = look this (λ v. resolve v op)
-
-pub resolved_at : (this : Option ℕ) (op : Op) (deed : Deed) (s : State) → resolve (view this s) op ≡ Ok deed → BlindAt (named_turn (variable op) (deed_turn deed)) s → BlindAt (operate_turn this op) s
+done_is : (this : Option ℕ) (op : Op) (deed : Deed) (old : Stacked) (s : State) → resolve (view this s) op ≡ Ok deed → named_turn (variable op) (deed_turn deed) (session old s) ≡ operate_turn this op (session old s)
 unfolding operate_turn
-resolved_at this op deed s is h =
-    let b = after_at (resolving this op) (λ d. named_turn (variable op) (deed_turn d)) deed s s (look_blind this op) (ap (λ (r : Result Deed Fault). settle r s) (sym is)) h in
-    record { same = b.same; classes = b.classes }
+done_is this op deed old s is =
+    ap (λ (r : Result Deed Fault). turn_after (settle r (session old s)) (λ d. named_turn (variable op) (deed_turn d))) (sym (resolve_blind this op (behaviours_of old) s ∙ is))
 
-refused_at : (this : Option ℕ) (op : Op) (f : Fault) (s : State) → resolve (view this s) op ≡ Err f → BlindAt (operate_turn this op) s
+pub operate_turns : (frames new : List Frame) (now : Came) (this : Option ℕ) (op : Op) (deed : Deed) (old : Stacked) (s t : State) → resolve (view this s) op ≡ Ok deed → Turns frames new now t (named_turn (variable op) (deed_turn deed) (session old s)) → Turns frames new now t (operate_turn this op (session old s))
+operate_turns frames new now this op deed old s t is h = turns_as frames new now t _ _ (done_is this op deed old s is) h
+
+pub operate_placed : (F : Trees) (this : Option ℕ) (op : Op) (deed : Deed) (old : Stacked) (s : State) → resolve (view this s) op ≡ Ok deed → StaysPlaced F (named_turn (variable op) (deed_turn deed) (session old s)) → StaysPlaced F (operate_turn this op (session old s))
+operate_placed F this op deed old s is h = subst (StaysPlaced F) (done_is this op deed old s is) h
+
+-- one of them is at fault
+
+refused_is : (this : Option ℕ) (op : Op) (f : Fault) (old : Stacked) (s : State) (r : Result Deed RefusedWith) → r ≡ Err (IsFault f) → Resolves r (resolve (view this s) op) → ended (Throws f (session old s)) ≡ operate_turn this op (session old s)
 unfolding operate_turn
-refused_at this op f s is =
-    let b = throws_at (resolving this op) (λ d. named_turn (variable op) (deed_turn d)) f s s (look_blind this op) (ap (λ (r : Result Deed Fault). settle r s) (sym is)) in
-    record { same = b.same; classes = b.classes }
+refused_is this op f old s r is h =
+    let found : resolve (view this s) op ≡ Err f = subst (λ (x : Result Deed RefusedWith). Resolves x (resolve (view this s) op)) is h in
+    ap (λ (x : Result Deed Fault). turn_after (settle x (session old s)) (λ d. named_turn (variable op) (deed_turn d))) (sym (resolve_blind this op (behaviours_of old) s ∙ found))
 
-pub refused_by : (this : Option ℕ) (op : Op) (f : Fault) (s : State) (r : Result Deed RefusedWith) → r ≡ Err (IsFault f) → Resolves r (resolve (view this s) op) → BlindAt (operate_turn this op) s
-refused_by this op f s r is h = refused_at this op f s (subst (λ (x : Result Deed RefusedWith). Resolves x (resolve (view this s) op)) is h)
+pub refused_turns : (frames : List Frame) (this : Option ℕ) (op : Op) (f : Fault) (old : Stacked) (s : State) (r : Result Deed RefusedWith) → r ≡ Err (IsFault f) → Resolves r (resolve (view this s) op) → Turns frames frames (Threw f) (session old s) (operate_turn this op (session old s))
+refused_turns frames this op f old s r is h = turns_as frames frames (Threw f) (session old s) _ _ (refused_is this op f old s r is h) (turns_same frames (Threw f) (session old s) (Throws f (session old s)) refl)
+
+pub refused_placed : (this : Option ℕ) (op : Op) (f : Fault) (old : Stacked) (s : State) (r : Result Deed RefusedWith) → r ≡ Err (IsFault f) → Resolves r (resolve (view this s) op) → StaysPlaced s.page.forest (operate_turn this op (session old s))
+refused_placed this op f old s r is h = subst (StaysPlaced s.page.forest) (refused_is this op f old s r is h) (record { grows = omega arith; placed = tt })
+
+-- commands
 
 pub document_at : (var : List ℕ) (s : State) → BlindAt (named_turn (Some var) (hand_down (on_page (algorithms.gives_node make_document)))) s
 document_at var s = blind_at (named_turn (Some var) (hand_down (on_page (algorithms.gives_node make_document)))) (blind_below (waiting.Naming var) (blind_page (algorithms.gives_node make_document))) s
 
-pub performs_at : (c : Cmd) (op : Op) (s : State) → c ≡ Both op → BlindAt (operate_turn None op) s → BlindAt (perform_turn c) s
+performs_is : (c : Cmd) (op : Op) (s : State) → c ≡ Both op → operate_turn None op s ≡ perform_turn c s
 unfolding perform_turn
-performs_at c op s is h = subst (λ (x : Cmd). BlindAt (perform_turn x) s) (sym is) (record { same = h.same; classes = h.classes })
+performs_is c op s is = sym (ap (λ (x : Cmd). perform_turn x s) is)
 
-pub makes_at : (c : Cmd) (var : List ℕ) (s : State) → c ≡ Doc var → BlindAt (perform_turn c) s
+pub performs_turns : (frames new : List Frame) (now : Came) (c : Cmd) (op : Op) (s t : State) → c ≡ Both op → Turns frames new now t (operate_turn None op s) → Turns frames new now t (perform_turn c s)
+performs_turns frames new now c op s t is h = turns_as frames new now t _ _ (performs_is c op s is) h
+
+pub performs_placed : (F : Trees) (c : Cmd) (op : Op) (s : State) → c ≡ Both op → StaysPlaced F (operate_turn None op s) → StaysPlaced F (perform_turn c s)
+performs_placed F c op s is h = subst (StaysPlaced F) (performs_is c op s is) h
+
+makes_is : (c : Cmd) (var : List ℕ) (s : State) → c ≡ Doc var → named_turn (Some var) (hand_down (on_page (algorithms.gives_node make_document))) s ≡ perform_turn c s
 unfolding perform_turn
-makes_at c var s is = subst (λ (x : Cmd). BlindAt (perform_turn x) s) (sym is) (let h = document_at var s in record { same = h.same; classes = h.classes })
+makes_is c var s is = sym (ap (λ (x : Cmd). perform_turn x s) is)
 
-pub command_at : (line : ℕ) (c : Cmd) (s s1 : State) → Goes tt s1 ≡ spend s → BlindAt (perform_turn c) s1 → BlindAt (command_turn line c) s
-command_at line c s s1 is h =
-    let b = after_at spend (λ _. below (waiting.Replying line) (perform_turn c)) tt s s1 blind_spend is (below_at (waiting.Replying line) (perform_turn c) s1 h) in
-    record { same = b.same; classes = b.classes }
+module _ (old new : Stacked) (c : Cmd) (var : List ℕ) (now : Came) (s s1 : State) (is : c ≡ Doc var) (same : behaviours_of new ≡ behaviours_of old) where
+  abbrev makes : Turn
+  makes = named_turn (Some var) (hand_down (on_page (algorithms.gives_node make_document)))
 
-pub command_throws_at : (line : ℕ) (c : Cmd) (f : Fault) (s s1 : State) → Throws f s1 ≡ spend s → BlindAt (command_turn line c) s
-command_throws_at line c f s s1 is = let b = throws_at spend (λ _. below (waiting.Replying line) (perform_turn c)) f s s1 blind_spend is in record { same = b.same; classes = b.classes }
+  pub makes_turns : Turns (frames_of old) (frames_of new) now s1 (makes s) → Turns (frames_of old) (frames_of new) now (session new s1) (perform_turn c (session old s))
+  makes_turns h = turns_as (frames_of old) (frames_of new) now (session new s1) _ _ (makes_is c var (session old s) is) (lifted makes old new (frames_of old) (frames_of new) now s s1 (document_at var s) h same)
 
-pub command_spent_at : (line : ℕ) (c : Cmd) (s s1 : State) → Spent s1 ≡ spend s → BlindAt (command_turn line c) s
-command_spent_at line c s s1 is = let b = spent_at spend (λ _. below (waiting.Replying line) (perform_turn c)) s s1 blind_spend is in record { same = b.same; classes = b.classes }
+  pub makes_paired : Turns (frames_of old) (frames_of new) now s1 (makes s) → ArePaired old s → ArePaired new s1
+  makes_paired h paired = lifted_paired makes old new (frames_of old) (frames_of new) now s s1 (document_at var s) h same paired
+
+  pub makes_placed : (F : Trees) → StaysPlaced F (makes s) → StaysPlaced F (perform_turn c (session old s))
+  makes_placed F h = subst (StaysPlaced F) (makes_is c var (session old s) is) (lifted_stays makes old F s (document_at var s) h)
+
+-- a command begins
+
+pub command_turns : (frames frames' new : List Frame) (now : Came) (line : ℕ) (c : Cmd) (s s1 t : State) → Goes tt s1 ≡ spend s → frames' ≡ frames ++ waiting.Replying line ∷ [] → Turns frames' new now t (perform_turn c s1) → Turns frames new now t (command_turn line c s)
+command_turns frames frames' new now line c s s1 t spent put h =
+    turns_as frames new now t (below (waiting.Replying line) (perform_turn c) s1) _ (ap (λ (o : Outcome State (Unit {0})). turn_after o (λ _. below (waiting.Replying line) (perform_turn c))) spent)
+    (turns_below frames frames' new (waiting.Replying line) now (perform_turn c) s1 s1 t put refl h)
+
+pub command_placed : (F : Trees) (line : ℕ) (c : Cmd) (s s1 : State) → Goes tt s1 ≡ spend s → size F ≤ size s1.page.forest → StaysPlaced s1.page.forest (perform_turn c s1) → StaysPlaced F (command_turn line c s)
+command_placed F line c s s1 spent le h =
+    subst (λ (o : Outcome State (Unit {0})). StaysPlaced F (turn_after o (λ _. below (waiting.Replying line) (perform_turn c)))) spent
+    (let x = h.grows in record { grows = omega (arith, x, le); placed = (tt, h.placed) })
+
+module _ (frames : List Frame) (line : ℕ) (c : Cmd) (s s1 : State) where
+  abbrev performing : Unit {0} → Turn
+  performing x = below (waiting.Replying line) (perform_turn c)
+
+  pub command_threw_turns : (f : Fault) → Throws f s1 ≡ spend s → Turns frames frames (Threw f) s1 (command_turn line c s)
+  command_threw_turns f is = turns_as frames frames (Threw f) s1 (ended (Throws f s1)) _ (ap (λ (o : Outcome State (Unit {0})). turn_after o performing) is) (turns_same frames (Threw f) s1 (Throws f s1) refl)
+
+  pub command_threw_placed : (F : Trees) (f : Fault) → Throws f s1 ≡ spend s → size F ≤ size s1.page.forest → StaysPlaced F (command_turn line c s)
+  command_threw_placed F f is le = subst (λ (o : Outcome State (Unit {0})). StaysPlaced F (turn_after o performing)) is (record { grows = le; placed = tt })
+
+  pub command_spent_turns : Spent s1 ≡ spend s → Turns frames frames Over s1 (command_turn line c s)
+  command_spent_turns is = turns_as frames frames Over s1 (ended (Spent s1)) _ (ap (λ (o : Outcome State (Unit {0})). turn_after o performing) is) (turns_same frames Over s1 (Spent s1) refl)
+
+  pub command_spent_placed : (F : Trees) → Spent s1 ≡ spend s → size F ≤ size s1.page.forest → StaysPlaced F (command_turn line c s)
+  command_spent_placed F is le = subst (λ (o : Outcome State (Unit {0})). StaysPlaced F (turn_after o performing)) is (record { grows = le; placed = tt })

@@ -3,6 +3,7 @@ use Rattle.std.proofs.Common.{◌≡◌, ℕ, List, [], ◌∷◌, ◌++◌, Som
 use Rattle.std.specs.Prelude.{Result, Ok, Err, IfSome, slice_get}
 use Rattle.std.specs.Option.{option_and_then}
 use Rattle.ce_base.specs.declared.fault.Fault.{Fault}
+use Rattle.ce_base.specs.declared.fault.Fault.TheVariants.{ReferenceError}
 use Rattle.node_trees.specs.Kinds.{IsElement}
 use Rattle.node_trees.specs.Nodes.{IsNode, size}
 use Rattle.node_trees.specs.Trees.{Trees}
@@ -14,10 +15,11 @@ use Rattle.ce_algorithms.specs.declared.event.Event.TheVariants.{DrainBegun, Que
 use Rattle.ce_algorithms.specs.declared.event.Given.{Given}
 use Rattle.ce_algorithms.specs.declared.event.Given.TheVariants.{Nothing, Node, Answers, Ignored}
 use Rattle.ce_algorithms.specs.Page.{Page, definition_of, element_of, with_queues}
-use Rattle.ce_algorithms.specs.Perform.{named}
+use Rattle.ce_algorithms.specs.Perform.{gives_node, named}
 use Rattle.ce_algorithms.specs.State.{State, logged}
-use Rattle.ce_algorithms.specs.Steps.{settle}
+use Rattle.ce_algorithms.specs.Steps.{found, settle}
 use Rattle.ce_frames.specs.Frames as waiting
+use Rattle.ce_frames.specs.Handing.{node_in}
 use Rattle.ce_frames.specs.Rest as ends
 use Rattle.ce_frames.specs.Rest.{End}
 use Rattle.ce_frames.specs.Turned.{Turned, ended}
@@ -28,17 +30,17 @@ use Rattle.ce_frames.specs.Frames.{Frame}
 use Rattle.ce_reactions.specs.declared.came.Came.{Came}
 use Rattle.ce_reactions.specs.declared.came.Came.TheVariants.{Went, Threw, Over}
 use Rattle.frame_stack.specs.declared.waiting.Waiting.{Waiting}
-use Rattle.frame_stack.specs.declared.waiting.Waiting.TheVariants.{Replying, Checking, DrainingBackup, Naming, Stepping, Draining, InReaction, CreatingFit, CreatingExtended, Upgrading}
+use Rattle.frame_stack.specs.declared.waiting.Waiting.TheVariants.{Replying, Checking, DrainingBackup, Naming, Stepping, Draining, InReaction, CreatingFit, CreatingExtended, Upgrading, Constructing}
 use Rattle.frame_stack.specs.Frames.{waiting_of}
 use Rattle.ce_page.specs.Rows.{HasRows}
 use Rattle.ce_page.proofs.RowLemmas.{row_element}
-use Rattle.frame_stack.specs.Stacked.{Stacked, HasBody, Running, below_top, frames_of, in_body, this_of, top_of}
+use Rattle.frame_stack.specs.Stacked.{Stacked, HasBody, below_top, frames_of, this_of, top_of}
 use Rattle.ce_machine.specs.Bodies.{frame_on_top}
 use Rattle.ce_reactions.specs.Turns.{Turns, end_of}
 use Rattle.ce_reactions.proofs.SettleLaws.{threw_settles, upgrade_settles, went_settles}
 use Rattle.ce_machine.proofs.BodyLaws.{on_top, popped_body}
 use Rattle.ce_operations.specs.Given.{IsThere}
-use Rattle.ce_reactions.specs.Placed.{IsEndThere, IsKeptThere, Reaches, Gives, IsNamed, ArePlaced, Creates, IfCreating, StaysPlaced}
+use Rattle.ce_reactions.specs.Placed.{IsEndThere, IsKeptThere, Reaches, Gives, IsNamed, ArePlaced, Creates, IfCreating, Lasts}
 
 -- where the forest has grown
 
@@ -64,12 +66,15 @@ given_below F G le (waiting.Draining queue ns kept ∷ xs) above above' e e' g h
 given_below F G le (waiting.Stepping queue ∷ xs) above above' e e' g h = given_below F G le xs above above' e e' g h
 given_below F G le (waiting.CreatingFit local document ∷ xs) above above' e e' g h = given_below F G le xs above above' e e' g h
 given_below F G le (waiting.CreatingExtended n ∷ xs) above above' e e' g h = record { low = h.low; high = let high = h.high in omega (arith, high, le) }
+given_below F G le (waiting.Constructing ∷ xs) above above' e e' g h = given_below F G le xs above above' e e' g h
+given_below F G le (waiting.InBody class args this guarded actions ∷ xs) above above' e e' g h = tt
 given_below F G le (x ∷ xs) above above' e e' g h = h
 
 named_below : (F G : Trees) → size F ≤ size G → (x : Frame) (xs above above' : List Frame) (e e' : End) → (Gives F above e → Gives G above' e') → IsNamed F x (xs ++ above) e → IsNamed G x (xs ++ above') e'
 named_below F G le (waiting.Naming var) xs above above' e e' g h = given_below F G le xs above above' e e' g h
 named_below F G le (waiting.Stepping queue) xs above above' e e' g h = given_below F G le xs above above' e e' g h
 named_below F G le (waiting.CreatingFit local document) xs above above' e e' g h = given_below F G le xs above above' e e' g h
+named_below F G le waiting.Constructing xs above above' e e' g h = given_below F G le xs above above' e e' g h
 named_below F G le (waiting.InBody class args this guarded actions) xs above above' e e' g h = this_grows F G le this h
 named_below F G le x xs above above' e e' g h = h
 
@@ -186,6 +191,13 @@ IsQuick w = Unit {0}
 node_stays : (F G : Trees) → size F ≤ size G → (n : ℕ) → IsNode F n → IsNode G n
 node_stays F G le n h = record { low = h.low; high = let high = h.high in omega (arith, high, le) }
 
+-- a constructor's body has to have given a node
+constructed_stays : (F G : Trees) → size F ≤ size G → (given : Given) (s : State) → Stays F G waiting.Constructing (ends.Went given) (ended (gives_node (found (node_in given) ReferenceError) s))
+constructed_stays F G le (Node n) s = record { gives = λ h. node_stays F G le n h; placed = tt }
+constructed_stays F G le Nothing s = record { gives = λ h. tt; placed = tt }
+constructed_stays F G le (Answers a) s = record { gives = λ h. tt; placed = tt }
+constructed_stays F G le Ignored s = record { gives = λ h. tt; placed = tt }
+
 threw_stays : (F G : Trees) → size F ≤ size G → (w : Waiting) (x : Fault) (s : State) → IsQuick w → Stays F G (waiting_of w) (ends.Threw x) (turn (waiting_of w) (ends.Threw x) s)
 unfolding turn
 threw_stays F G le (CreatingFit local document) x s q = absurd q
@@ -198,6 +210,7 @@ threw_stays F G le (DrainingBackup n) x s q = record { gives = λ h. tt; placed 
 threw_stays F G le (Naming var) x s q = record { gives = λ h. tt; placed = tt }
 threw_stays F G le (Draining queue n ns kept) x s q = record { gives = λ h. tt; placed = tt }
 threw_stays F G le (InReaction number) x s q = record { gives = λ h. tt; placed = tt }
+threw_stays F G le Constructing x s q = record { gives = λ h. tt; placed = tt }
 
 went_stays : (G : Trees) (w : Waiting) (given : Given) (s : State) → HasRows s.page.elements s.page.forest → size s.page.forest ≤ size G → IsQuick w → Stays s.page.forest G (waiting_of w) (ends.Went given) (turn (waiting_of w) (ends.Went given) s)
 unfolding turn
@@ -211,6 +224,7 @@ went_stays G (DrainingBackup n) given s rows le q = backup_stays G n (ends.Went 
 went_stays G (Naming var) given s rows le q = named_stays s.page.forest G var given s
 went_stays G (Draining queue n ns kept) given s rows le q = drain_stays G queue n ns kept (ends.Went given) s (waiting_at s.page.queues n) rows le
 went_stays G (InReaction number) given s rows le q = record { gives = λ h. tt; placed = tt }
+went_stays G Constructing given s rows le q = constructed_stays s.page.forest G le given s
 
 stays : (G : Trees) (w : Waiting) (end : Came) (s : State) → HasRows s.page.elements s.page.forest → size s.page.forest ≤ size G → IsQuick w → Stays s.page.forest G (waiting_of w) (end_of end) (turn (waiting_of w) (end_of end) s)
 stays G w (Went given) s rows le q = went_stays G w given s rows le q
@@ -256,18 +270,16 @@ turned_placed old under new (DrainingBackup n) end now s s1 rows le popped h c p
 turned_placed old under new (Naming var) end now s s1 rows le popped h c placed = quick_placed old under new (Naming var) end now s s1 tt rows le popped h placed
 turned_placed old under new (Draining queue n ns kept) end now s s1 rows le popped h c placed = quick_placed old under new (Draining queue n ns kept) end now s s1 tt rows le popped h placed
 turned_placed old under new (InReaction number) end now s s1 rows le popped h c placed = quick_placed old under new (InReaction number) end now s s1 tt rows le popped h placed
+turned_placed old under new Constructing end now s s1 rows le popped h c placed = quick_placed old under new Constructing end now s s1 tt rows le popped h placed
 
 -- a turn of a body keeps it
 
-never_given : (F : Trees) (f : Frame) (e : End) (r : Running) → f ≡ in_body r → Gives F (f ∷ []) e → ⊥
-never_given F f e r is h = subst (λ (x : Frame). Gives F (x ∷ []) e) is h
-
-pub body_placed : (old : Stacked) (new : List Frame) (end : End) (now : Came) (F : Trees) (s1 : State) (t : Turned) → HasBody (frames_of old) → Turns (below_top (frames_of old)) new now s1 t → StaysPlaced F t → ArePlaced F (frames_of old) end → ArePlaced s1.page.forest new (end_of now)
+pub body_placed : (old : Stacked) (new : List Frame) (end : End) (now : Came) (F : Trees) (s1 : State) (t : Turned) → HasBody (frames_of old) → Turns (below_top (frames_of old)) new now s1 t → Lasts F t → ArePlaced F (frames_of old) end → ArePlaced s1.page.forest new (end_of now)
 body_placed old new end now F s1 t b h k placed =
     let G : Trees = t.state.page.forest in
     let f : Frame = frame_on_top old in
     let after : ArePlaced G (below_top (frames_of old) ++ t.pushed) t.end =
-    placed_below F G k.grows (below_top (frames_of old)) (f ∷ []) t.pushed end t.end (λ g. absurd (never_given F f end b.body (on_top old b) g)) k.placed (subst (λ l. ArePlaced F l end) (popped_body old b) placed) in
+    placed_below F G k.grows (below_top (frames_of old)) (f ∷ []) t.pushed end t.end (λ _. k.gives) k.placed (subst (λ l. ArePlaced F l end) (popped_body old b) placed) in
     let at : G ≡ s1.page.forest = sym (ap (λ (x : State). x.page.forest) h.state) in
     subst (λ G. ArePlaced G new (end_of now)) at (subst (λ e. ArePlaced G new e) (sym h.end) (subst (λ l. ArePlaced G l t.end) (sym h.frames) after))
 

@@ -8,7 +8,7 @@ ghost use Rattle.ce_frames.specs.Turns.{turn};
 ghost use Rattle.frame_stack.specs.Sessions.{ArePaired, session};
 ghost use Rattle.frame_stack.specs.Stacked.{HasBody, below_top, frames_of, this_of, top_of};
 ghost use Rattle.ce_machine.specs.Bodies.{frame_on_top, running_turn};
-ghost use Rattle.ce_reactions.specs.Placed.{StaysPlaced};
+ghost use Rattle.ce_reactions.specs.Placed.{Lasts};
 ghost use Rattle.ce_reactions.specs.Turns.{Turns};
 
 use crate::stops::go_on;
@@ -31,7 +31,7 @@ pub(crate) fn body_went(
     requires there { IfSome (this_of (top_of (frames_of stack.old))) (IsNode state.old.page.forest) }
     ensures turn { IfOk result (λ now. Turns (below_top (frames_of stack.old)) (frames_of stack.new) now (session stack.new state.new) (turn (frame_on_top stack.old) (ends.Went given) (session stack.old state.old))) }
     ensures paired { OnOk result (ArePaired stack.new state.new) }
-    ensures placed { OnOk result (StaysPlaced state.old.page.forest (turn (frame_on_top stack.old) (ends.Went given) (session stack.old state.old))) }
+    ensures lasts { OnOk result (Lasts state.old.page.forest (turn (frame_on_top stack.old) (ends.Went given) (session stack.old state.old))) }
 {
     match tell(state, given) {
         Err(NoMemory) => Err(NoMemory),
@@ -54,7 +54,7 @@ pub(crate) fn body_threw(
     requires there { IfSome (this_of (top_of (frames_of stack.old))) (IsNode state.old.page.forest) }
     ensures turn { IfOk result (λ now. Turns (below_top (frames_of stack.old)) (frames_of stack.new) now (session stack.new state.new) (turn (frame_on_top stack.old) (ends.Threw f) (session stack.old state.old))) }
     ensures paired { OnOk result (ArePaired stack.new state.new) }
-    ensures placed { OnOk result (StaysPlaced state.old.page.forest (turn (frame_on_top stack.old) (ends.Threw f) (session stack.old state.old))) }
+    ensures lasts { OnOk result (Lasts state.old.page.forest (turn (frame_on_top stack.old) (ends.Threw f) (session stack.old state.old))) }
 {
     if !stack.is_guarded() {
         stack.end();
@@ -75,7 +75,7 @@ pub(crate) fn body_over(state: &State, stack: &mut Stack) -> Came
     requires paired { ArePaired stack.old state.now }
     ensures turn { Turns (below_top (frames_of stack.old)) (frames_of stack.new) result (session stack.new state.now) (turn (frame_on_top stack.old) ends.Over (session stack.old state.now)) }
     ensures paired { ArePaired stack.new state.now }
-    ensures placed { StaysPlaced state.now.page.forest (turn (frame_on_top stack.old) ends.Over (session stack.old state.now)) }
+    ensures lasts { Lasts state.now.page.forest (turn (frame_on_top stack.old) ends.Over (session stack.old state.now)) }
 {
     stack.end();
     Came::Over
@@ -101,7 +101,7 @@ fn run(state: &mut State, alloc: Global, stack: &mut Stack) -> Result<Came, NoMe
     requires there { IfSome (this_of (top_of (frames_of stack.old))) (IsNode state.old.page.forest) }
     ensures turn { IfOk result (λ now. Turns (below_top (frames_of stack.old)) (frames_of stack.new) now (session stack.new state.new) (running_turn (frame_on_top stack.old) (session stack.old state.old))) }
     ensures paired { OnOk result (ArePaired stack.new state.new) }
-    ensures placed { OnOk result (StaysPlaced state.old.page.forest (running_turn (frame_on_top stack.old) (session stack.old state.old))) }
+    ensures lasts { OnOk result (Lasts state.old.page.forest (running_turn (frame_on_top stack.old) (session stack.old state.old))) }
 {
     loop {
         if let Some(now) = go_on(state, alloc, stack)? {

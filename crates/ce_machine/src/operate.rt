@@ -10,6 +10,7 @@ ghost use Rattle.ce_frames.specs.Loop.{command_turn, perform_turn};
 ghost use Rattle.ce_frames.specs.OperateTurns.{deed_turn, named_turn, operate_turn};
 ghost use Rattle.ce_frames.specs.Turned.{hand_down};
 ghost use Rattle.ce_page.specs.Ends.{Ends};
+ghost use Rattle.frame_stack.specs.Sessions.{ArePaired, session};
 ghost use Rattle.frame_stack.specs.Stacked.{behaviours_of, frames_of};
 ghost use Rattle.ce_reactions.specs.Blind.{BlindAt};
 ghost use Rattle.ce_machine.specs.Turns.{naming};
@@ -38,11 +39,11 @@ pub(crate) fn begin(
     line: u64,
     c: &Cmd,
 ) -> Result<Came, NoMemory>
-    requires { is_built_command c.now ≡ true }
-    ensures turn { IfOk result (λ now. Turns (frames_of stack.old) (frames_of stack.new) now state.new (command_turn line c.now state.old)) }
-    ensures same { OnOk result (behaviours_of stack.new ≡ behaviours_of stack.old) }
-    ensures blind { OnOk result (BlindAt (command_turn line c.now) state.old) }
-    ensures placed { OnOk result (StaysPlaced state.old.page.forest (command_turn line c.now state.old)) }
+    requires built { is_built_command c.now ≡ true }
+    requires paired { ArePaired stack.old state.old }
+    ensures turn { IfOk result (λ now. Turns (frames_of stack.old) (frames_of stack.new) now (session stack.new state.new) (command_turn line c.now (session stack.old state.old))) }
+    ensures paired { OnOk result (ArePaired stack.new state.new) }
+    ensures placed { OnOk result (StaysPlaced state.old.page.forest (command_turn line c.now (session stack.old state.old))) }
 {
     match state.spend() {
         Ok(()) => {
@@ -60,15 +61,21 @@ pub(crate) fn begin(
 #[tactic(auto, unfolding(ce_frames::specs::Loop::perform_turn))]
 fn perform(state: &mut State, alloc: Global, stack: &mut Stack, c: &Cmd) -> Result<Came, NoMemory>
     requires built { is_built_command c.now ≡ true }
+    requires paired { ArePaired stack.old state.old }
     requires room { state.old.page.queues.pushed + state.old.fuel + 1 < 2 ^ 64 }
-    ensures turn { IfOk result (λ now. Turns (frames_of stack.old) (frames_of stack.new) now state.new (perform_turn c.now state.old)) }
-    ensures same { OnOk result (behaviours_of stack.new ≡ behaviours_of stack.old) }
-    ensures blind { OnOk result (BlindAt (perform_turn c.now) state.old) }
-    ensures placed { OnOk result (StaysPlaced state.old.page.forest (perform_turn c.now state.old)) }
+    ensures turn { IfOk result (λ now. Turns (frames_of stack.old) (frames_of stack.new) now (session stack.new state.new) (perform_turn c.now (session stack.old state.old))) }
+    ensures paired { OnOk result (ArePaired stack.new state.new) }
+    ensures placed { OnOk result (StaysPlaced state.old.page.forest (perform_turn c.now (session stack.old state.old))) }
 {
     match c {
-        Cmd::Both(op) => operate(state, alloc, stack, &None, op),
-        Cmd::Doc { var } => make_document(state, alloc, stack, var),
+        Cmd::Both(op) => {
+            let now = operate(state, alloc, stack, &None, op)?;
+            Ok(now)
+        }
+        Cmd::Doc { var } => {
+            let now = make_document(state, alloc, stack, var)?;
+            Ok(now)
+        }
         _ => unreachable!(),
     }
 }
@@ -110,11 +117,11 @@ pub(crate) fn operate(
 ) -> Result<Came, NoMemory>
     requires built { is_built_op op.now ≡ true }
     requires there { IfSome this.now (IsNode state.old.page.forest) }
+    requires paired { ArePaired stack.old state.old }
     requires room { state.old.page.queues.pushed + state.old.fuel + 1 < 2 ^ 64 }
-    ensures turn { IfOk result (λ now. Turns (frames_of stack.old) (frames_of stack.new) now state.new (operate_turn this.now op.now state.old)) }
-    ensures same { OnOk result (behaviours_of stack.new ≡ behaviours_of stack.old) }
-    ensures blind { OnOk result (BlindAt (operate_turn this.now op.now) state.old) }
-    ensures placed { OnOk result (StaysPlaced state.old.page.forest (operate_turn this.now op.now state.old)) }
+    ensures turn { IfOk result (λ now. Turns (frames_of stack.old) (frames_of stack.new) now (session stack.new state.new) (operate_turn this.now op.now (session stack.old state.old))) }
+    ensures paired { OnOk result (ArePaired stack.new state.new) }
+    ensures placed { OnOk result (StaysPlaced state.old.page.forest (operate_turn this.now op.now (session stack.old state.old))) }
 {
     match resolve(state, alloc, this, op) {
         Err(Refused::Fault(f)) => Ok(Came::Threw(f)),
@@ -135,11 +142,11 @@ fn named(
     deed: Deed,
 ) -> Result<Came, NoMemory>
     requires ready { IsReady state.old.page.forest deed }
+    requires paired { ArePaired stack.old state.old }
     requires room { state.old.page.queues.pushed + state.old.fuel + 1 < 2 ^ 64 }
-    ensures turn { IfOk result (λ now. Turns (frames_of stack.old) (frames_of stack.new) now state.new (named_turn (variable op.now) (deed_turn deed) state.old)) }
-    ensures same { OnOk result (behaviours_of stack.new ≡ behaviours_of stack.old) }
-    ensures blind { OnOk result (BlindAt (named_turn (variable op.now) (deed_turn deed)) state.old) }
-    ensures placed { OnOk result (StaysPlaced state.old.page.forest (named_turn (variable op.now) (deed_turn deed) state.old)) }
+    ensures turn { IfOk result (λ now. Turns (frames_of stack.old) (frames_of stack.new) now (session stack.new state.new) (named_turn (variable op.now) (deed_turn deed) (session stack.old state.old))) }
+    ensures paired { OnOk result (ArePaired stack.new state.new) }
+    ensures placed { OnOk result (StaysPlaced state.old.page.forest (named_turn (variable op.now) (deed_turn deed) (session stack.old state.old))) }
 {
     match name(alloc, stack, variable(op)) {
         Err(NoMemory) => Err(NoMemory),

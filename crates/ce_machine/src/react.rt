@@ -11,6 +11,7 @@ ghost use Rattle.ce_algorithms.specs.Steps.{Outcome, attempt_in};
 ghost use Rattle.ce_frames.specs.OperateTurns.{deed_turn, pop_turn, steps_turn};
 ghost use Rattle.ce_frames.specs.Turned.{turn_after};
 ghost use Rattle.ce_page.specs.Ends.{Ends};
+ghost use Rattle.frame_stack.specs.Sessions.{ArePaired, session};
 ghost use Rattle.frame_stack.specs.Stacked.{behaviours_of, frames_of};
 ghost use Rattle.ce_reactions.specs.Blind.{BlindAt};
 ghost use Rattle.ce_reactions.specs.Turns.{Turns};
@@ -23,13 +24,14 @@ use ce_algorithms::{Deed, Given};
 use ce_base::{NoMemory, NodeNo, QueueNo, Text};
 use ce_operations::deeds::run;
 use ce_page::PageStop;
+use ce_reactions::constructions::construct;
 use ce_reactions::creations::create_named;
 use ce_reactions::{Came, came_from};
 use frame_stack::{Stack, Waiting};
 use session_state::State;
 use std::alloc::Global;
 
-/// Does a deed. A creation may wait for a construction; the others wait for nothing.
+/// Does a deed. A construction, and a creation, may wait for a constructor's body; the others wait for nothing.
 pub(crate) fn deed_turn(
     state: &mut State,
     alloc: Global,
@@ -37,19 +39,29 @@ pub(crate) fn deed_turn(
     deed: Deed,
 ) -> Result<Came, NoMemory>
     requires ready { IsReady state.old.page.forest deed }
+    requires paired { ArePaired stack.old state.old }
     requires room { state.old.page.queues.pushed + state.old.fuel + 1 < 2 ^ 64 }
-    ensures turn { IfOk result (λ now. Turns (frames_of stack.old) (frames_of stack.new) now state.new (deed_turn deed state.old)) }
-    ensures same { OnOk result (behaviours_of stack.new ≡ behaviours_of stack.old) }
-    ensures blind { OnOk result (BlindAt (deed_turn deed) state.old) }
-    ensures lasts { OnOk result (Lasts state.old.page.forest (deed_turn deed state.old)) }
+    ensures turn { IfOk result (λ now. Turns (frames_of stack.old) (frames_of stack.new) now (session stack.new state.new) (deed_turn deed (session stack.old state.old))) }
+    ensures paired { OnOk result (ArePaired stack.new state.new) }
+    ensures lasts { OnOk result (Lasts state.old.page.forest (deed_turn deed (session stack.old state.old))) }
 {
     match deed {
         Deed::Create {
             local,
             is_value,
             document,
-        } => create_turn(state, alloc, stack, &local, is_value, document),
-        deed => still_turn(state, alloc, stack, deed),
+        } => {
+            let now = create_turn(state, alloc, stack, &local, is_value, document)?;
+            Ok(now)
+        }
+        Deed::New { class } => {
+            let now = construct(state, alloc, stack, class)?;
+            Ok(now)
+        }
+        deed => {
+            let now = still_turn(state, alloc, stack, deed)?;
+            Ok(now)
+        }
     }
 }
 
@@ -62,11 +74,11 @@ fn create_turn(
     is: Option<Text>,
     document: NodeNo,
 ) -> Result<Came, NoMemory>
+    requires paired { ArePaired stack.old state.old }
     requires room { state.old.page.queues.pushed + state.old.fuel + 1 < 2 ^ 64 }
-    ensures turn { IfOk result (λ now. Turns (frames_of stack.old) (frames_of stack.new) now state.new (deed_turn (deeds.Create name.now is document) state.old)) }
-    ensures same { OnOk result (behaviours_of stack.new ≡ behaviours_of stack.old) }
-    ensures blind { OnOk result (BlindAt (deed_turn (deeds.Create name.now is document)) state.old) }
-    ensures lasts { OnOk result (Lasts state.old.page.forest (deed_turn (deeds.Create name.now is document) state.old)) }
+    ensures turn { IfOk result (λ now. Turns (frames_of stack.old) (frames_of stack.new) now (session stack.new state.new) (deed_turn (deeds.Create name.now is document) (session stack.old state.old))) }
+    ensures paired { OnOk result (ArePaired stack.new state.new) }
+    ensures lasts { OnOk result (Lasts state.old.page.forest (deed_turn (deeds.Create name.now is document) (session stack.old state.old))) }
 {
     match state.open_queue(alloc) {
         Err(NoMemory) => Err(NoMemory),

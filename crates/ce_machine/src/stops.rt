@@ -1,7 +1,7 @@
 // Where a body stops, and what it does there.
 ghost use Rattle.std.specs.Prelude.{◌≡◌, ◌+◌, ◌<◌, ◌^◌, false, map, true, IfNone, IfOk, IfSome, OnOk};
 ghost use Rattle.node_trees.specs.Nodes.{IsNode};
-ghost use Rattle.rule_lines.specs.Acts.{Both, act_of};
+ghost use Rattle.rule_lines.specs.Acts.{Both, Super, act_of};
 ghost use Rattle.rule_script.specs.Built.{is_built_op};
 ghost use Rattle.behaviours.specs.Resume.{Doing, OutOfFuel, Returning, Throwing};
 ghost use Rattle.ce_algorithms.specs.declared.event.Event.TheVariants.{Logged};
@@ -10,8 +10,9 @@ ghost use Rattle.ce_algorithms.specs.Values.{fixed_text};
 ghost use Rattle.frame_stack.specs.Resumes.{IsBuiltStop};
 ghost use Rattle.frame_stack.specs.Sessions.{ArePaired, session};
 ghost use Rattle.frame_stack.specs.Stacked.{HasBody, below_top, frames_of, this_of, top_of};
-ghost use Rattle.ce_machine.specs.Bodies.{GoesOn, acting_turn, answer, frame_on_top, running_turn, stopped_turn};
-ghost use Rattle.ce_reactions.specs.Placed.{StaysPlaced};
+ghost use Rattle.ce_machine.specs.Bodies.{GoesOn, acting_turn, answer, based_turn, frame_on_top, running_turn, stopped_turn};
+ghost use Rattle.ce_operations.specs.Given.{IsThere};
+ghost use Rattle.ce_reactions.specs.Placed.{Lasts};
 ghost use Rattle.ce_reactions.specs.Turns.{Turns};
 
 use crate::operate::operate;
@@ -19,6 +20,7 @@ use behaviours::Next;
 use ce_algorithms::{Event, Given};
 use ce_base::{Fault, NoMemory, NodeNo};
 use ce_operations::operands::{fixed_texts, node};
+use ce_page::PageStop;
 use ce_reactions::Came;
 use frame_stack::Stack;
 use rule_lines::{Action, Op, Vals};
@@ -37,7 +39,7 @@ pub(crate) fn go_on(
     requires there { IfSome (this_of (top_of (frames_of stack.old))) (IsNode state.old.page.forest) }
     ensures turn { IfOk result (λ o. IfSome o (λ now. Turns (below_top (frames_of stack.old)) (frames_of stack.new) now (session stack.new state.new) (running_turn (frame_on_top stack.old) (session stack.old state.old)))) }
     ensures paired { OnOk result (ArePaired stack.new state.new) }
-    ensures placed { IfOk result (λ o. IfSome o (λ now. StaysPlaced state.old.page.forest (running_turn (frame_on_top stack.old) (session stack.old state.old)))) }
+    ensures lasts { IfOk result (λ o. IfSome o (λ now. Lasts state.old.page.forest (running_turn (frame_on_top stack.old) (session stack.old state.old)))) }
     ensures on { IfOk result (λ o. IfNone o (GoesOn stack.old stack.new state.old state.new (running_turn))) }
     ensures spent { IfOk result (λ o. IfNone o (state.new.fuel < state.old.fuel)) }
 {
@@ -67,7 +69,7 @@ fn spent(state: &mut State, stack: &mut Stack) -> Result<Came, NoMemory>
     requires paired { ArePaired stack.old state.old }
     ensures turn { IfOk result (λ now. Turns (below_top (frames_of stack.old)) (frames_of stack.new) now (session stack.new state.new) (stopped_turn OutOfFuel (frame_on_top stack.old) (session stack.old state.old))) }
     ensures paired { OnOk result (ArePaired stack.new state.new) }
-    ensures placed { OnOk result (StaysPlaced state.old.page.forest (stopped_turn OutOfFuel (frame_on_top stack.old) (session stack.old state.old))) }
+    ensures lasts { OnOk result (Lasts state.old.page.forest (stopped_turn OutOfFuel (frame_on_top stack.old) (session stack.old state.old))) }
 {
     state.log(Event::FuelLine)?;
     stack.end();
@@ -85,7 +87,7 @@ fn thrown(
     requires paired { ArePaired stack.old state.old }
     ensures turn { IfOk result (λ o. IfSome o (λ now. Turns (below_top (frames_of stack.old)) (frames_of stack.new) now (session stack.new state.new) (stopped_turn (Throwing fault guarded) (frame_on_top stack.old) (session stack.old state.old)))) }
     ensures paired { OnOk result (ArePaired stack.new state.new) }
-    ensures placed { IfOk result (λ o. IfSome o (λ now. StaysPlaced state.old.page.forest (stopped_turn (Throwing fault guarded) (frame_on_top stack.old) (session stack.old state.old)))) }
+    ensures lasts { IfOk result (λ o. IfSome o (λ now. Lasts state.old.page.forest (stopped_turn (Throwing fault guarded) (frame_on_top stack.old) (session stack.old state.old)))) }
     ensures on { IfOk result (λ o. IfNone o (GoesOn stack.old stack.new state.old state.new (stopped_turn (Throwing fault guarded)))) }
     ensures guarded { IfOk result (λ o. IfNone o (guarded ≡ true)) }
 {
@@ -109,7 +111,7 @@ fn returned(
     requires there { IfSome (this_of (top_of (frames_of stack.old))) (IsNode state.old.page.forest) }
     ensures turn { IfOk result (λ o. IfSome o (λ now. Turns (below_top (frames_of stack.old)) (frames_of stack.new) now (session stack.new state.new) (stopped_turn (Returning value.now guarded) (frame_on_top stack.old) (session stack.old state.old)))) }
     ensures paired { OnOk result (ArePaired stack.new state.new) }
-    ensures placed { IfOk result (λ o. IfSome o (λ now. StaysPlaced state.old.page.forest (stopped_turn (Returning value.now guarded) (frame_on_top stack.old) (session stack.old state.old)))) }
+    ensures lasts { IfOk result (λ o. IfSome o (λ now. Lasts state.old.page.forest (stopped_turn (Returning value.now guarded) (frame_on_top stack.old) (session stack.old state.old)))) }
     ensures on { IfOk result (λ o. IfNone o (GoesOn stack.old stack.new state.old state.new (stopped_turn (Returning value.now guarded)))) }
     ensures guarded { IfOk result (λ o. IfNone o (guarded ≡ true)) }
 {
@@ -129,7 +131,8 @@ fn returned(
 // What a body returns: the node that is named, or what `this` is.
 fn answer(state: &State, this: &Option<NodeNo>, value: &Option<Operand>) -> Result<Given, Fault>
     requires { IfSome this.now (IsNode state.now.page.forest) }
-    ensures { result ≡ answer this.now state.now value.now }
+    ensures answer { result ≡ answer this.now state.now value.now }
+    ensures there { IfOk result (IsThere state.now.page.forest) }
 {
     match value {
         None => match this {
@@ -157,7 +160,7 @@ fn act(
     requires there { IfSome (this_of (top_of (frames_of stack.old))) (IsNode state.old.page.forest) }
     ensures turn { IfOk result (λ o. IfSome o (λ now. Turns (below_top (frames_of stack.old)) (frames_of stack.new) now (session stack.new state.new) (acting_turn (act_of action) (frame_on_top stack.old) (session stack.old state.old)))) }
     ensures paired { OnOk result (ArePaired stack.new state.new) }
-    ensures placed { IfOk result (λ o. IfSome o (λ now. StaysPlaced state.old.page.forest (acting_turn (act_of action) (frame_on_top stack.old) (session stack.old state.old)))) }
+    ensures lasts { IfOk result (λ o. IfSome o (λ now. Lasts state.old.page.forest (acting_turn (act_of action) (frame_on_top stack.old) (session stack.old state.old)))) }
     ensures on { IfOk result (λ o. IfNone o (GoesOn stack.old stack.new state.old state.new (acting_turn (act_of action)))) }
 {
     match action {
@@ -171,8 +174,61 @@ fn act(
             written?;
             Ok(None)
         }
+        Action::Super => {
+            let o = call_base(state, alloc, stack)?;
+            Ok(o)
+        }
         _ => unreachable!(),
     }
+}
+
+// The base call gives a node, or throws.
+fn call_base(state: &mut State, alloc: Global, stack: &mut Stack) -> Result<Option<Came>, NoMemory>
+    requires body { HasBody (frames_of stack.old) }
+    requires paired { ArePaired stack.old state.old }
+    ensures turn { IfOk result (λ o. IfSome o (λ now. Turns (below_top (frames_of stack.old)) (frames_of stack.new) now (session stack.new state.new) (acting_turn Super (frame_on_top stack.old) (session stack.old state.old)))) }
+    ensures paired { OnOk result (ArePaired stack.new state.new) }
+    ensures lasts { IfOk result (λ o. IfSome o (λ now. Lasts state.old.page.forest (acting_turn Super (frame_on_top stack.old) (session stack.old state.old)))) }
+    ensures on { IfOk result (λ o. IfNone o (GoesOn stack.old stack.new state.old state.new (acting_turn Super))) }
+{
+    match stack.owner() {
+        None => unreachable!(),
+        Some(class) => match state.base_call(alloc, class) {
+            Ok(n) => {
+                let o = take_this(state, stack, n)?;
+                Ok(o)
+            }
+            Err(PageStop::Refused(f)) => {
+                let guarded = stack.is_guarded();
+                let o = thrown(state, stack, f, guarded)?;
+                Ok(o)
+            }
+            Err(PageStop::FuelSpent) => {
+                stack.end();
+                Ok(Some(Came::Over))
+            }
+            Err(PageStop::NoMemory) => Err(NoMemory),
+        },
+    }
+}
+
+// The base call has given a node, which is `this` from now on. Where `this` was set before, it throws.
+fn take_this(state: &mut State, stack: &mut Stack, n: NodeNo) -> Result<Option<Came>, NoMemory>
+    requires body { HasBody (frames_of stack.old) }
+    requires paired { ArePaired stack.old state.old }
+    requires node { IsNode state.old.page.forest n }
+    ensures turn { IfOk result (λ o. IfSome o (λ now. Turns (below_top (frames_of stack.old)) (frames_of stack.new) now (session stack.new state.new) (based_turn n (frame_on_top stack.old) (session stack.old state.old)))) }
+    ensures paired { OnOk result (ArePaired stack.new state.new) }
+    ensures lasts { IfOk result (λ o. IfSome o (λ now. Lasts state.old.page.forest (based_turn n (frame_on_top stack.old) (session stack.old state.old)))) }
+    ensures on { IfOk result (λ o. IfNone o (GoesOn stack.old stack.new state.old state.new (based_turn n))) }
+{
+    if stack.this().is_some() {
+        let guarded = stack.is_guarded();
+        let o = thrown(state, stack, Fault::ReferenceError, guarded)?;
+        return Ok(o);
+    }
+    stack.set_this(n);
+    Ok(None)
 }
 
 // An operation runs above the body.
@@ -184,7 +240,7 @@ fn operation(state: &mut State, alloc: Global, stack: &mut Stack, op: Op) -> Res
     requires there { IfSome (this_of (top_of (frames_of stack.old))) (IsNode state.old.page.forest) }
     ensures turn { IfOk result (λ now. Turns (below_top (frames_of stack.old)) (frames_of stack.new) now (session stack.new state.new) (acting_turn (Both op) (frame_on_top stack.old) (session stack.old state.old))) }
     ensures paired { OnOk result (ArePaired stack.new state.new) }
-    ensures placed { OnOk result (StaysPlaced state.old.page.forest (acting_turn (Both op) (frame_on_top stack.old) (session stack.old state.old))) }
+    ensures lasts { OnOk result (Lasts state.old.page.forest (acting_turn (Both op) (frame_on_top stack.old) (session stack.old state.old))) }
 {
     let this = stack.this();
     let now = operate(state, alloc, stack, &this, &op);

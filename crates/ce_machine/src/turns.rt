@@ -11,7 +11,7 @@ ghost use Rattle.frame_stack.specs.Sessions.{ArePaired, session};
 ghost use Rattle.frame_stack.specs.Stacked.{HasBody, behaviours_of, below_top, frames_of};
 ghost use Rattle.ce_operations.specs.Given.{IsThere};
 ghost use Rattle.ce_machine.specs.Bodies.{frame_on_top};
-ghost use Rattle.ce_reactions.specs.Placed.{ArePlaced, Creates, IfCreating, StaysPlaced};
+ghost use Rattle.ce_reactions.specs.Placed.{ArePlaced, Creates, IfCreating, Lasts};
 ghost use Rattle.ce_machine.specs.Turns.{left, over};
 ghost use Rattle.ce_reactions.specs.Turns.{Turns, came_in, end_of};
 
@@ -20,6 +20,7 @@ use crate::drains::{backup_turn, check_turn, drain_turn, pop_turn, reply};
 use ce_algorithms::{Event, Given};
 use ce_base::{Fault, NoMemory, ReactionNo, Text};
 use ce_reactions::Came;
+use ce_reactions::constructions::given_turn;
 use ce_reactions::creations::{extended_threw, failed_turn, fit_turn};
 use ce_reactions::upgrades::{constructed_turn, upgraded_turn};
 use frame_stack::{Stack, Waiting};
@@ -67,7 +68,7 @@ fn resume_body(
     requires placed { ArePlaced state.old.page.forest (frames_of stack.old) (end_of end) }
     ensures turn { IfOk result (λ now. Turns (below_top (frames_of stack.old)) (frames_of stack.new) now (session stack.new state.new) (turn (frame_on_top stack.old) (end_of end) (session stack.old state.old))) }
     ensures paired { OnOk result (ArePaired stack.new state.new) }
-    ensures stays { OnOk result (StaysPlaced state.old.page.forest (turn (frame_on_top stack.old) (end_of end) (session stack.old state.old))) }
+    ensures lasts { OnOk result (Lasts state.old.page.forest (turn (frame_on_top stack.old) (end_of end) (session stack.old state.old))) }
 {
     match end {
         Came::Went(given) => {
@@ -208,6 +209,7 @@ fn settled(
             let now = constructed_turn(state, alloc, n, d, given)?;
             Ok(now)
         }
+        Waiting::Constructing => Ok(given_turn(given)),
         Waiting::DrainingBackup(_) => unreachable!(),
         Waiting::Draining(_, _, _, _) => unreachable!(),
     }
@@ -255,6 +257,7 @@ fn threw(
         Waiting::DrainingBackup(_) => Ok(Came::Threw(f)),
         Waiting::Naming(_) => Ok(Came::Threw(f)),
         Waiting::Draining(_, _, _, _) => Ok(Came::Threw(f)),
+        Waiting::Constructing => Ok(Came::Threw(f)),
     }
 }
 

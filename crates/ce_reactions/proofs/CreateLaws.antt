@@ -1,11 +1,8 @@
 -- The turns of creations.
 use Rattle.std.proofs.Common.{◌≡◌, ℕ, true, false, Bool, List, [], ◌∷◌, ◌++◌, Some, None, Option, ◌≤◌, refl, ap, sym, ◌∙◌, subst, arith}
-use Rattle.std.specs.Prelude.{if◌then◌else◌, not}
-use Rattle.std.specs.Str.{str_to_ascii_lowercase}
+use Rattle.std.specs.Prelude.{if◌then◌else◌}
 use Rattle.ce_base.specs.declared.custom_state.CustomState.TheVariants.{Failed, Undefined}
 use Rattle.ce_base.specs.declared.fault.Fault.{Fault}
-use Rattle.ce_base.specs.declared.fault.Fault.TheVariants.{InvalidCharacterError}
-use Rattle.element_names.specs.Names.{local_name}
 use Rattle.node_trees.specs.Nodes.{IsNode, size}
 use Rattle.node_trees.specs.Trees.{Trees}
 use Rattle.ce_registry.specs.declared.definition.Definition.{Definition}
@@ -22,11 +19,9 @@ use Rattle.ce_algorithms.specs.Steps.{Outcome, Goes, Throws, Spent, attempt_in, 
 use Rattle.ce_frames.specs.ConstructTurns.{construct_turn, create_extended_turn, create_found_turn, create_turn, created_turn, upgrade_turn}
 use Rattle.ce_frames.specs.Frames as waiting
 use Rattle.ce_frames.specs.Frames.{Frame}
-use Rattle.ce_frames.specs.OperateTurns.{create_named_turn}
 use Rattle.ce_frames.specs.Turned.{Turn, Turned, below, ended, hand_down, turn_after}
 use Rattle.ce_frames.specs.Turns.{turn_threw, turn_went}
 use Rattle.ce_frames.specs.Whole.{whole}
-use Rattle.ce_frames.proofs.BlindSteps.{blind_on_page}
 use Rattle.ce_frames.proofs.BlindTurns.{blind_node}
 use Rattle.ce_reactions.specs.declared.came.Came.{Came}
 use Rattle.ce_reactions.specs.declared.came.Came.TheVariants.{Threw, Over}
@@ -34,13 +29,9 @@ use Rattle.ce_reactions.specs.Blind.{BlindAt}
 use Rattle.ce_reactions.specs.Placed.{IsEndThere, Lasts}
 use Rattle.ce_reactions.specs.Turns.{Turns, came_in}
 use Rattle.ce_reactions.proofs.ConstructLaws.{came_lasts_in, down_lasts}
-use Rattle.ce_reactions.proofs.SessionLaws.{after_at, as_at, below_at, blind_at, spent_at, tested_at, throws_at}
+use Rattle.ce_reactions.proofs.SessionLaws.{as_at, blind_at}
 use Rattle.ce_reactions.proofs.SettleLaws.{upgrade_settles}
 use Rattle.ce_reactions.proofs.TurnLaws.{turns_as, turns_below, turns_same}
-
--- its name is tested
-pub create_named_at : (name : List ℕ) (is : Option (List ℕ)) (document : ℕ) (s : State) → (not (local_name name) ≡ false → BlindAt (create_turn (str_to_ascii_lowercase name) is document) s) → BlindAt (create_named_turn name is document) s
-create_named_at name is document s h = let b = tested_at (not (local_name name)) InvalidCharacterError (create_turn (str_to_ascii_lowercase name) is document) s h in record { same = b.same; classes = b.classes }
 
 -- by what was looked up
 
@@ -71,9 +62,6 @@ some_turns frames new now local is document d s s1 some h = turns_as frames new 
 pub some_lasts : (F : Trees) (local : List ℕ) (is : Option (List ℕ)) (document d : ℕ) (s : State) → Some d ≡ lookup_in s.page document local is → Lasts F (create_found_turn local is document (Some d) s) → Lasts F (create_turn local is document s)
 some_lasts F local is document d s some h = subst (Lasts F) (create_is local is document (Some d) s some) h
 
-pub some_at : (local : List ℕ) (is : Option (List ℕ)) (document d : ℕ) (s : State) → Some d ≡ lookup_in s.page document local is → BlindAt (create_found_turn local is document (Some d)) s → BlindAt (create_turn local is document) s
-some_at local is document d s some h = found_at local is document (Some d) s some h
-
 -- by its kind
 
 by_kind : List ℕ → Option (List ℕ) → ℕ → ℕ → Definition → Bool → Turn
@@ -87,23 +75,15 @@ fit_is local is document d class s on same =
     ap (λ c. below (waiting.CreatingFit local document) (construct_turn c) s) same
     ∙ ap (λ b. by_kind local is document d (definition_at s.page d) b s) (sym on)
 
-pub fit_turns : (frames frames' : List Frame) (now : Came) (local : List ℕ) (is : Option (List ℕ)) (document d class : ℕ) (s s1 : State) → is_autonomous (definition_at s.page d) ≡ true → class ≡ (definition_at s.page d).class
-    → frames' ≡ frames ++ waiting.CreatingFit local document ∷ [] → ended (came_in now s1) ≡ construct_turn class s → Turns frames frames' now s1 (create_found_turn local is document (Some d) s)
-fit_turns frames frames' now local is document d class s s1 on same pushed constructed =
-    turns_as frames frames' now s1 _ _ (fit_is local is document d class s on same)
-    (turns_below frames frames' frames' (waiting.CreatingFit local document) now (construct_turn class) s s s1 pushed refl
-    (turns_as frames' frames' now s1 _ _ constructed (turns_same frames' now s1 (came_in now s1) refl)))
+pub fit_turns : (frames frames' new : List Frame) (now : Came) (local : List ℕ) (is : Option (List ℕ)) (document d class : ℕ) (s s1 : State) → is_autonomous (definition_at s.page d) ≡ true → class ≡ (definition_at s.page d).class
+    → frames' ≡ frames ++ waiting.CreatingFit local document ∷ [] → Turns frames' new now s1 (construct_turn class s) → Turns frames new now s1 (create_found_turn local is document (Some d) s)
+fit_turns frames frames' new now local is document d class s s1 on same pushed h =
+    turns_as frames new now s1 _ _ (fit_is local is document d class s on same)
+    (turns_below frames frames' new (waiting.CreatingFit local document) now (construct_turn class) s s s1 pushed refl h)
 
-pub fit_lasts : (F : Trees) (now : Came) (local : List ℕ) (is : Option (List ℕ)) (document d class : ℕ) (s s1 : State) → is_autonomous (definition_at s.page d) ≡ true → class ≡ (definition_at s.page d).class → ended (came_in now s1) ≡ construct_turn class s → size F ≤ size s1.page.forest → IsEndThere s1.page.forest now
-    → Lasts F (create_found_turn local is document (Some d) s)
-fit_lasts F now local is document d class s s1 on same constructed le there =
-    subst (Lasts F) (fit_is local is document d class s on same)
-    (let h = subst (Lasts F) constructed (came_lasts_in F now s1 le there) in record { grows = h.grows; gives = h.gives; placed = (h.gives, h.placed) })
-
-pub fit_at : (local : List ℕ) (is : Option (List ℕ)) (document d class : ℕ) (s : State) → is_autonomous (definition_at s.page d) ≡ true → class ≡ (definition_at s.page d).class → BlindAt (construct_turn class) s → BlindAt (create_found_turn local is document (Some d)) s
-fit_at local is document d class s on same h =
-    as_at (below (waiting.CreatingFit local document) (construct_turn class)) (create_found_turn local is document (Some d)) s (λ bs. fit_is local is document d class (whole bs s) on same) (fit_is local is document d class s on same)
-    (below_at (waiting.CreatingFit local document) (construct_turn class) s h)
+pub fit_lasts : (F : Trees) (local : List ℕ) (is : Option (List ℕ)) (document d class : ℕ) (s : State) → is_autonomous (definition_at s.page d) ≡ true → class ≡ (definition_at s.page d).class → Lasts F (construct_turn class s) → Lasts F (create_found_turn local is document (Some d) s)
+fit_lasts F local is document d class s on same h =
+    subst (Lasts F) (fit_is local is document d class s on same) (record { grows = h.grows; gives = h.gives; placed = (h.gives, h.placed) })
 
 -- what was constructed does not fit
 pub misfit_is : (local : List ℕ) (document n : ℕ) (f : Fault) (s : State) → Throws f s ≡ fitting local document n s → turn_threw (waiting.CreatingFit local document) f s ≡ turn_went (waiting.CreatingFit local document) (Node n) s
@@ -120,10 +100,6 @@ extends_turns frames new now local is document d s s1 off h = turns_as frames ne
 
 pub extends_lasts : (F : Trees) (local : List ℕ) (is : Option (List ℕ)) (document d : ℕ) (s : State) → is_autonomous (definition_at s.page d) ≡ false → Lasts F (create_extended_turn local is document d s) → Lasts F (create_found_turn local is document (Some d) s)
 extends_lasts F local is document d s off h = subst (Lasts F) (extends_is local is document d s off) h
-
-pub extends_at : (local : List ℕ) (is : Option (List ℕ)) (document d : ℕ) (s : State) → is_autonomous (definition_at s.page d) ≡ false → BlindAt (create_extended_turn local is document d) s → BlindAt (create_found_turn local is document (Some d)) s
-extends_at local is document d s off h =
-    as_at (create_extended_turn local is document d) (create_found_turn local is document (Some d)) s (λ bs. extends_is local is document d (whole bs s) off) (extends_is local is document d s off) h
 
 -- a new element is made, and upgraded above the creation's frame
 
@@ -148,11 +124,6 @@ module _ (local : List ℕ) (is : Option (List ℕ)) (document d : ℕ) (s : Sta
       subst (λ (o : Outcome State ℕ). Lasts F (turn_after o upgrading)) went
       (record { grows = omega (arith, le, more, same); gives = node; placed = (tt, upgrade_settles n d s1 t.state.page.forest) })
 
-  pub extended_at : (n : ℕ) (s1 : State) → Goes n s1 ≡ made → BlindAt (upgrade_turn n d) s1 → BlindAt (create_extended_turn local is document d) s
-  extended_at n s1 went h =
-      let b = after_at (on_page (make_in_state local is document Undefined)) upgrading n s s1 (blind_on_page (make_in_state local is document Undefined)) went (below_at (waiting.CreatingExtended n) (upgrade_turn n d) s1 h) in
-      record { same = b.same; classes = b.classes }
-
   -- it was not made
 
   pub threw_turns : (frames : List Frame) (f : Fault) (s1 : State) → Throws f s1 ≡ made → Turns frames frames (Threw f) s1 (create_extended_turn local is document d s)
@@ -161,17 +132,11 @@ module _ (local : List ℕ) (is : Option (List ℕ)) (document d : ℕ) (s : Sta
   pub threw_lasts : (F : Trees) (f : Fault) (s1 : State) → Throws f s1 ≡ made → size F ≤ size s1.page.forest → Lasts F (create_extended_turn local is document d s)
   threw_lasts F f s1 threw le = subst (λ (o : Outcome State ℕ). Lasts F (turn_after o upgrading)) threw (came_lasts_in F (Threw f) s1 le tt)
 
-  pub threw_at : (f : Fault) (s1 : State) → Throws f s1 ≡ made → BlindAt (create_extended_turn local is document d) s
-  threw_at f s1 threw = let b = throws_at (on_page (make_in_state local is document Undefined)) upgrading f s s1 (blind_on_page (make_in_state local is document Undefined)) threw in record { same = b.same; classes = b.classes }
-
   pub spent_turns : (frames : List Frame) (s1 : State) → Spent s1 ≡ made → Turns frames frames Over s1 (create_extended_turn local is document d s)
   spent_turns frames s1 spent = turns_as frames frames Over s1 (ended (Spent s1)) _ (ap (λ (o : Outcome State ℕ). turn_after o upgrading) spent) (turns_same frames Over s1 (Spent s1) refl)
 
   pub spent_lasts : (F : Trees) (s1 : State) → Spent s1 ≡ made → size F ≤ size s1.page.forest → Lasts F (create_extended_turn local is document d s)
   spent_lasts F s1 spent le = subst (λ (o : Outcome State ℕ). Lasts F (turn_after o upgrading)) spent (came_lasts_in F Over s1 le tt)
-
-  pub spent_blind : (s1 : State) → Spent s1 ≡ made → BlindAt (create_extended_turn local is document d) s
-  spent_blind s1 spent = let b = spent_at (on_page (make_in_state local is document Undefined)) upgrading s s1 (blind_on_page (make_in_state local is document Undefined)) spent in record { same = b.same; classes = b.classes }
 
 -- its upgrade threw
 pub extended_is : (n : ℕ) (f : Fault) (s s0 s1 : State) → s0 ≡ logged (Reported f) s → Goes tt s1 ≡ change_page (with_state n Failed) s0 → ended (Goes (Node n) s1) ≡ turn_threw (waiting.CreatingExtended n) f s

@@ -1,16 +1,18 @@
--- Turns that read nothing of what classes do and remember are turns of the whole session.
-use Rattle.std.proofs.Common.{◌≡◌, Bool, true, false, List, length, refl, ap, sym, ◌∙◌}
+-- Turns and steps that read nothing of what classes do and remember are those of the whole session.
+use Rattle.std.proofs.Common.{◌≡◌, List, length, refl, ap, sym, ◌∙◌, subst}
 use Rattle.ce_base.specs.declared.fault.Fault.{Fault}
+use Rattle.node_trees.specs.Trees.{Trees}
 use Rattle.ce_algorithms.specs.State.{State}
-use Rattle.ce_algorithms.specs.Steps.{Step, Outcome, Goes, Throws, Spent, throw_if}
+use Rattle.ce_algorithms.specs.Steps.{Step, Outcome, Goes, Throws, Spent}
 use Rattle.ce_frames.specs.Frames.{Frame}
 use Rattle.ce_frames.specs.Places.{Behaviour}
-use Rattle.ce_frames.specs.Turned.{Turn, Turned, ◌>>=◌, ◌>>◌, below, turn_after, with_below}
+use Rattle.ce_frames.specs.Turned.{Turn, Turned}
 use Rattle.ce_frames.specs.Whole.{IsBlind, IsBlindTurn, state_in, whole, whole_in, whole_turned}
 use Rattle.frame_stack.specs.Sessions.{ArePaired, session}
 use Rattle.frame_stack.specs.Stacked.{Stacked, behaviours_of}
 use Rattle.ce_reactions.specs.declared.came.Came.{Came}
 use Rattle.ce_reactions.specs.Blind.{BlindAt}
+use Rattle.ce_reactions.specs.Placed.{Lasts}
 use Rattle.ce_reactions.specs.Turns.{Turns}
 use Rattle.ce_reactions.proofs.TurnLaws.{turns_as}
 
@@ -35,52 +37,6 @@ as_at t u s each is h = record {
   classes = ap (λ (x : Turned). length x.state.classes) (sym is) ∙ h.classes;
 }
 
-pub below_at : (f : Frame) (t : Turn) (s : State) → BlindAt t s → BlindAt (below f t) s
-below_at f t s h = record { same = λ bs. ap (with_below f) (h.same bs); classes = h.classes }
-
--- behind a step that goes well
-pub after_at : {A : Type 0} (step : Step State A) (next : A → Turn) (a : A) (s s1 : State) → IsBlind step → Goes a s1 ≡ step s → BlindAt (next a) s1 → BlindAt (step >>= next) s
-after_at {A} step next a s s1 b is h = record {
-  same = λ bs.
-      ap (λ (o : Outcome State A). turn_after o next) (b.same bs s ∙ ap (whole_in bs) (sym is))
-      ∙ h.same bs
-      ∙ ap (λ (o : Outcome State A). whole_turned bs (turn_after o next)) is;
-  classes =
-      ap (λ (o : Outcome State A). length (turn_after o next).state.classes) (sym is)
-      ∙ h.classes
-      ∙ ap (λ (o : Outcome State A). length (state_in o).classes) is
-      ∙ b.classes s;
-}
-
--- behind one that throws
-pub throws_at : {A : Type 0} (step : Step State A) (next : A → Turn) (f : Fault) (s s1 : State) → IsBlind step → Throws f s1 ≡ step s → BlindAt (step >>= next) s
-throws_at {A} step next f s s1 b is = record {
-  same = λ bs.
-      ap (λ (o : Outcome State A). turn_after o next) (b.same bs s ∙ ap (whole_in bs) (sym is))
-      ∙ ap (λ (o : Outcome State A). whole_turned bs (turn_after o next)) is;
-  classes =
-      ap (λ (o : Outcome State A). length (turn_after o next).state.classes) (sym is)
-      ∙ ap (λ (o : Outcome State A). length (state_in o).classes) is
-      ∙ b.classes s;
-}
-
--- behind one that ends the session
-pub spent_at : {A : Type 0} (step : Step State A) (next : A → Turn) (s s1 : State) → IsBlind step → Spent s1 ≡ step s → BlindAt (step >>= next) s
-spent_at {A} step next s s1 b is = record {
-  same = λ bs.
-      ap (λ (o : Outcome State A). turn_after o next) (b.same bs s ∙ ap (whole_in bs) (sym is))
-      ∙ ap (λ (o : Outcome State A). whole_turned bs (turn_after o next)) is;
-  classes =
-      ap (λ (o : Outcome State A). length (turn_after o next).state.classes) (sym is)
-      ∙ ap (λ (o : Outcome State A). length (state_in o).classes) is
-      ∙ b.classes s;
-}
-
--- behind a test
-pub tested_at : (test : Bool) (f : Fault) (t : Turn) (s : State) → (test ≡ false → BlindAt t s) → BlindAt (throw_if test f >> t) s
-tested_at true f t s h = record { same = λ bs. refl; classes = refl }
-tested_at false f t s h = let b = h refl in record { same = b.same; classes = b.classes }
-
 -- of the whole session
 
 pub lifted : (t : Turn) (old new : Stacked) (under frames : List Frame) (now : Came) (s s1 : State) → BlindAt t s → Turns under frames now s1 (t s) → behaviours_of new ≡ behaviours_of old → Turns under frames now (session new s1) (t (session old s))
@@ -90,3 +46,20 @@ lifted t old new under frames now s s1 b h same =
 
 pub lifted_paired : (t : Turn) (old new : Stacked) (under frames : List Frame) (now : Came) (s s1 : State) → BlindAt t s → Turns under frames now s1 (t s) → behaviours_of new ≡ behaviours_of old → ArePaired old s → ArePaired new s1
 lifted_paired t old new under frames now s s1 b h same paired = paired_is old new s s1 same (ap (λ (x : State). length x.classes) h.state ∙ b.classes) paired
+
+pub lifted_lasts : (t : Turn) (old : Stacked) (F : Trees) (s : State) → BlindAt t s → Lasts F (t s) → Lasts F (t (session old s))
+lifted_lasts t old F s b h = subst (Lasts F) (sym (b.same (behaviours_of old))) (record { grows = h.grows; gives = h.gives; placed = h.placed })
+
+-- steps of the whole session
+
+pub goes_whole : {A : Type 0} (step : Step State A) (old new : Stacked) (a : A) (s s1 : State) → IsBlind step → behaviours_of new ≡ behaviours_of old → Goes a s1 ≡ step s → Goes a (session new s1) ≡ step (session old s)
+goes_whole step old new a s s1 b same is = ap (λ (t : State). Goes a t) (session_is old new s1 s1 same refl) ∙ ap (whole_in (behaviours_of old)) is ∙ sym (b.same (behaviours_of old) s)
+
+pub throws_whole : {A : Type 0} (step : Step State A) (old : Stacked) (f : Fault) (s s1 : State) → IsBlind step → Throws f s1 ≡ step s → Throws f (session old s1) ≡ step (session old s)
+throws_whole step old f s s1 b is = ap (whole_in (behaviours_of old)) is ∙ sym (b.same (behaviours_of old) s)
+
+pub spent_whole : {A : Type 0} (step : Step State A) (old : Stacked) (s s1 : State) → IsBlind step → Spent s1 ≡ step s → Spent (session old s1) ≡ step (session old s)
+spent_whole step old s s1 b is = ap (whole_in (behaviours_of old)) is ∙ sym (b.same (behaviours_of old) s)
+
+pub step_paired : {A : Type 0} (step : Step State A) (old new : Stacked) (s : State) (o : Outcome State A) → IsBlind step → behaviours_of new ≡ behaviours_of old → o ≡ step s → ArePaired old s → ArePaired new (state_in o)
+step_paired {A} step old new s o b same is paired = paired_is old new s (state_in o) same (ap (λ (x : Outcome State A). length (state_in x).classes) is ∙ b.classes s) paired

@@ -4,7 +4,7 @@ use Rattle.ce_base.specs.declared.fault.Fault.{Fault}
 use Rattle.node_trees.specs.Nodes.{IsNode, size}
 use Rattle.node_trees.specs.Trees.{Trees}
 use Rattle.ce_algorithms.specs.declared.event.Given.{Given}
-use Rattle.ce_frames.specs.Frames.{Frame, Naming, Stepping, Draining, CreatingFit, CreatingExtended, InBody}
+use Rattle.ce_frames.specs.Frames.{Frame, Naming, Stepping, Draining, CreatingFit, CreatingExtended, Constructing, InBody}
 use Rattle.ce_frames.specs.Rest.{End, Went, Threw, Over}
 use Rattle.ce_frames.specs.Turned.{Turned}
 use Rattle.ce_operations.specs.Given.{IsThere}
@@ -26,21 +26,24 @@ Reaches f (Went given) = IsThere f given
 Reaches f (Threw x) = Unit {0}
 Reaches f Over = Unit {0}
 
--- what these frames will hand down, with this end, is a node that is there
+-- what these frames will hand down, with this end, is there. A body gives only what is there
 abbrev pub Gives : Trees → List Frame → End → Type 0
 Gives f [] end = Reaches f end
 Gives f (Draining queue elements kept ∷ frames) end = IsKeptThere f kept
 Gives f (Stepping queue ∷ frames) end = Gives f frames end
 Gives f (CreatingFit local document ∷ frames) end = Gives f frames end
 Gives f (CreatingExtended n ∷ frames) end = IsNode f n
+Gives f (Constructing ∷ frames) end = Gives f frames end
+Gives f (InBody class args this guarded actions ∷ frames) end = Unit {0}
 Gives f (g ∷ frames) end = ⊥
 
--- a variable, the steps of an operation and a creation by an autonomous definition wait only for a node that is there; what
--- `this` is in a body is there
+-- a variable, the steps of an operation, a creation by an autonomous definition and a construction wait only for a node
+-- that is there; what `this` is in a body is there
 abbrev pub IsNamed : Trees → Frame → List Frame → End → Type 0
 IsNamed f (Naming var) above end = Gives f above end
 IsNamed f (Stepping queue) above end = Gives f above end
 IsNamed f (CreatingFit local document) above end = Gives f above end
+IsNamed f Constructing above end = Gives f above end
 IsNamed f (InBody class args this guarded actions) above end = IfSome this (IsNode f)
 IsNamed f g above end = Unit {0}
 

@@ -1,26 +1,83 @@
 // Turns of constructions (Web IDL, section "Invoking callback functions", "construct a callback function").
 ghost use Rattle.std.specs.Prelude.{◌≡◌, ◌≤◌, IfOk, OnOk};
 ghost use Rattle.node_trees.specs.Nodes.{size};
+ghost use Rattle.ce_algorithms.specs.Construction.{base_call};
+ghost use Rattle.ce_algorithms.specs.Perform.{gives_node};
+ghost use Rattle.ce_algorithms.specs.State.{State as IsState, on_page};
 ghost use Rattle.ce_frames.specs.ConstructTurns.{construct_turn};
+ghost use Rattle.ce_frames.specs.Frames as waiting;
 ghost use Rattle.ce_frames.specs.Turned.{ended};
-ghost use Rattle.ce_reactions.specs.Blind.{BlindAt};
-ghost use Rattle.ce_reactions.specs.Placed.{IsEndThere};
-ghost use Rattle.ce_reactions.specs.Turns.{came_in};
+ghost use Rattle.ce_frames.specs.Turns.{turn_went};
+ghost use Rattle.frame_stack.specs.Sessions.{ArePaired, session};
+ghost use Rattle.frame_stack.specs.Stacked.{frames_of};
+ghost use Rattle.ce_reactions.specs.Constructors.{own_turn};
+ghost use Rattle.ce_reactions.specs.Placed.{IsEndThere, Lasts};
+ghost use Rattle.ce_reactions.specs.Turns.{Turns, came_in};
 
 use crate::came::{Came, came_from};
-use ce_base::{ClassNo, NoMemory};
+use behaviours::Args;
+use ce_algorithms::Given;
+use ce_base::{ClassNo, Fault, NoMemory};
 use ce_operations::deeds::gives_node;
+use frame_stack::{Stack, Waiting};
+use rule_tokens::CallName;
 use session_state::State;
 use std::alloc::Global;
 
-/// A class is constructed. So far its constructor is the base call alone, which waits for nothing.
-pub(crate) fn construct(state: &mut State, alloc: Global, class: ClassNo) -> Result<Came, NoMemory>
-    ensures turn { IfOk result (λ now. ended (came_in now state.new) ≡ construct_turn class state.old) }
-    ensures blind { OnOk result (BlindAt (construct_turn class) state.old) }
+/// A class is constructed: the body of its constructor begins. The constructor of a class that has none of its own is
+/// the base call alone, which waits for nothing.
+pub fn construct(
+    state: &mut State,
+    alloc: Global,
+    stack: &mut Stack,
+    class: ClassNo,
+) -> Result<Came, NoMemory>
+    requires paired { ArePaired stack.old state.old }
+    ensures turn { IfOk result (λ now. Turns (frames_of stack.old) (frames_of stack.new) now (session stack.new state.new) (construct_turn class (session stack.old state.old))) }
+    ensures paired { OnOk result (ArePaired stack.new state.new) }
     ensures grows { size state.old.page.forest ≤ size state.new.page.forest }
-    ensures there { IfOk result (IsEndThere state.new.page.forest) }
+    ensures lasts { OnOk result (Lasts state.old.page.forest (construct_turn class (session stack.old state.old))) }
 {
-    let made = gives_node(state.construct(alloc, class));
+    state.log_construction(alloc, class)?;
+    if state.has_constructor(class) {
+        let now = begin(state, alloc, stack, class)?;
+        return Ok(now);
+    }
+    let now = base_alone(state, alloc, class)?;
+    Ok(now)
+}
+
+// The base call alone.
+fn base_alone(state: &mut State, alloc: Global, class: ClassNo) -> Result<Came, NoMemory>
+    ensures step { IfOk result (λ now. came_in now state.new ≡ gives_node (on_page (base_call class)) state.old) }
+    ensures there { IfOk result (IsEndThere state.new.page.forest) }
+    ensures grows { size state.old.page.forest ≤ size state.new.page.forest }
+{
+    let made = gives_node(state.base_call(alloc, class));
     let now = came_from(made)?;
     Ok(now)
+}
+
+// The body of a class's own constructor begins.
+fn begin(state: &State, alloc: Global, stack: &mut Stack, class: ClassNo) -> Result<Came, NoMemory>
+    requires paired { ArePaired stack.old state.now }
+    ensures turn { IfOk result (λ now. Turns (frames_of stack.old) (frames_of stack.new) now (session stack.new state.now) (own_turn class (session stack.old state.now))) }
+    ensures paired { OnOk result (ArePaired stack.new state.now) }
+{
+    let args = Args::none(alloc)?;
+    stack.push(Waiting::Constructing)?;
+    stack.begin(class, CallName::Constructor, args, None)?;
+    Ok(Came::Went(Given::Nothing))
+}
+
+/// The body of a constructor has ended: it has to have given a node. ReferenceError where it has not.
+pub fn given_turn(given: Given) -> Came
+    ensures { (s : IsState) → ended (came_in result s) ≡ turn_went waiting.Constructing given s }
+{
+    match given {
+        Given::Node(n) => Came::Went(Given::Node(n)),
+        Given::Nothing => Came::Threw(Fault::ReferenceError),
+        Given::Answers(_) => Came::Threw(Fault::ReferenceError),
+        Given::Ignored => Came::Threw(Fault::ReferenceError),
+    }
 }

@@ -8,9 +8,9 @@ ghost use Rattle.ce_frames.specs.ConstructTurns.{create_extended_turn, create_fo
 ghost use Rattle.ce_frames.specs.OperateTurns.{create_named_turn};
 ghost use Rattle.ce_frames.specs.Turned.{ended};
 ghost use Rattle.ce_frames.specs.Turns.{turn_threw, turn_went};
-ghost use Rattle.frame_stack.specs.Stacked.{behaviours_of, frames_of};
+ghost use Rattle.frame_stack.specs.Sessions.{ArePaired, session};
+ghost use Rattle.frame_stack.specs.Stacked.{frames_of};
 ghost use Rattle.ce_operations.specs.Given.{IsThere};
-ghost use Rattle.ce_reactions.specs.Blind.{BlindAt};
 ghost use Rattle.ce_reactions.specs.Placed.{IsEndThere, Lasts};
 ghost use Rattle.ce_reactions.specs.Turns.{Turns, came_in};
 
@@ -38,10 +38,10 @@ pub fn create_named(
     is: Option<Text>,
     document: NodeNo,
 ) -> Result<Came, NoMemory>
-    ensures turn { IfOk result (λ now. Turns (frames_of stack.old) (frames_of stack.new) now state.new (create_named_turn name.now is document state.old)) }
-    ensures same { OnOk result (behaviours_of stack.new ≡ behaviours_of stack.old) }
-    ensures blind { OnOk result (BlindAt (create_named_turn name.now is document) state.old) }
-    ensures lasts { OnOk result (Lasts state.old.page.forest (create_named_turn name.now is document state.old)) }
+    requires paired { ArePaired stack.old state.old }
+    ensures turn { IfOk result (λ now. Turns (frames_of stack.old) (frames_of stack.new) now (session stack.new state.new) (create_named_turn name.now is document (session stack.old state.old))) }
+    ensures paired { OnOk result (ArePaired stack.new state.new) }
+    ensures lasts { OnOk result (Lasts state.old.page.forest (create_named_turn name.now is document (session stack.old state.old))) }
 {
     if !is_local_name(name.as_str()) {
         return Ok(Came::Threw(Fault::InvalidCharacterError));
@@ -60,10 +60,10 @@ fn create(
     is: Option<Text>,
     document: NodeNo,
 ) -> Result<Came, NoMemory>
-    ensures turn { IfOk result (λ now. Turns (frames_of stack.old) (frames_of stack.new) now state.new (create_turn local is document state.old)) }
-    ensures same { OnOk result (behaviours_of stack.new ≡ behaviours_of stack.old) }
-    ensures blind { OnOk result (BlindAt (create_turn local is document) state.old) }
-    ensures lasts { OnOk result (Lasts state.old.page.forest (create_turn local is document state.old)) }
+    requires paired { ArePaired stack.old state.old }
+    ensures turn { IfOk result (λ now. Turns (frames_of stack.old) (frames_of stack.new) now (session stack.new state.new) (create_turn local is document (session stack.old state.old))) }
+    ensures paired { OnOk result (ArePaired stack.new state.new) }
+    ensures lasts { OnOk result (Lasts state.old.page.forest (create_turn local is document (session stack.old state.old))) }
 {
     match lookup(state, &local, &is, document) {
         None => {
@@ -88,10 +88,10 @@ fn create_found(
     document: NodeNo,
     d: DefNo,
 ) -> Result<Came, NoMemory>
-    ensures turn { IfOk result (λ now. Turns (frames_of stack.old) (frames_of stack.new) now state.new (create_found_turn local is document (Some d) state.old)) }
-    ensures same { OnOk result (behaviours_of stack.new ≡ behaviours_of stack.old) }
-    ensures blind { OnOk result (BlindAt (create_found_turn local is document (Some d)) state.old) }
-    ensures lasts { OnOk result (Lasts state.old.page.forest (create_found_turn local is document (Some d) state.old)) }
+    requires paired { ArePaired stack.old state.old }
+    ensures turn { IfOk result (λ now. Turns (frames_of stack.old) (frames_of stack.new) now (session stack.new state.new) (create_found_turn local is document (Some d) (session stack.old state.old))) }
+    ensures paired { OnOk result (ArePaired stack.new state.new) }
+    ensures lasts { OnOk result (Lasts state.old.page.forest (create_found_turn local is document (Some d) (session stack.old state.old))) }
 {
     if is_autonomous(state, d) {
         drop(is);
@@ -111,15 +111,15 @@ fn create_fit(
     document: NodeNo,
     d: DefNo,
 ) -> Result<Came, NoMemory>
-    requires { is_autonomous (definition_at state.old.page d) ≡ true }
-    ensures turn { (is : Option (List ℕ)) → IfOk result (λ now. Turns (frames_of stack.old) (frames_of stack.new) now state.new (create_found_turn local is document (Some d) state.old)) }
-    ensures same { OnOk result (behaviours_of stack.new ≡ behaviours_of stack.old) }
-    ensures blind { (is : Option (List ℕ)) → OnOk result (BlindAt (create_found_turn local is document (Some d)) state.old) }
-    ensures lasts { (is : Option (List ℕ)) → OnOk result (Lasts state.old.page.forest (create_found_turn local is document (Some d) state.old)) }
+    requires autonomous { is_autonomous (definition_at state.old.page d) ≡ true }
+    requires paired { ArePaired stack.old state.old }
+    ensures turn { (is : Option (List ℕ)) → IfOk result (λ now. Turns (frames_of stack.old) (frames_of stack.new) now (session stack.new state.new) (create_found_turn local is document (Some d) (session stack.old state.old))) }
+    ensures paired { OnOk result (ArePaired stack.new state.new) }
+    ensures lasts { (is : Option (List ℕ)) → OnOk result (Lasts state.old.page.forest (create_found_turn local is document (Some d) (session stack.old state.old))) }
 {
     let class = class_of(state, d);
     stack.push(Waiting::CreatingFit(local, document))?;
-    let now = construct(state, alloc, class)?;
+    let now = construct(state, alloc, stack, class)?;
     Ok(now)
 }
 
@@ -133,10 +133,10 @@ fn create_extended(
     document: NodeNo,
     d: DefNo,
 ) -> Result<Came, NoMemory>
-    ensures turn { IfOk result (λ now. Turns (frames_of stack.old) (frames_of stack.new) now state.new (create_extended_turn local is document d state.old)) }
-    ensures same { OnOk result (behaviours_of stack.new ≡ behaviours_of stack.old) }
-    ensures blind { OnOk result (BlindAt (create_extended_turn local is document d) state.old) }
-    ensures lasts { OnOk result (Lasts state.old.page.forest (create_extended_turn local is document d state.old)) }
+    requires paired { ArePaired stack.old state.old }
+    ensures turn { IfOk result (λ now. Turns (frames_of stack.old) (frames_of stack.new) now (session stack.new state.new) (create_extended_turn local is document d (session stack.old state.old))) }
+    ensures paired { OnOk result (ArePaired stack.new state.new) }
+    ensures lasts { OnOk result (Lasts state.old.page.forest (create_extended_turn local is document d (session stack.old state.old))) }
 {
     match state.make_in_state(alloc, local, is, document, CustomState::Undefined) {
         Ok(n) => {

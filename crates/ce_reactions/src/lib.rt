@@ -2,7 +2,7 @@
 #![tactic(auto)]
 
 mod came;
-mod constructions;
+pub mod constructions;
 pub mod creations;
 pub mod reactions;
 pub mod upgrades;

@@ -9,8 +9,8 @@ ghost use Rattle.ce_frames.specs.Frames as waiting;
 ghost use Rattle.ce_frames.specs.ConstructTurns.{construct_for_turn, same_given, upgrade_now_turn, upgrade_turn, upgraded_turn};
 ghost use Rattle.ce_frames.specs.Turned.{ended};
 ghost use Rattle.ce_frames.specs.Turns.{turn_went};
-ghost use Rattle.frame_stack.specs.Stacked.{behaviours_of, frames_of};
-ghost use Rattle.ce_reactions.specs.Blind.{BlindAt};
+ghost use Rattle.frame_stack.specs.Sessions.{ArePaired, session};
+ghost use Rattle.frame_stack.specs.Stacked.{frames_of};
 ghost use Rattle.ce_reactions.specs.Turns.{Turns, came_in};
 
 use crate::came::{Came, came_from};
@@ -32,10 +32,10 @@ pub fn upgrade_turn(
     n: NodeNo,
     d: DefNo,
 ) -> Result<Came, NoMemory>
-    requires { IsElement state.old.page.forest n }
-    ensures turn { IfOk result (λ now. Turns (frames_of stack.old) (frames_of stack.new) now state.new (upgrade_turn n d state.old)) }
-    ensures same { OnOk result (behaviours_of stack.new ≡ behaviours_of stack.old) }
-    ensures blind { OnOk result (BlindAt (upgrade_turn n d) state.old) }
+    requires element { IsElement state.old.page.forest n }
+    requires paired { ArePaired stack.old state.old }
+    ensures turn { IfOk result (λ now. Turns (frames_of stack.old) (frames_of stack.new) now (session stack.new state.new) (upgrade_turn n d (session stack.old state.old))) }
+    ensures paired { OnOk result (ArePaired stack.new state.new) }
     ensures grows { size state.old.page.forest ≤ size state.new.page.forest }
 {
     if is_upgradable(state.custom_state(n)) {
@@ -65,17 +65,17 @@ fn upgrade_now(
     n: NodeNo,
     d: DefNo,
 ) -> Result<Came, NoMemory>
-    requires { IsElement state.old.page.forest n }
-    ensures turn { IfOk result (λ now. Turns (frames_of stack.old) (frames_of stack.new) now state.new (upgrade_now_turn n d state.old)) }
-    ensures same { OnOk result (behaviours_of stack.new ≡ behaviours_of stack.old) }
-    ensures blind { OnOk result (BlindAt (upgrade_now_turn n d) state.old) }
+    requires element { IsElement state.old.page.forest n }
+    requires paired { ArePaired stack.old state.old }
+    ensures turn { IfOk result (λ now. Turns (frames_of stack.old) (frames_of stack.new) now (session stack.new state.new) (upgrade_now_turn n d (session stack.old state.old))) }
+    ensures paired { OnOk result (ArePaired stack.new state.new) }
     ensures grows { size state.old.page.forest ≤ size state.new.page.forest }
 {
     state.log(Event::UpgradeBegun(n))?;
     match state.begin_upgrade(alloc, n, d) {
         Ok(()) => {
             stack.push(Waiting::Upgrading(n, d))?;
-            let now = construct_for(state, alloc, n, d)?;
+            let now = construct_for(state, alloc, stack, n, d)?;
             Ok(now)
         }
         Err(PageStop::Refused(f)) => Ok(Came::Threw(f)),
@@ -85,10 +85,17 @@ fn upgrade_now(
 }
 
 // The class of its definition is constructed, unless the definition disables shadow and it has a shadow root.
-fn construct_for(state: &mut State, alloc: Global, n: NodeNo, d: DefNo) -> Result<Came, NoMemory>
-    requires { IsNode state.old.page.forest n }
-    ensures turn { IfOk result (λ now. ended (came_in now state.new) ≡ construct_for_turn n d state.old) }
-    ensures blind { OnOk result (BlindAt (construct_for_turn n d) state.old) }
+fn construct_for(
+    state: &mut State,
+    alloc: Global,
+    stack: &mut Stack,
+    n: NodeNo,
+    d: DefNo,
+) -> Result<Came, NoMemory>
+    requires node { IsNode state.old.page.forest n }
+    requires paired { ArePaired stack.old state.old }
+    ensures turn { IfOk result (λ now. Turns (frames_of stack.old) (frames_of stack.new) now (session stack.new state.new) (construct_for_turn n d (session stack.old state.old))) }
+    ensures paired { OnOk result (ArePaired stack.new state.new) }
     ensures grows { size state.old.page.forest ≤ size state.new.page.forest }
 {
     if state.is_shadow_refused(n, d) {
@@ -96,7 +103,7 @@ fn construct_for(state: &mut State, alloc: Global, n: NodeNo, d: DefNo) -> Resul
     }
     state.set_state(n, CustomState::Precustomized);
     let class = class_of(state, d);
-    let now = construct(state, alloc, class)?;
+    let now = construct(state, alloc, stack, class)?;
     Ok(now)
 }
 

@@ -7,7 +7,7 @@ use Rattle.std.specs.Prelude.{Some}
 use Rattle.frame_stack.specs.Sessions.{session}
 use Rattle.frame_stack.specs.Stacked.{below_top, frames_of}
 use Rattle.ce_machine.specs.Bodies.{StopsAt, acting_turn, stopped_turn}
-use Rattle.ce_machine.proofs.BodyLaws.{acts_as, always, none_goes_on_as, some_stays_as, some_turns_as, stops_at, stops_goes_on, stops_spends, stops_stays, stops_turns, this_there}
+use Rattle.ce_machine.proofs.BodyLaws.{acts_as, always, none_goes_on_as, some_lasts_as, some_turns_as, stops_at, stops_goes_on, stops_spends, stops_lasts, stops_turns, this_there}
 use Rattle.ce_machine.proofs.stops.go_on.Goals as goal
 
 pub spent-requires-clause-body : goal.spent-requires-clause-body
@@ -34,11 +34,11 @@ returns-in_ok-now-in-FuelSpent-clause-turn c =
     (subst (StopsAt c.args.stack.now c.resume.new.stack c.args.state.now c.resume.new.self) (ap stop_of c.in-FuelSpent.is) (stops_at c.args.stack.now c.resume.new.stack c.args.state.now c.resume.new.self c.in_ok-resume.field-0 c.in_ok-resume.ensures.resumed c.requires.paired c.in_ok-resume.ensures.rest))
     c.in_ok-now-in-FuelSpent.ensures.turn
 
-pub returns-in_ok-now-in-FuelSpent-clause-placed : goal.returns-in_ok-now-in-FuelSpent-clause-placed
-returns-in_ok-now-in-FuelSpent-clause-placed c =
-    stops_stays c.args.stack.now c.resume.new.stack c.args.state.now c.resume.new.self OutOfFuel (Some c.in_ok-now-in-FuelSpent.now)
+pub returns-in_ok-now-in-FuelSpent-clause-lasts : goal.returns-in_ok-now-in-FuelSpent-clause-lasts
+returns-in_ok-now-in-FuelSpent-clause-lasts c =
+    stops_lasts c.args.stack.now c.resume.new.stack c.args.state.now c.resume.new.self OutOfFuel (Some c.in_ok-now-in-FuelSpent.now)
     (subst (StopsAt c.args.stack.now c.resume.new.stack c.args.state.now c.resume.new.self) (ap stop_of c.in-FuelSpent.is) (stops_at c.args.stack.now c.resume.new.stack c.args.state.now c.resume.new.self c.in_ok-resume.field-0 c.in_ok-resume.ensures.resumed c.requires.paired c.in_ok-resume.ensures.rest))
-    c.in_ok-resume.ensures.rest c.in_ok-now-in-FuelSpent.ensures.placed
+    c.in_ok-resume.ensures.rest c.in_ok-now-in-FuelSpent.ensures.lasts
 
 pub returns-in_ok-o-in-Throw-clause-turn : goal.returns-in_ok-o-in-Throw-clause-turn
 returns-in_ok-o-in-Throw-clause-turn c =
@@ -46,11 +46,11 @@ returns-in_ok-o-in-Throw-clause-turn c =
     (subst (StopsAt c.args.stack.now c.resume.new.stack c.args.state.now c.resume.new.self) (ap stop_of c.in-Throw.is) (stops_at c.args.stack.now c.resume.new.stack c.args.state.now c.resume.new.self c.in_ok-resume.field-0 c.in_ok-resume.ensures.resumed c.requires.paired c.in_ok-resume.ensures.rest))
     c.in_ok-o-in-Throw.ensures.turn
 
-pub returns-in_ok-o-in-Throw-clause-placed : goal.returns-in_ok-o-in-Throw-clause-placed
-returns-in_ok-o-in-Throw-clause-placed c =
-    stops_stays c.args.stack.now c.resume.new.stack c.args.state.now c.resume.new.self (Throwing c.in-Throw.fault c.in-Throw.guarded) c.in_ok-o-in-Throw.o
+pub returns-in_ok-o-in-Throw-clause-lasts : goal.returns-in_ok-o-in-Throw-clause-lasts
+returns-in_ok-o-in-Throw-clause-lasts c =
+    stops_lasts c.args.stack.now c.resume.new.stack c.args.state.now c.resume.new.self (Throwing c.in-Throw.fault c.in-Throw.guarded) c.in_ok-o-in-Throw.o
     (subst (StopsAt c.args.stack.now c.resume.new.stack c.args.state.now c.resume.new.self) (ap stop_of c.in-Throw.is) (stops_at c.args.stack.now c.resume.new.stack c.args.state.now c.resume.new.self c.in_ok-resume.field-0 c.in_ok-resume.ensures.resumed c.requires.paired c.in_ok-resume.ensures.rest))
-    c.in_ok-resume.ensures.rest c.in_ok-o-in-Throw.ensures.placed
+    c.in_ok-resume.ensures.rest c.in_ok-o-in-Throw.ensures.lasts
 
 pub returns-in_ok-o-in-Throw-clause-on : goal.returns-in_ok-o-in-Throw-clause-on
 returns-in_ok-o-in-Throw-clause-on c =
@@ -64,11 +64,11 @@ returns-in_ok-o-in-Return-clause-turn c =
     (subst (StopsAt c.args.stack.now c.resume.new.stack c.args.state.now c.resume.new.self) (ap stop_of c.in-Return.is) (stops_at c.args.stack.now c.resume.new.stack c.args.state.now c.resume.new.self c.in_ok-resume.field-0 c.in_ok-resume.ensures.resumed c.requires.paired c.in_ok-resume.ensures.rest))
     c.in_ok-o-in-Return.ensures.turn
 
-pub returns-in_ok-o-in-Return-clause-placed : goal.returns-in_ok-o-in-Return-clause-placed
-returns-in_ok-o-in-Return-clause-placed c =
-    stops_stays c.args.stack.now c.resume.new.stack c.args.state.now c.resume.new.self (Returning c.in-Return.value c.in-Return.guarded) c.in_ok-o-in-Return.o
+pub returns-in_ok-o-in-Return-clause-lasts : goal.returns-in_ok-o-in-Return-clause-lasts
+returns-in_ok-o-in-Return-clause-lasts c =
+    stops_lasts c.args.stack.now c.resume.new.stack c.args.state.now c.resume.new.self (Returning c.in-Return.value c.in-Return.guarded) c.in_ok-o-in-Return.o
     (subst (StopsAt c.args.stack.now c.resume.new.stack c.args.state.now c.resume.new.self) (ap stop_of c.in-Return.is) (stops_at c.args.stack.now c.resume.new.stack c.args.state.now c.resume.new.self c.in_ok-resume.field-0 c.in_ok-resume.ensures.resumed c.requires.paired c.in_ok-resume.ensures.rest))
-    c.in_ok-resume.ensures.rest c.in_ok-o-in-Return.ensures.placed
+    c.in_ok-resume.ensures.rest c.in_ok-o-in-Return.ensures.lasts
 
 pub returns-in_ok-o-in-Return-clause-on : goal.returns-in_ok-o-in-Return-clause-on
 returns-in_ok-o-in-Return-clause-on c =
@@ -82,11 +82,11 @@ returns-in_ok-o-in-Do-clause-turn c =
     (subst (StopsAt c.args.stack.now c.resume.new.stack c.args.state.now c.resume.new.self) (ap stop_of c.in-Do.is) (stops_at c.args.stack.now c.resume.new.stack c.args.state.now c.resume.new.self c.in_ok-resume.field-0 c.in_ok-resume.ensures.resumed c.requires.paired c.in_ok-resume.ensures.rest))
     (some_turns_as c.in_ok-o-in-Do.o (below_top (frames_of c.resume.new.stack)) (frames_of c.act.new.stack) (session c.act.new.stack c.act.new.state) _ _ (acts_as c.resume.new.stack (subst (StopsAt c.args.stack.now c.resume.new.stack c.args.state.now c.resume.new.self) (ap stop_of c.in-Do.is) (stops_at c.args.stack.now c.resume.new.stack c.args.state.now c.resume.new.self c.in_ok-resume.field-0 c.in_ok-resume.ensures.resumed c.requires.paired c.in_ok-resume.ensures.rest)).body (act_of c.in-Do.action) c.in-Do.guarded (session c.resume.new.stack c.resume.new.self) (subst (StopsAt c.args.stack.now c.resume.new.stack c.args.state.now c.resume.new.self) (ap stop_of c.in-Do.is) (stops_at c.args.stack.now c.resume.new.stack c.args.state.now c.resume.new.self c.in_ok-resume.field-0 c.in_ok-resume.ensures.resumed c.requires.paired c.in_ok-resume.ensures.rest)).guarded) c.in_ok-o-in-Do.ensures.turn)
 
-pub returns-in_ok-o-in-Do-clause-placed : goal.returns-in_ok-o-in-Do-clause-placed
-returns-in_ok-o-in-Do-clause-placed c =
-    stops_stays c.args.stack.now c.resume.new.stack c.args.state.now c.resume.new.self (Doing (act_of c.in-Do.action) c.in-Do.guarded) c.in_ok-o-in-Do.o
+pub returns-in_ok-o-in-Do-clause-lasts : goal.returns-in_ok-o-in-Do-clause-lasts
+returns-in_ok-o-in-Do-clause-lasts c =
+    stops_lasts c.args.stack.now c.resume.new.stack c.args.state.now c.resume.new.self (Doing (act_of c.in-Do.action) c.in-Do.guarded) c.in_ok-o-in-Do.o
     (subst (StopsAt c.args.stack.now c.resume.new.stack c.args.state.now c.resume.new.self) (ap stop_of c.in-Do.is) (stops_at c.args.stack.now c.resume.new.stack c.args.state.now c.resume.new.self c.in_ok-resume.field-0 c.in_ok-resume.ensures.resumed c.requires.paired c.in_ok-resume.ensures.rest))
-    c.in_ok-resume.ensures.rest (some_stays_as c.in_ok-o-in-Do.o c.resume.new.self.page.forest _ _ (acts_as c.resume.new.stack (subst (StopsAt c.args.stack.now c.resume.new.stack c.args.state.now c.resume.new.self) (ap stop_of c.in-Do.is) (stops_at c.args.stack.now c.resume.new.stack c.args.state.now c.resume.new.self c.in_ok-resume.field-0 c.in_ok-resume.ensures.resumed c.requires.paired c.in_ok-resume.ensures.rest)).body (act_of c.in-Do.action) c.in-Do.guarded (session c.resume.new.stack c.resume.new.self) (subst (StopsAt c.args.stack.now c.resume.new.stack c.args.state.now c.resume.new.self) (ap stop_of c.in-Do.is) (stops_at c.args.stack.now c.resume.new.stack c.args.state.now c.resume.new.self c.in_ok-resume.field-0 c.in_ok-resume.ensures.resumed c.requires.paired c.in_ok-resume.ensures.rest)).guarded) c.in_ok-o-in-Do.ensures.placed)
+    c.in_ok-resume.ensures.rest (some_lasts_as c.in_ok-o-in-Do.o c.resume.new.self.page.forest _ _ (acts_as c.resume.new.stack (subst (StopsAt c.args.stack.now c.resume.new.stack c.args.state.now c.resume.new.self) (ap stop_of c.in-Do.is) (stops_at c.args.stack.now c.resume.new.stack c.args.state.now c.resume.new.self c.in_ok-resume.field-0 c.in_ok-resume.ensures.resumed c.requires.paired c.in_ok-resume.ensures.rest)).body (act_of c.in-Do.action) c.in-Do.guarded (session c.resume.new.stack c.resume.new.self) (subst (StopsAt c.args.stack.now c.resume.new.stack c.args.state.now c.resume.new.self) (ap stop_of c.in-Do.is) (stops_at c.args.stack.now c.resume.new.stack c.args.state.now c.resume.new.self c.in_ok-resume.field-0 c.in_ok-resume.ensures.resumed c.requires.paired c.in_ok-resume.ensures.rest)).guarded) c.in_ok-o-in-Do.ensures.lasts)
 
 pub returns-in_ok-o-in-Do-clause-on : goal.returns-in_ok-o-in-Do-clause-on
 returns-in_ok-o-in-Do-clause-on c =

@@ -1,7 +1,7 @@
-use Rattle.ce_machine.proofs.BodyLaws.{operation_ok}
+use Rattle.frame_stack.specs.Sessions.{session}
+use Rattle.ce_machine.proofs.BodyLaws.{operation_turns}
 use Rattle.ce_machine.proofs.stops.operation.Goals as goal
 
 pub returns-clause-turn : goal.returns-clause-turn
 returns-clause-turn c =
-    operation_ok c.args.stack.now c.operate-now.new.stack c.args.state.now c.operate-now.new.state c.this-this.result c.args.op c.operate-now.result c.requires.body c.this-this.ensures
-    c.operate-now.ensures.blind c.operate-now.ensures.turn c.operate-now.ensures.same
+    operation_turns c.args.stack.now c.operate-now.new.stack c.args.state.now (session c.operate-now.new.stack c.operate-now.new.state) c.this-this.result c.args.op c.operate-now.result c.requires.body c.this-this.ensures c.operate-now.ensures.turn

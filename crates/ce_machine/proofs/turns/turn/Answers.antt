@@ -4,7 +4,7 @@ use Rattle.ce_frames.specs.Turns.{turn}
 use Rattle.frame_stack.specs.Sessions.{session}
 use Rattle.frame_stack.specs.Stacked.{Stacked, below_top, frames_of}
 use Rattle.ce_machine.specs.Bodies.{frame_on_top}
-use Rattle.ce_reactions.specs.Placed.{StaysPlaced}
+use Rattle.ce_reactions.specs.Placed.{Lasts}
 use Rattle.ce_reactions.specs.Turns.{Turns, end_of}
 use Rattle.ce_machine.proofs.BodyLaws.{popped_body}
 use Rattle.ce_machine.proofs.LoopLaws.{turned_rest, turned_left}
@@ -30,7 +30,7 @@ returns-in_ok-now-in-None-clause-work c =
 pub returns-in_ok-now-in-None-clause-placed : goal.returns-in_ok-now-in-None-clause-placed
 returns-in_ok-now-in-None-clause-placed c =
     body_placed c.args.stack.now (frames_of c.resume_body.new.stack) (end_of c.args.end) c.in_ok-now-in-None.now c.args.state.now.page.forest (session c.resume_body.new.stack c.resume_body.new.state) (turn (frame_on_top c.args.stack.now) (end_of c.args.end) (session c.args.stack.now c.args.state.now)) (c.in-None.ensures.body c.requires.some) (body_turns c)
-    (subst (λ (x : Stacked). StaysPlaced c.args.state.now.page.forest (turn (frame_on_top x) (end_of c.args.end) (session x c.args.state.now))) c.in-None.ensures.frames c.in_ok-now-in-None.ensures.stays)
+    (subst (λ (x : Stacked). Lasts c.args.state.now.page.forest (turn (frame_on_top x) (end_of c.args.end) (session x c.args.state.now))) c.in-None.ensures.frames c.in_ok-now-in-None.ensures.lasts)
     c.requires.placed
 
 -- another frame
