@@ -1,0 +1,5 @@
+pub mod StackDepths
+pub mod Steps
+pub mod Primitives
+pub mod Algorithms
+pub mod Sessions
