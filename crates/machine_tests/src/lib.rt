@@ -1,7 +1,5 @@
-//! Tests of the steps of a session's state, of commands run on it, and of the machine.
+//! Tests of the machine: scripts, and what it writes for each of their lines.
 #![tactic(auto)]
 
 #[cfg(test)]
 mod machine;
-#[cfg(test)]
-mod state;

@@ -1,9 +1,13 @@
+mod cloning;
+mod constructors;
 mod nested;
 mod sessions;
 mod upgrades;
 
 use ce_base::{MemSink, Sink, Stop, SureSink, write_all};
 use ce_machine::*;
+use cloning::*;
+use constructors::*;
 use nested::*;
 use rule_script::{Bad, Line, LineRefused, read_line};
 use sessions::*;
@@ -148,6 +152,31 @@ fn an_insertion_in_a_body_upgrades(rt: HostRuntime) -> Result<(), Fail> {
     compare(&rt, rt.alloc(), true, UPGRADED_WITHIN)
 }
 
+#[test]
+fn a_constructor_gives_a_node_or_throws(rt: HostRuntime) -> Result<(), Fail> {
+    compare(&rt, rt.alloc(), false, CONSTRUCTED)
+}
+
+#[test]
+fn what_is_constructed_for_a_creation_is_tested(rt: HostRuntime) -> Result<(), Fail> {
+    compare(&rt, rt.alloc(), false, CREATED)
+}
+
+#[test]
+fn an_upgrade_ends_as_its_constructor_does(rt: HostRuntime) -> Result<(), Fail> {
+    compare(&rt, rt.alloc(), true, UPGRADED_BY_BODIES)
+}
+
+#[test]
+fn a_constructor_may_construct(rt: HostRuntime) -> Result<(), Fail> {
+    compare(&rt, rt.alloc(), false, CONSTRUCTED_WITHIN)
+}
+
+#[test]
+fn copies_are_upgraded_when_all_are_made(rt: HostRuntime) -> Result<(), Fail> {
+    compare(&rt, rt.alloc(), true, CLONED)
+}
+
 // Lines that spend nine units: the definition one, the creation two, the attribute three, the text two, the
 // variable one.
 const LINES: &str = "class A
@@ -219,8 +248,18 @@ fn a_callback_within_another_ends_the_session(rt: HostRuntime) -> Result<(), Fai
 }
 
 #[test]
+fn a_clone_ends_the_session(rt: HostRuntime) -> Result<(), Fail> {
+    compare_endings(&rt, rt.alloc(), CLONED_LINES, CLONED_ENDINGS)
+}
+
+#[test]
 fn an_upgrade_ends_the_session(rt: HostRuntime) -> Result<(), Fail> {
     compare_endings(&rt, rt.alloc(), UPGRADED_LINES, UPGRADED_ENDINGS)
+}
+
+#[test]
+fn a_constructor_ends_the_session(rt: HostRuntime) -> Result<(), Fail> {
+    compare_endings(&rt, rt.alloc(), CONSTRUCTED_LINES, CONSTRUCTED_ENDINGS)
 }
 
 fn bad(word: &str) -> Bad {

@@ -138,6 +138,11 @@ fn an_adopted_tree_is_told_unless_it_is_refused(rt: HostRuntime) -> Result<(), F
 }
 
 #[test]
+fn a_node_is_cloned_alone_or_with_all_below(rt: HostRuntime) -> Result<(), Fail> {
+    begin(&rt, rt.alloc(), 13, CLONED)
+}
+
+#[test]
 fn a_call_upgrades_a_tree_in_its_order(rt: HostRuntime) -> Result<(), Fail> {
     begin(&rt, rt.alloc(), 8, UPGRADED)
 }

@@ -1,8 +1,8 @@
 use Rattle.ce_algorithms.specs.Mutation.{pre_insert}
 use Rattle.ce_algorithms.specs.State.{on_page}
 use Rattle.ce_frames.proofs.BlindSteps.{blind_on_page}
-use Rattle.machine_tests.proofs.StepLaws.{as_many, where_ok}
-use Rattle.machine_tests.proofs.state.steps.insert.Goals as goal
+use Rattle.state_tests.proofs.StepLaws.{as_many, where_ok}
+use Rattle.state_tests.proofs.state.steps.insert.Goals as goal
 
 pub returns : goal.returns
 returns g c =

@@ -201,6 +201,21 @@ fn attach_shadow(
     ended(alloc, &end)
 }
 
+// Clones a node, and all below it where `deep` stands behind its number.
+fn clone_node(
+    rt: &impl Abort,
+    alloc: Global,
+    state: &mut State,
+    words: &str,
+) -> Result<String, Fail>
+    ensures { OnOk result (length state.new.classes ≡ length state.old.classes) }
+{
+    let (n, depth) = cut(words);
+    let n = node(rt, state, n);
+    let end = state.clone_node(alloc, depth == "deep", n);
+    ended(alloc, &end)
+}
+
 // A step that makes a node.
 fn make(rt: &impl Abort, alloc: Global, state: &mut State, row: &str) -> Result<String, Fail>
     ensures { OnOk result (length state.new.classes ≡ length state.old.classes) }
@@ -211,7 +226,8 @@ fn make(rt: &impl Abort, alloc: Global, state: &mut State, row: &str) -> Result<
         "text" => make_text(alloc, state, words),
         "element" => make_element(alloc, state, words),
         "shadow" => attach_shadow(rt, alloc, state, words),
-        "construct" => ended(alloc, &state.construct(alloc, ClassNo(number(words)))),
+        "clone" => clone_node(rt, alloc, state, words),
+        "base" => ended(alloc, &state.base_call(alloc, ClassNo(number(words)))),
         _ => Err("a making".into()),
     }
 }
@@ -281,6 +297,13 @@ fn log(alloc: Global, state: &mut State, words: &str) -> Result<String, Fail>
     told(alloc, &Ok::<(), NoMemory>(()))
 }
 
+fn log_construction(alloc: Global, state: &mut State, word: &str) -> Result<String, Fail>
+    ensures { OnOk result (length state.new.classes ≡ length state.old.classes) }
+{
+    state.log_construction(alloc, ClassNo(number(word)))?;
+    told(alloc, &Ok::<(), NoMemory>(()))
+}
+
 // A step that changes nothing of the page.
 fn note(rt: &impl Abort, alloc: Global, state: &mut State, row: &str) -> Result<String, Fail>
     ensures { OnOk result (length state.new.classes ≡ length state.old.classes) }
@@ -289,6 +312,7 @@ fn note(rt: &impl Abort, alloc: Global, state: &mut State, row: &str) -> Result<
     match word {
         "spend" => ended(alloc, &state.spend()),
         "log" => log(alloc, state, words),
+        "construct" => log_construction(alloc, state, words),
         "let" => set_variable(rt, alloc, state, words),
         "define" => define(alloc, state, words),
         _ => Err("a note".into()),
@@ -303,6 +327,7 @@ fn ask(alloc: Global, state: &State, row: &str) -> Result<String, Fail> {
         "named" => told(alloc, &state.class_named(name)),
         "get" => told(alloc, &state.variable(name)),
         "state" => told(alloc, &state.custom_state(NodeNo(number(name)))),
+        "constructor" => told(alloc, &state.has_constructor(ClassNo(number(name)))),
         _ => Err("a question".into()),
     }
 }
@@ -378,9 +403,11 @@ pub(super) fn step(
     match word {
         "next" | "backup" => next(alloc, state, row),
         "class" | "has" | "observe" | "on" | "disable" => part(alloc, state, stack, row),
-        "count" | "defined" | "named" | "get" | "state" => ask(alloc, state, row),
-        "spend" | "log" | "let" | "define" => note(rt, alloc, state, row),
-        "document" | "text" | "element" | "shadow" | "construct" => make(rt, alloc, state, row),
+        "count" | "defined" | "named" | "get" | "state" | "constructor" => ask(alloc, state, row),
+        "spend" | "log" | "let" | "define" | "construct" => note(rt, alloc, state, row),
+        "document" | "text" | "element" | "shadow" | "base" | "clone" => {
+            make(rt, alloc, state, row)
+        }
         _ => change(rt, alloc, state, row),
     }
 }

@@ -129,11 +129,9 @@ Ok(())
 Ok(())
 > document
 Ok(NodeNo(2))
-> construct 0
-construct A
+> base 0
 Ok(NodeNo(3))
-> construct 0
-construct A
+> base 0
 Ok(NodeNo(4))
 > shadow 3
 Ok(NodeNo(5))
@@ -170,6 +168,51 @@ Some((ReactionNo(5), Adopted(NodeNo(2), NodeNo(1))))
 > adopt 2 4
 fuel
 Err(FuelSpent)
+"#;
+
+// Clones, for thirteen units of fuel: of an element (2) with an attribute, a text (3) and a shadow root (4).
+pub(super) const CLONED: &str = r#"> class A
+Ok(())
+> define x-a 0
+Ok(())
+> element 1 x-a
+Ok(NodeNo(2))
+> set 2 k v
+Ok(())
+> text 1 hi
+Ok(NodeNo(3))
+> insert 2 3
+Ok(())
+> shadow 2
+Ok(NodeNo(4))
+> clone 1
+Err(Refused(NotSupportedError))
+> clone 4 deep
+Err(Refused(NotSupportedError))
+> clone 2
+Ok(NodeNo(5))
+> state 5
+Undefined
+> next 5
+Some((ReactionNo(1), Upgrade(DefNo(0))))
+> clone 3 deep
+Ok(NodeNo(6))
+> clone 2 deep
+Ok(NodeNo(7))
+> count
+8
+> backup
+Some(NodeNo(5))
+> backup
+Some(NodeNo(7))
+> backup
+None
+# there is none for the attribute
+> clone 2
+fuel
+Err(FuelSpent)
+> next 9
+Some((ReactionNo(3), Upgrade(DefNo(0))))
 "#;
 
 // Upgrades by call, for eight units of fuel: a host (2), an element in its shadow tree (4), a text (5) and a child (6).
@@ -218,7 +261,7 @@ fuel
 Err(FuelSpent)
 "#;
 
-// Classes that are constructed, with two units of fuel.
+// Classes that are constructed, with two units of fuel: what is logged, and the base call.
 pub(super) const CONSTRUCTED: &str = r#"> class A
 Ok(())
 > class B
@@ -227,17 +270,30 @@ Ok(())
 Ok(())
 > construct 0
 construct A
+Ok(())
+> base 0
 Ok(NodeNo(2))
+> state 2
+Custom
 > construct 1
 construct B
+Ok(())
+> base 1
 Err(Refused(TypeError))
+# a class with lines for its constructor has one, also where they say nothing
+> constructor 1
+false
+> has B constructor
+Ok(())
+> constructor 1
+true
+> constructor 0
+false
 > define x-b 1 p
 Ok(())
-> construct 1
-construct B
+> base 1
 Ok(NodeNo(3))
-> construct 0
-construct A
+> base 0
 fuel
 Err(FuelSpent)
 "#;
@@ -259,11 +315,9 @@ Ok(())
 Ok(())
 > element 1 html
 Ok(NodeNo(2))
-> construct 0
-construct A
+> base 0
 Ok(NodeNo(3))
-> construct 0
-construct A
+> base 0
 Ok(NodeNo(4))
 > insert 1 2
 Ok(())
