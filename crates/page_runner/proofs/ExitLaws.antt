@@ -13,12 +13,15 @@ use Rattle.ce_algorithms.specs.State.{State}
 use Rattle.ce_algorithms.specs.Steps.{Outcome, Goes, Throws, Spent, is_spent}
 use Rattle.ce_algorithms.specs.Text.{text}
 use Rattle.ce_algorithms.specs.Written.{behind_in}
+use Rattle.order_law.specs.Law.{Lawful}
+use Rattle.order_law.proofs.Model.Scripts.{session_lawful}
 use Rattle.ce_machine.specs.Ended.{outcome_of}
 use Rattle.ce_machine.specs.declared.end.End.{End}
 use Rattle.ce_machine.specs.declared.end.End.TheVariants.{Replied, FuelSpent}
 use Rattle.page_runner.specs.Ran.{Answered, answers, fresh}
 use Rattle.page_runner.specs.Sitting.{Sitting}
-use Rattle.page_runner.specs.Table.{limit, piece, counted, spends_all, Row, TakesOnlyNeeded, RunMeets, status_at, status_of_stop}
+use Rattle.page_runner.specs.Script.{readings}
+use Rattle.page_runner.specs.Table.{limit, piece, counted, spends_all, logged, Row, TakesOnlyNeeded, RunMeets, status_at, status_of_stop}
 use Rattle.page_runner.specs.declared.status.Status.{Status}
 use Rattle.page_runner.specs.declared.status.Status.TheVariants.{Done, BadLines, Usage, Fuel, ReadFault, TooLong}
 use Rattle.page_runner.specs.declared.words.Options.{Options}
@@ -38,6 +41,10 @@ spends set lines end s held held' done = ap is_spent done.ran.same ∙ is_spent-
 -- the text that was written is the transcript
 writes : (set : Options) (lines : List (List ℕ)) (end : End) (s : Sitting) (held held' : Option (List ℕ)) (done : Answered (fresh set) lines end s held held') → text set.trace done.events ≡ answers (fresh set) lines
 writes set lines end s held held' done = sym (ran_answers (fresh set) s lines end done.events done.ran)
+
+-- the log of each session keeps the law of order
+lawful : (set : Options) (lines : List (List ℕ)) → Lawful (logged set lines)
+lawful set lines = session_lawful set.session (readings lines)
 
 -- ---- what was taken before the last piece
 
@@ -80,6 +87,7 @@ meets_fuel set left mid left' held held' held'' s t end feed bytes front n sb sn
           writes set _ end t held held'' all,
         ),
         needed_piece set left mid held held' s feed bytes n before short,
+        lawful set (counted false (before.taken ++ bytes)),
       );
     }
 
@@ -101,6 +109,7 @@ meets_too_long set left mid left' held held' held'' s t end feed bytes front n s
           writes set _ end t held held'' all,
         ),
         needed_piece set left mid held held' s feed bytes n before short,
+        lawful set (counted false (before.taken ++ bytes)),
       );
     }
 
@@ -121,7 +130,7 @@ meets_stop stop set left mid left' held held' held'' s feed bytes front n sb sn 
       written = part.0;
       took = Consumes-trans left mid left' before.taken bytes before.took took;
       wrote = part.2;
-      as_said = (stop_row stop set _ part.0 false left' sb sn kb kn cause part.1, needed_piece set left mid held held' s feed bytes n before short);
+      as_said = (stop_row stop set _ part.0 false left' sb sn kb kn cause part.1, needed_piece set left mid held held' s feed bytes n before short, lawful set (counted false (before.taken ++ bytes)));
     }
 
 -- ---- nothing was taken
@@ -140,7 +149,7 @@ meets_read_fault set left mid left' held held' s feed n sb sn kb kn before took 
       written = text set.trace all.events;
       took = took_none left mid left' before.taken before.took took;
       wrote = all.wrote;
-      as_said = ((rose, omega (arith, before.length_is, before.within), spends set _ Replied s held held' all, writes set _ Replied s held held' all), needed_nothing set left mid held held' s feed n before);
+      as_said = ((rose, omega (arith, before.length_is, before.within), spends set _ Replied s held held' all, writes set _ Replied s held held' all), needed_nothing set left mid held held' s feed n before, lawful set (counted false before.taken));
     }
 
 end_row : (set : Options) (end : End) (t : Sitting) (taken : List ℕ) (left held held' : Option (List ℕ)) (sb sn kb kn : ℕ) → IsAtEnd left → length taken ≤ limit → (all : Answered (fresh set) (counted true taken) end t held held')
@@ -165,7 +174,7 @@ meets_end set left mid left' held held' held'' s t end feed n sb sn kb kn before
       written = text set.trace all.events;
       took = took_none left mid left' before.taken before.took took;
       wrote = all.wrote;
-      as_said = (end_row set end t before.taken left' held held'' sb sn kb kn at_end (omega (arith, before.length_is, before.within)) all, needed_nothing set left mid held held' s feed n before);
+      as_said = (end_row set end t before.taken left' held held'' sb sn kb kn at_end (omega (arith, before.length_is, before.within)) all, needed_nothing set left mid held held' s feed n before, lawful set (counted true before.taken));
     }
 
 pub meets_end_stop : (stop : Stop) (set : Options) (left mid left' held held' held'' : Option (List ℕ)) (s : Sitting) (feed : List ℕ) (n sb sn kb kn : ℕ)
@@ -178,7 +187,7 @@ meets_end_stop stop set left mid left' held held' held'' s feed n sb sn kb kn be
       written = part.0;
       took = took_none left mid left' before.taken before.took took;
       wrote = part.2;
-      as_said = (stop_row stop set _ part.0 true left' sb sn kb kn cause part.1, needed_nothing set left mid held held' s feed n before);
+      as_said = (stop_row stop set _ part.0 true left' sb sn kb kn cause part.1, needed_nothing set left mid held held' s feed n before, lawful set (counted true before.taken));
     }
 
 -- a run whose words are refused

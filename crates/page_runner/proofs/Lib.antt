@@ -8,3 +8,4 @@ pub mod GatheredLaws
 pub mod PieceLaws
 pub mod ExitLaws
 pub mod WholeLaws
+pub mod WordLaws

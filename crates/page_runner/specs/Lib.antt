@@ -3,4 +3,5 @@ pub mod Sitting
 pub mod Ran
 pub mod Feed
 pub mod Words
+pub mod Chosen
 pub mod Table

@@ -8,10 +8,12 @@ use Rattle.ce_base.specs.declared.stop.Stop.{Stop}
 use Rattle.ce_base.specs.declared.stop.Stop.TheVariants.{NoMemory as StopMemory, WriteFault as StopWrite}
 use Rattle.ce_base.specs.declared.outside.Got.{Got}
 use Rattle.ce_base.specs.declared.outside.Got.TheVariants.{Bytes, End as GotEnd, Failed}
+use Rattle.ce_algorithms.specs.declared.event.Event.{Event}
 use Rattle.ce_algorithms.specs.Lines.{whole_lines, lines_of}
 use Rattle.ce_algorithms.specs.Steps.{is_spent}
 use Rattle.ce_algorithms.specs.Session.{log_of}
 use Rattle.ce_algorithms.specs.Text.{text}
+use Rattle.order_law.specs.Law.{Lawful}
 use Rattle.ce_machine.specs.declared.end.End.{End}
 use Rattle.ce_machine.specs.declared.end.End.TheVariants.{Replied, FuelSpent}
 use Rattle.page_runner.specs.Script.{session, has_bad}
@@ -62,9 +64,12 @@ lines_that_count call = counted call.ended call.taken
 abbrev pub spends_all : Options → List (List ℕ) → Bool
 spends_all set lines = is_spent (session set.session lines)
 
--- what the session of these lines writes
+-- what the session of these lines logs, and what it writes of that
+abbrev pub logged : Options → List (List ℕ) → List Event
+logged set lines = log_of (session set.session lines)
+
 abbrev pub transcript : Options → List (List ℕ) → List ℕ
-transcript set lines = text set.trace (log_of (session set.session lines))
+transcript set lines = text set.trace (logged set lines)
 
 -- the script was read to its end, which is within the limit
 abbrev pub ReadsAll : Call → Type 0
@@ -97,10 +102,14 @@ pub record TakesOnlyNeeded (set : Options) (taken : List ℕ) : Type 0 where
   pub within : length before ≤ limit
   pub goes : spends_all set (whole_lines before) ≡ false
 
+-- the log whose transcript was written, or a front of it, keeps the law of order; so does each front of that log
+abbrev pub KeepsOrder : Options → Call → Type 0
+KeepsOrder set call = Lawful (logged set (lines_that_count call))
+
 -- the call is as its words and its status say
 abbrev pub IsAsSaid : Meaning → Status → Call → Type 0
 IsAsSaid Refused status call = (status ≡ Usage) × (call.taken ≡ []) × (call.written ≡ [])
-IsAsSaid (Script set) status call = Row status set call × TakesOnlyNeeded set call.taken
+IsAsSaid (Script set) status call = Row status set call × TakesOnlyNeeded set call.taken × KeepsOrder set call
 
 -- some bytes were taken and some were written, as far as both ends tell them, and the call is as its words and its status say
 pub record RunMeets (said : Meaning) (status : Status) (left left' held held' : Option (List ℕ)) (ended : Bool) (source_before source_now sink_before sink_now : ℕ) : Type 0 where

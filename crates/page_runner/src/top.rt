@@ -17,7 +17,8 @@ const BUFFER: usize = 65_536;
 // How many bytes a script may have.
 const LIMIT: usize = 16_777_216;
 
-/// Runs the script that the source gives, as the words say, and writes its transcript to the sink.
+/// Runs the script that the source gives, as the words say, and writes its transcript to the sink. Words are none,
+/// `--trace`, `--fuel N`, or both in either order; others are refused, and then nothing is read or written.
 ///
 /// All lines that were wholly read are run, and their answers written, before the source is asked again.
 pub fn run<S: Source, K: Sink>(
