@@ -9,3 +9,7 @@ mod limits;
 mod pieces;
 #[cfg(test)]
 mod script;
+#[cfg(test)]
+mod traces;
+#[cfg(test)]
+mod words;

@@ -1,5 +1,5 @@
 // The limits of a session: its fuel, and the lengths of a script and of a line.
-use crate::script::{ran, script_of, transcript_of};
+use crate::script::{ran, ran_with, script_of, transcript_of};
 use page_runner::Status;
 use std::alloc::Global;
 use std::process::Abort;
@@ -66,6 +66,28 @@ const CONNECTING: &str = "> class A
 #[test]
 fn the_fuel_may_end_where_a_reaction_is_to_be_enqueued(rt: HostRuntime) -> Result<(), Fail> {
     spends(&rt, rt.alloc(), CONNECTING)
+}
+
+const NESTING: &str = r#"> class A
+> observe A k
+> on A attribute : setattr this k 1
+> define x-a A
+> create $e x-a
+> setattr $e k 1
+< 4: ok
+< construct A
+< 5: #2
+< call #2 attribute "k" null "1"
+7< call #2 attribute "k" "1" "1"
+< fuel"#;
+
+#[test]
+fn the_fuel_may_end_in_callbacks_within_each_other(rt: HostRuntime) -> Result<(), Fail> {
+    let script = script_of(rt.alloc(), NESTING)?;
+    let transcript = transcript_of(rt.alloc(), NESTING)?;
+    let ended = ran_with(rt.alloc(), "--fuel 20", script.as_str())?;
+    ended.is(&rt, Status::Fuel, transcript.as_str());
+    Ok(())
 }
 
 // Sees how a script of so many empty lines ends.

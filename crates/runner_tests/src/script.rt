@@ -63,6 +63,27 @@ pub(crate) fn ran_from(alloc: Global, source: &mut impl Source) -> Result<Ended,
     Ok(Ended { status, text })
 }
 
+// The words of a row, with spaces between them. `_` stands for a space within a word, and `''` for a word without
+// characters.
+fn words_of(alloc: Global, row: &str) -> Result<Vec<String>, Fail> {
+    let mut words = Vec::new(alloc);
+    for word in row.split_whitespace() {
+        let word = word.replace(alloc, "''", "")?;
+        words.push(word.replace(alloc, "_", " ")?)?;
+    }
+    Ok(words)
+}
+
+// Runs a script with these words.
+pub(crate) fn ran_with(alloc: Global, words: &str, script: &str) -> Result<Ended, Fail> {
+    let words = words_of(alloc, words)?;
+    let mut source = source_of(alloc, script.as_bytes(), 65_536)?;
+    let mut sink = SureSink::make(alloc);
+    let status = run(alloc, &words, &mut source, &mut sink);
+    let text = String::from_utf8_lossy(alloc, sink.bytes())?;
+    Ok(Ended { status, text })
+}
+
 // A source that gives a script in pieces of at most `cut` bytes.
 pub(crate) fn source_of(alloc: Global, script: &[u8], cut: usize) -> Result<SureSource, Fail> {
     Ok(SureSource::make(script.to_vec(alloc)?, cut.max(1)))
