@@ -1,7 +1,8 @@
 #!/bin/sh
-# Runs the built program over each examples/NAME.script, and compares what it writes with NAME.transcript
-# and its exit status with the file NAME.status (0 where there is none); with a word it refuses to run.
-# `rt ci` and `rt run` build it.
+# Runs the built program over each examples/NAME.script, with the words of NAME.words, one a line, where that
+# file is there. Compares what it writes with NAME.transcript, and its exit status with the file NAME.status (0
+# where there is none). Then the trace alone may differ: with `--trace` it writes the same, but for lines that
+# begin with `~`. With other words it refuses to run. `rt ci` and `rt run` build it.
 
 program=crates/cepage/out/cepage
 
@@ -22,7 +23,19 @@ fail() {
     failed=$((failed + 1))
 }
 
-# Runs one script, and gives 0 where its transcript and its status are as they should be.
+# Runs the script with these words behind it, and gives 0 where it ends with the status that is wanted.
+ends() {
+    input=$1
+    shift
+    "$program" "$@" <"$input" >"$room/transcript"
+    status=$?
+    if [ "$status" != "$wanted" ]; then
+        fail "$input $*: the status is $status, and not $wanted"
+        return 1
+    fi
+}
+
+# Runs one script, and gives 0 where its transcript and its status are as they should be, also with the trace.
 compare() {
     name=${1%.script}
     if [ ! -f "$name.transcript" ]; then
@@ -33,24 +46,39 @@ compare() {
     if [ -f "$name.status" ]; then
         wanted=$(cat "$name.status")
     fi
-    "$program" <"$1" >"$room/transcript"
-    status=$?
-    if [ "$status" != "$wanted" ]; then
-        fail "$name: the status is $status, and not $wanted"
-        return 1
+    set -- "$1"
+    traced=
+    if [ -f "$name.words" ]; then
+        while IFS= read -r word; do
+            set -- "$@" "$word"
+            if [ "$word" = --trace ]; then
+                traced=yes
+            fi
+        done <"$name.words"
     fi
+    ends "$@" || return 1
     if ! cmp "$name.transcript" "$room/transcript" >&2; then
         fail "$name: the transcript differs"
         return 1
     fi
+    if [ -z "$traced" ]; then
+        ends "$@" --trace || return 1
+        grep -v '^~' "$room/transcript" >"$room/less"
+        if ! cmp "$name.transcript" "$room/less" >&2; then
+            fail "$name: the trace changes the transcript"
+            return 1
+        fi
+    fi
 }
 
-# A word is refused before anything is read.
-"$program" --trace <examples/first.script >"$room/transcript"
-status=$?
-if [ "$status" != 2 ] || [ -s "$room/transcript" ]; then
-    fail "a word: the status is $status, and not 2, or something was written"
-fi
+# Other words are refused before anything is read.
+wanted=2
+for word in --help --trace=on --fuel=5 --fuel trace --; do
+    ends examples/first.script "$word"
+    if [ -s "$room/transcript" ]; then
+        fail "$word: something was written"
+    fi
+done
 
 for script in examples/*.script; do
     if [ ! -f "$script" ]; then
@@ -61,9 +89,9 @@ for script in examples/*.script; do
         passed=$((passed + 1))
     fi
 done
-for transcript in examples/*.transcript; do
-    if [ -f "$transcript" ] && [ ! -f "${transcript%.transcript}.script" ]; then
-        fail "$transcript has no script"
+for file in examples/*.transcript examples/*.status examples/*.words; do
+    if [ -f "$file" ] && [ ! -f "${file%.*}.script" ]; then
+        fail "$file has no script"
     fi
 done
 
