@@ -1,8 +1,7 @@
 -- The actions of a callback's body stand where they are said to.
 use Rattle.std.proofs.Common.{◌≡◌, ◌≢◌, ◌<◌, ◌+◌, ◌++◌, ◌∷◌, [], ℕ, zero, suc, Bool, true, false, List, None, Some, length, get_or, drop, sym, refl, ap, subst, ◌∙◌, arith}
 use Rattle.std.specs.Prelude.{slice_get, slice_set, if◌then◌else◌}
-use Rattle.std.specs.Cmp.Lexicographic.{bytes_decides}
-use Rattle.rule_tokens.specs.Callbacks.{all_calls, call_named, call_word}
+use Rattle.rule_tokens.specs.Callbacks.{all_calls}
 use Rattle.rule_tokens.specs.declared.callback.CallName.{CallName}
 use Rattle.rule_tokens.specs.declared.callback.CallName.TheVariants.{Constructor, Connected, Disconnected, Adopted, Attribute, FormAssociated, FormDisabled, FormReset, FormStateRestore}
 use Rattle.rule_lines.specs.Acts.{Act, act_of}
@@ -11,30 +10,9 @@ use Rattle.reaction_queue.specs.Queues.{or_empty}
 use Rattle.ce_registry.specs.ClassFacts.{place_of}
 use Rattle.ce_algorithms.specs.Body.{actions_of, same_call}
 use Rattle.behaviours.specs.Bodies.{ArePlaced, kept_for, lines_of, places_from}
+use Rattle.ce_algorithms.proofs.CallNames.{same_is, same_self}
 
 -- callbacks are told by their words, and by their places
-
-named_word : (a : CallName) → call_named (call_word a) ≡ Some a
-named_word Constructor = refl
-named_word Connected = refl
-named_word Disconnected = refl
-named_word Adopted = refl
-named_word Attribute = refl
-named_word FormAssociated = refl
-named_word FormDisabled = refl
-named_word FormReset = refl
-named_word FormStateRestore = refl
-
-same_self : (a : CallName) → same_call a a ≡ true
-same_self Constructor = refl
-same_self Connected = refl
-same_self Disconnected = refl
-same_self Adopted = refl
-same_self Attribute = refl
-same_self FormAssociated = refl
-same_self FormDisabled = refl
-same_self FormReset = refl
-same_self FormStateRestore = refl
 
 in_order : (a : CallName) → slice_get all_calls (place_of a) ≡ Some a
 in_order Constructor = refl
@@ -46,9 +24,6 @@ in_order FormAssociated = refl
 in_order FormDisabled = refl
 in_order FormReset = refl
 in_order FormStateRestore = refl
-
-word_tells : (a b : CallName) → same_call a b ≡ true → a ≡ b
-word_tells a b e = let h : Some a ≡ Some b = sym (named_word a) ∙ ap call_named ((bytes_decides (call_word a) (call_word b)).0 e) ∙ named_word b in cc
 
 place_tells : (a b : CallName) → place_of a ≡ place_of b → a ≡ b
 place_tells a b e = let h : Some a ≡ Some b = sym (in_order a) ∙ ap (slice_get all_calls) e ∙ in_order b in cc
@@ -124,7 +99,7 @@ module _ (xs ys : List (CallName × Action)) (places : List (List ℕ)) (call : 
       ∙ placed c ∙ sym (other_more c call (act_of action) e 0 (lines_of xs))
 
   each_placed : (c : CallName) (b : Bool) → same_call call c ≡ b → kept_for c (slice_set places k new) ≡ places_from c 0 (lines_of xs ++ (call, act_of action) ∷ [])
-  each_placed c true e = subst (λ (d : CallName). kept_for d (slice_set places k new) ≡ places_from d 0 (lines_of xs ++ (call, act_of action) ∷ [])) (word_tells call c e) own_placed
+  each_placed c true e = subst (λ (d : CallName). kept_for d (slice_set places k new) ≡ places_from d 0 (lines_of xs ++ (call, act_of action) ∷ [])) (same_is call c e) own_placed
   each_placed c false e = other_placed c e
 
   pub placed_more : ArePlaced (lines_of ys) (slice_set places k new)

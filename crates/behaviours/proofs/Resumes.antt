@@ -17,12 +17,7 @@ use Rattle.ce_frames.specs.OperateTurns.{operate_turn}
 use Rattle.ce_frames.specs.BodyTurns.{flow_turn, act_turn, body_turn}
 use Rattle.behaviours.specs.Resume.{Stop, Acted, acted, goes_on, spending, stop_or, resumed}
 use Rattle.behaviours.specs.Turns.{remembering, stop_turn, resumed_turn}
-
--- a member that is put in is found there
-put_found : {X : Type 0} (xs : List X) (k : ℕ) (x y : X) → slice_get xs k ≡ Some x → slice_get (slice_set xs k y) k ≡ Some y
-put_found [] k x y at = absurd (let e : None ≡ Some x = at in cc)
-put_found (z ∷ xs) zero x y at = refl
-put_found (z ∷ xs) (suc k) x y at = put_found xs k x y at
+use Rattle.ce_base.proofs.Places.{set_found}
 
 -- a member that is put where it is changes nothing
 put_back : {X : Type 0} (xs : List X) (k : ℕ) (x : X) → slice_get xs k ≡ Some x → slice_set xs k x ≡ xs
@@ -42,7 +37,7 @@ guard_goes this false rest s = refl
 
 module _ (class : ℕ) (args : Args) (s : State) (k : Class) (at : slice_get s.classes class ≡ Some k) where
   class_there : (memory : Memory) (fuel : ℕ) → class_of (remembering class memory fuel s) class ≡ record (class_of s class) { memory = memory }
-  class_there memory fuel = ap or_new_class (put_found s.classes class k (record (class_of s class) { memory = memory }) at)
+  class_there memory fuel = ap or_new_class (set_found s.classes class k (record (class_of s class) { memory = memory }) at)
 
   memory_there : (memory : Memory) (fuel : ℕ) → (class_of (remembering class memory fuel s) class).memory ≡ memory
   memory_there memory fuel = ap (λ (c : Class). c.memory) (class_there memory fuel)

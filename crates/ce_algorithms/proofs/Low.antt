@@ -4,7 +4,7 @@ use Rattle.std.specs.Prelude.{◌-◌, sum_by}
 use Rattle.std.proofs.lemmas.List.Sums.{sum_by-cons}
 use Rattle.ce_base.specs.declared.custom_state.CustomState.{CustomState}
 use Rattle.reaction_queue.specs.declared.reaction.Reaction.{Reaction}
-use Rattle.reaction_queue.specs.Queues.{Queues, Open, list_at, ahead, with_list, waiting_at, with_waiting, counted, appended_to, enqueued, begun, ended}
+use Rattle.reaction_queue.specs.Queues.{Queues, Open, list_at, ahead, with_list, waiting_at, with_waiting, counted, appended_to, enqueued, pushed_queue, popped_queue}
 use Rattle.ce_algorithms.specs.Steps.{Step}
 use Rattle.ce_algorithms.specs.Page.{Page, Work, with_queues, with_state, with_definition}
 use Rattle.ce_algorithms.specs.Enqueue.{noted}
@@ -87,10 +87,10 @@ light_state n s = record { at = λ w. omega arith }
 pub light_definition : (n : ℕ) (d : Option ℕ) → Light (with_definition n d)
 light_definition n d = record { at = λ w. omega arith }
 
-pub light_begun : Light (with_queues begun)
+pub light_begun : Light (with_queues pushed_queue)
 light_begun = record { at = λ w. omega arith }
 
-pub light_ended : Light (with_queues ended)
+pub light_ended : Light (with_queues popped_queue)
 light_ended = record { at = λ w. omega arith }
 
 pub light_dropped : (n : ℕ) → Light (with_queues (with_waiting n []))

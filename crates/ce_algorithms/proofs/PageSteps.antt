@@ -2,8 +2,7 @@
 use Rattle.std.proofs.Common.{◌≡◌, ℕ, zero, suc, Bool, true, false, List, [], ◌∷◌, Option, Some, None, refl}
 use Rattle.ce_base.specs.declared.custom_state.CustomState.{CustomState}
 use Rattle.ce_base.specs.declared.fault.Fault.{Fault}
-use Rattle.node_trees.specs.declared.kind.NodeKind.TheVariants.{Document}
-use Rattle.node_trees.specs.Facts.{Facts, blank, new_element, new_text, is_element}
+use Rattle.node_trees.specs.Facts.{Facts, new_element, new_text, is_element}
 use Rattle.node_trees.specs.Trees.{Trees, none, tree}
 use Rattle.reaction_queue.specs.declared.reaction.Reaction.{Reaction}
 use Rattle.reaction_queue.specs.declared.reaction.Reaction.TheVariants.{Upgrade, Connected, FormAssociated, FormDisabled}
@@ -12,14 +11,14 @@ use Rattle.ce_registry.specs.declared.class_facts.ClassFacts.{ClassFacts}
 use Rattle.ce_registry.specs.declared.definition.Definition.{Definition}
 use Rattle.ce_algorithms.specs.Steps.{Step, Outcome, Goes, Throws, Spent, then_do, ◌>>=◌, ◌>>◌, give, done, throw, when, throw_if, throw_any, found, find_or, where_is, throw_where, refuse, for_each, read}
 use Rattle.ce_algorithms.specs.Page.{Page, Work, Element, spend, spend_from, read_page, change_page, with_forest, with_queues, with_element, with_state, with_definition}
-use Rattle.ce_algorithms.specs.Making.{with_new, make_node, make_element, make_text, make_document, make_shadow_root}
+use Rattle.ce_algorithms.specs.Making.{with_new, make_node, make_element, make_text, make_shadow_root}
 use Rattle.ce_algorithms.specs.Enqueue.{noted, enqueue, enqueue_callback, enqueue_upgrade, enqueue_found, try_upgrade}
 use Rattle.ce_algorithms.specs.FormChanges.{FormChange, tell_owner, tell_disabled, tell, tell_form_change, tell_at_turn, tell_others, tell_first_owner, tell_first, tell_form}
 use Rattle.ce_algorithms.specs.Mutation.{removed, remove, adopted, move_to, adopt, connected_now, inserted, put_in, insert, pre_insert}
 use Rattle.ce_algorithms.specs.Attributes.{handle_attribute_change, set_attribute, remove_there, remove_attribute}
 use Rattle.ce_algorithms.specs.Define.{with_defined, upgrade_candidates, define_name}
 use Rattle.ce_algorithms.specs.CreateLater.{make_in_state, make_later, create_later}
-use Rattle.ce_algorithms.specs.Clone.{copy_attribute, copy_node, copy_below, clone}
+use Rattle.ce_algorithms.specs.Clone.{copy_attribute, copy_node, copy_below}
 use Rattle.ce_algorithms.specs.Construction.{with_stacks, pop_construction, make_custom, base_entry, base_call}
 use Rattle.ce_algorithms.specs.Upgrade.{enqueue_attribute, begin_upgrade}
 use Rattle.ce_algorithms.specs.declared.deed.PageDeed.{PageDeed}
@@ -265,9 +264,6 @@ module _ (R : Work → Work → Type 0) (c : Closed R) where
   pub keeps_make_text : (chars : List ℕ) (d : ℕ) → Keeps R (make_text chars d)
   keeps_make_text chars d = keeps_make_node (λ n. new_text chars d)
 
-  pub keeps_make_document : Keeps R make_document
-  keeps_make_document = keeps_make_node (λ n. blank Document n)
-
   pub keeps_make_shadow_root : (host : ℕ) → Keeps R (make_shadow_root host)
   keeps_make_shadow_root host = search (page_steps) depth 12
 
@@ -294,9 +290,6 @@ module _ (R : Work → Work → Type 0) (c : Closed R) where
   keeps_copy_below parent none = keeps_done
   keeps_copy_below parent (tree m x shadow children rest) =
       keeps_bind (keeps_copy_node m x (is_element x.kind)) (λ n. keeps_seq (keeps_pre_insert parent n None) (keeps_seq (keeps_copy_below n children) (keeps_copy_below parent rest)))
-
-  pub keeps_clone : (deep : Bool) (n : ℕ) → Keeps R (clone deep n)
-  keeps_clone deep n = search (page_steps, keeps_copy_node, keeps_copy_below) depth 16
 
   -- construction
 

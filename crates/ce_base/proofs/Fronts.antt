@@ -3,7 +3,7 @@ use Rattle.std.proofs.Common.{◌≡◌, ℕ, ◌+◌, List, ◌++◌, length, t
 use Rattle.std.proofs.lemmas.Grind.{common_steps}
 use Rattle.std.proofs.Math.Seq.{take-append_seam}
 
-drop-drop : (xs : List ℕ) (at n : ℕ) → drop n (drop at xs) ≡ drop (at + n) xs
+pub drop-drop : (xs : List ℕ) (at n : ℕ) → drop n (drop at xs) ≡ drop (at + n) xs
 drop-drop xs at n = grind (arith, common_steps)
 
 -- what is left is the front that was copied over a buffer, and then what is left behind it

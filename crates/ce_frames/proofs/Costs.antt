@@ -3,7 +3,7 @@ use Rattle.std.proofs.Common.{◌≡◌, ℕ, zero, suc, ◌+◌, ◌≤◌, Boo
 use Rattle.std.specs.Prelude.{if◌then◌else◌, sum_by}
 use Rattle.std.proofs.lemmas.List.Sums.{sum_by-cons}
 use Rattle.reaction_queue.specs.declared.reaction.Reaction.{Reaction}
-use Rattle.reaction_queue.specs.Queues.{Open, waiting_at, with_waiting, ended, elements_of, others_of, current_elements}
+use Rattle.reaction_queue.specs.Queues.{Open, waiting_at, with_waiting, popped_queue, elements_of, others_of, current_elements}
 use Rattle.ce_algorithms.specs.declared.event.Event.TheVariants.{FuelLine}
 use Rattle.ce_algorithms.specs.declared.event.Given.{Given}
 use Rattle.ce_algorithms.specs.declared.event.Given.TheVariants.{Nothing}
@@ -107,7 +107,7 @@ popped_places : (os : List Open) → sum_by elements_in (others_of os) + length 
 popped_places [] = omega arith
 popped_places (o ∷ os) = let h = sum_by-cons elements_in o os in omega (arith, h)
 
-pub popped_potential : (s : State) → potential (record s { page = with_queues ended s.page }) + length (current_elements s.page.queues) ≡ potential s
+pub popped_potential : (s : State) → potential (record s { page = with_queues popped_queue s.page }) + length (current_elements s.page.queues) ≡ potential s
 unfolding potential
 popped_potential s = let h = popped_places s.page.queues.stack in omega (arith, h)
 

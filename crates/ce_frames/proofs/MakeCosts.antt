@@ -7,7 +7,7 @@ use Rattle.ce_base.specs.declared.fault.Fault.{Fault}
 use Rattle.rule_tokens.specs.declared.callback.CallName.TheVariants.{Constructor}
 use Rattle.rule_lines.specs.declared.op.Op.{Op}
 use Rattle.rule_lines.specs.Acts.{Act, Both, Log, Super, Return, Throw, Bump, Keep, Try, If}
-use Rattle.reaction_queue.specs.Queues.{ended, current_elements}
+use Rattle.reaction_queue.specs.Queues.{popped_queue, current_elements}
 use Rattle.ce_registry.specs.ClassFacts.{has_call}
 use Rattle.ce_registry.specs.Registry.{is_autonomous}
 use Rattle.ce_algorithms.specs.declared.deed.Deed.{Deed}
@@ -98,7 +98,7 @@ next_costs queue (n ∷ ns) kept =
 pub pop_costs : (queue : ℕ) (kept : Result Given Fault) → Costs 1 (pop_turn queue kept)
 pop_costs queue kept = record {
   at = λ s.
-      let t : State = record s { page = with_queues ended s.page } in
+      let t : State = record s { page = with_queues popped_queue s.page } in
       let a = (next_costs queue (current_elements s.page.queues) kept).at (logged (DrainBegun queue) t) in
       let b = logged_potential (DrainBegun queue) t in
       let c = popped_potential s in

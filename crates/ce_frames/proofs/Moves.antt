@@ -7,6 +7,7 @@ use Rattle.rule_tokens.specs.declared.callback.CallName.{CallName}
 use Rattle.rule_lines.specs.Acts.{Act}
 use Rattle.ce_frames.specs.Frames.{Frame}
 use Rattle.ce_frames.specs.Places.{Behaviour, Place, Held, Wait, Body, is_of, NoneOf, held_in, holding, place_if, places_of, home_in, home_of, Homes, OnlyLast, Stands, IsTopmost, seen}
+use Rattle.ce_base.proofs.Places.{set_found, set_other, each_number}
 
 -- lists of places
 
@@ -66,20 +67,12 @@ places_none : (k : ℕ) (frames : List Held) → NoneOf k frames → places_of k
 places_none k [] none = refl
 places_none k (f ∷ frames) none = ap (λ t. place_if t (held_in f) (places_of k frames)) none.0 ∙ places_none k frames none.1
 
--- what is claimed of each class, from the one at hand and from the others
-each_class : (P : ℕ → Type 0) (k : ℕ) → P k → ((j : ℕ) → k == j ≡ false → P j) → (j : ℕ) → P j
-each_class P k here others j = go (k == j) refl
-  where
-    go : (t : Bool) → k == j ≡ t → P j
-    go true is = subst P (eqb-true k j is) here
-    go false is = others j is
-
 -- a frame of one class is of no other
 of_one : (k j : ℕ) (f : Held) → is_of k f ≡ true → k == j ≡ false → is_of j f ≡ false
 of_one k j (Wait f) is other = absurd (false≢true is)
 of_one k j (Body class place held) is other = ap (λ c. c == j) (eqb-true class k is) ∙ other
 
-of_holding : (k : ℕ) (b : Option Behaviour) (f : Held) → is_of k (holding b f) ≡ is_of k f
+pub of_holding : (k : ℕ) (b : Option Behaviour) (f : Held) → is_of k (holding b f) ≡ is_of k f
 of_holding k b (Wait f) = refl
 of_holding k b (Body class place held) = refl
 
@@ -123,18 +116,6 @@ set_else j (x ∷ frames) (suc i) f g at no_f no_g = ap (place_if (is_of j x) (h
 
 -- homes and behaviours
 
-set_same : {X : Type 0} (xs : List X) (k : ℕ) (x y : X) → slice_get xs k ≡ Some x → slice_get (slice_set xs k y) k ≡ Some y
-set_same [] k x y at = absurd (let e : None ≡ Some x = at in cc)
-set_same (z ∷ xs) zero x y at = refl
-set_same (z ∷ xs) (suc k) x y at = set_same xs k x y at
-
-set_other : {X : Type 0} (xs : List X) (k j : ℕ) (y : X) → k ≢ j → slice_get (slice_set xs k y) j ≡ slice_get xs j
-set_other [] k j y other = refl
-set_other (z ∷ xs) zero zero y other = absurd (other refl)
-set_other (z ∷ xs) zero (suc j) y other = refl
-set_other (z ∷ xs) (suc k) zero y other = refl
-set_other (z ∷ xs) (suc k) (suc j) y other = set_other xs k j y (λ e. other (ap suc e))
-
 set_length : {X : Type 0} (xs : List X) (k : ℕ) (y : X) → length (slice_set xs k y) ≡ length xs
 set_length [] k y = refl
 set_length (z ∷ xs) zero y = refl
@@ -157,7 +138,7 @@ home_else homes k j h other = ap home_in (set_other homes k j h (eqb-false k j o
 
 -- no body runs
 
-home_there : (bs : List Behaviour) (k : ℕ) → home_of (map Some bs) k ≡ slice_get bs k
+pub home_there : (bs : List Behaviour) (k : ℕ) → home_of (map Some bs) k ≡ slice_get bs k
 home_there [] k = refl
 home_there (b ∷ bs) zero = refl
 home_there (b ∷ bs) (suc k) = home_there bs k
@@ -194,7 +175,7 @@ pub fetched : (homes : Homes) (frames : List Held) (bs : List Behaviour) (k i : 
 fetched homes frames bs k i p f top s =
     record {
       each = s.each;
-      one = each_class
+      one = each_number
           (λ j. OnlyLast (slice_get bs j) (home_of homes j ∷ places_of j (slice_set frames i (holding None f) ++ Body k p (held_in f) ∷ []))) k here others;
     }
   where
@@ -222,7 +203,7 @@ pub handed_back : (homes : Homes) (frames : List Held) (bs : List Behaviour) (k 
 handed_back homes frames bs k i p f h top s =
     record {
       each = s.each;
-      one = each_class
+      one = each_number
           (λ j. OnlyLast (slice_get bs j) (home_of homes j ∷ places_of j (slice_set frames i (holding h f)))) k here others;
     }
   where
@@ -251,7 +232,7 @@ from_home homes frames bs k p none s =
     record {
       each = set_length homes k None
           ∙ s.each;
-      one = each_class
+      one = each_number
           (λ j. OnlyLast (slice_get bs j) (home_of (slice_set homes k None) j ∷ places_of j (frames ++ Body k p (home_of homes k) ∷ []))) k here others;
     }
   where
@@ -276,7 +257,7 @@ to_home homes frames bs k p b none s =
     record {
       each = set_length homes k (Some b)
           ∙ s.each;
-      one = each_class (λ j. OnlyLast (slice_get bs j) (home_of (slice_set homes k (Some b)) j ∷ places_of j frames)) k here others;
+      one = each_number (λ j. OnlyLast (slice_get bs j) (home_of (slice_set homes k (Some b)) j ∷ places_of j frames)) k here others;
     }
   where
     here : OnlyLast (slice_get bs k) (home_of (slice_set homes k (Some b)) k ∷ places_of k frames)
@@ -300,7 +281,7 @@ changed homes frames bs k p q b c s =
     record {
       each = s.each
           ∙ sym (set_length bs k c);
-      one = each_class
+      one = each_number
           (λ j. OnlyLast (slice_get (slice_set bs k c) j) (home_of homes j ∷ places_of j (frames ++ Body k q (Some c) ∷ []))) k here others;
     }
   where
@@ -311,7 +292,7 @@ changed homes frames bs k p q b c s =
         let new : OnlyLast (Some c) (home_of homes k ∷ places_of k (frames ++ Body k q (Some c) ∷ [])) =
         subst (λ l. OnlyLast (Some c) (home_of homes k ∷ l)) (sym (places_own k q (Some c) frames))
         (last_other (slice_get bs k) (Some c) (Some b) (home_of homes k ∷ places_of k frames) old) in
-        subst (λ a. OnlyLast a (home_of homes k ∷ places_of k (frames ++ Body k q (Some c) ∷ []))) (sym (set_same bs k b c (sym has))) new
+        subst (λ a. OnlyLast a (home_of homes k ∷ places_of k (frames ++ Body k q (Some c) ∷ []))) (sym (set_found bs k b c (sym has))) new
 
     others : (j : ℕ) → k == j ≡ false → OnlyLast (slice_get (slice_set bs k c) j) (home_of homes j ∷ places_of j (frames ++ Body k q (Some c) ∷ []))
     others j other =
@@ -324,7 +305,7 @@ changed homes frames bs k p q b c s =
 pub unknown_begins : (homes : Homes) (frames : List Held) (bs : List Behaviour) (k : ℕ) (p : Place) → slice_get bs k ≡ None
     → Stands homes frames bs → Stands homes (frames ++ Body k p None ∷ []) bs
 unknown_begins homes frames bs k p unknown s =
-    record { each = s.each; one = each_class (λ j. OnlyLast (slice_get bs j) (home_of homes j ∷ places_of j (frames ++ Body k p None ∷ []))) k here others }
+    record { each = s.each; one = each_number (λ j. OnlyLast (slice_get bs j) (home_of homes j ∷ places_of j (frames ++ Body k p None ∷ []))) k here others }
   where
     here : OnlyLast (slice_get bs k) (home_of homes k ∷ places_of k (frames ++ Body k p None ∷ []))
     here =
@@ -338,7 +319,7 @@ unknown_begins homes frames bs k p unknown s =
 pub unknown_ends : (homes : Homes) (frames : List Held) (bs : List Behaviour) (k : ℕ) (p : Place) (h : Option Behaviour) → slice_get bs k ≡ None
     → Stands homes (frames ++ Body k p h ∷ []) bs → Stands homes frames bs
 unknown_ends homes frames bs k p h unknown s =
-    record { each = s.each; one = each_class (λ j. OnlyLast (slice_get bs j) (home_of homes j ∷ places_of j frames)) k here others }
+    record { each = s.each; one = each_number (λ j. OnlyLast (slice_get bs j) (home_of homes j ∷ places_of j frames)) k here others }
   where
     here : OnlyLast (slice_get bs k) (home_of homes k ∷ places_of k frames)
     here =

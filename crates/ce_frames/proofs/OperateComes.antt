@@ -4,7 +4,7 @@ use Rattle.std.specs.Prelude.{Result, Ok, Err}
 use Rattle.std.specs.Str.{str_to_ascii_lowercase}
 use Rattle.ce_base.specs.declared.fault.Fault.{Fault}
 use Rattle.rule_lines.specs.declared.op.Op.{Op}
-use Rattle.reaction_queue.specs.Queues.{begun, ended, current_elements}
+use Rattle.reaction_queue.specs.Queues.{pushed_queue, popped_queue, current_elements}
 use Rattle.ce_algorithms.specs.declared.deed.Deed.{Deed}
 use Rattle.ce_algorithms.specs.declared.deed.Deed.TheVariants.{Create, New}
 use Rattle.ce_algorithms.specs.declared.event.Event.TheVariants.{QueueOpened, DrainBegun, QueueClosed}
@@ -36,7 +36,7 @@ pub pop_comes : (queue : ℕ) (kept : Result Given Fault) → Comes (pop_turn qu
 pop_comes queue kept =
     record {
       at = λ s. (next_comes queue (current_elements s.page.queues) kept).at
-          (logged (DrainBegun queue) (record s { page = with_queues ended s.page }));
+          (logged (DrainBegun queue) (record s { page = with_queues popped_queue s.page }));
     }
 
 -- the steps have ended so
@@ -47,7 +47,7 @@ stepped_comes queue (Spent s) = comes_ended (Spent s)
 
 -- the state after a queue was pushed
 abbrev opened : State → State
-opened s = logged (QueueOpened (s.page.queues.pushed + 1)) (record s { page = with_queues begun s.page })
+opened s = logged (QueueOpened (s.page.queues.pushed + 1)) (record s { page = with_queues pushed_queue s.page })
 
 pub steps_comes : (steps : Step State Given) → Comes (steps_turn steps) (reacting model steps)
 unfolding steps_turn

@@ -45,14 +45,6 @@ found_joined [] (x ∷ bs) k b each at = absurd (omega arith)
 found_joined (c ∷ cs) (x ∷ bs) zero b each at = let same : x ≡ b = cc in ap (λ y. Some (joined_class c y)) same
 found_joined (c ∷ cs) (x ∷ bs) (suc k) b each at = found_joined cs bs k b (omega arith) at
 
--- where there is no behaviour there is no class
-pub missing_joined : (cs : List Class) (bs : List Behaviour) (k : ℕ) → length cs ≡ length bs → slice_get bs k ≡ None
-    → slice_get (joined cs bs) k ≡ None
-missing_joined [] bs k each at = refl
-missing_joined (c ∷ cs) [] k each at = absurd (omega arith)
-missing_joined (c ∷ cs) (x ∷ bs) zero each at = absurd (let e : Some x ≡ None = at in cc)
-missing_joined (c ∷ cs) (x ∷ bs) (suc k) each at = missing_joined cs bs k (omega arith) at
-
 -- what is read off a class, and is nothing that it does or remembers
 read_joined : {X : Type 0} (f : Class → X) → ((c : Class) (b : Behaviour) → f (joined_class c b) ≡ f c) → (cs : List Class) (bs : List Behaviour) (k : ℕ)
     → f (or_new_class (slice_get (joined cs bs) k)) ≡ f (or_new_class (slice_get cs k))

@@ -1,6 +1,6 @@
 -- Turns of bodies, of the whole session.
-use Rattle.std.proofs.Common.{◌≡◌, ℕ, zero, suc, ◌<◌, ◌≤◌, Bool, true, false, List, [], ◌∷◌, ◌++◌, length, map, Option, Some, None, refl, ap, sym, ◌∙◌, subst, arith, length-set}
-use Rattle.std.specs.Prelude.{Result, Ok, Err, IfOk, IfSome, IfNone, slice_get, slice_set, ◌⊎◌}
+use Rattle.std.proofs.Common.{◌≡◌, ℕ, zero, suc, ◌<◌, ◌≤◌, Bool, true, false, List, [], ◌∷◌, ◌++◌, length, Option, Some, None, refl, ap, sym, ◌∙◌, subst, arith, length-set}
+use Rattle.std.specs.Prelude.{Result, Ok, Err, IfOk, IfSome, IfNone, slice_set, ◌⊎◌}
 use Rattle.std.proofs.Common.{inl, inr}
 use Rattle.std.proofs.lemmas.Bool.{cases_lt}
 use Rattle.ce_base.specs.declared.fault.Fault.{Fault}
@@ -9,22 +9,21 @@ use Rattle.node_trees.specs.Nodes.{IsNode, size}
 use Rattle.node_trees.specs.Trees.{Trees}
 use Rattle.rule_tokens.specs.declared.operand.Operand.{Operand}
 use Rattle.rule_tokens.specs.declared.operand.Operand.TheVariants.{Doc, This, Variable}
-use Rattle.rule_tokens.specs.declared.operand.Val.{Val}
 use Rattle.rule_lines.specs.declared.op.Op.{Op}
-use Rattle.rule_lines.specs.Acts.{Act, Both, Log}
+use Rattle.rule_lines.specs.Acts.{Act, Both}
 use Rattle.behaviours.proofs.Resumes.{body_resumes}
 use Rattle.behaviours.specs.declared.next.Next.{Next}
 use Rattle.behaviours.specs.Next.{stop_of}
-use Rattle.behaviours.specs.Resume.{Doing, OutOfFuel, Resumed, Returning, Stop, Throwing, resumed}
+use Rattle.behaviours.specs.Resume.{Doing, Resumed, Returning, Stop, Throwing, resumed}
 use Rattle.behaviours.specs.Turns.{remembering, stop_turn}
 use Rattle.ce_algorithms.specs.Body.{Ended, told}
-use Rattle.ce_algorithms.specs.declared.event.Event.TheVariants.{Caught, FuelLine, Logged}
+use Rattle.ce_algorithms.specs.declared.event.Event.TheVariants.{Caught}
 use Rattle.ce_algorithms.specs.declared.event.Given.{Given}
 use Rattle.ce_algorithms.specs.declared.event.Given.TheVariants.{Answers, Ignored, Node, Nothing}
 use Rattle.ce_algorithms.specs.Operands.{node}
 use Rattle.ce_algorithms.specs.State.{Class, State, logged, view}
 use Rattle.ce_algorithms.specs.Steps.{Goes, Outcome, Spent, Throws, give, settle, then_do}
-use Rattle.ce_algorithms.specs.Values.{Args, fixed_text}
+use Rattle.ce_algorithms.specs.Values.{Args}
 use Rattle.ce_frames.specs.After.{guard}
 use Rattle.ce_frames.specs.BodyTurns.{body_turn, flow_turn}
 use Rattle.ce_frames.specs.Frames.{Frame, InBody}
@@ -44,10 +43,11 @@ use Rattle.ce_machine.specs.Bodies.{GoesOn, StopsAt, acting_turn, answer, frame_
 use Rattle.ce_reactions.specs.declared.came.Came.{Came}
 use Rattle.ce_reactions.specs.declared.came.Came.TheVariants.{Went, Threw, Over}
 use Rattle.ce_operations.specs.Given.{IsThere}
-use Rattle.ce_reactions.specs.Placed.{Lasts, StaysPlaced}
+use Rattle.ce_reactions.specs.Placed.{Lasts}
 use Rattle.ce_reactions.specs.Turns.{Turns}
 use Rattle.ce_reactions.proofs.SessionLaws.{session_is}
 use Rattle.ce_reactions.proofs.TurnLaws.{turns_as, turns_ended, turns_pushed}
+use Rattle.frame_stack.proofs.ClassLaws.{behaviour_there}
 
 -- where the forest has grown
 
@@ -87,33 +87,6 @@ lasts_in F (Spent s) le h = record { grows = le; gives = tt; placed = tt }
 
 pub lasts_ended : (F : Trees) (o : Outcome State Given) (t : Turned) → size F ≤ size (forest_in o) → IsDown o → ended o ≡ t → Lasts F t
 lasts_ended F o t le h e = subst (Lasts F) e (lasts_in F o le h)
-
--- with no fuel left
-
-spent_is : (old : Stacked) (b : HasBody (frames_of old)) (s : State) → ended (Spent (logged FuelLine (session old s))) ≡ stopped_turn OutOfFuel (frame_on_top old) (session old s)
-spent_is old b s = sym (ap (λ (f : Frame). stopped_turn OutOfFuel f (session old s)) (on_top old b))
-
-pub spent_turns : (old new : Stacked) (s s1 : State) → HasBody (frames_of old) → frames_of new ≡ below_top (frames_of old) → behaviours_of new ≡ behaviours_of old → s1 ≡ logged FuelLine s
-    → Turns (below_top (frames_of old)) (frames_of new) Over (session new s1) (stopped_turn OutOfFuel (frame_on_top old) (session old s))
-spent_turns old new s s1 b fs same is =
-    turns_ended (below_top (frames_of old)) (frames_of new) Over (session new s1) (Spent (logged FuelLine (session old s))) _ fs (ap (λ (t : State). Spent t) (session_is old new s1 (logged FuelLine s) same is)) (spent_is old b s)
-
-pub spent_lasts : (old : Stacked) (s : State) → HasBody (frames_of old) → Lasts s.page.forest (stopped_turn OutOfFuel (frame_on_top old) (session old s))
-spent_lasts old s b = lasts_ended s.page.forest (Spent (logged FuelLine (session old s))) _ (omega arith) tt (spent_is old b s)
-
--- by a fault
-
-thrown_is : (old : Stacked) (b : HasBody (frames_of old)) (s : State) (f : Fault) (guarded : Bool) → guarded ≡ false → ended (Throws f (session old s)) ≡ stopped_turn (Throwing f guarded) (frame_on_top old) (session old s)
-thrown_is old b s f guarded off =
-    ap (λ (g : Bool). stopped_turn (Throwing f g) (in_body b.body) (session old s)) (sym off) ∙ sym (ap (λ (x : Frame). stopped_turn (Throwing f guarded) x (session old s)) (on_top old b))
-
-pub thrown_turns : (old new : Stacked) (s : State) (f : Fault) (guarded : Bool) → HasBody (frames_of old) → guarded ≡ false → frames_of new ≡ below_top (frames_of old) → behaviours_of new ≡ behaviours_of old
-    → Turns (below_top (frames_of old)) (frames_of new) (Threw f) (session new s) (stopped_turn (Throwing f guarded) (frame_on_top old) (session old s))
-thrown_turns old new s f guarded b off fs same =
-    turns_ended (below_top (frames_of old)) (frames_of new) (Threw f) (session new s) (Throws f (session old s)) _ fs (ap (λ (t : State). Throws f t) (session_is old new s s same refl)) (thrown_is old b s f guarded off)
-
-pub thrown_lasts : (old : Stacked) (s : State) (f : Fault) (guarded : Bool) → HasBody (frames_of old) → guarded ≡ false → Lasts s.page.forest (stopped_turn (Throwing f guarded) (frame_on_top old) (session old s))
-thrown_lasts old s f guarded b off = lasts_ended s.page.forest (Throws f (session old s)) _ (omega arith) tt (thrown_is old b s f guarded off)
 
 -- what it returns
 
@@ -163,42 +136,11 @@ returned_throws old b s this value guarded f is h =
     top_as old b (stopped_turn (Throwing f guarded)) (stopped_turn (Returning value guarded)) (session old s) (session old s)
     (answer_throws b.body.class b.body.args b.body.this b.body.actions value guarded (session old s) f (answer_on old b s this value (Err f) is h))
 
-pub returned_turns : (old new : Stacked) (s : State) (this : Option ℕ) (value : Option Operand) (guarded : Bool) (given : Given) → HasBody (frames_of old) → this ≡ this_of (top_of (frames_of old)) → answer this s value ≡ Ok given
-    → frames_of new ≡ below_top (frames_of old) → behaviours_of new ≡ behaviours_of old → Turns (below_top (frames_of old)) (frames_of new) (Went given) (session new s) (stopped_turn (Returning value guarded) (frame_on_top old) (session old s))
-returned_turns old new s this value guarded given b is h fs same =
-    turns_ended (below_top (frames_of old)) (frames_of new) (Went given) (session new s) (Goes given (session old s)) _ fs (ap (λ (t : State). Goes given t) (session_is old new s s same refl)) (returned_is old b s this value guarded given is h)
-
 pub returned_lasts : (old : Stacked) (s : State) (this : Option ℕ) (value : Option Operand) (guarded : Bool) (given : Given) → HasBody (frames_of old) → this ≡ this_of (top_of (frames_of old)) → answer this s value ≡ Ok given → IsThere s.page.forest given
     → Lasts s.page.forest (stopped_turn (Returning value guarded) (frame_on_top old) (session old s))
 returned_lasts old s this value guarded given b is h there = lasts_ended s.page.forest (Goes given (session old s)) _ (omega arith) there (returned_is old b s this value guarded given is h)
 
 -- the body goes on
-
--- behind an event that was logged
-logged_goes_on : (old : Stacked) (s s1 t : State) (f : Frame → Turn) → HasBody (frames_of old) → ArePaired old s → s1 ≡ t → t.classes ≡ s.classes → t.page ≡ s.page → t.fuel ≡ s.fuel → running_turn (frame_on_top old) (session old t) ≡ f (frame_on_top old) (session old s) → GoesOn old old s s1 f
-logged_goes_on old s s1 t f b paired is classes page fuel same =
-    let forest : s1.page.forest ≡ s.page.forest = ap (λ (x : State). x.page.forest) is ∙ ap (λ p. p.forest) page in
-    record {
-      body = b;
-      below = refl;
-      this = λ there. subst (λ (F : Trees). IfSome (this_of (top_of (frames_of old))) (IsNode F)) (sym forest) there;
-      same = ap (λ (x : State). running_turn (frame_on_top old) (session old x)) is ∙ same;
-      paired = ap length (ap (λ (x : State). x.classes) is ∙ classes) ∙ paired;
-      grows = let e = ap size forest in omega (arith, e);
-      fuel = let e = ap (λ (x : State). x.fuel) is in omega (arith, e, fuel);
-    }
-
--- a fault was caught
-pub caught_goes_on : (old : Stacked) (s s1 : State) (f : Fault) (guarded : Bool) → HasBody (frames_of old) → ArePaired old s → guarded ≡ true → s1 ≡ logged (Caught f) s → GoesOn old old s s1 (stopped_turn (Throwing f guarded))
-caught_goes_on old s s1 f guarded b paired on is =
-    logged_goes_on old s s1 (logged (Caught f) s) (stopped_turn (Throwing f guarded)) b paired is refl refl refl
-    (top_as old b running_turn (stopped_turn (Throwing f guarded)) (session old (logged (Caught f) s)) (session old s) (ap (λ (g : Bool). stopped_turn (Throwing f g) (in_body b.body) (session old s)) (sym on)))
-
--- texts were written
-pub log_goes_on : (old : Stacked) (s s1 : State) (vals : List Val) → HasBody (frames_of old) → ArePaired old s → s1 ≡ logged (Logged (map fixed_text vals)) s → GoesOn old old s s1 (acting_turn (Log vals))
-log_goes_on old s s1 vals b paired is =
-    logged_goes_on old s s1 (logged (Logged (map fixed_text vals)) s) (acting_turn (Log vals)) b paired is refl refl refl
-    (top_as old b running_turn (acting_turn (Log vals)) (session old (logged (Logged (map fixed_text vals)) s)) (session old s) refl)
 
 -- from an earlier state on, by a turn that comes to the same
 pub goes_on_from : (old new : Stacked) (s s1 s2 : State) (f g : Frame → Turn) → f (frame_on_top old) (session old s1) ≡ g (frame_on_top old) (session old s) → size s.page.forest ≤ size s1.page.forest → s1.fuel ≤ s.fuel → GoesOn old new s1 s2 f → GoesOn old new s s2 g
@@ -214,20 +156,6 @@ goes_on_from old new s s1 s2 f g e le less h = record {
 
 pub goes_on_as : (old new : Stacked) (s s1 : State) (f g : Frame → Turn) → f (frame_on_top old) (session old s) ≡ g (frame_on_top old) (session old s) → GoesOn old new s s1 f → GoesOn old new s s1 g
 goes_on_as old new s s1 f g e h = goes_on_from old new s s s1 f g e (omega arith) (omega arith) h
-
-pub goes_on_here : (old : Stacked) (s : State) → HasBody (frames_of old) → ArePaired old s → GoesOn old old s s running_turn
-goes_on_here old s b paired = record { body = b; below = refl; this = λ there. there; same = refl; paired = paired; grows = omega arith; fuel = omega arith }
-
-pub goes_on_then : (first mid last : Stacked) (s t u : State) (f : Frame → Turn) → GoesOn first mid s t running_turn → GoesOn mid last t u f → f (frame_on_top mid) (session mid t) ≡ running_turn (frame_on_top mid) (session mid t) → GoesOn first last s u running_turn
-goes_on_then first mid last s t u f a b e = record {
-  body = b.body;
-  below = b.below ∙ a.below;
-  this = λ there. b.this (a.this there);
-  same = b.same ∙ e ∙ a.same;
-  paired = b.paired;
-  grows = let x = a.grows in let y = b.grows in omega (arith, x, y);
-  fuel = let x = a.fuel in let y = b.fuel in omega (arith, x, y);
-}
 
 -- what `this` is stays a node
 pub this_there : (old new : Stacked) (s t : State) → this_of (top_of (frames_of new)) ≡ this_of (top_of (frames_of old)) → t.page.forest ≡ s.page.forest → IfSome (this_of (top_of (frames_of old))) (IsNode s.page.forest) → IfSome (this_of (top_of (frames_of new))) (IsNode t.page.forest)
@@ -248,18 +176,7 @@ operation_turns old new s t this op (Ok now) b is h =
     (turns_pushed (below_top (frames_of old)) (frames_of old) (frames_of new) (in_body b.body) now t (operate_turn this op (session old s)) (top_below (frames_of old) (in_body b.body) b.top) h)
 operation_turns old new s t this op (Err x) b is h = tt
 
-pub operation_lasts : (old : Stacked) (s : State) (this : Option ℕ) (op : Op) → HasBody (frames_of old) → this ≡ this_of (top_of (frames_of old)) → IfSome (this_of (top_of (frames_of old))) (IsNode s.page.forest)
-    → StaysPlaced s.page.forest (operate_turn this op (session old s)) → Lasts s.page.forest (acting_turn (Both op) (frame_on_top old) (session old s))
-operation_lasts old s this op b is there k =
-    subst (Lasts s.page.forest) (acting_is old b s this op is)
-    (record { grows = k.grows; gives = tt; placed = (this_grows s.page.forest (operate_turn this op (session old s)).state.page.forest b.body.this k.grows (subst (λ (o : Option ℕ). IfSome o (IsNode s.page.forest)) (ap this_of b.top) there), k.placed) })
-
 -- where a body has stopped, it goes on
-
-there_at : (bs : List Behaviour) (k : ℕ) → k < length bs → slice_get bs k ≡ Some (behaviour_at k bs)
-there_at [] k h = absurd (omega (arith, h))
-there_at (b ∷ bs) zero h = refl
-there_at (b ∷ bs) (suc k) h = there_at bs k (omega (arith, h))
 
 set_past : {X : Type 0} (xs : List X) (k : ℕ) (x : X) → length xs ≤ k → slice_set xs k x ≡ xs
 set_past [] k x h = refl
@@ -301,7 +218,7 @@ module _ (old new : Stacked) (s s1 : State) (next : Next) (h : Resumes old new s
 
   remembers : (r.class < length bs) → remembering r.class came.memory came.fuel (session old s) ≡ session new s1
   remembers within =
-      ap (λ (l : List Class). record s { fuel = came.fuel; classes = l }) (remembering_joined s.classes bs r.class mine came.memory (there_at bs r.class within)) ∙ sym session_new
+      ap (λ (l : List Class). record s { fuel = came.fuel; classes = l }) (remembering_joined s.classes bs r.class mine came.memory (behaviour_there bs r.class within)) ∙ sym session_new
 
   stops : stop_turn r.class r.args r.this came.left came.stop (session new s1) ≡ stopped_turn (stop_of next) (frame_on_top new) (session new s1)
   stops =
@@ -314,7 +231,7 @@ module _ (old new : Stacked) (s s1 : State) (next : Next) (h : Resumes old new s
   same_within : r.class < length bs → stopped_turn (stop_of next) (frame_on_top new) (session new s1) ≡ running_turn (frame_on_top old) (session old s)
   same_within within =
       sym (runs
-      ∙ body_resumes r.class r.args r.this r.actions (session old s) _ (found_joined s.classes bs r.class mine paired (there_at bs r.class within))
+      ∙ body_resumes r.class r.args r.this r.actions (session old s) _ (found_joined s.classes bs r.class mine paired (behaviour_there bs r.class within))
       ∙ ap (stop_turn r.class r.args r.this came.left came.stop) (remembers within)
       ∙ stops)
 
@@ -384,10 +301,6 @@ pub stops_spends : (s s1 : State) (next : Next) (stop : Stop) (o : Option Came) 
 stops_spends s s1 next stop (Some now) is spends h = tt
 stops_spends s s1 next stop None is spends h = spends (subst Proceeds (sym is) h)
 
-pub then_spends : (mid new : Stacked) (s s1 t : State) (f : Frame → Turn) (o : Option Came) → IfNone o (GoesOn mid new s1 t f) → IfNone o (s1.fuel < s.fuel) → IfNone o (t.fuel < s.fuel)
-then_spends mid new s s1 t f (Some now) h less = tt
-then_spends mid new s s1 t f None h less = let x = h.fuel in omega (arith, x, less)
-
 pub none_goes_on_as : (o : Option Came) (old new : Stacked) (s s1 : State) (f g : Frame → Turn) → f (frame_on_top old) (session old s) ≡ g (frame_on_top old) (session old s) → IfNone o (GoesOn old new s s1 f) → IfNone o (GoesOn old new s s1 g)
 none_goes_on_as (Some now) old new s s1 f g e h = tt
 none_goes_on_as None old new s s1 f g e h = goes_on_as old new s s1 f g e h
@@ -413,20 +326,6 @@ told_whole Nothing bs s s1 e = ap (whole_in bs) e
 told_whole (Node n) bs s s1 e = ap (whole_in bs) e
 told_whole (Answers a) bs s s1 e = ap (whole_in bs) e
 told_whole Ignored bs s s1 e = ap (whole_in bs) e
-
-abbrev classes_of : Outcome State (Unit {0}) → List Class
-classes_of (Goes x t) = t.classes
-classes_of (Throws f t) = t.classes
-classes_of (Spent t) = t.classes
-
-told_classes : (given : Given) (s s1 : State) → Goes tt s1 ≡ told given s → s1.classes ≡ s.classes
-told_classes Nothing s s1 e = let i : s1 ≡ s = cc in ap (λ (x : State). x.classes) i
-told_classes (Node n) s s1 e = let i : s1 ≡ s = cc in ap (λ (x : State). x.classes) i
-told_classes (Answers a) s s1 e = ap classes_of e
-told_classes Ignored s s1 e = let i : s1 ≡ s = cc in ap (λ (x : State). x.classes) i
-
-pub told_paired : (old : Stacked) (given : Given) (s s1 : State) → Goes tt s1 ≡ told given s → ArePaired old s → ArePaired old s1
-told_paired old given s s1 e paired = ap length (told_classes given s s1 e) ∙ paired
 
 pub went_is : (old : Stacked) (b : HasBody (frames_of old)) (s s1 : State) (given : Given) → Goes tt s1 ≡ told given s → running_turn (frame_on_top old) (session old s1) ≡ turn (frame_on_top old) (ends.Went given) (session old s)
 unfolding turn

@@ -1,24 +1,15 @@
 -- Turns that read nothing of what classes do and remember: of frames, and where what they push stays placed.
-use Rattle.std.proofs.Common.{sym, subst}
 use Rattle.ce_base.specs.declared.fault.Fault.{Fault}
-use Rattle.node_trees.specs.Trees.{Trees}
 use Rattle.ce_algorithms.specs.declared.event.Given.{Given}
 use Rattle.ce_algorithms.specs.State.{State}
 use Rattle.ce_frames.specs.Frames.{Frame}
-use Rattle.ce_frames.specs.Turned.{Turn}
 use Rattle.ce_frames.specs.Turns.{turn, turn_threw, turn_went}
 use Rattle.ce_frames.specs.Whole.{CatchesBlind, GoesBlind}
 use Rattle.ce_frames.proofs.BlindTurns.{threw_blind, went_blind}
 use Rattle.frame_stack.specs.declared.waiting.Waiting.{Waiting}
 use Rattle.frame_stack.specs.declared.waiting.Waiting.TheVariants.{Replying, Checking, DrainingBackup, Naming, Stepping, Draining, InReaction, CreatingFit, CreatingExtended, Upgrading, Constructing}
 use Rattle.frame_stack.specs.Frames.{waiting_of}
-use Rattle.frame_stack.specs.Sessions.{session}
-use Rattle.frame_stack.specs.Stacked.{Stacked, behaviours_of}
 use Rattle.ce_reactions.specs.Blind.{BlindAt}
-use Rattle.ce_reactions.specs.Placed.{StaysPlaced}
-
-pub lifted_stays : (t : Turn) (old : Stacked) (F : Trees) (s : State) → BlindAt t s → StaysPlaced F (t s) → StaysPlaced F (t (session old s))
-lifted_stays t old F s b h = subst (StaysPlaced F) (sym (b.same (behaviours_of old))) (record { grows = h.grows; placed = h.placed })
 
 -- frames that go on
 

@@ -1,6 +1,5 @@
 pub mod TurnLaws
 pub mod FrameLaws
-pub mod DrainLaws
 pub mod BodyLaws
 pub mod BaseLaws
 pub mod OperateLaws

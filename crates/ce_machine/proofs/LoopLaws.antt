@@ -1,5 +1,5 @@
 -- What the loop keeps: what is still to come stands behind events whose text was written.
-use Rattle.std.proofs.Common.{◌≡◌, ◌<◌, ℕ, Bool, true, false, List, [], ◌∷◌, ◌++◌, length, Option, refl, ap, sym, ◌∙◌, subst, arith}
+use Rattle.std.proofs.Common.{◌≡◌, ◌<◌, ℕ, Bool, true, false, List, [], ◌∷◌, ◌++◌, Option, refl, ap, sym, ◌∙◌, subst, arith}
 use Rattle.std.specs.Io.KnownBytes.{Appends}
 use Rattle.ce_base.specs.Outside.{AppendsPart}
 use Rattle.ce_algorithms.specs.declared.event.Given.{Given}
@@ -17,7 +17,7 @@ use Rattle.ce_frames.specs.Work.{potential, work}
 use Rattle.ce_frames.proofs.Behind.{rest_forgotten}
 use Rattle.ce_frames.proofs.TurnComes.{turn_leaves}
 use Rattle.ce_frames.proofs.TurnCosts.{turn_lowers}
-use Rattle.frame_stack.specs.Sessions.{ArePaired, session}
+use Rattle.frame_stack.specs.Sessions.{session}
 use Rattle.frame_stack.specs.Stacked.{Stacked, frames_of}
 use Rattle.reaction_queue.specs.ElementQueues.{is_empty}
 use Rattle.session_state.specs.Steps.{forgotten}
@@ -77,10 +77,6 @@ turned_did {t} {h0} {h1} {o} d same = subst (λ y. Did t h0 h1 o y) (sym same) d
 
 -- no frame is left
 
-pub some_frames : (l : List Frame) → is_empty l ≡ false → 0 < length l
-some_frames [] h = absurd (let e : true ≡ false = h in cc)
-some_frames (f ∷ l) h = omega arith
-
 pub no_frames : (l : List Frame) → is_empty l ≡ true → l ≡ []
 no_frames [] h = refl
 no_frames (f ∷ l) h = absurd (let e : false ≡ true = h in cc)
@@ -93,9 +89,6 @@ ended_did {t} {h0} {h1} {o} stack x none d = subst (λ l. Did t h0 h1 o (rest l 
 pub left_forgotten : (stack : Stacked) (s s' : State) → s' ≡ forgotten s → left stack (session stack s') ≡ left stack (session stack s)
 unfolding left potential
 left_forgotten stack s s' is = ap (λ x. work (frames_of stack) (session stack x)) is
-
-pub paired_forgotten : (stack : Stacked) (s s' : State) → s' ≡ forgotten s → ArePaired stack s → ArePaired stack s'
-paired_forgotten stack s s' is paired = ap (λ (x : State). length x.classes) is ∙ paired
 
 pub less_of : (a b c : ℕ) → a < b → b ≡ c → a < c
 less_of a b c h e = omega (arith, h, e)

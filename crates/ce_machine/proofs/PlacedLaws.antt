@@ -9,7 +9,7 @@ use Rattle.node_trees.specs.Nodes.{IsNode, size}
 use Rattle.node_trees.specs.Trees.{Trees}
 use Rattle.reaction_queue.specs.declared.reaction.Reaction.{Reaction}
 use Rattle.reaction_queue.specs.declared.reaction.Reaction.TheVariants.{Upgrade, Connected, Disconnected, Adopted, Attribute, FormAssociated, FormDisabled, FormReset, FormStateRestore}
-use Rattle.reaction_queue.specs.Queues.{current_elements, ended as popped, waiting_at, with_waiting}
+use Rattle.reaction_queue.specs.Queues.{current_elements, popped_queue, waiting_at, with_waiting}
 use Rattle.ce_registry.specs.declared.definition.Definition.{Definition}
 use Rattle.ce_algorithms.specs.declared.event.Event.TheVariants.{DrainBegun, QueueClosed, Started}
 use Rattle.ce_algorithms.specs.declared.event.Given.{Given}
@@ -151,7 +151,7 @@ next_stays F G le f e queue (n ∷ ns) kept s k = record { gives = λ h. kept_gr
 
 stepped_stays : (F G : Trees) → size F ≤ size G → (queue : ℕ) (kept : Result Given Fault) (e : End) (s : State) → (Gives F (waiting.Stepping queue ∷ []) e → IsKeptThere F kept) → Stays F G (waiting.Stepping queue) e (pop_turn queue kept s)
 stepped_stays F G le queue kept e s k =
-    next_stays F G le (waiting.Stepping queue) e queue (current_elements s.page.queues) kept (logged (DrainBegun queue) (record s { page = with_queues popped s.page })) k
+    next_stays F G le (waiting.Stepping queue) e queue (current_elements s.page.queues) kept (logged (DrainBegun queue) (record s { page = with_queues popped_queue s.page })) k
 
 drain_stays : (G : Trees) (queue n : ℕ) (ns : List ℕ) (kept : Result Given Fault) (e : End) (s : State) (ws : List (ℕ × Reaction)) → HasRows s.page.elements s.page.forest → size s.page.forest ≤ size G → Stays s.page.forest G (waiting.Draining queue (n ∷ ns) kept) e (taken_turn queue n ns kept ws s)
 drain_stays G queue n ns kept e s [] rows le = next_stays s.page.forest G le (waiting.Draining queue (n ∷ ns) kept) e queue ns kept s (λ h. h)

@@ -1,14 +1,9 @@
 -- The turns of frames are those of the definitions.
-use Rattle.std.proofs.Common.{◌≡◌, ℕ, false, List, [], ◌∷◌, refl, ap, sym}
-use Rattle.std.specs.Prelude.{Result, not}
+use Rattle.std.proofs.Common.{◌≡◌, List, refl, ap, sym}
 use Rattle.ce_base.specs.declared.fault.Fault.{Fault}
-use Rattle.reaction_queue.specs.ElementQueues.{is_empty}
 use Rattle.ce_algorithms.specs.declared.event.Given.{Given}
-use Rattle.ce_algorithms.specs.declared.event.Given.TheVariants.{Nothing}
-use Rattle.ce_algorithms.specs.Session.{reply}
-use Rattle.ce_algorithms.specs.State.{State, logged}
-use Rattle.ce_algorithms.specs.Steps.{Goes, Spent}
-use Rattle.ce_frames.specs.DrainTurns.{checked_turn}
+use Rattle.ce_algorithms.specs.State.{State}
+use Rattle.ce_algorithms.specs.Steps.{Spent}
 use Rattle.ce_frames.specs.Frames.{Frame}
 use Rattle.ce_frames.specs.Turned.{ended}
 use Rattle.ce_frames.specs.Turns.{turn, turn_threw, turn_went}
@@ -16,12 +11,6 @@ use Rattle.ce_reactions.specs.declared.came.Came.{Came}
 use Rattle.ce_reactions.specs.declared.came.Came.TheVariants.{Went, Threw, Over}
 use Rattle.ce_reactions.specs.Turns.{Turns, end_of}
 use Rattle.ce_reactions.proofs.TurnLaws.{turns_as, turns_same}
-
--- the checkpoint
-
-replies : (line : ℕ) (kept : Result Given Fault) (es : List ℕ) (s : State) → false ≡ not (is_empty es) → ended (Goes Nothing (logged (reply line kept) s)) ≡ checked_turn line kept es s
-replies line kept [] s h = refl
-replies line kept (n ∷ ns) s h = cc
 
 -- a frame goes on
 

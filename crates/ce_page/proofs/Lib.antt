@@ -2,6 +2,5 @@ pub mod CopyLemmas
 pub mod ElementLemmas
 pub mod LooseLemmas
 pub mod RowLemmas
-pub mod StackLemmas
 pub mod WaitLemmas
 pub mod TodoLemmas

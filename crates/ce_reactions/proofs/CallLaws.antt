@@ -7,17 +7,16 @@ use Rattle.reaction_queue.specs.declared.reaction.Reaction.TheVariants.{Upgrade,
 use Rattle.reaction_queue.specs.Reactions.{what_of}
 use Rattle.ce_registry.specs.declared.definition.Definition.{Definition}
 use Rattle.ce_algorithms.specs.Body.{actions_of}
-use Rattle.ce_algorithms.specs.declared.event.Event.TheVariants.{Started}
 use Rattle.ce_algorithms.specs.declared.event.Given.TheVariants.{Nothing}
 use Rattle.ce_algorithms.specs.Drain.{actions_for, log_call}
 use Rattle.ce_algorithms.specs.Page.{definition_of}
-use Rattle.ce_algorithms.specs.State.{State, class_of, logged}
+use Rattle.ce_algorithms.specs.State.{State, class_of}
 use Rattle.ce_algorithms.specs.Steps.{Outcome, Goes}
 use Rattle.ce_algorithms.specs.Values.{Args, args_of}
 use Rattle.ce_frames.specs.ConstructTurns.{begin_body, upgrade_turn}
 use Rattle.ce_frames.specs.DrainTurns.{call_turn, reaction_turn}
-use Rattle.ce_frames.specs.Frames.{Frame, InBody, InReaction}
-use Rattle.ce_frames.specs.Turned.{Turned, below, go_on, turn_after}
+use Rattle.ce_frames.specs.Frames.{Frame, InBody}
+use Rattle.ce_frames.specs.Turned.{Turned, go_on, turn_after}
 use Rattle.ce_frames.specs.Whole.{IsBlind, state_in, whole_in}
 use Rattle.ce_frames.proofs.BlindSteps.{blind_done, blind_log}
 use Rattle.ce_frames.proofs.Wholes.{class_bodies_joined}
@@ -28,18 +27,10 @@ use Rattle.ce_reactions.specs.declared.came.Came.{Came}
 use Rattle.ce_reactions.specs.declared.came.Came.TheVariants.{Went}
 use Rattle.ce_reactions.specs.Callbacks.{callback_turn}
 use Rattle.ce_reactions.specs.Turns.{Turns}
-use Rattle.ce_reactions.proofs.SessionLaws.{paired_is, session_is}
-use Rattle.ce_reactions.proofs.TurnLaws.{turns_as, turns_pushed, turns_same}
+use Rattle.ce_reactions.proofs.SessionLaws.{session_is}
+use Rattle.ce_reactions.proofs.TurnLaws.{turns_as, turns_same}
 
--- a reaction starts
-
-pub started : (old pushed new : Stacked) (number e : ℕ) (r : Reaction) (now : Came) (s s1 t : State) → s1 ≡ logged (Started number) s → frames_of pushed ≡ frames_of old ++ InReaction number ∷ [] → behaviours_of pushed ≡ behaviours_of old
-    → Turns (frames_of pushed) (frames_of new) now t (reaction_turn e r (session pushed s1)) → Turns (frames_of old) (frames_of new) now t (below (InReaction number) (reaction_turn e r) (logged (Started number) (session old s)))
-started old pushed new number e r now s s1 t is put same h =
-    turns_pushed (frames_of old) (frames_of pushed) (frames_of new) (InReaction number) now t (reaction_turn e r (logged (Started number) (session old s))) put
-    (turns_as (frames_of pushed) (frames_of new) now t _ _ (ap (reaction_turn e r) (session_is old pushed s1 (logged (Started number) s) same is)) h)
-
--- what it does
+-- what a reaction does
 
 pub upgrade_is : (n d : ℕ) (r : Reaction) (s : State) → r ≡ Upgrade d → upgrade_turn n d s ≡ reaction_turn n r s
 unfolding reaction_turn
@@ -93,9 +84,6 @@ module _ (old new : Stacked) (n class : ℕ) (r : Reaction) (s s1 : State) (told
 
   told_whole : Goes tt (session old s1) ≡ log_call n r (session old s)
   told_whole = ap (whole_in (behaviours_of old)) told ∙ sym ((call_blind n r).same (behaviours_of old) s)
-
-  pub begun_paired : ArePaired new s1
-  begun_paired = paired_is old new s s1 same count paired
 
   abbrev begins : State → Turned
   begins t = begin_body class (args_of r) (Some n) (actions_for (what_of r) (class_of t class).bodies) t

@@ -1,34 +1,32 @@
 -- The turns of creations.
-use Rattle.std.proofs.Common.{◌≡◌, ℕ, true, false, Bool, List, [], ◌∷◌, ◌++◌, Some, None, Option, ◌≤◌, refl, ap, sym, ◌∙◌, subst, arith}
+use Rattle.std.proofs.Common.{◌≡◌, ℕ, true, Bool, List, [], ◌∷◌, ◌++◌, Some, None, Option, ◌≤◌, refl, ap, sym, ◌∙◌, subst, arith}
 use Rattle.std.specs.Prelude.{if◌then◌else◌}
-use Rattle.ce_base.specs.declared.custom_state.CustomState.TheVariants.{Failed, Undefined}
+use Rattle.ce_base.specs.declared.custom_state.CustomState.TheVariants.{Undefined}
 use Rattle.ce_base.specs.declared.fault.Fault.{Fault}
 use Rattle.node_trees.specs.Nodes.{IsNode, size}
 use Rattle.node_trees.specs.Trees.{Trees}
 use Rattle.ce_registry.specs.declared.definition.Definition.{Definition}
 use Rattle.ce_registry.specs.Registry.{is_autonomous}
-use Rattle.ce_algorithms.specs.declared.event.Event.TheVariants.{Reported}
 use Rattle.ce_algorithms.specs.declared.event.Given.TheVariants.{Node}
 use Rattle.ce_algorithms.specs.Create.{fitting}
 use Rattle.ce_algorithms.specs.CreateLater.{make_in_state, make_undefined}
 use Rattle.ce_algorithms.specs.Enqueue.{lookup_in}
-use Rattle.ce_algorithms.specs.Page.{definition_at, with_state}
+use Rattle.ce_algorithms.specs.Page.{definition_at}
 use Rattle.ce_algorithms.specs.Perform as algorithms
-use Rattle.ce_algorithms.specs.State.{State, change_page, logged, on_page}
-use Rattle.ce_algorithms.specs.Steps.{Outcome, Goes, Throws, Spent, attempt_in, give}
+use Rattle.ce_algorithms.specs.State.{State, on_page}
+use Rattle.ce_algorithms.specs.Steps.{Outcome, Goes, Throws, attempt_in}
 use Rattle.ce_frames.specs.ConstructTurns.{construct_turn, create_extended_turn, create_found_turn, create_turn, created_turn, upgrade_turn}
 use Rattle.ce_frames.specs.Frames as waiting
 use Rattle.ce_frames.specs.Frames.{Frame}
-use Rattle.ce_frames.specs.Turned.{Turn, Turned, below, ended, hand_down, turn_after}
+use Rattle.ce_frames.specs.Turned.{Turn, Turned, below, turn_after}
 use Rattle.ce_frames.specs.Turns.{turn_threw, turn_went}
 use Rattle.ce_frames.specs.Whole.{whole}
 use Rattle.ce_frames.proofs.BlindTurns.{blind_node}
 use Rattle.ce_reactions.specs.declared.came.Came.{Came}
-use Rattle.ce_reactions.specs.declared.came.Came.TheVariants.{Threw, Over}
 use Rattle.ce_reactions.specs.Blind.{BlindAt}
 use Rattle.ce_reactions.specs.Placed.{IsEndThere, Lasts}
 use Rattle.ce_reactions.specs.Turns.{Turns, came_in}
-use Rattle.ce_reactions.proofs.ConstructLaws.{came_lasts_in, down_lasts}
+use Rattle.ce_reactions.proofs.ConstructLaws.{down_lasts}
 use Rattle.ce_reactions.proofs.SessionLaws.{as_at, blind_at}
 use Rattle.ce_reactions.proofs.SettleLaws.{upgrade_settles}
 use Rattle.ce_reactions.proofs.TurnLaws.{turns_as, turns_below, turns_same}
@@ -89,19 +87,7 @@ fit_lasts F local is document d class s on same h =
 pub misfit_is : (local : List ℕ) (document n : ℕ) (f : Fault) (s : State) → Throws f s ≡ fitting local document n s → turn_threw (waiting.CreatingFit local document) f s ≡ turn_went (waiting.CreatingFit local document) (Node n) s
 misfit_is local document n f s is = ap (λ (o : Outcome State ℕ). turn_after (attempt_in o) (created_turn local document)) is
 
--- it extends an element
-
-extends_is : (local : List ℕ) (is : Option (List ℕ)) (document d : ℕ) (s : State) → is_autonomous (definition_at s.page d) ≡ false → create_extended_turn local is document d s ≡ create_found_turn local is document (Some d) s
-unfolding by_kind
-extends_is local is document d s off = ap (λ b. by_kind local is document d (definition_at s.page d) b s) (sym off)
-
-pub extends_turns : (frames new : List Frame) (now : Came) (local : List ℕ) (is : Option (List ℕ)) (document d : ℕ) (s s1 : State) → is_autonomous (definition_at s.page d) ≡ false → Turns frames new now s1 (create_extended_turn local is document d s) → Turns frames new now s1 (create_found_turn local is document (Some d) s)
-extends_turns frames new now local is document d s s1 off h = turns_as frames new now s1 _ _ (extends_is local is document d s off) h
-
-pub extends_lasts : (F : Trees) (local : List ℕ) (is : Option (List ℕ)) (document d : ℕ) (s : State) → is_autonomous (definition_at s.page d) ≡ false → Lasts F (create_extended_turn local is document d s) → Lasts F (create_found_turn local is document (Some d) s)
-extends_lasts F local is document d s off h = subst (Lasts F) (extends_is local is document d s off) h
-
--- a new element is made, and upgraded above the creation's frame
+-- it extends an element: a new element is made, and upgraded above the creation's frame
 
 module _ (local : List ℕ) (is : Option (List ℕ)) (document d : ℕ) (s : State) where
   abbrev made : Outcome State ℕ
@@ -123,21 +109,3 @@ module _ (local : List ℕ) (is : Option (List ℕ)) (document d : ℕ) (s : Sta
       let node : IsNode t.state.page.forest n = record { low = there.low; high = let x = there.high in omega (arith, x, more, same) } in
       subst (λ (o : Outcome State ℕ). Lasts F (turn_after o upgrading)) went
       (record { grows = omega (arith, le, more, same); gives = node; placed = (tt, upgrade_settles n d s1 t.state.page.forest) })
-
-  -- it was not made
-
-  pub threw_turns : (frames : List Frame) (f : Fault) (s1 : State) → Throws f s1 ≡ made → Turns frames frames (Threw f) s1 (create_extended_turn local is document d s)
-  threw_turns frames f s1 threw = turns_as frames frames (Threw f) s1 (ended (Throws f s1)) _ (ap (λ (o : Outcome State ℕ). turn_after o upgrading) threw) (turns_same frames (Threw f) s1 (Throws f s1) refl)
-
-  pub threw_lasts : (F : Trees) (f : Fault) (s1 : State) → Throws f s1 ≡ made → size F ≤ size s1.page.forest → Lasts F (create_extended_turn local is document d s)
-  threw_lasts F f s1 threw le = subst (λ (o : Outcome State ℕ). Lasts F (turn_after o upgrading)) threw (came_lasts_in F (Threw f) s1 le tt)
-
-  pub spent_turns : (frames : List Frame) (s1 : State) → Spent s1 ≡ made → Turns frames frames Over s1 (create_extended_turn local is document d s)
-  spent_turns frames s1 spent = turns_as frames frames Over s1 (ended (Spent s1)) _ (ap (λ (o : Outcome State ℕ). turn_after o upgrading) spent) (turns_same frames Over s1 (Spent s1) refl)
-
-  pub spent_lasts : (F : Trees) (s1 : State) → Spent s1 ≡ made → size F ≤ size s1.page.forest → Lasts F (create_extended_turn local is document d s)
-  spent_lasts F s1 spent le = subst (λ (o : Outcome State ℕ). Lasts F (turn_after o upgrading)) spent (came_lasts_in F Over s1 le tt)
-
--- its upgrade threw
-pub extended_is : (n : ℕ) (f : Fault) (s s0 s1 : State) → s0 ≡ logged (Reported f) s → Goes tt s1 ≡ change_page (with_state n Failed) s0 → ended (Goes (Node n) s1) ≡ turn_threw (waiting.CreatingExtended n) f s
-extended_is n f s s0 s1 told set = ap (λ (o : Outcome State (Unit {0})). turn_after o (λ _. hand_down (give (Node n)))) (set ∙ ap (change_page (with_state n Failed)) told)

@@ -3,11 +3,11 @@ use Rattle.std.proofs.Common.{◌≡◌, List, length, refl, ap, sym, ◌∙◌,
 use Rattle.ce_base.specs.declared.fault.Fault.{Fault}
 use Rattle.node_trees.specs.Trees.{Trees}
 use Rattle.ce_algorithms.specs.State.{State}
-use Rattle.ce_algorithms.specs.Steps.{Step, Outcome, Goes, Throws, Spent}
+use Rattle.ce_algorithms.specs.Steps.{Step, Goes, Throws, Spent}
 use Rattle.ce_frames.specs.Frames.{Frame}
 use Rattle.ce_frames.specs.Places.{Behaviour}
 use Rattle.ce_frames.specs.Turned.{Turn, Turned}
-use Rattle.ce_frames.specs.Whole.{IsBlind, IsBlindTurn, state_in, whole, whole_in, whole_turned}
+use Rattle.ce_frames.specs.Whole.{IsBlind, IsBlindTurn, whole, whole_in, whole_turned}
 use Rattle.frame_stack.specs.Sessions.{ArePaired, session}
 use Rattle.frame_stack.specs.Stacked.{Stacked, behaviours_of}
 use Rattle.ce_reactions.specs.declared.came.Came.{Came}
@@ -60,6 +60,3 @@ throws_whole step old f s s1 b is = ap (whole_in (behaviours_of old)) is ∙ sym
 
 pub spent_whole : {A : Type 0} (step : Step State A) (old : Stacked) (s s1 : State) → IsBlind step → Spent s1 ≡ step s → Spent (session old s1) ≡ step (session old s)
 spent_whole step old s s1 b is = ap (whole_in (behaviours_of old)) is ∙ sym (b.same (behaviours_of old) s)
-
-pub step_paired : {A : Type 0} (step : Step State A) (old new : Stacked) (s : State) (o : Outcome State A) → IsBlind step → behaviours_of new ≡ behaviours_of old → o ≡ step s → ArePaired old s → ArePaired new (state_in o)
-step_paired {A} step old new s o b same is paired = paired_is old new s (state_in o) same (ap (λ (x : Outcome State A). length (state_in x).classes) is ∙ b.classes s) paired

@@ -5,20 +5,18 @@ use Rattle.ce_base.specs.declared.custom_state.CustomState.TheVariants.{Precusto
 use Rattle.ce_base.specs.declared.fault.Fault.{Fault}
 use Rattle.ce_base.specs.declared.fault.Fault.TheVariants.{NotSupportedError}
 use Rattle.ce_algorithms.specs.declared.event.Event.TheVariants.{UpgradeBegun}
-use Rattle.ce_algorithms.specs.declared.event.Given.{Given}
 use Rattle.ce_algorithms.specs.declared.event.Given.TheVariants.{Nothing}
 use Rattle.ce_algorithms.specs.Construction.{pop_construction}
 use Rattle.ce_algorithms.specs.Page.{definition_at, state_of, with_state}
 use Rattle.ce_algorithms.specs.State.{State, change_page, logged, on_page, read_page}
-use Rattle.ce_algorithms.specs.Steps.{Outcome, Goes, Throws, Spent, attempt_in, give, settle, then_do, throw_if}
+use Rattle.ce_algorithms.specs.Steps.{Outcome, Goes, Throws, Spent, give, then_do, throw_if}
 use Rattle.ce_algorithms.specs.Upgrade.{begin_upgrade, is_shadow_refused, is_upgradable, upgrade_ends, upgrade_threw}
-use Rattle.ce_frames.specs.ConstructTurns.{construct_for_turn, construct_turn, same_given, upgrade_now_turn, upgrade_result_turn, upgrade_turn, upgraded_turn}
+use Rattle.ce_frames.specs.ConstructTurns.{construct_for_turn, construct_turn, upgrade_now_turn, upgrade_result_turn, upgrade_turn, upgraded_turn}
 use Rattle.ce_frames.specs.Frames as waiting
 use Rattle.ce_frames.specs.Frames.{Frame}
 use Rattle.ce_frames.specs.Turned.{Turn, ◌>>=◌, ◌>>◌, below, ended, go_on, turn_after, when_turn}
-use Rattle.ce_frames.specs.Turns.{turn_went}
 use Rattle.ce_reactions.specs.declared.came.Came.{Came}
-use Rattle.ce_reactions.specs.declared.came.Came.TheVariants.{Went, Threw, Over}
+use Rattle.ce_reactions.specs.declared.came.Came.TheVariants.{Went, Threw}
 use Rattle.ce_reactions.specs.Turns.{Turns, came_in}
 use Rattle.ce_reactions.proofs.TurnLaws.{turns_as, turns_below, turns_same}
 
@@ -59,12 +57,6 @@ module _ (n d : ℕ) (s s0 : State) (told : s0 ≡ logged (UpgradeBegun n) s) wh
       turns_as frames new now s2 (constructing tt s1) _ (begun_is (Goes tt s1) went)
       (turns_below frames frames' new (waiting.Upgrading n d) now (construct_for_turn n d) s1 s1 s2 pushed refl h)
 
-  pub threw_turns : (frames : List Frame) (f : Fault) (s1 : State) → Throws f s1 ≡ on_page (begin_upgrade n d) s0 → Turns frames frames (Threw f) s1 (upgrade_now_turn n d s)
-  threw_turns frames f s1 threw = turns_as frames frames (Threw f) s1 (ended (Throws f s1)) _ (begun_is (Throws f s1) threw) (turns_same frames (Threw f) s1 (Throws f s1) refl)
-
-  pub spent_turns : (frames : List Frame) (s1 : State) → Spent s1 ≡ on_page (begin_upgrade n d) s0 → Turns frames frames Over s1 (upgrade_now_turn n d s)
-  spent_turns frames s1 spent = turns_as frames frames Over s1 (ended (Spent s1)) _ (begun_is (Spent s1) spent) (turns_same frames Over s1 (Spent s1) refl)
-
 -- the construction
 
 abbrev rest_for : ℕ → ℕ → Turn
@@ -89,14 +81,6 @@ module _ (n d class : ℕ) (s s1 : State) (off : is_shadow_refused s.page n d �
       h
 
 -- its construction has ended
-
-attempts : (r : Result (Unit {0}) Fault) (s : State) → attempt_in (settle r s) ≡ Goes r s
-attempts (Ok x) s = refl
-attempts (Err f) s = refl
-
--- what was given is tested
-pub constructed_is : (n d : ℕ) (given : Given) (tested : Result (Unit {0}) Fault) (s : State) → settle tested s ≡ same_given n given s → upgraded_turn n d tested s ≡ turn_went (waiting.Upgrading n d) given s
-constructed_is n d given tested s same = ap (λ (o : Outcome State (Result (Unit {0}) Fault)). turn_after o (upgraded_turn n d)) (sym (attempts tested s) ∙ ap attempt_in same)
 
 -- the stack has lost its entry
 result_is : (n d : ℕ) (r : Result (Unit {0}) Fault) (s s0 : State) → Goes tt s0 ≡ on_page (pop_construction d) s → upgrade_result_turn n r s0 ≡ upgraded_turn n d r s

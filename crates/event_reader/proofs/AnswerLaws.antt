@@ -2,7 +2,7 @@
 use Rattle.std.proofs.Common.{◌≡◌, ℕ, ◌^◌, ◌<◌, Bool, true, false, not, ◌&&◌, List, [], ◌∷◌, length, Option, Some, None, refl, sym, ap}
 use Rattle.std.specs.Prelude.{codes, is_none}
 use Rattle.std.specs.List.{list_all}
-use Rattle.std.proofs.lemmas.Bool.{and_parts}
+use Rattle.std.proofs.lemmas.Bool.{and_parts, not-true}
 use Rattle.std.proofs.lemmas.List.{append-nil}
 use Rattle.ce_base.specs.declared.custom_state.CustomState.{CustomState}
 use Rattle.ce_base.specs.declared.custom_state.CustomState.TheVariants.{Undefined, Failed, Uncustomized, Precustomized, Custom}
@@ -20,6 +20,7 @@ use Rattle.event_reader.specs.IsEvent.{IsAnswer}
 use Rattle.event_reader.specs.Parts.{begins_node, texts_of}
 use Rattle.event_reader.specs.Replies.{answered_of, is_reply_word, reply_of}
 use Rattle.event_reader.proofs.TokenLaws.{bare, quoted, is_word_text, word_clean, node_clean, node_back, text_tokens, texts_written, texts_clean, texts_back, node_tokens, nodes_written, nodes_clean, nodes_back}
+use Rattle.rule_tokens.proofs.FlagsLaws.{all_raised}
 
 -- ---- the names of flags
 
@@ -28,22 +29,9 @@ abbrev is_flag_word : List ℕ → Bool
 is_flag_word word =
     is_word_text word && (not (begins_node word) && (is_none (answer_named word) && not (is_reply_word word)))
 
-not_false : (b : Bool) → not b ≡ true → b ≡ false
-not_false true e = absurd cc
-not_false false e = refl
-
 none_is : {A : Type 0} (o : Option A) → is_none o ≡ true → o ≡ None
 none_is None e = refl
 none_is (Some a) e = absurd cc
-
--- what a test lets through of each name it does of those that are raised
-all_raised : (test : List ℕ → Bool) (names : List (List ℕ)) (fs : List Bool) → list_all test names ≡ true → list_all test (raised_names names fs) ≡ true
-all_raised test [] fs all = refl
-all_raised test (name ∷ names) [] all = refl
-all_raised test (name ∷ names) (true ∷ fs) all =
-    let both = and_parts (test name) (list_all test names) all in
-    rw both.0 (all_raised test names fs both.1)
-all_raised test (name ∷ names) (false ∷ fs) all = all_raised test names fs (and_parts (test name) (list_all test names) all).1
 
 abbrev name_tokens : List (List ℕ) → List Token
 name_tokens [] = []
@@ -137,7 +125,7 @@ flag_word name is =
     let a = and_parts (is_word_text name) _ is in
     let b = and_parts (not (begins_node name)) _ a.1 in
     let c = and_parts (is_none (answer_named name)) _ b.1 in
-    (not_false _ b.0, none_is _ c.0, not_false _ c.1)
+    (not-true _ b.0, none_is _ c.0, not-true _ c.1)
 
 flags_back : (fs : List Bool) (names : List (List ℕ)) → raised names ≡ fs → raised_names flag_names fs ≡ names → list_all is_flag_word names ≡ true → IsToldFlags fs names
 flags_back fs [] back is are = record { other = Raised (record { 0 = raised (codes "valid" ∷ []) }); read = refl; replied = λ l. refl; same = refl }

@@ -138,9 +138,6 @@ replied_text line (Raised flags) = refl
 abbrev AreSpaced : List Token → Type 0
 AreSpaced ts = 32 ∷ as_line ts ≡ spaced_tokens ts
 
-some_spaced : (t : Token) (ts : List Token) → AreSpaced (t ∷ ts)
-some_spaced t ts = refl
-
 answer_spaced : (a : Answer) (l : ℕ) (b : Answer) → reply_of l (answer_tokens a) ≡ Some (replied l b) → AreSpaced (answer_tokens a)
 answer_spaced a l b read = spaced_by (answer_tokens a) read where
   spaced_by : (ts : List Token) → reply_of l ts ≡ Some (replied l b) → AreSpaced ts

@@ -5,7 +5,7 @@ use Rattle.std.specs.Bool.{beq}
 use Rattle.std.specs.List.{Contains}
 use Rattle.std.specs.List.Sorted.{IsStrictlyIncreasing}
 use Rattle.std.specs.Option.{option_eq}
-use Rattle.std.proofs.lemmas.Bool.{eqb-true, eq-eqb}
+use Rattle.std.proofs.lemmas.Bool.{eqb-true, eq-eqb, or_left, or_right}
 use Rattle.std.proofs.lemmas.List.Kept.{IsStrictlyIncreasing-filter}
 use Rattle.std.proofs.lemmas.Option.{none-some}
 use Rattle.node_trees.specs.Nodes.{IsNode, size}
@@ -92,14 +92,6 @@ either : (a b : Bool) → (a || b) ≡ true → (a ≡ true) ⊎ (b ≡ true)
 either true b e = inl refl
 either false b e = inr e
 
-first_of_two : (a b : Bool) → a ≡ true → (a || b) ≡ true
-first_of_two true b e = refl
-first_of_two false b e = cc
-
-second_of_two : (a b : Bool) → b ≡ true → (a || b) ≡ true
-second_of_two true b e = refl
-second_of_two false b e = e
-
 -- what differs
 
 module _ (old new : Forms) (n : ℕ) where
@@ -111,9 +103,9 @@ module _ (old new : Forms) (n : ℕ) where
 
   if_differs : Differs old new n → differs old new n ≡ true
   if_differs d = ⊎_elim
-      (λ i. first_of_two (is_some (form_change old new n).owner) (is_some (form_change old new n).disabled)
+      (λ i. or_left (is_some (form_change old new n).owner) (is_some (form_change old new n).disabled)
       (told_is_new (option_eq nat_eq) owners_tell (form_owner old n) (form_owner new n) i))
-      (λ i. second_of_two (is_some (form_change old new n).owner) (is_some (form_change old new n).disabled)
+      (λ i. or_right (is_some (form_change old new n).owner) (is_some (form_change old new n).disabled)
       (told_is_new beq states_tell (is_disabled old n) (is_disabled new n) i))
       d
 

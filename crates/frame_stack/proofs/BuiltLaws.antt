@@ -14,10 +14,7 @@ use Rattle.ce_frames.specs.Places.{Behaviour}
 use Rattle.behaviours.specs.Resume.{Stop, acted, spending, goes_on, stop_or, resumed}
 use Rattle.frame_stack.specs.Order.{is_built_behaviour, is_built_line}
 use Rattle.frame_stack.specs.Resumes.{IsBuiltStop}
-
-both : (a b : Bool) → (a && b) ≡ true → (a ≡ true) × (b ≡ true)
-both true b h = (refl, h)
-both false b h = absurd cc
+use Rattle.std.proofs.lemmas.Bool.{and_parts}
 
 -- an operation is built whatever its texts are
 fixed_built : (memory : Memory) (args : Args) (op : Op) → is_built_op op ≡ true → is_built_op (fixed memory args op) ≡ true
@@ -78,7 +75,7 @@ resumed_built : (args : Args) (actions : List Act) → list_all is_built_act act
 resumed_built args [] h memory fuel = tt
 resumed_built args (a ∷ actions) h memory zero = tt
 resumed_built args (a ∷ actions) h memory (suc n) =
-    let parts = both (is_built_act a) (list_all is_built_act actions) h in
+    let parts = and_parts (is_built_act a) (list_all is_built_act actions) h in
     go (acted args false a memory n).stop (acted args false a memory n).memory (acted args false a memory n).fuel (acted_built args false a parts.0 memory n) (resumed_built args actions parts.1)
   where
     go : (o : Option Stop) (m : Memory) (f : ℕ) → IsBuiltOr o → ((m : Memory) (f : ℕ) → IsBuiltStop (resumed args actions m f).stop) → IsBuiltStop (stop_or o m f actions (resumed args actions)).stop
@@ -88,12 +85,12 @@ resumed_built args (a ∷ actions) h memory (suc n) =
 drop_built : (i : ℕ) (actions : List Act) → list_all is_built_act actions ≡ true → list_all is_built_act (drop i actions) ≡ true
 drop_built zero actions h = h
 drop_built (suc i) [] h = refl
-drop_built (suc i) (a ∷ actions) h = drop_built i actions (both (is_built_act a) (list_all is_built_act actions) h).1
+drop_built (suc i) (a ∷ actions) h = drop_built i actions (and_parts (is_built_act a) (list_all is_built_act actions) h).1
 
 actions_built : (call : CallName) (bodies : List (CallName × Act)) → list_all is_built_line bodies ≡ true → list_all is_built_act (actions_of call bodies) ≡ true
 actions_built call [] h = refl
 actions_built call (b ∷ bodies) h =
-    let parts = both (is_built_line b) (list_all is_built_line bodies) h in
+    let parts = and_parts (is_built_line b) (list_all is_built_line bodies) h in
     go (same_call b.0 call) (actions_built call bodies parts.1) parts.0
   where
     go : (t : Bool) → list_all is_built_act (actions_of call bodies) ≡ true → is_built_act b.1 ≡ true → list_all is_built_act (if t then b.1 ∷ actions_of call bodies else actions_of call bodies) ≡ true
@@ -106,26 +103,26 @@ body_built args call i b h memory fuel = resumed_built args (drop i (actions_of 
 
 pub behaviour_built : (bs : List Behaviour) (k : ℕ) (b : Behaviour) → list_all is_built_behaviour bs ≡ true → slice_get bs k ≡ Some b → is_built_behaviour b ≡ true
 behaviour_built [] k b h at = absurd (let e : None ≡ Some b = at in cc)
-behaviour_built (x ∷ bs) zero b h at = let e : b ≡ x = cc in ap is_built_behaviour e ∙ (both (is_built_behaviour x) (list_all is_built_behaviour bs) h).0
-behaviour_built (x ∷ bs) (suc k) b h at = behaviour_built bs k b (both (is_built_behaviour x) (list_all is_built_behaviour bs) h).1 at
+behaviour_built (x ∷ bs) zero b h at = let e : b ≡ x = cc in ap is_built_behaviour e ∙ (and_parts (is_built_behaviour x) (list_all is_built_behaviour bs) h).0
+behaviour_built (x ∷ bs) (suc k) b h at = behaviour_built bs k b (and_parts (is_built_behaviour x) (list_all is_built_behaviour bs) h).1 at
 
 -- one with the same bodies in its place
 pub set_built : (bs : List Behaviour) (k : ℕ) (b : Behaviour) → list_all is_built_behaviour bs ≡ true → is_built_behaviour b ≡ true → list_all is_built_behaviour (slice_set bs k b) ≡ true
 set_built [] k b h here = refl
-set_built (x ∷ bs) zero b h here = ap (λ (t : Bool). t && list_all is_built_behaviour bs) here ∙ (both (is_built_behaviour x) (list_all is_built_behaviour bs) h).1
+set_built (x ∷ bs) zero b h here = ap (λ (t : Bool). t && list_all is_built_behaviour bs) here ∙ (and_parts (is_built_behaviour x) (list_all is_built_behaviour bs) h).1
 set_built (x ∷ bs) (suc k) b h here =
-    let parts = both (is_built_behaviour x) (list_all is_built_behaviour bs) h in
+    let parts = and_parts (is_built_behaviour x) (list_all is_built_behaviour bs) h in
     ap (λ (t : Bool). t && list_all is_built_behaviour (slice_set bs k b)) parts.0 ∙ set_built bs k b parts.1 here
 
 -- a line more
 pub more_built : (bodies : List (CallName × Act)) (l : CallName × Act) → list_all is_built_line bodies ≡ true → is_built_act l.1 ≡ true → list_all is_built_line (bodies ++ l ∷ []) ≡ true
 more_built [] l h here = ap (λ (t : Bool). t && true) here
 more_built (b ∷ bodies) l h here =
-    let parts = both (is_built_line b) (list_all is_built_line bodies) h in
+    let parts = and_parts (is_built_line b) (list_all is_built_line bodies) h in
     ap (λ (t : Bool). t && list_all is_built_line (bodies ++ l ∷ [])) parts.0 ∙ more_built bodies l parts.1 here
 
 pub class_built : (bs : List Behaviour) (b : Behaviour) → list_all is_built_behaviour bs ≡ true → is_built_behaviour b ≡ true → list_all is_built_behaviour (bs ++ b ∷ []) ≡ true
 class_built [] b h here = ap (λ (t : Bool). t && true) here
 class_built (x ∷ bs) b h here =
-    let parts = both (is_built_behaviour x) (list_all is_built_behaviour bs) h in
+    let parts = and_parts (is_built_behaviour x) (list_all is_built_behaviour bs) h in
     ap (λ (t : Bool). t && list_all is_built_behaviour (bs ++ b ∷ [])) parts.0 ∙ class_built bs b parts.1 here

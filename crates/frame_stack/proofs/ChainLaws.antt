@@ -1,5 +1,5 @@
 -- The chains of classes, as frames come and go.
-use Rattle.std.proofs.Common.{◌≡◌, ◌≢◌, ℕ, zero, suc, ◌+◌, ◌-◌, ◌<◌, ◌≤◌, Bool, true, false, List, [], ◌∷◌, ◌++◌, length, drop, take, Option, Some, None, refl, ap, sym, ◌∙◌, subst, arith, length-append}
+use Rattle.std.proofs.Common.{◌≡◌, ℕ, zero, suc, ◌+◌, ◌-◌, ◌<◌, ◌≤◌, Bool, true, false, List, [], ◌∷◌, ◌++◌, length, drop, take, Option, Some, None, refl, ap, sym, ◌∙◌, subst, arith, length-append}
 use Rattle.std.specs.Prelude.{slice_get, slice_set, ◌==◌}
 use Rattle.std.proofs.lemmas.Bool.{eqb-true, eqb-false, eq-eqb}
 use Rattle.std.proofs.lemmas.List.{take_at, length-set}
@@ -8,6 +8,8 @@ use Rattle.ce_frames.specs.Frames.{Frame}
 use Rattle.ce_frames.specs.Places.{Behaviour, Held, IsTopmost, NoneOf, Place, Wait, Body, holding, is_of}
 use Rattle.frame_stack.proofs.TopLaws.{Ends, AtNone, AtLast, ends, last_push}
 use Rattle.frame_stack.specs.Chains.{AreChained, index_if, indices_from, indices_of, last, linked, topmost, unlinked}
+use Rattle.ce_base.proofs.Places.{set_within, set_other, each_number}
+use Rattle.ce_frames.proofs.Moves.{of_holding}
 
 -- one frame more
 
@@ -120,35 +122,12 @@ topmost_none classes k chains frames c within h =
 
 -- changes
 
-set_same : {X : Type 0} (xs : List X) (k : ℕ) (y : X) → k < length xs → slice_get (slice_set xs k y) k ≡ Some y
-set_same [] k y within = absurd (omega (arith, within))
-set_same (z ∷ xs) zero y within = refl
-set_same (z ∷ xs) (suc k) y within = set_same xs k y (omega (arith, within))
-
-set_other : {X : Type 0} (xs : List X) (k j : ℕ) (y : X) → k ≢ j → slice_get (slice_set xs k y) j ≡ slice_get xs j
-set_other [] k j y other = refl
-set_other (z ∷ xs) zero zero y other = absurd (other refl)
-set_other (z ∷ xs) zero (suc j) y other = refl
-set_other (z ∷ xs) (suc k) zero y other = refl
-set_other (z ∷ xs) (suc k) (suc j) y other = set_other xs k j y (λ e. other (ap suc e))
-
 -- frames of which each class has as many, and at the same places
 pub chained_as : (classes : ℕ) (chains : List (List ℕ)) (old new : List Held) → ((k : ℕ) → indices_of k new ≡ indices_of k old) → AreChained classes chains old → AreChained classes chains new
 chained_as classes chains old new same c = record { each = c.each; known = λ k within. c.known k within ∙ ap Some (sym (same k)) }
 
 pub wait_indices : (k : ℕ) (frames : List Held) (f : Frame) → indices_of k (frames ++ Wait f ∷ []) ≡ indices_of k frames
 wait_indices k frames f = else_push k frames (Wait f) refl
-
-is_of_body : (k j : ℕ) (p : Place) (h : Option Behaviour) → k == j ≡ false → is_of j (Body k p h) ≡ false
-is_of_body k j p h other = other
-
--- what holds of each class but one, and of this one
-each : (P : ℕ → Type 0) (k : ℕ) → P k → ((j : ℕ) → k == j ≡ false → P j) → (j : ℕ) → P j
-each P k here others j = go (k == j) refl
-  where
-    go : (t : Bool) → k == j ≡ t → P j
-    go true is = subst P (eqb-true k j is) here
-    go false is = others j is
 
 -- a body of a class that is there, on top
 pub chained_push : (classes k : ℕ) (chains : List (List ℕ)) (frames : List Held) (p : Place) (h : Option Behaviour) → AreChained classes chains frames → k < classes
@@ -159,8 +138,8 @@ chained_push classes k chains frames p h c within =
     let chain : List ℕ = or_empty (slice_get chains k) ++ length frames ∷ [] in
     record {
       each = length-set chains k chain ∙ c.each;
-      known = each (λ j. j < classes → slice_get (linked k (length frames) chains) j ≡ Some (indices_of j (frames ++ Body k p h ∷ []))) k
-          (λ w. set_same chains k chain inside ∙ ap (λ l. Some (l ++ length frames ∷ [])) (chain_is classes k chains frames c within) ∙ ap Some (sym (own_push k frames (Body k p h) (eq-eqb k k refl))))
+      known = each_number (λ j. j < classes → slice_get (linked k (length frames) chains) j ≡ Some (indices_of j (frames ++ Body k p h ∷ []))) k
+          (λ w. set_within chains k chain inside ∙ ap (λ l. Some (l ++ length frames ∷ [])) (chain_is classes k chains frames c within) ∙ ap Some (sym (own_push k frames (Body k p h) (eq-eqb k k refl))))
           (λ j other w. set_other chains k j chain (eqb-false k j other) ∙ c.known j w ∙ ap Some (sym (else_push j frames (Body k p h) other)));
     }
 
@@ -173,8 +152,8 @@ chained_pop classes k chains frames p h c within =
     let chain : List ℕ = take (length (or_empty (slice_get chains k)) - 1) (or_empty (slice_get chains k)) in
     record {
       each = length-set chains k chain ∙ c.each;
-      known = each (λ j. j < classes → slice_get (unlinked k chains) j ≡ Some (indices_of j frames)) k
-          (λ w. set_same chains k chain inside ∙ ap (λ l. Some (take (length l - 1) l)) old ∙ ap Some (front_push (indices_of k frames) (length frames)))
+      known = each_number (λ j. j < classes → slice_get (unlinked k chains) j ≡ Some (indices_of j frames)) k
+          (λ w. set_within chains k chain inside ∙ ap (λ l. Some (take (length l - 1) l)) old ∙ ap Some (front_push (indices_of k frames) (length frames)))
           (λ j other w. set_other chains k j chain (eqb-false k j other) ∙ c.known j w ∙ ap Some (else_push j frames (Body k p h) other));
     }
 
@@ -188,10 +167,6 @@ unknown_indices classes k j frames p h past within = else_push j frames (Body k 
 
 pub chained_known : (classes : ℕ) (chains : List (List ℕ)) (old new : List Held) → ((k : ℕ) → k < classes → indices_of k new ≡ indices_of k old) → AreChained classes chains old → AreChained classes chains new
 chained_known classes chains old new same c = record { each = c.each; known = λ k within. c.known k within ∙ ap Some (sym (same k within)) }
-
-of_holding : (k : ℕ) (b : Option Behaviour) (f : Held) → is_of k (holding b f) ≡ is_of k f
-of_holding k b (Wait f) = refl
-of_holding k b (Body class place held) = refl
 
 -- what a frame holds is changed
 pub holding_indices : (k j : ℕ) (frames : List Held) (f : Held) (b : Option Behaviour) → slice_get frames j ≡ Some f → indices_of k (slice_set frames j (holding b f)) ≡ indices_of k frames

@@ -9,7 +9,7 @@ use Rattle.rule_tokens.specs.declared.callback.CallName.{CallName}
 use Rattle.rule_lines.specs.Acts.{Act}
 use Rattle.rule_script.specs.Built.{is_built_act}
 use Rattle.ce_frames.specs.Places.{Behaviour, Held, Homes, Stands, home_of}
-use Rattle.ce_frames.proofs.Moves.{all_home, at_home}
+use Rattle.ce_frames.proofs.Moves.{all_home, at_home, home_there}
 use Rattle.behaviours.specs.Behaviours.{extended, extended_at, new_behaviour, with_action}
 use Rattle.frame_stack.specs.Chains.{AreChained}
 use Rattle.frame_stack.specs.Changes.{extended as extended_in}
@@ -23,12 +23,6 @@ use Rattle.frame_stack.proofs.Settled.{behaviours_are, in_order}
 pub homes_are : (homes : Homes) (chains : List (List ℕ)) (frames : List Held) → AreInOrder homes chains frames → frames ≡ [] → homes ≡ map Some (placed_from 0 frames homes)
 homes_are homes chains frames o none =
     all_home homes (placed_from 0 frames homes) (subst (λ (l : List Held). Stands homes l (placed_from 0 frames homes)) none o.placed)
-
-pub rested : (homes : Homes) (chains : List (List ℕ)) (frames : List Held) → AreInOrder homes chains frames → frames ≡ [] → record { homes = homes; frames = frames } ≡ stacked.at_home (behaviours_of (record { homes = homes; frames = frames }))
-unfolding behaviours_of
-rested homes chains frames o none =
-    ap (λ (h : Homes). record { homes = h; frames = frames }) (homes_are homes chains frames o none)
-    ∙ ap (λ (l : List Held). record { homes = map Some (placed_from 0 frames homes); frames = l }) none
 
 -- chains of no frames
 
@@ -89,25 +83,20 @@ module _ (homes : Homes) (chains : List (List ℕ)) (frames : List Held) (o : Ar
 
 -- a class's body gets an action more
 
-home_at : (bs : List Behaviour) (k : ℕ) → home_of (map Some bs) k ≡ slice_get bs k
-home_at [] k = refl
-home_at (b ∷ bs) zero = refl
-home_at (b ∷ bs) (suc k) = home_at bs k
-
 map_set : (bs : List Behaviour) (k : ℕ) (b : Behaviour) → slice_set (map Some bs) k (Some b) ≡ map Some (slice_set bs k b)
 map_set [] k b = refl
 map_set (x ∷ bs) zero b = refl
 map_set (x ∷ bs) (suc k) b = ap (λ l. Some x ∷ l) (map_set bs k b)
 
-there : (bs : List Behaviour) (k : ℕ) → k < length bs → slice_get bs k ≡ Some (behaviour_at k bs)
-there [] k h = absurd (omega (arith, h))
-there (b ∷ bs) zero h = refl
-there (b ∷ bs) (suc k) h = there bs k (omega (arith, h))
+pub behaviour_there : (bs : List Behaviour) (k : ℕ) → k < length bs → slice_get bs k ≡ Some (behaviour_at k bs)
+behaviour_there [] k h = absurd (omega (arith, h))
+behaviour_there (b ∷ bs) zero h = refl
+behaviour_there (b ∷ bs) (suc k) h = behaviour_there bs k (omega (arith, h))
 
 pub extend_home : (homes : Homes) (chains : List (List ℕ)) (frames : List Held) (k : ℕ) → AreInOrder homes chains frames → frames ≡ [] → k < length (behaviours_of (record { homes = homes; frames = frames })) → is_some (home_of homes k) ≡ true
 unfolding behaviours_of
 extend_home homes chains frames k o none within =
-    ap (λ (h : Homes). is_some (home_of h k)) (homes_are homes chains frames o none) ∙ ap is_some (home_at (placed_from 0 frames homes) k ∙ there (placed_from 0 frames homes) k within)
+    ap (λ (h : Homes). is_some (home_of h k)) (homes_are homes chains frames o none) ∙ ap is_some (home_there (placed_from 0 frames homes) k ∙ behaviour_there (placed_from 0 frames homes) k within)
 
 module _ (homes : Homes) (chains : List (List ℕ)) (frames : List Held) (k : ℕ) (call : CallName) (action : Act) (o : AreInOrder homes chains frames) (none : frames ≡ []) (within : k < length (placed_from 0 frames homes)) (built : is_built_act action ≡ true) where
   abbrev all : List Behaviour
@@ -119,7 +108,7 @@ module _ (homes : Homes) (chains : List (List ℕ)) (frames : List Held) (k : �
   longer_homes : extended_at k call action homes ≡ map Some longer
   longer_homes =
       ap (λ (h : Homes). extended_at k call action h) (homes_are homes chains frames o none)
-      ∙ ap (λ (b : Option Behaviour). slice_set (map Some all) k (extended call action b)) (home_at all k ∙ there all k within)
+      ∙ ap (λ (b : Option Behaviour). slice_set (map Some all) k (extended call action b)) (home_there all k ∙ behaviour_there all k within)
       ∙ map_set all k (with_action call action (behaviour_at k all))
 
   longer_stands : Stands (extended_at k call action homes) frames longer
@@ -136,7 +125,7 @@ module _ (homes : Homes) (chains : List (List ℕ)) (frames : List Held) (k : �
 
   pub extend_order : AreInOrder (extended_at k call action homes) chains frames
   extend_order =
-      let b = behaviour_built all k (behaviour_at k all) o.built (there all k within) in
+      let b = behaviour_built all k (behaviour_at k all) o.built (behaviour_there all k within) in
       in_order (extended_at k call action homes) chains frames longer longer_stands
       (subst (λ n. AreChained n chains frames) (sym same_length) o.chained)
       (set_built all k (with_action call action (behaviour_at k all)) o.built (more_built (behaviour_at k all).bodies (call, action) b built))

@@ -39,11 +39,6 @@ set_gone [] k b at = refl
 set_gone (x ∷ bs) zero b at = absurd (let e : Some x ≡ None = at in cc)
 set_gone (x ∷ bs) (suc k) b at = ap (λ l. x ∷ l) (set_gone bs k b at)
 
-set_same : (bs : List Behaviour) (k : ℕ) (b : Behaviour) → slice_get bs k ≡ Some b → slice_set bs k b ≡ bs
-set_same [] k b at = refl
-set_same (x ∷ bs) zero b at = let is : b ≡ x = cc in ap (λ (y : Behaviour). y ∷ bs) is
-set_same (x ∷ bs) (suc k) b at = ap (λ l. x ∷ l) (set_same bs k b at)
-
 -- with its behaviour
 module _ (homes : Homes) (chains : List (List ℕ)) (frames : List Held) (k : ℕ) (p : Place) (b : Behaviour) (o : AreInOrder homes chains (frames ++ Body k p (Some b) ∷ [])) where
   abbrev bs : List Behaviour

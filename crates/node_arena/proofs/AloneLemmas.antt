@@ -1,5 +1,5 @@
 -- A node that stands alone.
-use Rattle.std.proofs.Common.{◌≡◌, ◌≢◌, ℕ, ◌+◌, false, ◌||◌, List, [], ◌∷◌, ◌++◌, Some, None, refl, ap, ◌∙◌, subst, sym, arith, append_assoc}
+use Rattle.std.proofs.Common.{◌≡◌, ◌≢◌, ℕ, ◌+◌, false, List, [], ◌∷◌, ◌++◌, Some, None, refl, ap, ◌∙◌, subst, sym, arith, append_assoc}
 use Rattle.std.proofs.lemmas.Bool.Decides.{nat_tests}
 use Rattle.node_trees.specs.Facts.{Facts}
 use Rattle.node_trees.specs.Trees.{Trees, none, tree, join, single, tree_of, with_node, with_facts}
@@ -16,12 +16,9 @@ use Rattle.node_arena.proofs.AtNode.{parent_at-is}
 use Rattle.node_arena.proofs.Pieces.{path-absent, path-here}
 use Rattle.node_arena.proofs.CutSpots.{path-join-right}
 use Rattle.node_arena.proofs.Sizes.{new-absent, size-with_node}
+use Rattle.node_trees.proofs.Absent.{is_among-append}
 
 -- a number that no node has is on no path
-
-among-append : (n : ℕ) (ms ns : List ℕ) → is_among n (ms ++ ns) ≡ (is_among n ms || is_among n ns)
-among-append n [] ns = refl
-among-append n (m ∷ ms) ns = grind (arith, nat_tests, among-append n ms ns)
 
 among-under : (n m : ℕ) (ms : List ℕ) → m ≢ n → is_among n ms ≡ false → is_among n (under m ms) ≡ false
 among-under n m [] ne h = refl
@@ -34,9 +31,9 @@ absent-path n p (tree m x s k r) z =
     let in_s = absent-path n p s (grind (arith, nat_tests)) in
     let in_k = absent-path n p k (grind (arith, nat_tests)) in
     let in_r = absent-path n p r (grind (arith, nat_tests)) in
-    let sides : is_among n (path p s ++ path p k) ≡ false = among-append n (path p s) (path p k) ∙ cc in
+    let sides : is_among n (path p s ++ path p k) ≡ false = is_among-append n (path p s) (path p k) ∙ cc in
     let high : is_among n (under m (path p s ++ path p k)) ≡ false = among-under n m (path p s ++ path p k) ne sides in
-    grind (arith, nat_tests, among-append n (under m (path p s ++ path p k)) (path p r))
+    grind (arith, nat_tests, is_among-append n (under m (path p s ++ path p k)) (path p r))
 
 path-join : (p : ℕ) (f g : Trees) → times p g ≡ 0 → path p (join f g) ≡ path p f
 path-join p none g z = path-absent p g z

@@ -15,10 +15,11 @@ use Rattle.node_arena.proofs.Changed.{path-with}
 use Rattle.node_arena.proofs.ChangedReads.{kind_at-with}
 use Rattle.node_arena.proofs.ConnectedBelow.{same_first}
 use Rattle.node_arena.proofs.ForestLemmas.{stands_at, row_is}
-use Rattle.node_arena.proofs.Pieces.{path-absent, path-long, spot-absent}
+use Rattle.node_arena.proofs.Pieces.{path-absent, path-long}
 use Rattle.node_arena.proofs.Sizes.{size-with_node}
 use Rattle.node_arena.proofs.SpotLemmas.{spot_at-new}
 use Rattle.node_arena.proofs.UpLemmas.{first_of-append}
+use Rattle.node_trees.proofs.Absent.{spot-absent}
 
 -- a root is connected where it is a document, and another node where what is above it is
 

@@ -5,15 +5,10 @@ use Rattle.std.proofs.Math.Seq.{map-set_same}
 use Rattle.std.proofs.lemmas.List.{get_or-map, take-map, drop-map, map-append, length-map, take_more}
 use Rattle.std.specs.List.{remove}
 use Rattle.std.proofs.lemmas.Bool.Decides.{nat_tests}
-use Rattle.std.proofs.lemmas.Slice.Eq.{bytes_eq-Decides}
-use Rattle.std.specs.Str.{bytes_eq}
 use Rattle.node_trees.specs.Facts.{value_in, with_value, without_value}
 use Rattle.node_arena.specs.Attributes.{name_place, names_of}
 use Rattle.node_arena.specs.Names.{place, is_once}
-use Rattle.node_arena.proofs.FinderLemmas.{once_next, place_once}
-
-same_name : (a b : List ℕ) → bytes_eq a b ≡ true → a ≡ b
-same_name a b e = (bytes_eq-Decides a b).0 e
+use Rattle.node_arena.proofs.FinderLemmas.{once_next, place_once, same_name}
 
 pub value_in-place : (name : List ℕ) (xs : List (List ℕ × List ℕ)) (d : List ℕ × List ℕ) → name_place name xs < length xs → value_in xs name ≡ Some (get_or xs (name_place name xs) d).1
 value_in-place name [] d lt = absurd (omega arith)

@@ -9,9 +9,10 @@ use Rattle.node_trees.specs.Nodes.{times, IsNode, IsTidy}
 use Rattle.node_trees.specs.Orders.{order, order_of}
 use Rattle.node_trees.specs.Paths.{path, or_number, connected}
 use Rattle.node_trees.specs.Spots.{kind_at, first_of}
-use Rattle.node_arena.proofs.Sums.{IsApart, tidy-apart, apart-rest, here, in_shadow, in_children, in_rest, stands_where, times-without}
+use Rattle.node_arena.proofs.Sums.{tidy-apart, apart-rest, here, in_shadow, in_children, in_rest, stands_where, times-without}
 use Rattle.node_arena.proofs.Pieces.{tree_of-here, tree_of-shadow, tree_of-children, tree_of-rest, path-here, path-shadow, path-children, path-rest, path-long}
 use Rattle.node_arena.proofs.AtNode.{node_stands}
+use Rattle.node_trees.proofs.Weights.{IsApart}
 
 -- each path to what is in the first tree of a list begins at its root
 first_path : (i m : ℕ) (x : Facts) (s k r : Trees) → IsApart (tree m x s k r) → 0 < times i (tree m x s k none) → first_of (path i (tree m x s k r)) ≡ Some m

@@ -7,9 +7,11 @@ use Rattle.node_trees.specs.Trees.{Trees, none, tree, join, tree_of, without, pl
 use Rattle.node_trees.specs.Nodes.{times}
 use Rattle.node_trees.specs.Paths.{path}
 use Rattle.node_trees.specs.Spots.{Spot, spot_in, or_spot}
-use Rattle.node_arena.proofs.Sums.{IsApart, apart-shadow, apart-children, apart-rest, times-join}
-use Rattle.node_arena.proofs.Pieces.{or_spot-none, spot-absent, path-absent, tree_of-absent, tree_of-here}
+use Rattle.node_arena.proofs.Sums.{apart-shadow, apart-children, apart-rest, times-join}
+use Rattle.node_arena.proofs.Pieces.{or_spot-none, path-absent, tree_of-absent, tree_of-here}
 use Rattle.node_arena.proofs.Lists.{spot_lacking, roots-without}
+use Rattle.node_trees.proofs.Weights.{IsApart}
+use Rattle.node_trees.proofs.Absent.{spot-absent, without-absent}
 
 -- ---- trees side by side
 
@@ -59,11 +61,6 @@ path-place-out i n t (tree m x s k r) z =
     grind (arith, nat_tests, path-join-right i t (tree m x s k r) z, path-place-out i n t r z)
 
 -- ---- the trees without that of n
-
-pub without-absent : (n : ℕ) (f : Trees) → times n f ≡ 0 → without n f ≡ f
-without-absent n none z = refl
-without-absent n (tree m x s k r) z =
-    grind (arith, nat_tests, without-absent n s (omega arith), without-absent n k (omega arith), without-absent n r (omega arith))
 
 lacking-or : (n : ℕ) (a b : Option Spot) → spot_lacking n (or_spot a b) ≡ or_spot (spot_lacking n a) (spot_lacking n b)
 lacking-or n None b = refl

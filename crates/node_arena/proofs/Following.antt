@@ -6,10 +6,11 @@ use Rattle.node_trees.specs.Nodes.{times, IsNode, IsTidy}
 use Rattle.node_trees.specs.Orders.{tree_order, tree_order_of}
 use Rattle.node_trees.specs.Paths.{is_among}
 use Rattle.node_trees.specs.Spots.{spot_of, spot_in, parent_at, first_child_at, next_sibling_at, after}
-use Rattle.node_arena.proofs.Sums.{IsApart, tidy-apart, times-without}
+use Rattle.node_arena.proofs.Sums.{tidy-apart, times-without}
 use Rattle.node_arena.proofs.Inside.{Found, found, tree_apart}
 use Rattle.node_arena.proofs.Next.{or_else, beyond, order-inside, next_is, Below, climb_tree}
 use Rattle.node_arena.proofs.AtNode.{node_stands, parent_at-is, first_child_at-is, next_sibling_at-is}
+use Rattle.node_trees.proofs.Weights.{IsApart}
 
 -- what the tree order of root's tree has after all that is below n
 abbrev pub beyond_in : Trees → ℕ → ℕ → Option ℕ

@@ -5,8 +5,10 @@ use Rattle.node_trees.specs.Facts.{Facts}
 use Rattle.node_trees.specs.Trees.{Trees, none, tree, tree_of}
 use Rattle.node_trees.specs.Nodes.{times}
 use Rattle.node_trees.specs.Spots.{spot_of, spot_in}
-use Rattle.node_arena.proofs.Sums.{IsApart, apart-shadow, apart-children, apart-rest, here, in_shadow, in_children, in_rest, stands_where, times-without}
-use Rattle.node_arena.proofs.Pieces.{spot-absent, spot-here, spot-shadow, spot-children, spot-rest, tree_of-here, tree_of-shadow, tree_of-children, tree_of-rest}
+use Rattle.node_arena.proofs.Sums.{apart-shadow, apart-children, apart-rest, here, in_shadow, in_children, in_rest, stands_where, times-without}
+use Rattle.node_arena.proofs.Pieces.{spot-here, spot-shadow, spot-children, spot-rest, tree_of-here, tree_of-shadow, tree_of-children, tree_of-rest}
+use Rattle.node_trees.proofs.Weights.{IsApart}
+use Rattle.node_trees.proofs.Absent.{spot-absent}
 
 -- the tree of n, with what stands there
 pub record Found (p h : Option ℕ) (n : ℕ) (f : Trees) : Type 0 where

@@ -20,7 +20,6 @@ pub mod InPath
 pub mod CutReads
 pub mod AllowedCut
 pub mod PutSpots
-pub mod GraftReads
 pub mod ConnectedBelow
 pub mod Sizes
 pub mod NewReads

@@ -1,5 +1,5 @@
 -- The node that comes after another in tree order, by first child, next sibling and parent.
-use Rattle.std.proofs.Common.{◌≡◌, ◌≢◌, ℕ, true, false, ◌<◌, ◌||◌, ◌==◌, if◌then◌else◌, List, [], ◌∷◌, ◌++◌, Option, Some, None, refl, ap, sym, ◌∙◌, arith}
+use Rattle.std.proofs.Common.{◌≡◌, ◌≢◌, ℕ, true, false, ◌<◌, ◌==◌, if◌then◌else◌, List, [], ◌∷◌, ◌++◌, Option, Some, None, refl, ap, sym, ◌∙◌, arith}
 use Rattle.std.proofs.lemmas.Bool.Decides.{nat_tests}
 use Rattle.node_trees.specs.Facts.{Facts}
 use Rattle.node_trees.specs.Trees.{Trees, none, tree, roots}
@@ -7,8 +7,10 @@ use Rattle.node_trees.specs.Nodes.{times}
 use Rattle.node_trees.specs.Orders.{tree_order}
 use Rattle.node_trees.specs.Paths.{is_among}
 use Rattle.node_trees.specs.Spots.{Spot, spot_of, spot_in, first_of, after}
-use Rattle.node_arena.proofs.Sums.{IsApart, apart-children, apart-rest, here, in_shadow, in_children, in_rest, stands_where}
+use Rattle.node_arena.proofs.Sums.{apart-children, apart-rest, here, in_shadow, in_children, in_rest, stands_where}
 use Rattle.node_arena.proofs.Pieces.{spot-here, spot-children, spot-rest}
+use Rattle.node_trees.proofs.Weights.{IsApart}
+use Rattle.node_trees.proofs.Absent.{is_among-append}
 
 -- the first of two that is there
 abbrev pub or_else : Option ℕ → Option ℕ → Option ℕ
@@ -20,10 +22,6 @@ or_else-assoc None b c = refl
 or_else-assoc (Some a) b c = refl
 
 -- ---- lists
-
-pub is_among-append : (n : ℕ) (xs ys : List ℕ) → is_among n (xs ++ ys) ≡ (is_among n xs || is_among n ys)
-is_among-append n [] ys = refl
-is_among-append n (x ∷ xs) ys = grind (arith, nat_tests, is_among-append n xs ys)
 
 first_of-append : (xs ys : List ℕ) → first_of (xs ++ ys) ≡ or_else (first_of xs) (first_of ys)
 first_of-append [] ys = refl

@@ -8,7 +8,7 @@ use Rattle.node_trees.specs.Nodes.{times}
 use Rattle.node_trees.specs.Orders.{tree_order}
 use Rattle.node_trees.specs.Paths.{is_among}
 use Rattle.node_trees.specs.Spots.{after}
-use Rattle.node_arena.proofs.Sums.{IsApart}
+use Rattle.node_trees.proofs.Weights.{IsApart}
 
 -- the list from n on
 abbrev pub onward : ℕ → List ℕ → List ℕ

@@ -7,11 +7,12 @@ use Rattle.node_trees.specs.Spots.{Spot, spot_of, spot}
 use Rattle.node_trees.specs.Orders.{order}
 use Rattle.node_trees.specs.Nodes.{times, IsNode, IsTidy}
 use Rattle.node_arena.specs.Walks.{AreNodes, orders}
-use Rattle.node_arena.proofs.Sums.{IsApart, tidy-apart, apart-shadow, apart-children, apart-rest, times-without}
+use Rattle.node_arena.proofs.Sums.{tidy-apart, apart-shadow, apart-children, apart-rest, times-without}
 use Rattle.node_arena.proofs.Pieces.{tree_of-shadow, tree_of-children, tree_of-rest}
 use Rattle.node_arena.proofs.Inside.{Found, found}
 use Rattle.node_arena.proofs.AtNode.{node_stands}
 use Rattle.node_arena.proofs.OrderSteps.{IsPart, tree_of-inside}
+use Rattle.node_trees.proofs.Weights.{IsApart}
 
 pub orders-append : (f : Trees) (ms ns : List ℕ) → orders f (ms ++ ns) ≡ orders f ms ++ orders f ns
 orders-append f [] ns = refl

@@ -7,13 +7,9 @@ use Rattle.node_trees.specs.Trees.{Trees, none, tree, join, tree_of}
 use Rattle.node_trees.specs.Nodes.{times}
 use Rattle.node_trees.specs.Spots.{Spot, spot_of, spot_in, or_spot}
 use Rattle.node_trees.specs.Paths.{path, under}
+use Rattle.node_trees.proofs.Absent.{spot-absent}
 
 -- ---- what stands at a number
-
-pub spot-absent : (p h : Option ℕ) (n : ℕ) (f : Trees) → times n f ≡ 0 → spot_in p h n f ≡ None
-spot-absent p h n none z = refl
-spot-absent p h n (tree m x s k r) z =
-    grind (arith, nat_tests, spot-absent None (Some m) n s (omega arith), spot-absent (Some m) None n k (omega arith), spot-absent p h n r (omega arith))
 
 pub or_spot-none : (a : Option Spot) → or_spot a None ≡ a
 or_spot-none None = refl

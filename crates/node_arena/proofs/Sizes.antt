@@ -5,7 +5,8 @@ use Rattle.std.proofs.lemmas.Bool.{cases_lt}
 use Rattle.node_trees.specs.Facts.{Facts}
 use Rattle.node_trees.specs.Trees.{Trees, tree_of, without, cut, graft, with_node, single, with_shadow}
 use Rattle.node_trees.specs.Nodes.{weight, times, size, IsNode, IsTidy}
-use Rattle.node_arena.proofs.Sums.{tidy-apart, times-without, weight-join, weight-without, weight-place, weight-put, weight-shadow}
+use Rattle.node_arena.proofs.Sums.{tidy-apart, times-without}
+use Rattle.node_trees.proofs.Weights.{weight-join, weight-without, weight-place, weight-put, weight-shadow}
 
 module _ (w : ℕ → Facts → ℕ) where
   pub weight-cut : (f : Trees) (n : ℕ) → IsTidy f → weight w (cut f n) ≡ weight w f

@@ -11,7 +11,7 @@ use Rattle.node_arena.proofs.AtNode.{node_spot}
 use Rattle.node_arena.proofs.Changed.{spot-with-other}
 use Rattle.node_arena.proofs.CutSpots.{spot-join}
 use Rattle.node_arena.proofs.ForestLemmas.{stands_at, row_is}
-use Rattle.node_arena.proofs.Pieces.{spot-absent}
+use Rattle.node_trees.proofs.Absent.{spot-absent}
 
 pub spots-same : (f g : Trees) (m : ℕ) → g ≡ f → spot_at g m ≡ spot_at f m
 spots-same f g m e = ap (λ v. spot_at v m) e

@@ -8,14 +8,14 @@ use Rattle.node_trees.specs.Spots.{Spot, spot_of, spot_in}
 use Rattle.node_trees.specs.Nodes.{times}
 use Rattle.node_arena.specs.Numbers.{remove_number, insert_number}
 use Rattle.node_arena.specs.Rows.{row_at, Stands, Attached, Changed}
-use Rattle.node_arena.proofs.Sums.{IsApart}
 use Rattle.node_arena.proofs.Pieces.{spot-here, spot-shadow, spot-children, spot-rest, tree_of-shadow, tree_of-children, tree_of-rest}
 use Rattle.node_arena.proofs.Inside.{Found, found}
 use Rattle.node_arena.proofs.Changed.{roots-with}
-use Rattle.node_arena.proofs.CutSpots.{without-absent}
 use Rattle.node_arena.proofs.PutSpots.{roots-before, roots-put}
 use Rattle.node_arena.proofs.Lists.{roots-without}
 use Rattle.node_arena.proofs.ShadowReads.{roots-shadow}
+use Rattle.node_trees.proofs.Weights.{IsApart}
+use Rattle.node_trees.proofs.Absent.{without-absent}
 
 -- rows that agree on the numbers of the trees
 pub Stands-frame : (rows rows' : List Spot) (p h : Option ℕ) (f : Trees) → Stands rows p h f → ((m : ℕ) → 0 < m → 0 < times m f → row_at rows' m ≡ row_at rows m) → Stands rows' p h f

@@ -1,14 +1,11 @@
 -- What stands how often in nested trees, and where a number stands.
-use Rattle.std.proofs.Common.{◌≡◌, ◌≢◌, ℕ, ◌+◌, ◌<◌, ◌≤◌, Option, refl, arith, inl, inr, cond, eqb, if◌then◌else◌, ◌==◌}
+use Rattle.std.proofs.Common.{◌≡◌, ◌≢◌, ℕ, ◌+◌, ◌<◌, ◌≤◌, arith, inl, inr, if◌then◌else◌, ◌==◌}
 use Rattle.std.proofs.lemmas.Bool.Decides.{nat_tests}
 use Rattle.std.proofs.lemmas.Bool.{cases_lt, cases_eq}
 use Rattle.node_trees.specs.Facts.{Facts}
-use Rattle.node_trees.specs.Trees.{Trees, none, tree, join, tree_of, without, place, before, put, with_shadow}
-use Rattle.node_trees.specs.Nodes.{weight, times, IsTidy}
-
--- no number stands twice
-abbrev pub IsApart : Trees → Type 0
-IsApart f = (i : ℕ) → times i f ≤ 1
+use Rattle.node_trees.specs.Trees.{Trees, tree, join, tree_of, without}
+use Rattle.node_trees.specs.Nodes.{times, IsTidy}
+use Rattle.node_trees.proofs.Weights.{IsApart, weight-join, weight-without}
 
 pub tidy-apart : (f : Trees) → IsTidy f → IsApart f
 tidy-apart f t i = elim (cases_lt 0 (times i f)) [
@@ -46,40 +43,6 @@ stands_where n m x s k r apart pos =
         ]
       ]
     ]
-
--- ---- sums
-
-module _ (w : ℕ → Facts → ℕ) where
-  pub weight-join : (f g : Trees) → weight w (join f g) ≡ weight w f + weight w g
-  weight-join none g = omega arith
-  weight-join (tree m x s k r) g = omega (arith, weight-join r g)
-
-  -- what is taken out and what is left are all
-  pub weight-without : (n : ℕ) (f : Trees) → times n f ≤ 1 → weight w (tree_of n f) + weight w (without n f) ≡ weight w f
-  weight-without n none h = refl
-  weight-without n (tree m x s k r) h =
-      let a = weight-without n s (omega arith) in
-      let b = weight-without n k (omega arith) in
-      let c = weight-without n r (omega arith) in
-      grind (arith, nat_tests, weight-join (tree_of n s) (join (tree_of n k) (tree_of n r)), weight-join (tree_of n k) (tree_of n r), a, b, c)
-
-  pub weight-place : (n : ℕ) (t f : Trees) → weight w (place n t f) ≡ weight w t + weight w f
-  weight-place n t none = omega arith
-  weight-place n t (tree m x s k r) = grind (arith, weight-join t (tree m x s k r), weight-place n t r)
-
-  pub weight-before : (b : Option ℕ) (t f : Trees) → weight w (before b t f) ≡ weight w t + weight w f
-  weight-before b t none = omega arith
-  weight-before b t (tree m x s k r) = grind (arith, weight-join t (tree m x s k r), weight-before b t r)
-
-  pub weight-put : (p : ℕ) (b : Option ℕ) (t f : Trees) → times p f ≤ 1 → weight w (put p b t f) ≡ cond (eqb (times p f) 0) 0 (weight w t) + weight w f
-  weight-put p b t none h = omega arith
-  weight-put p b t (tree m x s k r) h =
-      grind (arith, nat_tests, weight-before b t k, weight-put p b t s (omega arith), weight-put p b t k (omega arith), weight-put p b t r (omega arith))
-
-  pub weight-shadow : (q : ℕ) (t f : Trees) → times q f ≤ 1 → weight w (with_shadow q t f) ≡ cond (eqb (times q f) 0) 0 (weight w t) + weight w f
-  weight-shadow q t none h = omega arith
-  weight-shadow q t (tree m x s k r) h =
-      grind (arith, nat_tests, weight-join s t, weight-shadow q t s (omega arith), weight-shadow q t k (omega arith), weight-shadow q t r (omega arith))
 
 abbrev pub one_at : ℕ → ℕ → Facts → ℕ
 one_at n m x = if m == n then 1 else 0

@@ -6,7 +6,7 @@ use Rattle.node_trees.specs.Facts.{Facts, is_element, is_text, is_shadow_root}
 use Rattle.node_trees.specs.Trees.{Trees, single, tree_of, without, place, cut, graft, with_node, with_shadow, with_facts}
 use Rattle.node_trees.specs.Nodes.{times, size, Rises, Place, AtTop, AsChild, fits, unless, misfits, surplus_at, surplus, IsNode, IsTidy}
 use Rattle.node_trees.specs.Spots.{kind_at}
-use Rattle.node_arena.proofs.Sums.{tidy-apart, one_at, weight-without}
+use Rattle.node_arena.proofs.Sums.{tidy-apart, one_at}
 use Rattle.node_arena.proofs.Inside.{found}
 use Rattle.node_arena.proofs.AtNode.{node_stands, node_spot, facts_at-is}
 use Rattle.node_arena.proofs.CutReads.{in-tree, not-left}
@@ -18,6 +18,7 @@ use Rattle.node_arena.proofs.Rising.{rises-same, rises-without, rises-place, ris
 use Rattle.node_arena.proofs.Fitting.{only_at, only-there, misfits-join, misfits-place, misfits-without, misfits-tree_of}
 use Rattle.node_arena.proofs.Surplus.{KeepsKind, surplus-with}
 use Rattle.node_arena.proofs.FittingPut.{text_is, element_is, misfits-put, misfits-shadow, misfits-with}
+use Rattle.node_trees.proofs.Weights.{weight-without}
 
 -- as many nodes, with the same numbers
 tidy-still : (f g : Trees) → IsTidy f → size g ≡ size f → ((i : ℕ) → times i g ≡ times i f) → Rises 0 g → misfits AtTop g ≡ 0 → surplus g ≡ surplus f → IsTidy g

@@ -1,13 +1,10 @@
 -- Fronts of lawful logs.
 use Rattle.std.specs.Prelude.{◌≡◌, Bool, true, false, ◌&&◌, List, [], ◌∷◌, ◌++◌, refl}
-use Rattle.std.proofs.Common.{sym, subst}
 use Rattle.ce_algorithms.specs.declared.event.Event.{Event}
 use Rattle.order_law.specs.Book.{Book, blank}
 use Rattle.order_law.specs.After.{after}
 use Rattle.order_law.specs.Law.{may_come, is_lawful, Lawful}
-
-pub both_true : {a b : Bool} → a ≡ true → b ≡ true → a && b ≡ true
-both_true {b} h k = subst (λ x. x && b ≡ true) (sym h) k
+use Rattle.std.specs.Cmp.Derive.{both_true}
 
 pub left_true : (a b : Bool) → a && b ≡ true → a ≡ true
 left_true true b h = refl

@@ -3,16 +3,12 @@ use Rattle.std.proofs.Common.{◌≡◌, ℕ, ◌+◌, ◌<◌, Bool, true, fals
 use Rattle.std.specs.Prelude.{◌⊎◌, ◌&&◌, ◌==◌, is_some}
 use Rattle.std.proofs.lemmas.Bool.{eqb-true}
 use Rattle.std.proofs.lemmas.List.{append_assoc}
-use Rattle.std.proofs.lemmas.Slice.Eq.{bytes_eq-Decides}
-use Rattle.std.specs.Str.{chars}
-use Rattle.rule_tokens.specs.Callbacks.{call_named, call_word}
 use Rattle.rule_tokens.specs.declared.callback.CallName.{CallName}
 use Rattle.rule_tokens.specs.declared.callback.CallName.TheVariants as names
 use Rattle.rule_tokens.specs.declared.callback.CallOrUpgrade.{CallOrUpgrade}
 use Rattle.rule_tokens.specs.declared.callback.CallOrUpgrade.TheVariants.{Call, Upgrade}
 use Rattle.ce_algorithms.specs.declared.event.Event.{Event}
 use Rattle.ce_algorithms.specs.declared.event.Event.TheVariants.{Connected, Disconnected, Adopted, Attribute, FormAssociated, FormDisabled, FormReset, FormStateRestore, QueueOpened, DrainBegun, Started, Finished, QueueClosed, UpgradeBegun, UpgradeDone, UpgradeThrew}
-use Rattle.ce_algorithms.specs.Body.{same_call}
 use Rattle.order_law.specs.Book.{Book, Entry, Bracket, Filling, Draining, Reacting, Upgrading}
 use Rattle.order_law.specs.Lines.{call_of}
 use Rattle.order_law.specs.Reads.{is_for, entry_of, around}
@@ -25,6 +21,7 @@ use Rattle.order_law.proofs.Walk.{Keeps, past_of}
 use Rattle.order_law.proofs.Entries.{found_among}
 use Rattle.order_law.proofs.Waiting.{Kept}
 use Rattle.order_law.proofs.Runs.{waits_of}
+use Rattle.ce_algorithms.proofs.CallNames.{same_is}
 
 -- a bracket that begins with this event, with these callbacks' lines directly in it, and what holds outside of it
 abbrev pub Around : List Event → Event → (List Event → Type 0) → List Event → Type 0
@@ -124,25 +121,6 @@ threw n [] log h o = false_true h
 threw n (Filling m ∷ bs) log h o = false_true h
 threw n (Draining m ∷ bs) log h o = false_true h
 threw n (Reacting w called ∷ bs) log h o = false_true h
-
--- callbacks are told by their words
-call_again : (call : CallName) → call_named (call_word call) ≡ Some call
-unfolding chars
-call_again names.Constructor = refl
-call_again names.Connected = refl
-call_again names.Disconnected = refl
-call_again names.Adopted = refl
-call_again names.Attribute = refl
-call_again names.FormAssociated = refl
-call_again names.FormDisabled = refl
-call_again names.FormReset = refl
-call_again names.FormStateRestore = refl
-
-pub same_is : (a b : CallName) → same_call a b ≡ true → a ≡ b
-same_is a b h =
-    let words : call_word a ≡ call_word b = (bytes_eq-Decides (call_word a) (call_word b)).0 h in
-    let both : Some a ≡ Some b = sym (call_again a) ∙ ap call_named words ∙ call_again b in
-    cc
 
 pub for_is : (what : CallOrUpgrade) (name : CallName) → is_for what name ≡ true → what ≡ Call name
 for_is (Call a) name h = ap Call (same_is a name h)

@@ -2,9 +2,9 @@
 use Rattle.std.proofs.Common.{◌≡◌, ◌<◌, ◌≤◌, ℕ, Bool, true, false, ◌&&◌, Ok, List, [], ◌∷◌, nat_lt, length, get_or, encode_utf8, encode_utf8_all, refl, sym, ap, ◌∙◌, arith, inl, inr, length-append}
 use Rattle.std.proofs.lemmas.Bool.{cases_lt}
 use Rattle.std.proofs.lemmas.Bool.Decides.{nat_tests}
-use Rattle.std.proofs.lemmas.Str.{encodes-chars, encode_ascii, char_from_byte, length-encode, len_utf8_bounds, IsUtf8-from_is_utf8, is_utf8-from_IsUtf8}
+use Rattle.std.proofs.lemmas.Str.{encodes-chars, encode_ascii, char_from_byte, length-encode, len_utf8_bounds, IsUtf8-from_is_utf8}
 use Rattle.std.specs.Prelude.{nat_le}
-use Rattle.std.specs.Str.{chars, is_utf8, IsUtf8}
+use Rattle.std.specs.Str.{chars, is_utf8}
 use Rattle.rule_tokens.specs.Tokens.{is_blank}
 use Rattle.rule_lines.specs.Acts.{Blank}
 use Rattle.rule_script.specs.Reading.{longest, reading}
@@ -37,15 +37,6 @@ pub blank_chars : (bs : List ℕ) → is_utf8 bs ≡ true → is_blank (chars bs
 blank_chars bs e = sym (blank_encodes (chars bs)) ∙ ap is_blank (encodes-chars bs (IsUtf8-from_is_utf8 bs e))
 
 -- ---- by tests of its bytes
-
-false_unless : (b : Bool) → (b ≡ true → ⊥) → b ≡ false
-false_unless true hn = absurd (hn refl)
-false_unless false hn = refl
-
-pub is_utf8-from_not : (bytes : List ℕ) → (IsUtf8 bytes → ⊥) → is_utf8 bytes ≡ false
-is_utf8-from_not bytes hn = false_unless (is_utf8 bytes) (λ e. hn (IsUtf8-from_is_utf8 bytes e))
-
-pub ruleset utf8_tests = (is_utf8-from_IsUtf8, is_utf8-from_not)
 
 -- the three tests in their order
 by_tests : Bool → Bool → Bool → Bool

@@ -19,9 +19,10 @@ use Rattle.page_runner.specs.Sitting.{Sitting}
 use Rattle.page_runner.proofs.GivenLaws.{reading_line}
 use Rattle.page_runner.proofs.BlankLaws.{nothing_reads}
 use Rattle.page_runner.proofs.LineLaws.{whole_lines-line, last_part-line, whole_lines-no_feed, last_part-no_feed}
-use Rattle.page_runner.proofs.SittingLaws.{ran_line, answers_same, answered_same, answered_nothing, answered_more, answered_spent, answered_part, or_none}
+use Rattle.page_runner.proofs.SittingLaws.{ran_line, answers_same, answered_same, answered_nothing, answered_more, answered_spent, answered_part}
 use Rattle.ce_algorithms.proofs.FramedSteps.{framed_run_lines}
 use Rattle.ce_algorithms.proofs.Writing.{part_then}
+use Rattle.std.proofs.Math.Bool.{or-false}
 
 pub answered_line : (s t : Sitting) (end : End) (line : List ℕ) (held held' : Option (List ℕ))
     → Did s.trace held held' (run_line model (s.line + 1) (reading line) s.state) (outcome_of end t.state)
@@ -84,7 +85,7 @@ runs_blank a s fed feed feed' line held held' runs gives nothing =
     let reads = nothing_reads line nothing in
     runs_line a s (record s { line = s.line + 1 }) fed feed feed' line held held' held' runs gives
     (record { events = []; written = Appends-nil held'; same = ap (λ said. run_line model (s.line + 1) said s.state) reads })
-    runs.done.ran.empty refl refl (sym (ap (λ said. s.bad || is_bad said) reads ∙ or_none s.bad))
+    runs.done.ran.empty refl refl (sym (ap (λ said. s.bad || is_bad said) reads ∙ or-false s.bad))
 
 -- the fuel is spent in a line
 pub runs_spent : (a s t : Sitting) (fed feed feed' line : List ℕ) (held mid held' : Option (List ℕ))

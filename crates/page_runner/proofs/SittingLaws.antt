@@ -1,7 +1,7 @@
 -- A session that was run over some lines, and then over others.
-use Rattle.std.proofs.Common.{◌≡◌, ℕ, ◌+◌, Bool, false, true, ◌||◌, List, [], ◌∷◌, ◌++◌, length, refl, sym, ap, subst, ◌∙◌, append_assoc, append-nil, add-zero, add_assoc, arith, length-append}
+use Rattle.std.proofs.Common.{◌≡◌, ℕ, ◌+◌, ◌||◌, List, [], ◌∷◌, ◌++◌, length, refl, sym, ap, subst, ◌∙◌, append_assoc, append-nil, add-zero, add_assoc, arith, length-append}
 use Rattle.std.proofs.KnownBytes.{Appends-nil, Appends-trans}
-use Rattle.std.proofs.Math.Bool.{or_assoc}
+use Rattle.std.proofs.Math.Bool.{or_assoc, or-false}
 use Rattle.std.proofs.lemmas.List.{map-append, length-map}
 use Rattle.std.proofs.lemmas.List.Folds.{list_any-append}
 use Rattle.std.specs.Io.KnownBytes.{Appends}
@@ -45,10 +45,6 @@ log_of-end FuelSpent s h = h
 has_bad-append : (xs ys : List (List ℕ)) → has_bad (xs ++ ys) ≡ (has_bad xs || has_bad ys)
 has_bad-append xs ys = rw (map-append reading xs ys) (list_any-append is_bad (readings xs) (readings ys))
 
-pub or_none : (b : Bool) → (b || false) ≡ b
-or_none true = refl
-or_none false = refl
-
 -- ---- a session over lines
 
 pub ran_nothing : (s : Sitting) → s.state.log ≡ [] → Ran s [] Replied s []
@@ -57,7 +53,7 @@ ran_nothing s empty = record {
   empty = empty;
   trace = refl;
   line = λ _. sym (add-zero s.line);
-  bad = λ _. sym (or_none s.bad);
+  bad = λ _. sym (or-false s.bad);
 }
 
 -- after a line no other is left
@@ -73,7 +69,7 @@ ran_line s line end t events same empty trace number bad = record {
   empty = empty;
   trace = trace;
   line = λ _. number;
-  bad = λ _. bad ∙ ap (λ b. s.bad || b) (sym (or_none (is_bad (reading line))));
+  bad = λ _. bad ∙ ap (λ b. s.bad || b) (sym (or-false (is_bad (reading line))));
 }
 
 -- what a session that ran some lines does with more

@@ -39,7 +39,7 @@ fn is_blank(bytes: &[u8]) -> bool
     true
 }
 
-#[tactic(auto, using(crate::proofs::BlankLaws::utf8_tests))]
+#[tactic(auto, using(ce_base::proofs::Utf8::utf8_tests))]
 fn is_text(bytes: &[u8]) -> bool
     ensures { result ≡ is_utf8 bytes.now }
 {

@@ -19,12 +19,12 @@ list_at-trimmed zero (l ∷ ls) = list_at_head l (trimmed ls)
 list_at-trimmed (suc i) (l ∷ ls) = list_at_ahead i l (trimmed ls) ∙ list_at-trimmed i ls
 
 -- the list at a place given anew
-with_list_head : {A : Type 0} → (xs l : List A) (ls : List (List A)) → with_list zero xs (ahead l ls) ≡ ahead xs ls
+pub with_list_head : {A : Type 0} → (xs l : List A) (ls : List (List A)) → with_list zero xs (ahead l ls) ≡ ahead xs ls
 with_list_head xs [] [] = refl
 with_list_head xs [] (m ∷ ls) = refl
 with_list_head xs (x ∷ l) ls = refl
 
-with_list_ahead : {A : Type 0} → (i : ℕ) (xs l : List A) (ls : List (List A)) → with_list (suc i) xs (ahead l ls) ≡ ahead l (with_list i xs ls)
+pub with_list_ahead : {A : Type 0} → (i : ℕ) (xs l : List A) (ls : List (List A)) → with_list (suc i) xs (ahead l ls) ≡ ahead l (with_list i xs ls)
 with_list_ahead i xs [] [] = refl
 with_list_ahead i xs [] (m ∷ ls) = refl
 with_list_ahead i xs (x ∷ l) ls = refl

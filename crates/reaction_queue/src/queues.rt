@@ -1,6 +1,6 @@
 // The reaction queues, the stack of element queues, and the backup element queue.
 ghost use Rattle.std.specs.Prelude.{◌≡◌, ◌+◌, ◌<◌, ◌^◌, ◌++◌, ◌∷◌, [], length, not, MatchOption, IfOk, IfSome, IfNone, OnOk, OnErr};
-ghost use Rattle.reaction_queue.specs.Queues.{no_queues, begun, ended, current_number, current_elements, waiting_at, with_waiting, counted, with_reaction, appended, enqueued};
+ghost use Rattle.reaction_queue.specs.Queues.{no_queues, pushed_queue, popped_queue, current_number, current_elements, waiting_at, with_waiting, counted, with_reaction, appended, enqueued};
 ghost use Rattle.reaction_queue.specs.ElementQueues.{is_empty};
 ghost use Rattle.reaction_queue.specs.Changes.{SameNumbers, DropsFirst};
 
@@ -52,11 +52,12 @@ impl Queues {
         }
     }
 
-    /// Pushes a new element queue, and gives its number.
+    /// Pushes a new element queue onto the custom element reactions stack (HTML Standard, section "Custom
+    /// element reactions"), and gives its number. NoMemory: memory was refused.
     pub fn begin(&mut self, alloc: Global) -> Result<QueueNo, NoMemory>
         requires { self.old.pushed + 1 < 2 ^ 64 }
         ensures number { IfOk result (λ q. q ≡ self.old.pushed + 1) }
-        ensures queues { OnOk result (self.new ≡ begun self.old) }
+        ensures queues { OnOk result (self.new ≡ pushed_queue self.old) }
         ensures waiting { self.new.waiting ≡ self.old.waiting }
         ensures reactions { self.new.reactions ≡ self.old.reactions }
         ensures pushed { self.new.pushed ≡ self.old.pushed + 1 }
@@ -68,10 +69,11 @@ impl Queues {
         Ok(number)
     }
 
-    /// Pops the current element queue. Where the stack is empty it stays so, and what is given has no elements.
+    /// Pops the current element queue (HTML Standard, section "Custom element reactions"). Where the stack is
+    /// empty it stays so, and what is given has no elements.
     pub fn end(&mut self) -> ElementQueue
         ensures elements { result ≡ current_elements self.old }
-        ensures queues { self.new ≡ ended self.old }
+        ensures queues { self.new ≡ popped_queue self.old }
         ensures reactions { self.new.reactions ≡ self.old.reactions }
         ensures pushed { self.new.pushed ≡ self.old.pushed }
     {
@@ -128,7 +130,8 @@ impl Queues {
         self.stack.append(node)
     }
 
-    /// Takes the first element of an element queue that was popped. None exactly where it is empty.
+    /// Takes the first element of an element queue that was popped (HTML Standard, section "Custom element
+    /// reactions", "invoke custom element reactions"). None exactly where it is empty.
     pub fn next_element(&mut self, q: &mut ElementQueue) -> Option<NodeNo>
         ensures first { MatchOption result ((q.old ≡ []) × (q.new ≡ [])) (λ n. q.old ≡ n ∷ q.new) }
         ensures queues { self.new ≡ self.old }
@@ -144,7 +147,8 @@ impl Queues {
         !self.backup.is_empty()
     }
 
-    /// Takes the first element of the backup element queue. None exactly where it is empty.
+    /// Takes the first element of the backup element queue (HTML Standard, section "Custom element
+    /// reactions"). None exactly where it is empty.
     pub fn next_backup(&mut self) -> Option<NodeNo>
         ensures first { MatchOption result ((self.old.backup ≡ []) × (self.new ≡ self.old)) (λ n. self.old.backup ≡ n ∷ self.new.backup) }
         ensures queues { self.new ≡ record self.old { backup = self.new.backup } }
@@ -153,7 +157,8 @@ impl Queues {
         self.backup.take()
     }
 
-    /// Takes the first reaction of a node's reaction queue, with its number. None exactly where none
+    /// Takes the first reaction of a node's reaction queue, with its number (HTML Standard, section "Custom
+    /// element reactions", "invoke custom element reactions"). None exactly where none
     /// waits at the node.
     pub fn next(&mut self, node: NodeNo) -> Option<(ReactionNo, Reaction)>
         ensures first { MatchOption result (waiting_at self.old node ≡ []) (λ w. waiting_at self.old node ≡ w ∷ waiting_at self.new node) }
@@ -163,7 +168,8 @@ impl Queues {
         self.waiting.take(node)
     }
 
-    /// Drops the first reaction of a node's reaction queue, and gives its number. None exactly where none
+    /// Drops the first reaction of a node's reaction queue, as an upgrade that threw does with each (HTML
+    /// Standard, section "Upgrades", "upgrade an element"), and gives its number. None exactly where none
     /// waits at the node.
     pub fn drop_first(&mut self, node: NodeNo) -> Option<ReactionNo>
         ensures first { MatchOption result (waiting_at self.old node ≡ []) (λ number. DropsFirst self.old self.new node number) }

@@ -1,5 +1,5 @@
 -- What tokens spell is spelled by its canonical tokens too.
-use Rattle.std.proofs.Common.{◌≡◌, ◌≤◌, ℕ, zero, suc, length, arith, Bool, true, false, cond, not, ◌&&◌, ◌||◌, List, [], ◌∷◌, ◌++◌, Option, Some, None, refl, sym, ap, subst, ◌⊎◌, inl, inr}
+use Rattle.std.proofs.Common.{◌≡◌, ◌≤◌, ℕ, zero, suc, length, arith, Bool, true, false, cond, not, ◌&&◌, List, [], ◌∷◌, ◌++◌, Option, Some, None, refl, sym, ap, subst, ◌⊎◌, inl, inr}
 use Rattle.std.specs.List.{list_any}
 use Rattle.std.specs.Str.{bytes_eq}
 use Rattle.std.proofs.lemmas.Slice.Eq.{bytes_eq-Decides}
@@ -17,6 +17,8 @@ use Rattle.rule_grammar.specs.Rows.{forms}
 use Rattle.rule_grammar.specs.Whole.{either}
 use Rattle.rule_grammar.specs.FixedWords.{keyword, spelling}
 use Rattle.rule_grammar.specs.Spells.{Spelling, SpellNothing, SpellOne, SpellMarked, SpellBehind, SpellKeys, SpellMaybe, SpellMany, SpellPairs, Spell, SpellRow, SpellWithin, Spelled}
+use Rattle.rule_grammar.proofs.Either.{to_first, to_second}
+use Rattle.std.proofs.lemmas.Bool.{and_parts, or_parts, not-true}
 
 -- ---- words
 
@@ -32,14 +34,6 @@ word_token s t e = by t.quoted t.text e
     by : (q : Bool) (text : List ℕ) → (not q && bytes_eq text s) ≡ true → record { quoted = q; text = text } ≡ bare s
     by true text e = absurd cc
     by false text e = ap bare ((bytes_eq-Decides text s).0 e)
-
-taken : (b : Bool) (X Y : Type 0) → b ≡ true → X → either b X Y
-taken true X Y is one = one
-taken false X Y is one = absurd cc
-
-passed : (b : Bool) (X Y : Type 0) → b ≡ false → Y → either b X Y
-passed true X Y is two = absurd cc
-passed false X Y is two = two
 
 -- ---- an operand
 
@@ -79,22 +73,10 @@ keyed_first word (read_as.Word read) = inr (_, refl)
 keyed_first word read_as.There = inr (_, refl)
 keyed_first word read_as.NotThere = inl refl
 
-none_of : (a b : Bool) → (a || b) ≡ false → (a ≡ false) × (b ≡ false)
-none_of true b e = absurd cc
-none_of false b e = (refl, e)
-
-both_of : (a b : Bool) → (a && b) ≡ true → (a ≡ true) × (b ≡ true)
-both_of true b e = (refl, e)
-both_of false b e = absurd cc
-
-not_it : (a : Bool) → not a ≡ true → a ≡ false
-not_it true e = absurd cc
-not_it false e = refl
-
 not_next : (word : List ℕ) (keys : List Key) (gs : List ReadAs) → named word keys ≡ false → begins word (keys_tokens keys gs) ≡ false
 not_next word [] gs e = refl
 not_next word (key ∷ keys) [] e = refl
-not_next word (key ∷ keys) (g ∷ gs) e = let both = none_of _ _ e in by both.0 (not_next word keys gs both.1) (keyed_first key.word g)
+not_next word (key ∷ keys) (g ∷ gs) e = let both = or_parts _ _ e in by both.0 (not_next word keys gs both.1) (keyed_first key.word g)
   where
     by : bytes_eq (keyword key.word) word ≡ false → begins word (keys_tokens keys gs) ≡ false → (keyed key.word g ≡ []) ⊎ ((ts : List Token) × (keyed key.word g ≡ bare (keyword key.word) ∷ ts)) → begins word (keyed key.word g ++ keys_tokens keys gs) ≡ false
     by first others (inl is) = rw is others
@@ -102,15 +84,15 @@ not_next word (key ∷ keys) (g ∷ gs) e = let both = none_of _ _ e in by both.
 
 key_skipped : (key : Key) (keys : List Key) (us : List Token) (gs : List ReadAs) → begins (keyword key.word) us ≡ false → SpellKeys keys us gs → SpellKeys (key ∷ keys) us (read_as.NotThere ∷ gs)
 key_skipped key keys [] gs e spelled = (refl, spelled)
-key_skipped key keys (u ∷ us) gs e spelled = passed (is_word (keyword key.word) u) _ _ e (refl, spelled)
+key_skipped key keys (u ∷ us) gs e spelled = to_second (is_word (keyword key.word) u) _ _ e (refl, spelled)
 
 key_taken : FlagsAgain → (key : Key) (keys : List Key) (operand : Option Kind) → key.operand ≡ operand → (ts : List Token) (g : ReadAs) (gs : List ReadAs) → SpellBehind operand (SpellKeys keys) ts (g ∷ gs)
     → ((ts : List Token) → SpellKeys keys ts gs → SpellKeys keys (keys_tokens keys gs) gs) → SpellKeys (key ∷ keys) (keys_tokens (key ∷ keys) (g ∷ gs)) (g ∷ gs)
 key_taken again key keys None is ts g gs spelled rest = subst (λ (x : ReadAs). SpellKeys (key ∷ keys) (keys_tokens (key ∷ keys) (x ∷ gs)) (x ∷ gs)) spelled.0
-    (taken (is_word (keyword key.word) (bare (keyword key.word))) _ _ (word_again (keyword key.word)) (subst (λ (o : Option Kind). SpellBehind o (SpellKeys keys) (keys_tokens keys gs) (read_as.There ∷ gs)) (sym is) (refl, rest ts spelled.1)))
+    (to_first (is_word (keyword key.word) (bare (keyword key.word))) _ _ (word_again (keyword key.word)) (subst (λ (o : Option Kind). SpellBehind o (SpellKeys keys) (keys_tokens keys gs) (read_as.There ∷ gs)) (sym is) (refl, rest ts spelled.1)))
 key_taken again key keys (Some kind) is [] g gs spelled rest = absurd spelled
 key_taken again key keys (Some kind) is (t ∷ ts) g gs spelled rest = let o = own again kind t g spelled.0 in rw (o.behind key.word)
-    (taken (is_word (keyword key.word) (bare (keyword key.word))) _ _ (word_again (keyword key.word)) (subst (λ (k : Option Kind). SpellBehind k (SpellKeys keys) (o.token ∷ keys_tokens keys gs) (g ∷ gs)) (sym is) (o.said, rest ts spelled.1)))
+    (to_first (is_word (keyword key.word) (bare (keyword key.word))) _ _ (word_again (keyword key.word)) (subst (λ (k : Option Kind). SpellBehind k (SpellKeys keys) (o.token ∷ keys_tokens keys gs) (g ∷ gs)) (sym is) (o.said, rest ts spelled.1)))
 
 none_again : (ts : List Token) (gs : List ReadAs) → SpellNothing ts gs → SpellNothing [] gs
 none_again [] gs spelled = spelled
@@ -153,8 +135,8 @@ keys_again again (key ∷ keys) apart ts [] spelled = absurd (none ts spelled)
         by true spelled = behind_none key.operand (SpellKeys keys) ts spelled
         by false spelled = spelled
 keys_again again (key ∷ keys) apart ts (g ∷ gs) spelled =
-    let both = both_of (not (named (keyword key.word) keys)) (keys_apart keys) apart in
-    key_again again key keys (not_it _ both.0) ts g gs (λ us more. keys_again again keys both.1 us gs more) spelled
+    let both = and_parts (not (named (keyword key.word) keys)) (keys_apart keys) apart in
+    key_again again key keys (not-true _ both.0) ts g gs (λ us more. keys_again again keys both.1 us gs more) spelled
 
 -- ---- one operand, many, and pairs
 
@@ -265,11 +247,11 @@ mutual
         spelling_is = word_token (spelling word) t is_it;
         others = canon action wants gs;
         tokens = rw (sym spelled.0, word_token (spelling word) t is_it) refl;
-        spelled = taken (is_word (spelling word) t) _ _ is_it (spelled.0, more spelled.1);
+        spelled = to_first (is_word (spelling word) t) _ _ is_it (spelled.0, more spelled.1);
       }
       by false is_it more spelled = absurd spelled
   row_again again Action action n is (Row word wants rows) ok t ts g gs small spelled =
-      let both = both_of (apart wants) (rows_apart rows) ok in
+      let both = and_parts (apart wants) (rows_apart rows) ok in
       by (is_word (spelling word) t) refl (λ rest. wants_again again Action action n is wants both.0 ts gs small rest) (λ rest. row_again again Action action n is rows both.1 t ts g gs small rest) spelled
     where
       by : (b : Bool) → is_word (spelling word) t ≡ b → (Spell Action wants ts gs → Spell Action wants (canon action wants gs) gs) → (SpellRow Action rows t ts (g ∷ gs) → RowAgain Action action rows t g gs) → either b (SpellMarked (read_as.Word word) (Spell Action wants) ts (g ∷ gs)) (SpellRow Action rows t ts (g ∷ gs)) → RowAgain Action action (Row word wants rows) t g gs
@@ -279,7 +261,7 @@ mutual
         spelling_is = word_token (spelling word) t is_it;
         others = canon action wants gs;
         tokens = rw (sym spelled.0, same_bytes (spelling word), word_token (spelling word) t is_it) refl;
-        spelled = taken (is_word (spelling word) t) _ _ is_it (spelled.0, more spelled.1);
+        spelled = to_first (is_word (spelling word) t) _ _ is_it (spelled.0, more spelled.1);
       }
       by false is_it more others spelled = let r = others spelled in record {
         word = r.word;
@@ -288,7 +270,7 @@ mutual
         others = r.others;
         tokens = subst (λ (b : Bool). cond b (tokens_of g ++ canon action wants gs) (canon_row action rows g gs) ≡ t ∷ r.others)
             (sym (subst (λ (x : ReadAs). is_read_as_word word x ≡ false) (sym r.got) (other_word word r.word t r.spelling_is is_it))) r.tokens;
-        spelled = passed (is_word (spelling word) t) _ _ is_it r.spelled;
+        spelled = to_second (is_word (spelling word) t) _ _ is_it r.spelled;
       }
 
 forms_apart : rows_apart forms ≡ true

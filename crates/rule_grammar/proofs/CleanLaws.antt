@@ -3,7 +3,7 @@ use Rattle.std.proofs.Common.{◌≡◌, ◌≢◌, ◌==◌, ℕ, zero, suc, le
 use Rattle.std.specs.List.{list_all}
 use Rattle.std.specs.Prelude.{nat_lt}
 use Rattle.std.specs.Char.{is_ascii_lowercase, is_ascii_uppercase}
-use Rattle.std.proofs.lemmas.Bool.{and_parts}
+use Rattle.std.proofs.lemmas.Bool.{and_parts, not-true}
 use Rattle.std.proofs.lemmas.Bool.Decides.{nat_tests}
 use Rattle.rule_tokens.specs.declared.callback.CallName.{CallName}
 use Rattle.rule_tokens.specs.declared.callback.CallName.TheVariants as calls
@@ -85,13 +85,9 @@ line_word_clean : (s : List ℕ) → is_line_word s ≡ true → IsBareBy false 
 line_word_clean [] is = absurd cc
 line_word_clean (b ∷ bs) is = ((λ e. cc), (and_parts (not (b == 35)) (list_all is_bare_byte (b ∷ bs)) is).1)
 
-not_true : (b : Bool) → not b ≡ true → b ≡ false
-not_true true e = absurd cc
-not_true false e = refl
-
 line_word_begins : (s : List ℕ) → is_line_word s ≡ true → is_comment s ≡ false
 line_word_begins [] is = refl
-line_word_begins (b ∷ bs) is = not_true (b == 35) (and_parts (not (b == 35)) (list_all is_bare_byte (b ∷ bs)) is).0
+line_word_begins (b ∷ bs) is = not-true (b == 35) (and_parts (not (b == 35)) (list_all is_bare_byte (b ∷ bs)) is).0
 
 word_line : (word : Word) → is_line_word (spelling word) ≡ true
 word_line words.On = refl

@@ -1,3 +1,4 @@
+pub mod Either
 pub mod ReadLaws
 pub mod FormLaws
 pub mod SpellLaws

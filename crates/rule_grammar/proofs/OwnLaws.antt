@@ -8,7 +8,7 @@ use Rattle.rule_tokens.specs.declared.operand.Operand.TheVariants as operands
 use Rattle.rule_tokens.specs.declared.operand.Val.{Val}
 use Rattle.rule_tokens.specs.declared.operand.Val.TheVariants as values
 use Rattle.rule_tokens.specs.declared.token.Token.{Token}
-use Rattle.rule_tokens.specs.Callbacks.{call_named, call_word}
+use Rattle.rule_tokens.specs.Callbacks.{call_word}
 use Rattle.rule_tokens.specs.Flags.{flags}
 use Rattle.rule_tokens.specs.FlagsText.{flags_text}
 use Rattle.rule_tokens.specs.OperandForms.{is_variable, is_class, is_word, variable_in, variable, node, class_name, text, value, call_name}
@@ -20,6 +20,7 @@ use Rattle.rule_grammar.specs.declared.keyword.Keyword.{Keyword}
 use Rattle.rule_grammar.specs.Canon.{bare, quoted, tokens_of, keyed}
 use Rattle.rule_grammar.specs.Grammar.{said_as}
 use Rattle.rule_grammar.specs.FixedWords.{keyword}
+use Rattle.rule_tokens.proofs.CallNames.{call_again}
 
 -- flags that a token names are named by their canonical text
 abbrev pub FlagsAgain : Type 0
@@ -33,9 +34,6 @@ pub record Own (kind : Kind) (g : ReadAs) : Type 0 where
   pub alone : tokens_of g ≡ token ∷ []
   pub behind : (word : Keyword) → keyed word g ≡ bare (keyword word) ∷ token ∷ []
   pub said : said_as kind token ≡ Some g
-
-none_some : {A : Type 0} (x : A) → None ≡ Some x → ⊥
-none_some x e = absurd cc
 
 pub mapped : {A : Type 0} (f : A → ReadAs) (o : Option A) (g : ReadAs) → option_map f o ≡ Some g → (a : A) × ((o ≡ Some a) × (f a ≡ g))
 mapped f None g e = absurd cc
@@ -96,17 +94,6 @@ own_value values.Kept = record { token = bare _; alone = refl; behind = λ word.
 own_value values.First = record { token = bare _; alone = refl; behind = λ word. refl; said = refl }
 own_value values.Second = record { token = bare _; alone = refl; behind = λ word. refl; said = refl }
 own_value values.Third = record { token = bare _; alone = refl; behind = λ word. refl; said = refl }
-
-call_again : (call : CallName) → call_named (call_word call) ≡ Some call
-call_again calls.Constructor = refl
-call_again calls.Connected = refl
-call_again calls.Disconnected = refl
-call_again calls.Adopted = refl
-call_again calls.Attribute = refl
-call_again calls.FormAssociated = refl
-call_again calls.FormDisabled = refl
-call_again calls.FormReset = refl
-call_again calls.FormStateRestore = refl
 
 own_callback : (call : CallName) → Own kinds.Callback (read_as.Callback call)
 own_callback call = record { token = bare (call_word call); alone = refl; behind = λ word. refl; said = rw (call_again call) refl }

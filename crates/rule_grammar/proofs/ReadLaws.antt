@@ -16,7 +16,9 @@ use Rattle.rule_grammar.specs.declared.word.Word.{Word}
 use Rattle.rule_grammar.specs.FixedWords.{keyword, spelling}
 use Rattle.rule_grammar.specs.Grammar.{said_as, Key, Wants, End, One, Pick, Keys, Maybe, Many, Pairs, Inner, Rows, LastRow, Row}
 use Rattle.rule_grammar.specs.Read.{Reads, then_read_as, behind_key, read_keys, read_maybe, read_many, read_pairs, read, read_row}
-use Rattle.rule_grammar.specs.Whole.{Fits, BehindKey, either, WholeKeys, WholeMaybe, WholeMany, WholePairs, Whole, WholeRow, Begins, is_keyword, WantsOperand, HasWrongWord, HasOneOver, HasWrongNumber}
+use Rattle.rule_grammar.specs.Whole.{Fits, BehindKey, WholeKeys, WholeMaybe, WholeMany, WholePairs, Whole, WholeRow, Begins, is_keyword, WantsOperand, HasWrongWord, HasOneOver, HasWrongNumber}
+use Rattle.rule_grammar.proofs.Either.{first_of, to_first, second_of, to_second}
+use Rattle.std.proofs.lemmas.Bool.{or_left, or_right}
 
 abbrev pub Says : (List Token → Type 0) → List Token → Reads → Type 0
 Says L ts (Ok read_as) = L ts
@@ -150,45 +152,19 @@ sample_plain kinds.Value = refl
 sample_plain kinds.Flags = refl
 sample_plain kinds.Callback = refl
 
--- ---- a test between two facts
-
-first_of : (b : Bool) (X Y : Type 0) → b ≡ true → either b X Y → X
-first_of true X Y is fact = fact
-first_of false X Y is fact = absurd cc
-
-to_first : (b : Bool) (X Y : Type 0) → b ≡ true → X → either b X Y
-to_first true X Y is fact = fact
-to_first false X Y is fact = absurd cc
-
-second_of : (b : Bool) (X Y : Type 0) → b ≡ false → either b X Y → Y
-second_of true X Y is fact = absurd cc
-second_of false X Y is fact = fact
-
-to_second : (b : Bool) (X Y : Type 0) → b ≡ false → Y → either b X Y
-to_second true X Y is fact = absurd cc
-to_second false X Y is fact = fact
-
 -- ---- optional parts
 
 keys_none : (keys : List Key) → WholeKeys keys []
 keys_none [] = tt
 keys_none (key ∷ keys) = tt
 
-or_later : (a b : Bool) → b ≡ true → (a || b) ≡ true
-or_later true b is = refl
-or_later false b is = is
-
-or_here : (a b : Bool) → a ≡ true → (a || b) ≡ true
-or_here true b is = refl
-or_here false b is = absurd cc
-
 -- a keyword is one
 keyword_is : (k : Keyword) (t : Token) → is_word (keyword k) t ≡ true → is_keyword t ≡ true
-keyword_is keywords.Is t is = or_here (is_word (codes "is") t) (is_word (codes "in") t || (is_word (codes "extends") t || (is_word (codes "state") t || (is_word (codes "deep") t || false)))) is
-keyword_is keywords.In t is = or_later (is_word (codes "is") t) (is_word (codes "in") t || (is_word (codes "extends") t || (is_word (codes "state") t || (is_word (codes "deep") t || false)))) (or_here (is_word (codes "in") t) (is_word (codes "extends") t || (is_word (codes "state") t || (is_word (codes "deep") t || false))) is)
-keyword_is keywords.Extends t is = or_later (is_word (codes "is") t) (is_word (codes "in") t || (is_word (codes "extends") t || (is_word (codes "state") t || (is_word (codes "deep") t || false)))) (or_later (is_word (codes "in") t) (is_word (codes "extends") t || (is_word (codes "state") t || (is_word (codes "deep") t || false))) (or_here (is_word (codes "extends") t) (is_word (codes "state") t || (is_word (codes "deep") t || false)) is))
-keyword_is keywords.State t is = or_later (is_word (codes "is") t) (is_word (codes "in") t || (is_word (codes "extends") t || (is_word (codes "state") t || (is_word (codes "deep") t || false)))) (or_later (is_word (codes "in") t) (is_word (codes "extends") t || (is_word (codes "state") t || (is_word (codes "deep") t || false))) (or_later (is_word (codes "extends") t) (is_word (codes "state") t || (is_word (codes "deep") t || false)) (or_here (is_word (codes "state") t) (is_word (codes "deep") t || false) is)))
-keyword_is keywords.Deep t is = or_later (is_word (codes "is") t) (is_word (codes "in") t || (is_word (codes "extends") t || (is_word (codes "state") t || (is_word (codes "deep") t || false)))) (or_later (is_word (codes "in") t) (is_word (codes "extends") t || (is_word (codes "state") t || (is_word (codes "deep") t || false))) (or_later (is_word (codes "extends") t) (is_word (codes "state") t || (is_word (codes "deep") t || false)) (or_later (is_word (codes "state") t) (is_word (codes "deep") t || false) (or_here (is_word (codes "deep") t) false is))))
+keyword_is keywords.Is t is = or_left (is_word (codes "is") t) (is_word (codes "in") t || (is_word (codes "extends") t || (is_word (codes "state") t || (is_word (codes "deep") t || false)))) is
+keyword_is keywords.In t is = or_right (is_word (codes "is") t) (is_word (codes "in") t || (is_word (codes "extends") t || (is_word (codes "state") t || (is_word (codes "deep") t || false)))) (or_left (is_word (codes "in") t) (is_word (codes "extends") t || (is_word (codes "state") t || (is_word (codes "deep") t || false))) is)
+keyword_is keywords.Extends t is = or_right (is_word (codes "is") t) (is_word (codes "in") t || (is_word (codes "extends") t || (is_word (codes "state") t || (is_word (codes "deep") t || false)))) (or_right (is_word (codes "in") t) (is_word (codes "extends") t || (is_word (codes "state") t || (is_word (codes "deep") t || false))) (or_left (is_word (codes "extends") t) (is_word (codes "state") t || (is_word (codes "deep") t || false)) is))
+keyword_is keywords.State t is = or_right (is_word (codes "is") t) (is_word (codes "in") t || (is_word (codes "extends") t || (is_word (codes "state") t || (is_word (codes "deep") t || false)))) (or_right (is_word (codes "in") t) (is_word (codes "extends") t || (is_word (codes "state") t || (is_word (codes "deep") t || false))) (or_right (is_word (codes "extends") t) (is_word (codes "state") t || (is_word (codes "deep") t || false)) (or_left (is_word (codes "state") t) (is_word (codes "deep") t || false) is)))
+keyword_is keywords.Deep t is = or_right (is_word (codes "is") t) (is_word (codes "in") t || (is_word (codes "extends") t || (is_word (codes "state") t || (is_word (codes "deep") t || false)))) (or_right (is_word (codes "in") t) (is_word (codes "extends") t || (is_word (codes "state") t || (is_word (codes "deep") t || false))) (or_right (is_word (codes "extends") t) (is_word (codes "state") t || (is_word (codes "deep") t || false)) (or_right (is_word (codes "state") t) (is_word (codes "deep") t || false) (or_left (is_word (codes "deep") t) false is))))
 
 -- nothing but a keyword begins optional parts
 keys_begin_by : (b : Bool) (key : Key) (keys : List Key) (t : Token) (ts : List Token) → is_word (keyword key.word) t ≡ b → WholeKeys (key ∷ keys) (t ∷ ts) → (WholeKeys keys (t ∷ ts) → is_keyword t ≡ true) → is_keyword t ≡ true
@@ -443,7 +419,7 @@ one_begins Action a is kind more = some_whole Action a is (One kind more)
 pick_begins : (Action : List Token → Type 0) (a : List Token) → Action a → (rows : Rows) → Begins (Whole Action (Pick rows)) []
 pick_begins Action a is rows = some_whole Action a is (Pick rows)
 
-fewer : (t : Token) (ts : List Token) (n : ℕ) → length (t ∷ ts) < n → length ts < n
+pub fewer : (t : Token) (ts : List Token) (n : ℕ) → length (t ∷ ts) < n → length ts < n
 fewer t ts n small = omega (arith, small)
 
 mutual

@@ -13,6 +13,7 @@ use Rattle.rule_grammar.specs.Read.{Reads, then_read_as, no_keys, behind_key, re
 use Rattle.rule_grammar.specs.Rows.{forms}
 use Rattle.rule_grammar.specs.Whole.{either}
 use Rattle.rule_grammar.specs.Spells.{Spelling, SpellNothing, SpellOne, SpellMarked, SpellBehind, SpellKeys, SpellMaybe, SpellMany, SpellPairs, Spell, SpellRow, SpellWithin, Spelled}
+use Rattle.rule_grammar.proofs.ReadLaws.{fewer}
 
 abbrev went : List ReadAs → Reads
 went gs = Ok gs
@@ -162,9 +163,6 @@ pairs_read (suc n) kind (t ∷ u ∷ ts) gs spelled = one_read kind (SpellOne ki
 -- an action of fewer than so many tokens that is spelled is read
 abbrev ReadsBelow : ℕ → Spelling → (List Token → Reads) → Type 0
 ReadsBelow n Action action = (us : List Token) (hs : List ReadAs) → length us < n → Action us hs → action us ≡ Ok hs
-
-fewer : (t : Token) (ts : List Token) (n : ℕ) → length (t ∷ ts) < n → length ts < n
-fewer t ts n small = omega (arith, small)
 
 mutual
   wants_read : (Action : Spelling) (action : List Token → Reads) (n : ℕ) → ReadsBelow n Action action → (wants : Wants) (ts : List Token) (gs : List ReadAs) → length ts < n → Spell Action wants ts gs → read action wants ts ≡ Ok gs

@@ -4,7 +4,7 @@ use Rattle.std.specs.Prelude.{codes, if◌then◌else◌}
 use Rattle.std.specs.List.{list_all, slice_split}
 use Rattle.std.specs.Str.{bytes_eq}
 use Rattle.std.proofs.Math.Bool.{or-false}
-use Rattle.std.proofs.lemmas.Bool.{and_parts}
+use Rattle.std.proofs.lemmas.Bool.{and_parts, not-true}
 use Rattle.std.proofs.lemmas.Bool.Decides.{nat_tests}
 use Rattle.std.proofs.lemmas.List.Folds.{list_all-append}
 use Rattle.rule_tokens.specs.Flags.{flag_names, flags, is_comma, is_one_of, raised}
@@ -26,10 +26,6 @@ is_plain (b ∷ bs) = not (eqb b 110) && list_all is_name_byte (b ∷ bs)
 no_comma : (b : ℕ) → is_name_byte b ≡ true → is_comma b ≡ false
 no_comma b is = grind (arith, nat_tests)
 
-not_false : (b : Bool) → not b ≡ true → b ≡ false
-not_false true e = absurd cc
-not_false false e = refl
-
 all_name_bytes : (name : List ℕ) → is_plain name ≡ true → list_all is_name_byte name ≡ true
 all_name_bytes [] is = absurd cc
 all_name_bytes (b ∷ bs) is = (and_parts (not (eqb b 110)) (list_all is_name_byte (b ∷ bs)) is).1
@@ -37,7 +33,7 @@ all_name_bytes (b ∷ bs) is = (and_parts (not (eqb b 110)) (list_all is_name_by
 -- a name, and what stands behind it, is not `none`
 not_none : (name rest : List ℕ) → is_plain name ≡ true → bytes_eq (name ++ rest) (codes "none") ≡ false
 not_none [] rest is = absurd cc
-not_none (b ∷ bs) rest is = rw (not_false (eqb b 110) (and_parts (not (eqb b 110)) (list_all is_name_byte (b ∷ bs)) is).0) refl
+not_none (b ∷ bs) rest is = rw (not-true (eqb b 110) (and_parts (not (eqb b 110)) (list_all is_name_byte (b ∷ bs)) is).0) refl
 
 some_bytes : (name rest : List ℕ) → is_plain name ≡ true → (name ++ rest) ≢ []
 some_bytes [] rest is e = cc
@@ -72,7 +68,7 @@ names_back name (other ∷ names) is are =
 -- ---- the names that are raised
 
 -- what passes a test at each name does so at those that are raised
-all_raised : (test : List ℕ → Bool) (names : List (List ℕ)) (fs : List Bool) → list_all test names ≡ true → list_all test (raised_names names fs) ≡ true
+pub all_raised : (test : List ℕ → Bool) (names : List (List ℕ)) (fs : List Bool) → list_all test names ≡ true → list_all test (raised_names names fs) ≡ true
 all_raised test [] fs all = refl
 all_raised test (name ∷ names) [] all = refl
 all_raised test (name ∷ names) (true ∷ fs) all =

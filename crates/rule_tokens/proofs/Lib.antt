@@ -1,3 +1,4 @@
+pub mod CallNames
 pub mod CaseLaws
 pub mod CutLaws
 pub mod EscapeLaws

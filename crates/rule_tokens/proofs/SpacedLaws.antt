@@ -1,11 +1,11 @@
 -- Tokens that are written as a line are read again.
-use Rattle.std.proofs.Common.{◌≡◌, ◌≢◌, ◌<◌, ℕ, Bool, true, false, eqb, ◌&&◌, List, [], ◌∷◌, ◌++◌, length, Ok, refl, sym, ap, ◌∙◌, append_assoc, inl, inr, arith, subst}
+use Rattle.std.proofs.Common.{◌≡◌, ◌≢◌, ◌<◌, ℕ, Bool, true, false, eqb, List, [], ◌∷◌, ◌++◌, length, Ok, refl, sym, ap, ◌∙◌, append_assoc, inl, inr, arith, subst}
 use Rattle.std.proofs.lemmas.List.{append-nil}
 use Rattle.std.specs.Prelude.{encode_utf8_all}
 use Rattle.std.specs.Char.{is_ascii_control}
 use Rattle.std.specs.List.{list_all, list_any}
 use Rattle.std.specs.Str.{chars}
-use Rattle.std.proofs.lemmas.Bool.{le-ltb}
+use Rattle.std.proofs.lemmas.Bool.{le-ltb, and_parts}
 use Rattle.std.proofs.lemmas.Bool.Decides.{nat_tests}
 use Rattle.std.proofs.lemmas.Str.{encode_ascii, encodes-append, encodes-chars, encodes_same, is_utf8-from_IsUtf8}
 use Rattle.rule_tokens.specs.declared.cutting.Raw.{Raw}
@@ -17,6 +17,7 @@ use Rattle.rule_tokens.specs.Tokens.{has_bare_backslash, is_backslash, is_blank,
 use Rattle.rule_tokens.proofs.CutLaws.{cut_laid_out}
 use Rattle.rule_tokens.proofs.EscapeLaws.{unescape_read}
 use Rattle.rule_tokens.proofs.QuoteLaws.{escapes, quoted_line, escapes_read, pieces_all, any_both, quoted_plain, quotes_are, differs}
+use Rattle.rule_tokens.proofs.TextLaws.{bare_small}
 
 -- ---- bare bytes
 
@@ -24,16 +25,9 @@ abbrev AllBare : List ℕ → Type 0
 AllBare [] = Unit {0}
 AllBare (b ∷ bs) = (is_bare_byte b ≡ true) × AllBare bs
 
-both_true : (a b : Bool) → (a && b) ≡ true → (a ≡ true) × (b ≡ true)
-both_true true b e = (refl, e)
-both_true false b e = absurd cc
-
 all_bare : (bs : List ℕ) → list_all is_bare_byte bs ≡ true → AllBare bs
 all_bare [] e = tt
-all_bare (b ∷ bs) e = let both = both_true (is_bare_byte b) (list_all is_bare_byte bs) e in (both.0, all_bare bs both.1)
-
-bare_small : (b : ℕ) → is_bare_byte b ≡ true → b < 128
-bare_small b is = grind (arith, nat_tests)
+all_bare (b ∷ bs) e = let both = and_parts (is_bare_byte b) (list_all is_bare_byte bs) e in (both.0, all_bare bs both.1)
 
 bare_quote : (b : ℕ) → is_bare_byte b ≡ true → eqb b 34 ≡ false
 bare_quote b is = grind (arith, nat_tests)

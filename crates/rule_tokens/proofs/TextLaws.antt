@@ -10,8 +10,8 @@ use Rattle.std.proofs.lemmas.Str.{IsUtf8-append, IsUtf8-from_ascii, IsUtf8-nil, 
 use Rattle.std.proofs.lemmas.Str.Ascii.{IsAscii-cons, IsAscii-nil}
 use Rattle.std.proofs.Math.Utf8.{scalar}
 use Rattle.rule_tokens.specs.declared.token.Token.{Token}
-use Rattle.rule_tokens.specs.Quoted.{escape, escape_by, escaped, hex, in_quotes, short_letter}
-use Rattle.rule_tokens.specs.Spaced.{written_by, written, spaced, as_line, is_bare_byte, IsCleanBy, IsClean, AreClean, WrittenIsText}
+use Rattle.rule_tokens.specs.Quoted.{escape, escape_by, escaped, in_quotes, short_letter}
+use Rattle.rule_tokens.specs.Spaced.{written_by, written, spaced, is_bare_byte, IsCleanBy, AreClean, WrittenIsText}
 
 -- ---- bytes
 
@@ -21,7 +21,7 @@ byte_text b small = IsUtf8-from_ascii (b ∷ []) (IsAscii-cons b [] small IsAsci
 more_text : (b : ℕ) (bs : List ℕ) → b < 128 → IsUtf8 bs → IsUtf8 (b ∷ bs)
 more_text b bs small text = IsUtf8-append (b ∷ []) bs (byte_text b small) text
 
-bare_small : (b : ℕ) → is_bare_byte b ≡ true → b < 128
+pub bare_small : (b : ℕ) → is_bare_byte b ≡ true → b < 128
 bare_small b is = grind (arith, nat_tests)
 
 bare_text : (bs : List ℕ) → list_all is_bare_byte bs ≡ true → IsUtf8 bs

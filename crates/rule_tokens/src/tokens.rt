@@ -15,7 +15,7 @@ use ce_base::{NoMemory, Text};
 use std::alloc::{AllocError, Global};
 
 /// The text that the bytes are. None exactly where they are not UTF-8.
-#[tactic(auto, using(crate::proofs::Utf8::utf8_tests))]
+#[tactic(auto, using(ce_base::proofs::Utf8::utf8_tests))]
 pub fn text_in(bytes: &[u8]) -> Option<&str>
     ensures { option_copied result ≡ (if is_utf8 bytes.now then Some bytes.now else None) }
 {

@@ -10,24 +10,15 @@ use Rattle.ce_algorithms.specs.State.{State, log, logged}
 use Rattle.ce_algorithms.specs.Steps.{Outcome, Goes, for_each}
 use Rattle.ce_algorithms.specs.Upgrade.{drop_reactions}
 use Rattle.session_state.specs.Steps.{DropsReaction}
+use Rattle.reaction_queue.proofs.TrimmedLemmas.{with_list_head, with_list_ahead}
 
 -- a list given anew twice at one place
 
-head_twice : {A : Type 0} (xs l : List A) (ls : List (List A)) → with_list zero xs (ahead l ls) ≡ ahead xs ls
-head_twice xs [] [] = refl
-head_twice xs [] (m ∷ ls) = refl
-head_twice xs (x ∷ l) ls = refl
-
-tail_twice : {A : Type 0} (i : ℕ) (xs l : List A) (ls : List (List A)) → with_list (suc i) xs (ahead l ls) ≡ ahead l (with_list i xs ls)
-tail_twice i xs [] [] = refl
-tail_twice i xs [] (m ∷ ls) = refl
-tail_twice i xs (x ∷ l) ls = refl
-
 list_twice : {A : Type 0} (i : ℕ) (xs ys : List A) (ls : List (List A)) → with_list i ys (with_list i xs ls) ≡ with_list i ys ls
-list_twice zero xs ys [] = head_twice ys xs []
-list_twice zero xs ys (l ∷ ls) = head_twice ys xs ls
-list_twice (suc i) xs ys [] = tail_twice i ys [] (with_list i xs []) ∙ ap (ahead []) (list_twice i xs ys [])
-list_twice (suc i) xs ys (l ∷ ls) = tail_twice i ys l (with_list i xs ls) ∙ ap (ahead l) (list_twice i xs ys ls)
+list_twice zero xs ys [] = with_list_head ys xs []
+list_twice zero xs ys (l ∷ ls) = with_list_head ys xs ls
+list_twice (suc i) xs ys [] = with_list_ahead i ys [] (with_list i xs []) ∙ ap (ahead []) (list_twice i xs ys [])
+list_twice (suc i) xs ys (l ∷ ls) = with_list_ahead i ys l (with_list i xs ls) ∙ ap (ahead l) (list_twice i xs ys ls)
 
 -- all these reactions of an element dropped
 

@@ -1,6 +1,5 @@
 -- The parts of classes, where the behaviours of classes are kept apart.
-use Rattle.std.proofs.Common.{◌≡◌, ℕ, ◌<◌, zero, suc, List, [], ◌∷◌, ◌++◌, length, Option, Some, None, Result, Ok, Err, refl, ap, sym, ◌∙◌, arith}
-use Rattle.std.specs.Prelude.{slice_get}
+use Rattle.std.proofs.Common.{◌≡◌, ℕ, ◌<◌, List, [], ◌∷◌, ◌++◌, length, Result, Ok, Err, ap, sym, ◌∙◌, arith}
 use Rattle.ce_base.specs.declared.fault.Fault.{Fault}
 use Rattle.ce_base.specs.declared.fault.Refused.{Refused}
 use Rattle.ce_base.specs.declared.fault.Refused.TheVariants.{Fault as IsFault, NoMemory}
@@ -14,9 +13,10 @@ use Rattle.ce_frames.specs.Whole.{IsBlind, whole, whole_in}
 use Rattle.ce_frames.proofs.BlindParts.{class_joined, class_throws, on_joined, on_throws}
 use Rattle.behaviours.specs.Behaviours.{new_behaviour}
 use Rattle.frame_stack.specs.Changes.{extended}
-use Rattle.frame_stack.specs.Stacked.{behaviour_at, or_new}
+use Rattle.frame_stack.specs.Stacked.{behaviour_at}
 use Rattle.session_state.specs.Steps.{with_call_at}
 use Rattle.session_state.specs.Taking.{Takes}
+use Rattle.frame_stack.proofs.ClassLaws.{behaviour_there}
 
 -- a step that reads nothing of the behaviours is taken on the whole state too
 pub blind_takes : (step : Step State (Unit {0})) (bs : List Behaviour) (s new : State) (r : Result (Unit {0}) Refused) → IsBlind step → Takes r new (step s) → Takes r (whole bs new) (step (whole bs s))
@@ -40,22 +40,10 @@ pub action_refused : (name : List ℕ) (call : CallName) (action : Act) (bs : Li
     → Throws f (whole bs s) ≡ change_open name (with_body call action) (whole bs s)
 action_refused name call action bs s f e = sym (on_throws name call action bs s s f (sym e))
 
-there : (bs : List Behaviour) (k : ℕ) → k < length bs → slice_get bs k ≡ Some (behaviour_at k bs)
-there bs k h = go (slice_get bs k) refl
-  where
-    none : (bs : List Behaviour) (k : ℕ) → k < length bs → slice_get bs k ≡ None → ⊥
-    none [] k h e = omega (arith, h)
-    none (b ∷ bs) zero h e = let i : Some b ≡ None = e in absurd cc
-    none (b ∷ bs) (suc k) h e = none bs k (omega (arith, h)) e
-
-    go : (o : Option Behaviour) → slice_get bs k ≡ o → slice_get bs k ≡ Some (behaviour_at k bs)
-    go None e = absurd (none bs k h e)
-    go (Some b) e = e ∙ ap (λ (o : Option Behaviour). Some (or_new o)) (sym e)
-
 pub action_taken : (name : List ℕ) (call : CallName) (action : Act) (bs more : List Behaviour) (s new : State) (k : ℕ) → length s.classes ≡ length bs → Goes k s ≡ open_class name s → k < length s.classes
     → new ≡ with_call_at k call s → more ≡ extended k call action bs → Goes tt (whole more new) ≡ change_open name (with_body call action) (whole bs s)
 action_taken name call action bs more s new k each e within is also =
     let h : k < length bs = omega (arith, within, each) in
     ap (λ (l : List Behaviour). Goes tt (whole l new)) also
     ∙ ap (λ (t : State). Goes tt (whole (extended k call action bs) t)) is
-    ∙ sym (on_joined name call action bs s s k (behaviour_at k bs) (sym e) (there bs k h))
+    ∙ sym (on_joined name call action bs s s k (behaviour_at k bs) (sym e) (behaviour_there bs k h))

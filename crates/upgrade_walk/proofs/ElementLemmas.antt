@@ -1,13 +1,14 @@
 -- What is an element.
-use Rattle.std.proofs.Common.{◌≡◌, ℕ, Bool, true, false, ◌&&◌, List, Option, Some, None, bytes_eq, refl}
+use Rattle.std.proofs.Common.{◌≡◌, ℕ, true, List, Option, refl}
 use Rattle.node_trees.specs.declared.kind.NodeKind.{NodeKind}
 use Rattle.node_trees.specs.declared.kind.NodeKind.TheVariants.{Document, Element, TextNode, ShadowRoot}
-use Rattle.node_trees.specs.Candidates.{has_is_value, is_candidate}
-use Rattle.node_trees.specs.Facts.{Facts, is_element}
+use Rattle.node_trees.specs.Candidates.{is_candidate}
+use Rattle.node_trees.specs.Facts.{is_element}
 use Rattle.node_trees.specs.Kinds.{IsElement}
 use Rattle.node_trees.specs.Nodes.{IsNode}
 use Rattle.node_trees.specs.Spots.{facts_at, kind_at}
 use Rattle.node_trees.specs.Trees.{Trees}
+use Rattle.node_trees.proofs.Elements.{candidate_element}
 
 element_kind : (k : NodeKind) → is_element k ≡ true → k ≡ Element
 element_kind Element is = refl
@@ -18,15 +19,6 @@ element_kind ShadowRoot is = cc
 -- a node that the test takes for an element
 pub element_is : (forest : Trees) (n : ℕ) → is_element (kind_at forest n) ≡ true → IsNode forest n → IsElement forest n
 element_is forest n is node = record { node = node; kind = element_kind (kind_at forest n) is }
-
-left_true : (a b : Bool) → (a && b) ≡ true → a ≡ true
-left_true true b both = refl
-left_true false b both = both
-
-candidate_element : (local : List ℕ) (value : Option (List ℕ)) (x : Facts) → is_candidate local value x ≡ true → is_element x.kind ≡ true
-candidate_element local None x is = left_true (is_element x.kind) (bytes_eq x.local local) is
-candidate_element local (Some value) x is =
-    left_true (is_element x.kind) (bytes_eq x.local local) (left_true (is_element x.kind && bytes_eq x.local local) (has_is_value x.is_value value) is)
 
 -- a node that a definition may upgrade
 pub candidate_is : (local : List ℕ) (value : Option (List ℕ)) (forest : Trees) (n : ℕ) → is_candidate local value (facts_at forest n) ≡ true → IsNode forest n → IsElement forest n

@@ -2,7 +2,7 @@
 use Rattle.std.proofs.Common.{◌≡◌, ℕ, suc, ◌+◌, ◌<◌, ◌≤◌, Bool, true, false, List, [], ◌∷◌, ◌++◌, map, None, refl, sym, ap, ◌∙◌, subst, arith, ⊎_elim, inl, inr, append-nil}
 use Rattle.std.specs.Option.{option_and_then}
 use Rattle.std.specs.Prelude.{slice_get, ◌==◌, ◌||◌, ◌&&◌, not}
-use Rattle.std.proofs.lemmas.Bool.{eqb-true, eq-eqb}
+use Rattle.std.proofs.lemmas.Bool.{eqb-true, eq-eqb, or_left}
 use Rattle.std.proofs.lemmas.List.{map-append}
 use Rattle.rule_tokens.specs.declared.callback.CallOrUpgrade.{CallOrUpgrade}
 use Rattle.rule_tokens.specs.declared.callback.CallOrUpgrade.TheVariants.{Call, Upgrade as IsUpgrade}
@@ -15,9 +15,11 @@ use Rattle.ce_algorithms.specs.Page.{Page, definition_of, with_queues}
 use Rattle.order_law.specs.Book.{Entry, Book, blank}
 use Rattle.order_law.specs.Reads.{current, is_one_of, is_callback}
 use Rattle.order_law.specs.Clauses.{goes_on}
-use Rattle.order_law.proofs.Model.Reading.{Reads, tested, reads_append, reads_one, told_at, Rising, Each, each_map, each_append, add_if}
+use Rattle.order_law.proofs.Model.Reading.{Reads, tested, reads_append, reads_one, told_at, Each, each_map, each_append, add_if}
 use Rattle.order_law.proofs.Model.Invariant.{Hold, InSteps, InDrain, InReaction, InUpgrade, InHand, brackets_of, fillings_of, Falling, IsIn, IsPlaced, is_checkpoint, has_any, told, SaysQueues, Known, fits, SaysElements, Holds}
-use Rattle.order_law.proofs.Model.Rows.{waits_same, waits_other, each_number}
+use Rattle.order_law.proofs.Model.Rows.{waits_same, waits_other}
+use Rattle.ce_base.proofs.Places.{each_number}
+use Rattle.order_law.proofs.Entries.{Rising}
 
 -- an enqueue
 
@@ -66,9 +68,6 @@ is_in_last n (y ∷ xs) = inr (is_in_last n xs)
 any_last : (n : ℕ) (xs : List ℕ) → has_any (xs ++ n ∷ []) ≡ true
 any_last n [] = refl
 any_last n (x ∷ xs) = refl
-
-or_left : (a b : Bool) → a ≡ true → a || b ≡ true
-or_left a b h = ap (λ x. x || b) h
 
 zero_not : (q : ℕ) → 0 < q → q == 0 ≡ false
 zero_not q lt = go (q == 0) refl

@@ -9,7 +9,7 @@ use Rattle.rule_lines.specs.Acts.{Act}
 use Rattle.rule_lines.specs.declared.op.Op.{Op}
 use Rattle.reaction_queue.specs.declared.reaction.Reaction.{Reaction}
 use Rattle.reaction_queue.specs.declared.reaction.Reaction.TheVariants.{Upgrade, Connected, Disconnected, Adopted, Attribute, FormAssociated, FormDisabled, FormReset, FormStateRestore}
-use Rattle.reaction_queue.specs.Queues.{waiting_at, with_waiting, begun, ended, current_elements}
+use Rattle.reaction_queue.specs.Queues.{waiting_at, with_waiting, pushed_queue, popped_queue, current_elements}
 use Rattle.reaction_queue.specs.Reactions.{what_of}
 use Rattle.ce_registry.specs.declared.definition.Definition.{Definition}
 use Rattle.ce_algorithms.specs.declared.event.Event.TheVariants.{Started, Finished, Reported, QueueOpened, QueueClosed, DrainBegun}
@@ -143,7 +143,7 @@ module _ (again : Again) (keeps : KeepsLaw again) (constructs : ConstructsKeep a
   popped_after : (m : ℕ) (h : List Hold) (s : State) → 0 < m → HoldsIn (InSteps m ∷ h) s → AfterCalm h (drain_popped again m s)
   popped_after m h s lt k =
       let es = current_elements s.page.queues in
-      let t : State = logged (DrainBegun m) (record s { page = with_queues ended s.page }) in
+      let t : State = logged (DrainBegun m) (record s { page = with_queues popped_queue s.page }) in
       closed_then m h (drain again es t) lt (drain_after es m h t (record { holds = drained_holds m h s.log s.page k.holds; notes = k.notes; rest = k.rest }))
 
   last_then : {A : Type 0} (nodes : A → List ℕ) (h : List Hold) (o : Outcome State (Unit {0})) (k : Step State A) → AfterCalm h o →
@@ -164,7 +164,7 @@ module _ (again : Again) (keeps : KeepsLaw again) (constructs : ConstructsKeep a
   pub reacting_gives : {A : Type 0} (nodes : A → List ℕ) (h : List Hold) (steps : Step State A) → ((m : ℕ) → Gives nodes (InSteps m ∷ h) steps) →
       Gives nodes h (reacting again steps)
   reacting_gives nodes h steps n = record {
-    at = λ s k. finish_after nodes (s.page.queues.pushed + 1) h (steps (logged (QueueOpened (s.page.queues.pushed + 1)) (record s { page = with_queues begun s.page }))) (omega arith)
+    at = λ s k. finish_after nodes (s.page.queues.pushed + 1) h (steps (logged (QueueOpened (s.page.queues.pushed + 1)) (record s { page = with_queues pushed_queue s.page }))) (omega arith)
         ((n (s.page.queues.pushed + 1)).at _ (record { holds = opened_holds h s.log s.page k.holds; notes = k.notes; rest = k.rest }));
   }
 

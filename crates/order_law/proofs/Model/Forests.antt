@@ -15,7 +15,9 @@ use Rattle.node_trees.specs.Insertion.{may_insert, is_child_or_none, has_element
 use Rattle.element_names.specs.Names.{custom_name}
 use Rattle.element_names.specs.Hosts.{shadow_host}
 use Rattle.std.specs.Str.{chars}
-use Rattle.order_law.proofs.Model.Weights.{IsApart, joined, parted, placed, put_below, hosted, changed, no_spot_there, on_path}
+use Rattle.order_law.proofs.Model.Weights.{changed, on_path}
+use Rattle.node_trees.proofs.Weights.{IsApart, weight-join, weight-without, weight-place, weight-put, weight-shadow}
+use Rattle.node_trees.proofs.Absent.{spot-absent}
 
 -- the nodes of one forest are those of another, each of its kind
 abbrev pub Alike : Trees → Trees → Type 0
@@ -28,26 +30,26 @@ HasMore f g n kind = (w : ℕ → NodeKind → ℕ) → weight (λ m x. w m x.ki
 pub alike_cut : (f : Trees) (n : ℕ) → times n f ≤ 1 → Alike f (cut f n)
 alike_cut f n one w =
     let v = λ (m : ℕ) (x : Facts). w m x.kind in
-    let placed = placed v n (tree_of n f) (without n f) in
-    let parts = parted v n f one in
+    let placed = weight-place v n (tree_of n f) (without n f) in
+    let parts = weight-without v n f one in
     omega (arith, placed, parts)
 
 pub alike_graft : (f : Trees) (p n : ℕ) (b : Option ℕ) → times n f ≤ 1 → times p (without n f) ≡ 1 → Alike f (graft f p n b)
 alike_graft f p n b one outside w =
     let v = λ (m : ℕ) (x : Facts). w m x.kind in
-    let parts = parted v n f one in
-    let put_in = put_below v p b (tree_of n f) (without n f) (omega (arith, outside)) in
+    let parts = weight-without v n f one in
+    let put_in = weight-put v p b (tree_of n f) (without n f) (omega (arith, outside)) in
     grind (arith, nat_tests, outside, parts, put_in)
 
 pub alike_facts : (n : ℕ) (change : Facts → Facts) → ((x : Facts) → (change x).kind ≡ x.kind) → (f : Trees) → Alike f (with_facts n change f)
 alike_facts n change keeps f w = changed (λ (m : ℕ) (x : Facts). w m x.kind) n change (λ x. ap (w n) (keeps x)) f
 
 pub more_node : (n : ℕ) (x : Facts) (f : Trees) → HasMore f (with_node n x f) n x.kind
-more_node n x f w = let all = joined (λ (m : ℕ) (y : Facts). w m y.kind) f (single n x) in omega (arith, all)
+more_node n x f w = let all = weight-join (λ (m : ℕ) (y : Facts). w m y.kind) f (single n x) in omega (arith, all)
 
 pub more_shadow : (host n : ℕ) (x : Facts) (f : Trees) → times host f ≡ 1 → HasMore f (with_shadow host (single n x) f) n x.kind
 more_shadow host n x f one w =
-    let all = hosted (λ (m : ℕ) (y : Facts). w m y.kind) host (single n x) f (omega (arith, one)) in
+    let all = weight-shadow (λ (m : ℕ) (y : Facts). w m y.kind) host (single n x) f (omega (arith, one)) in
     grind (arith, nat_tests, one, all)
 
 -- what is read at a number that is no node's
@@ -61,7 +63,7 @@ reads_element s = is_element (or_no_spot s).facts.kind
 pub element_there : (f : Trees) (n : ℕ) → is_element (kind_at f n) ≡ true → 0 < times n f
 element_there f n is = elim (cases_lt 0 (times n f)) [
   | inl there ↦ there
-  | inr out ↦ absurd (let none : spot_in None None n f ≡ None = no_spot_there None None n f (omega arith) in let x : false ≡ true = sym (ap reads_element none) ∙ is in cc)
+  | inr out ↦ absurd (let none : spot_in None None n f ≡ None = spot-absent None None n f (omega arith) in let x : false ≡ true = sym (ap reads_element none) ∙ is in cc)
 ]
 
 first_or : (a b : Option Spot) → reads_element (or_spot a b) ≡ true → (reads_element a ≡ true) ⊎ (reads_element b ≡ true)
@@ -97,7 +99,7 @@ no_host = refl
 pub host_there : (f : Trees) (n : ℕ) → shadow_host (facts_at f n).local ≡ true → 0 < times n f
 host_there f n is = elim (cases_lt 0 (times n f)) [
   | inl there ↦ there
-  | inr out ↦ absurd (let none : spot_in None None n f ≡ None = no_spot_there None None n f (omega arith) in let x : false ≡ true = sym no_host ∙ sym (ap (λ s. shadow_host (or_no_spot s).facts.local) none) ∙ is in cc)
+  | inr out ↦ absurd (let none : spot_in None None n f ≡ None = spot-absent None None n f (omega arith) in let x : false ≡ true = sym no_host ∙ sym (ap (λ s. shadow_host (or_no_spot s).facts.local) none) ∙ is in cc)
 ]
 
 -- what is outside of the tree of a node
@@ -122,7 +124,7 @@ not_inside f p n b may = go (is_text (kind_at f p)) (is_among n (path p f)) may
 pub outside_allowed : (f : Trees) (p n : ℕ) (b : Option ℕ) → IsApart f → times p f ≡ 1 → 0 < times n f → may_insert f p n b ≡ None → times p (without n f) ≡ 1
 outside_allowed f p n b apart one there may = elim (cases_lt 0 (times p (tree_of n f))) [
   | inl low ↦ absurd (let on = on_path n p f apart low in let off = not_inside f p n b may in let x : true ≡ false = sym on ∙ off in cc)
-  | inr out ↦ let parts = parted (λ j y. if j == p then 1 else 0) n f (apart n) in omega (arith, one, out, parts)
+  | inr out ↦ let parts = weight-without (λ j y. if j == p then 1 else 0) n f (apart n) in omega (arith, one, out, parts)
 ]
 
 pub outside_facts : (p n m : ℕ) (change : Facts → Facts) (f : Trees) → times p (without n (with_facts m change f)) ≡ times p (without n f)

@@ -18,7 +18,8 @@ use Rattle.ce_algorithms.specs.Upgrade.{is_upgradable}
 use Rattle.order_law.specs.Book.{Entry, Bracket, Filling, Draining, Reacting, Upgrading, Book, blank}
 use Rattle.order_law.specs.Reads.{is_one_of}
 use Rattle.order_law.specs.Law.{Lawful}
-use Rattle.order_law.proofs.Model.Reading.{Reads, told_at, Rising, Each}
+use Rattle.order_law.proofs.Model.Reading.{Reads, told_at, Each}
+use Rattle.order_law.proofs.Entries.{Rising}
 
 -- what is suspended, the innermost first: the steps of an operation; a drain with the elements that it has left, the one at hand
 -- among them (queue 0: the checkpoint); a reaction, and whether its call line has come; an upgrade; and a node that steps have

@@ -1,11 +1,10 @@
 -- Lines that change no queue: plain ones, call lines, replies.
 use Rattle.std.proofs.Common.{◌≡◌, ℕ, true, false, List, [], ◌∷◌, ◌++◌, Some, None, refl, sym, ap, ◌∙◌, subst}
 use Rattle.std.specs.Prelude.{◌&&◌}
-use Rattle.std.specs.Str.{chars}
 use Rattle.std.proofs.lemmas.Bool.{eq-eqb}
 use Rattle.ce_base.specs.declared.fault.Fault.{Fault}
 use Rattle.rule_tokens.specs.declared.callback.CallName.{CallName}
-use Rattle.rule_tokens.specs.declared.callback.CallName.TheVariants.{Constructor, Connected as ConnectedName, Disconnected as DisconnectedName, Adopted as AdoptedName, Attribute as AttributeName, FormAssociated as FormAssociatedName, FormDisabled as FormDisabledName, FormReset as FormResetName, FormStateRestore as FormStateRestoreName}
+use Rattle.rule_tokens.specs.declared.callback.CallName.TheVariants.{Connected as ConnectedName, Disconnected as DisconnectedName, Adopted as AdoptedName, Attribute as AttributeName, FormAssociated as FormAssociatedName, FormDisabled as FormDisabledName, FormReset as FormResetName, FormStateRestore as FormStateRestoreName}
 use Rattle.rule_tokens.specs.declared.callback.CallOrUpgrade.TheVariants.{Call, Upgrade as IsUpgrade}
 use Rattle.reaction_queue.specs.declared.reaction.Reaction.{Reaction}
 use Rattle.reaction_queue.specs.declared.reaction.Reaction.TheVariants.{Upgrade, Connected, Disconnected, Adopted, Attribute, FormAssociated, FormDisabled, FormReset, FormStateRestore}
@@ -13,7 +12,6 @@ use Rattle.reaction_queue.specs.Reactions.{what_of}
 use Rattle.ce_algorithms.specs.declared.event.Event.{Event}
 use Rattle.ce_algorithms.specs.declared.event.Event.TheVariants.{Construct, Caught, Reported, Asked, Connected as ConnectedLine, Disconnected as DisconnectedLine, Adopted as AdoptedLine, Attribute as AttributeLine, FormAssociated as FormAssociatedLine, FormDisabled as FormDisabledLine, FormReset as FormResetLine, FormStateRestore as FormStateRestoreLine}
 use Rattle.ce_algorithms.specs.declared.event.Answer.{Answer}
-use Rattle.ce_algorithms.specs.Body.{same_call}
 use Rattle.ce_algorithms.specs.Page.{Page}
 use Rattle.order_law.specs.Book.{Entry, Reacting, Book, blank}
 use Rattle.order_law.specs.Reads.{is_for}
@@ -23,6 +21,7 @@ use Rattle.order_law.proofs.Model.Reading.{Reads, Tests, line_tests, tested, rea
 use Rattle.order_law.proofs.Model.Invariant.{Hold, InReaction, brackets_of, Holds, HoldsIn, After}
 use Rattle.ce_algorithms.specs.State.{State, logged}
 use Rattle.ce_algorithms.specs.Drain.{log_call}
+use Rattle.ce_algorithms.proofs.CallNames.{same_self}
 
 -- a line that the book does not keep
 pub record Plain (e : Event) : Type 0 where
@@ -51,25 +50,13 @@ pub record CallLine (e : Event) (n : ℕ) (name : CallName) : Type 0 where
   pub at : (b : Book) → b.over ≡ false → b.dropping ≡ None → may_call (Some (n, name)) b.brackets ≡ true → Tests b e
   pub is : (b : Book) → after b e ≡ record b { brackets = marked (Some (n, name)) b.brackets; dropping = None }
 
-same_name : (name : CallName) → same_call name name ≡ true
-unfolding chars
-same_name Constructor = refl
-same_name ConnectedName = refl
-same_name DisconnectedName = refl
-same_name AdoptedName = refl
-same_name AttributeName = refl
-same_name FormAssociatedName = refl
-same_name FormDisabledName = refl
-same_name FormResetName = refl
-same_name FormStateRestoreName = refl
-
 pub called_holds : (e : Event) (w : Entry) (name : CallName) (h : List Hold) (l : List Event) (p : Page) → CallLine e w.element name →
     w.what ≡ Call name → Holds (InReaction w false ∷ h) l p → Holds (InReaction w true ∷ h) (l ++ e ∷ []) p
 called_holds e w name h l p x what k =
     let b = k.book in
     let c : Book = record b { brackets = Reacting w true ∷ brackets_of h; dropping = None } in
     let may : may_call (Some (w.element, name)) b.brackets ≡ true =
-    ap (may_call (Some (w.element, name))) k.queues.brackets ∙ ap (λ t. t && is_for w.what name) (eq-eqb w.element w.element refl) ∙ ap (λ t. is_for t name) what ∙ same_name name in
+    ap (may_call (Some (w.element, name))) k.queues.brackets ∙ ap (λ t. t && is_for w.what name) (eq-eqb w.element w.element refl) ∙ ap (λ t. is_for t name) what ∙ same_self name in
     let same : after b e ≡ c = x.is b ∙ ap (λ bs. record b { brackets = marked (Some (w.element, name)) bs; dropping = None }) k.queues.brackets in
     record {
       book = c;

@@ -1,6 +1,6 @@
 -- Copies, definitions, and all that operations do on the page alone, keep the law.
-use Rattle.std.proofs.Common.{◌≡◌, ℕ, zero, suc, Bool, true, false, List, [], ◌∷◌, ◌++◌, length, map, Option, Some, None, refl, sym, ap, ◌∙◌, inl, inr}
-use Rattle.std.specs.Prelude.{◌&&◌, ◌||◌, not, is_some, filter, bytes_eq, if◌then◌else◌}
+use Rattle.std.proofs.Common.{◌≡◌, ℕ, zero, suc, Bool, true, false, List, [], ◌∷◌, ◌++◌, length, map, Option, None, refl, sym, ap, ◌∙◌, inl, inr}
+use Rattle.std.specs.Prelude.{◌||◌, not, is_some, filter, if◌then◌else◌}
 use Rattle.std.specs.Str.{str_to_ascii_lowercase}
 use Rattle.ce_base.specs.declared.fault.Fault.TheVariants.{NotSupportedError, HierarchyRequestError, NotFoundError, InvalidCharacterError}
 use Rattle.element_names.specs.Names.{attr_name}
@@ -8,7 +8,7 @@ use Rattle.node_trees.specs.Facts.{Facts, is_document, is_element, is_shadow_roo
 use Rattle.node_trees.specs.Trees.{Trees, none as no_trees, tree, tree_of, is_number}
 use Rattle.node_trees.specs.Orders.{order_of}
 use Rattle.node_trees.specs.Links.{below}
-use Rattle.node_trees.specs.Candidates.{elements, has_is_value, is_candidate, candidates}
+use Rattle.node_trees.specs.Candidates.{elements, is_candidate, candidates}
 use Rattle.node_trees.specs.Spots.{facts_at, kind_at, parent_at}
 use Rattle.ce_registry.specs.declared.class_facts.ClassFacts.{ClassFacts}
 use Rattle.ce_registry.specs.declared.definition.Definition.{Definition}
@@ -18,14 +18,13 @@ use Rattle.ce_algorithms.specs.declared.deed.PageDeed.TheVariants as page_deeds
 use Rattle.ce_algorithms.specs.declared.event.Event.{Event}
 use Rattle.ce_algorithms.specs.declared.event.Given.TheVariants.{Nothing, Node}
 use Rattle.ce_algorithms.specs.Steps.{Step, Outcome, Goes, Throws, Spent, ◌>>=◌, when, for_each}
-use Rattle.ce_algorithms.specs.Page.{Page, Work}
+use Rattle.ce_algorithms.specs.Page.{Work}
 use Rattle.ce_algorithms.specs.Page as page
 use Rattle.ce_algorithms.specs.State.{event_of}
 use Rattle.ce_algorithms.specs.Enqueue.{enqueue_upgrade, try_upgrade}
 use Rattle.ce_algorithms.specs.Clone.{copy_node, copy_below, clone}
 use Rattle.ce_algorithms.specs.Define.{new_definition, with_defined, upgrade_candidates, define_name}
 use Rattle.ce_algorithms.specs.Perform.{upgrade_all, gives_nothing, gives_node, page_steps}
-use Rattle.order_law.proofs.Model.Reading.{both_true}
 use Rattle.order_law.proofs.Model.Sound.{All}
 use Rattle.order_law.proofs.Model.Invariant.{Hold}
 use Rattle.order_law.proofs.Model.Hands.{with_hands, IsHeld}
@@ -34,6 +33,7 @@ use Rattle.order_law.proofs.Model.Steps.{HoldsAt, Any, AfterAt, KeepsAt, at_seq,
 use Rattle.order_law.proofs.Model.Giving.{none, one, given_nodes, GivesAt, give_bind_at, give_seq_at, give_at, give_throw_if_at, give_throw_where_at, give_refuse_at, keeps_at}
 use Rattle.order_law.proofs.Model.Primitives.{try_at, upgrade_at, remove_at, adopt_at, insert_gives, set_at, unset_at}
 use Rattle.order_law.proofs.Model.Nodes.{create_later_gives, text_gives, attach_gives}
+use Rattle.node_trees.proofs.Elements.{candidate_element}
 
 -- copies
 
@@ -84,10 +84,6 @@ passing_elements test f (n ∷ ns) passes = go (test n) refl (passing_elements t
         → All (λ n. is_element (kind_at f n) ≡ true) (if t then n ∷ filter test ns else filter test ns)
     go true is rest = (passes n is, rest)
     go false is rest = rest
-
-candidate_element : (local : List ℕ) (value : Option (List ℕ)) (x : Facts) → is_candidate local value x ≡ true → is_element x.kind ≡ true
-candidate_element local None x is = (both_true (is_element x.kind) (bytes_eq x.local local) is).0
-candidate_element local (Some value) x is = (both_true (is_element x.kind) (bytes_eq x.local local) (both_true (is_element x.kind && bytes_eq x.local local) (has_is_value x.is_value value) is).0).0
 
 -- steps at each of some elements, while the forest stays
 elements_at : {h : List Hold} {l : List Event} (f : Trees) (step : ℕ → Step Work (Unit {0})) (ns : List ℕ)

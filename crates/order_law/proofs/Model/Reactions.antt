@@ -6,7 +6,7 @@ use Rattle.std.proofs.lemmas.Bool.{eq-eqb}
 use Rattle.rule_tokens.specs.declared.callback.CallOrUpgrade.{CallOrUpgrade}
 use Rattle.rule_tokens.specs.declared.callback.CallOrUpgrade.TheVariants.{Call, Upgrade as IsUpgrade}
 use Rattle.reaction_queue.specs.declared.reaction.Reaction.{Reaction}
-use Rattle.reaction_queue.specs.Queues.{Open, waiting_at, with_waiting, begun, ended, current_elements, elements_of, others_of}
+use Rattle.reaction_queue.specs.Queues.{Open, waiting_at, with_waiting, pushed_queue, popped_queue, current_elements, elements_of, others_of}
 use Rattle.reaction_queue.specs.Reactions.{what_of}
 use Rattle.ce_algorithms.specs.declared.event.Event.{Event}
 use Rattle.ce_algorithms.specs.declared.event.Event.TheVariants.{QueueOpened, DrainBegun, Started, Finished}
@@ -17,9 +17,11 @@ use Rattle.std.specs.Prelude.{is_some}
 use Rattle.order_law.specs.Clauses.{leads, is_callback_of, is_in_drain, has_called, begins_drain, ends_reaction, goes_on}
 use Rattle.order_law.specs.After.{started}
 use Rattle.order_law.specs.Reads.{around as outer_of}
-use Rattle.order_law.proofs.Model.Reading.{Reads, tested, reads_append, reads_one, told_at, rising_without, each_map, each_without, each_found, first_of}
+use Rattle.order_law.proofs.Model.Reading.{Reads, tested, reads_append, reads_one, told_at, each_map, each_without, each_found, first_of}
 use Rattle.order_law.proofs.Model.Invariant.{Hold, InSteps, InDrain, InReaction, InUpgrade, InHand, brackets_of, fillings_of, Falling, IsPlaced, is_checkpoint, has_any, told, Known, fits, Holds}
-use Rattle.order_law.proofs.Model.Rows.{waits_same, waits_other, each_number}
+use Rattle.order_law.proofs.Model.Rows.{waits_same, waits_other}
+use Rattle.ce_base.proofs.Places.{each_number}
+use Rattle.order_law.proofs.Entries.{rising_without}
 
 pub falling_le : (l m : ℕ) (h : List Hold) → l ≤ m → Falling l h → Falling m h
 falling_le l m [] le f = tt
@@ -31,7 +33,7 @@ falling_le l m (InHand n ∷ h) le f = falling_le l m h le f
 
 -- a queue is opened
 pub opened_holds : (h : List Hold) (l : List Event) (p : Page) → Holds h l p →
-    Holds (InSteps (p.queues.pushed + 1) ∷ h) (l ++ QueueOpened (p.queues.pushed + 1) ∷ []) (with_queues begun p)
+    Holds (InSteps (p.queues.pushed + 1) ∷ h) (l ++ QueueOpened (p.queues.pushed + 1) ∷ []) (with_queues pushed_queue p)
 opened_holds h l p k =
     let b = k.book in
     let q = p.queues in
@@ -64,19 +66,19 @@ opened_holds h l p k =
         brackets = ap (λ bs. Filling m ∷ bs) s.brackets;
         opens = ap (λ ns. m ∷ ns) s.opens;
         falls = (omega arith, falling_le (suc q.pushed) m h (omega arith) s.falls, omega arith);
-        placed = each_map (IsPlaced q.stack q.backup h) (IsPlaced (begun q).stack q.backup (InSteps m ∷ h)) b.waiting (λ w i. more w i) s.placed;
+        placed = each_map (IsPlaced q.stack q.backup h) (IsPlaced (pushed_queue q).stack q.backup (InSteps m ∷ h)) b.waiting (λ w i. more w i) s.placed;
         owed = s.owed;
       };
       elements = let e = k.elements in record { known = e.known; defined = e.defined; unset = e.unset; upgraded = e.upgraded; thrown = e.thrown; document = e.document; ongoing = e.ongoing };
     }
   where
-    more : (w : Entry) → IsPlaced p.queues.stack p.queues.backup h w → IsPlaced (begun p.queues).stack p.queues.backup (InSteps (p.queues.pushed + 1) ∷ h) w
+    more : (w : Entry) → IsPlaced p.queues.stack p.queues.backup h w → IsPlaced (pushed_queue p.queues).stack p.queues.backup (InSteps (p.queues.pushed + 1) ∷ h) w
     more w (inl i) = inl (inr i)
     more w (inr i) = inr i
 
 -- the current queue is popped, and its drain begins
 pub drained_holds : (m : ℕ) (h : List Hold) (l : List Event) (p : Page) → Holds (InSteps m ∷ h) l p →
-    Holds (InDrain m (current_elements p.queues) ∷ h) (l ++ DrainBegun m ∷ []) (with_queues ended p)
+    Holds (InDrain m (current_elements p.queues) ∷ h) (l ++ DrainBegun m ∷ []) (with_queues popped_queue p)
 drained_holds m h l p k =
     let b = k.book in
     record {

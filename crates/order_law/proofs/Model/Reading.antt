@@ -1,7 +1,7 @@
 -- The book, event by event.
-use Rattle.std.proofs.Common.{◌≡◌, ℕ, ◌<◌, ◌≤◌, Bool, true, false, List, [], ◌∷◌, ◌++◌, Option, Some, None, refl, sym, ap, ◌∙◌, subst, arith}
+use Rattle.std.proofs.Common.{◌≡◌, ℕ, ◌<◌, Bool, true, false, List, [], ◌∷◌, ◌++◌, Option, Some, None, refl, sym, ap, ◌∙◌, subst, arith}
 use Rattle.std.specs.Prelude.{◌==◌, ◌&&◌, not, if◌then◌else◌}
-use Rattle.std.proofs.lemmas.Bool.{eqb-true, eq-eqb}
+use Rattle.std.proofs.lemmas.Bool.{and_parts, eqb-true, eq-eqb}
 use Rattle.rule_tokens.specs.declared.callback.CallOrUpgrade.{CallOrUpgrade}
 use Rattle.ce_algorithms.specs.declared.event.Event.{Event}
 use Rattle.ce_algorithms.specs.declared.event.Event.TheVariants.{Dropped, UpgradeThrew}
@@ -13,6 +13,9 @@ use Rattle.order_law.specs.After.{after}
 use Rattle.order_law.specs.Lines.{is_reply}
 use Rattle.std.specs.Prelude.{is_some}
 use Rattle.order_law.specs.Reads.{around as outer_of}
+use Rattle.std.specs.Cmp.Derive.{both_true}
+use Rattle.order_law.proofs.Fronts.{left_true, right_true}
+use Rattle.order_law.proofs.Entries.{Rising, rising_without}
 
 -- a drop goes on
 abbrev pub drops_together : Book → Event → Bool
@@ -21,14 +24,6 @@ drops_together b e = goes_on b.dropping (loser b e)
 -- nothing is owed at a reply
 abbrev pub pays : Book → Event → Bool
 pays b e = not (is_reply e && b.owed)
-
-pub and_true : {a b : Bool} → a ≡ true → b ≡ true → a && b ≡ true
-and_true {b} h k = subst (λ x. x && b ≡ true) (sym h) k
-
--- an event that each test lets through
-pub both_true : (a b : Bool) → a && b ≡ true → (a ≡ true) × (b ≡ true)
-both_true true b e = (refl, e)
-both_true false b e = absurd (let x : false ≡ true = e in cc)
 
 pub record Tests (b : Book) (e : Event) : Type 0 where
   pub counts : counts_up b e ≡ true
@@ -47,8 +42,8 @@ pub record Tests (b : Book) (e : Event) : Type 0 where
 
 pub tested : (b : Book) (e : Event) → Tests b e → may_come b e ≡ true
 tested b e t =
-    and_true t.counts (and_true (and_true t.starts t.calls) (and_true t.order (and_true (and_true t.throws t.together) (and_true t.closes
-    (and_true (and_true t.nested t.paid) (and_true (and_true t.upgrades t.quiet) (and_true t.rest t.last)))))))
+    both_true t.counts (both_true (both_true t.starts t.calls) (both_true t.order (both_true (both_true t.throws t.together) (both_true t.closes
+    (both_true (both_true t.nested t.paid) (both_true (both_true t.upgrades t.quiet) (both_true t.rest t.last)))))))
 
 -- of a line that the queues and upgrades leave as they are, these pass whatever the book says
 abbrev pub is_line : Book → Event → Bool
@@ -59,13 +54,13 @@ is_line b e =
 pub line_tests : (b : Book) (e : Event) → is_line b e ≡ true → b.over ≡ false → b.dropping ≡ None → calls_once b e ≡ true → pays b e ≡ true →
     replies_at_rest b e ≡ true → Tests b e
 line_tests b e line over dropping calls pays rest =
-    let counts = both_true (counts_up b e) _ line in
-    let starts = both_true (starts_once b e) _ counts.1 in
-    let order = both_true (runs_in_order b e) _ starts.1 in
-    let throws = both_true (drops_in_upgrade b e) _ order.1 in
-    let closes = both_true (closes_empty b e) _ throws.1 in
-    let nested = both_true (ends_innermost b e) _ closes.1 in
-    let upgrades = both_true (begins_upgrade b e) _ nested.1 in
+    let counts = and_parts (counts_up b e) _ line in
+    let starts = and_parts (starts_once b e) _ counts.1 in
+    let order = and_parts (runs_in_order b e) _ starts.1 in
+    let throws = and_parts (drops_in_upgrade b e) _ order.1 in
+    let closes = and_parts (closes_empty b e) _ throws.1 in
+    let nested = and_parts (ends_innermost b e) _ closes.1 in
+    let upgrades = and_parts (begins_upgrade b e) _ nested.1 in
     record {
       counts = counts.0;
       starts = starts.0;
@@ -87,24 +82,16 @@ pub record Reads (from : Book) (log : List Event) (b : Book) : Type 0 where
   pub lawful : is_lawful from log ≡ true
   pub is : read from log ≡ b
 
-and_left : (a b : Bool) → a && b ≡ true → a ≡ true
-and_left true b h = refl
-and_left false b h = h
-
-and_right : (a b : Bool) → a && b ≡ true → b ≡ true
-and_right true b h = h
-and_right false b h = absurd (let k : false ≡ true = h in cc)
-
 -- more events
 pub reads_append : (from : Book) (log more : List Event) (b c : Book) → Reads from log b → Reads b more c → Reads from (log ++ more) c
 reads_append from [] more b c h k = subst (λ x. Reads x more c) (sym h.is) k
 reads_append from (e ∷ log) more b c h k =
-    let t = reads_append (after from e) log more b c (record { lawful = and_right (may_come from e) (is_lawful (after from e) log) h.lawful; is = h.is }) k in
-    record { lawful = and_true (and_left (may_come from e) (is_lawful (after from e) log) h.lawful) t.lawful; is = t.is }
+    let t = reads_append (after from e) log more b c (record { lawful = right_true (may_come from e) (is_lawful (after from e) log) h.lawful; is = h.is }) k in
+    record { lawful = both_true (left_true (may_come from e) (is_lawful (after from e) log) h.lawful) t.lawful; is = t.is }
 
 -- one event more
 pub reads_one : (b : Book) (e : Event) → may_come b e ≡ true → Reads b (e ∷ []) (after b e)
-reads_one b e h = record { lawful = and_true h refl; is = refl }
+reads_one b e h = record { lawful = both_true h refl; is = refl }
 
 pub reads_none : (b : Book) → Reads b [] b
 reads_none b = record { lawful = refl; is = refl }
@@ -119,23 +106,6 @@ add_if false x xs = xs
 abbrev pub told_at : ℕ → List Entry → List (ℕ × CallOrUpgrade)
 told_at n [] = []
 told_at n (w ∷ ws) = add_if (w.element == n) (w.number, w.what) (told_at n ws)
-
--- the numbers rise
-abbrev pub Rising : ℕ → List Entry → Type 0
-Rising low [] = Unit {0}
-Rising low (w ∷ ws) = (low < w.number) × Rising w.number ws
-
-rising_le : (low l : ℕ) (ws : List Entry) → l ≤ low → Rising low ws → Rising l ws
-rising_le low l [] le h = tt
-rising_le low l (w ∷ ws) le h = (omega (arith, le, h.0), h.1)
-
-pub rising_without : (low r : ℕ) (ws : List Entry) → Rising low ws → Rising low (without r ws)
-rising_without low r [] h = tt
-rising_without low r (w ∷ ws) h = go (w.number == r) (rising_without w.number r ws h.1)
-  where
-    go : (t : Bool) → Rising w.number (without r ws) → Rising low (if t then ws else w ∷ without r ws)
-    go true k = rising_le w.number low ws (omega (arith, h.0)) h.1
-    go false k = (h.0, k)
 
 -- of all entries
 abbrev pub Each : (Entry → Type 0) → List Entry → Type 0

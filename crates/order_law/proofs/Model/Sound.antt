@@ -9,8 +9,8 @@ use Rattle.node_trees.specs.Trees.{Trees}
 use Rattle.node_trees.specs.Nodes.{weight, size, times}
 use Rattle.node_trees.specs.Spots.{kind_at}
 use Rattle.construction.specs.Stacks.{or_no_entries, stack_of, with_stack, grown, pushed, popped, without_last}
-use Rattle.order_law.proofs.Model.Weights.{IsApart}
 use Rattle.order_law.proofs.Model.Forests.{Alike, HasMore, one_element, element_there, element_counts}
+use Rattle.node_trees.proofs.Weights.{IsApart}
 
 -- the number of a node
 pub record IsRow (rows n : ℕ) : Type 0 where

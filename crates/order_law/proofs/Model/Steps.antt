@@ -13,21 +13,21 @@ use Rattle.ce_registry.specs.declared.definition.Definition.{Definition}
 use Rattle.ce_algorithms.specs.declared.event.Event.{Event}
 use Rattle.ce_algorithms.specs.declared.event.Event.TheVariants.{Enqueued}
 use Rattle.ce_algorithms.specs.Steps.{Step, Outcome, Goes, Throws, Spent, then_do, ◌>>=◌, ◌>>◌, give, done, throw, when, where_is, for_each, finally, finally_in}
-use Rattle.ce_algorithms.specs.Page.{Page, Work, Element, element_of, or_uncustomized, definition_of, with_queues, with_forest}
+use Rattle.ce_algorithms.specs.Page.{Page, Work, Element, or_uncustomized, definition_of, with_queues, with_forest}
 use Rattle.ce_algorithms.specs.Page as page
 use Rattle.ce_algorithms.specs.Enqueue.{noted, enqueue, enqueue_callback, gives_reaction, has_callback, is_observed}
 use Rattle.ce_algorithms.specs.State.{State, event_of, with_work, with_outcome, work_of, on_page}
 use Rattle.ce_algorithms.specs.Construction.{with_stacks}
 use Rattle.order_law.specs.Law.{Lawful}
 use Rattle.node_trees.specs.Trees.{Trees}
-use Rattle.order_law.proofs.Model.Weights.{IsApart}
-use Rattle.order_law.proofs.Model.Reading.{both_true}
 use Rattle.order_law.proofs.Model.Forests.{Alike}
 use Rattle.order_law.proofs.Model.Sound.{All, IsEntry, Sound, sound_apart, sound_alike, sound_stacks}
 use Rattle.order_law.proofs.Model.Invariant.{Hold, Known, fits, nodes_of, Holds, HoldsIn, After}
 use Rattle.order_law.proofs.Model.Hands.{with_hands, take_hands, drop_hands, hand_rows}
 use Rattle.order_law.proofs.Model.Closing.{enqueued_holds}
 use Rattle.order_law.proofs.Model.Ending.{spent_lawful}
+use Rattle.std.proofs.lemmas.Bool.{and_parts}
+use Rattle.node_trees.proofs.Weights.{IsApart}
 
 -- pages at work, behind a log, with what is known of the forest
 pub record HoldsAt (q : Trees → Type 0) (h : List Hold) (l : List Event) (w : Work) : Type 0 where
@@ -158,7 +158,7 @@ callback_at {q} {h} {l} n x = record { at = λ w k. go w k (definition_of w.page
         test : (t : Bool) → gives_reaction (Some d) x ≡ t → AfterAt q h l (enqueue_callback n x w)
         test true t = subst (λ t. AfterAt q h l (when t (enqueue n x) w)) (sym (ap (λ o. gives_reaction o x) is ∙ t))
             (enqueue_at q h l n x w (defined_known h (l ++ map event_of w.page.notes) w.page n d is k.holds)
-            (ap (λ o. fits (what_of x) o) is ∙ has (what_of x) d (both_true (has_callback (what_of x) d) (is_observed x d) t).0) k)
+            (ap (λ o. fits (what_of x) o) is ∙ has (what_of x) d (and_parts (has_callback (what_of x) d) (is_observed x d) t).0) k)
         test false t = subst (λ t. AfterAt q h l (when t (enqueue n x) w)) (sym (ap (λ o. gives_reaction o x) is ∙ t)) k
 
 -- nothing is thrown

@@ -2,7 +2,7 @@
 use Rattle.std.proofs.Common.{◌≡◌, ℕ, ◌≤◌, Bool, true, false, List, [], ◌∷◌, ◌++◌, length, map, Option, Some, None, refl, sym, ap, ◌∙◌, subst, arith, append_assoc, append-nil}
 use Rattle.std.specs.Prelude.{slice_get, ◌-◌, ◌==◌, ◌||◌, ◌&&◌, not}
 use Rattle.std.specs.Option.{option_and_then}
-use Rattle.std.proofs.lemmas.Bool.{eqb-true, eqb-false, eq-eqb}
+use Rattle.std.proofs.lemmas.Bool.{eqb-true, eqb-false, eq-eqb, false_from_ne_true}
 use Rattle.ce_base.specs.declared.custom_state.CustomState.TheVariants.{Failed, Custom}
 use Rattle.ce_base.specs.declared.fault.Fault.{Fault}
 use Rattle.rule_tokens.specs.declared.callback.CallOrUpgrade.{CallOrUpgrade}
@@ -24,7 +24,8 @@ use Rattle.order_law.specs.After.{after}
 use Rattle.order_law.specs.Reads.{around as outer_of}
 use Rattle.order_law.proofs.Model.Reading.{Reads, tested, reads_append, reads_one, told_at, Each, each_map, without_all, rising_without_all, each_without_all, throw_lines, reads_throw, add_if}
 use Rattle.order_law.proofs.Model.Invariant.{Hold, InSteps, InDrain, InReaction, InUpgrade, InHand, brackets_of, IsPlaced, told, SaysQueues, Known, fits, Ongoing, SaysElements, Holds, HoldsRest, rest_rows, HoldsIn, After}
-use Rattle.order_law.proofs.Model.Rows.{waits_same, waits_other, row_same, row_other, row_twice, known_row, each_number}
+use Rattle.order_law.proofs.Model.Rows.{waits_same, waits_other, row_same, row_other, row_twice, known_row}
+use Rattle.ce_base.proofs.Places.{each_number}
 
 -- a row of elements given anew
 
@@ -222,10 +223,6 @@ may_begin n (InReaction w called ∷ h) m = ap (λ x. x && not (is_callback w.wh
 may_begin n (InUpgrade k ∷ h) m = absurd m
 may_begin n (InHand k ∷ h) m = may_begin n h m
 
-not_true : (b : Bool) → (b ≡ true → ⊥) → b ≡ false
-not_true true h = absurd (h refl)
-not_true false h = refl
-
 pub both : (b : Bool) → b ≡ true → b ≡ false → ⊥
 both b h k = let x : true ≡ false = sym h ∙ k in cc
 
@@ -247,7 +244,7 @@ up_holds n d h l p known may upgradable k =
     let e : Element = record { state = Failed; definition = Some d } in
     let first : Element = record (element_of p n) { definition = Some d } in
     let none = k.elements.unset n upgradable in
-    let again : is_one_of n b.upgraded ≡ false = not_true (is_one_of n b.upgraded) (λ m. both (is_upgradable (state_of p n)) upgradable (k.elements.upgraded n m)) in
+    let again : is_one_of n b.upgraded ≡ false = false_from_ne_true (is_one_of n b.upgraded) (λ m. both (is_upgradable (state_of p n)) upgradable (k.elements.upgraded n m)) in
     let row : with_state n Failed (with_definition n (Some d) p) ≡ with_element n e p =
     ap (λ (x : Element). with_element n (record x { state = Failed }) (with_definition n (Some d) p)) (row_same p n first known) ∙ row_twice p n first e in
     let t = says_row b h p n e known (record {

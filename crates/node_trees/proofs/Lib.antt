@@ -1,0 +1,3 @@
+pub mod Absent
+pub mod Elements
+pub mod Weights
