@@ -29,7 +29,7 @@ grammar_refusal below limit bytes (Err refused.NoMemory) gives = tt
 grammar_refusal below limit bytes (Err (refused.Bad b)) gives = grammar_refused below limit bytes b gives
 
 -- what is read is spelled and built
-line_found : Below → (bytes : List ℕ) (x : Said) → reading bytes ≡ Ok x → SpellsBuilt longest bytes x
+pub line_found : Below → (bytes : List ℕ) (x : Said) → reading bytes ≡ Ok x → SpellsBuilt longest bytes x
 unfolding reading
 line_found below bytes x e = at (grammar_reading longest bytes) refl e
   where
@@ -44,7 +44,7 @@ line_found below bytes x e = at (grammar_reading longest bytes) refl e
     at (Ok y) is read = let same = same_said y read in subst (SpellsBuilt longest bytes) same.0 (record { spells = found below longest bytes y is; built = same.1 })
     at (Err b) is read = absurd cc
 
-line_only : Below → (bytes : List ℕ) (x : Said) → SpellsBuilt longest bytes x → reading bytes ≡ Ok x
+pub line_only : Below → (bytes : List ℕ) (x : Said) → SpellsBuilt longest bytes x → reading bytes ≡ Ok x
 unfolding reading
 line_only below bytes x s = rw (only below longest bytes x s.spells, s.built) refl
 

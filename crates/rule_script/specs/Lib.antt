@@ -2,6 +2,7 @@ pub mod Below
 pub mod Built
 pub mod Canonical
 pub mod Cases
+pub mod Laws
 pub mod Place
 pub mod Reading
 pub mod Spells
