@@ -1,5 +1,5 @@
 // How what was waited for has ended.
-ghost use Rattle.std.specs.Prelude.{◌≡◌, IfOk};
+ghost use Rattle.std.specs.Prelude.{◌≡◌, Err, IfErr, IfOk};
 ghost use Rattle.node_trees.specs.Trees.{Trees};
 ghost use Rattle.ce_algorithms.specs.declared.event.Given.{Given as IsGiven};
 ghost use Rattle.ce_algorithms.specs.State.{State};
@@ -14,6 +14,8 @@ use ce_base::{Fault, NoMemory};
 use ce_page::PageStop;
 
 /// How what was waited for has ended.
+///
+/// A turn gives NoMemory in its place where memory was refused, and the state and the stack are only dropped then.
 #[derive(Drop)]
 pub enum Came {
     /// It gave this.
@@ -37,6 +39,7 @@ pub fn came_of(kept: Result<Given, Fault>) -> Came
 /// How a step of the session has ended. NoMemory exactly where memory was refused.
 pub fn came_from(outcome: Result<Given, PageStop>) -> Result<Came, NoMemory>
     ensures came { (s : State) (o : Outcome State IsGiven) → Ends (λ g. g) outcome s o → IfOk result (λ now. came_in now s ≡ o) }
+    ensures memory { IfErr result (λ e. outcome ≡ Err PageStop.NoMemory) }
     ensures there { (f : Trees) → IfOk outcome (IsThere f) → IfOk result (IsEndThere f) }
 {
     match outcome {

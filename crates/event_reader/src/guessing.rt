@@ -89,6 +89,9 @@ pub fn guess(alloc: Global, bytes: &[u8]) -> Result<Event, EventRefused>
     // Where they are the text of an event, it is an event with this text.
     ensures only { (e : Event) → IsEvent e → event_text e ≡ bytes.now → IsGuessed bytes.now result }
 
+    // It is what the definition of its name reads off the bytes.
+    ensures reads { Reads result (guess bytes.now) }
+
     // What is guessed is an event.
     ensures fits { IfOk result IsEvent }
 {
