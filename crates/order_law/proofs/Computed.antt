@@ -106,6 +106,10 @@ pub drop_in_reaction_unlawful : is_lawful blank samples.drop_in_reaction ≡ fal
 unfolding chars
 drop_in_reaction_unlawful = refl
 
+pub drop_in_drain_unlawful : is_lawful blank samples.drop_in_drain ≡ false
+unfolding chars
+drop_in_drain_unlawful = refl
+
 pub throw_with_one_waiting_unlawful : is_lawful blank samples.throw_with_one_waiting ≡ false
 unfolding chars
 throw_with_one_waiting_unlawful = refl
@@ -121,6 +125,18 @@ close_with_one_waiting_unlawful = refl
 pub end_around_another_unlawful : is_lawful blank samples.end_around_another ≡ false
 unfolding chars
 end_around_another_unlawful = refl
+
+pub end_of_other_reaction_unlawful : is_lawful blank samples.end_of_other_reaction ≡ false
+unfolding chars
+end_of_other_reaction_unlawful = refl
+
+pub end_of_other_upgrade_unlawful : is_lawful blank samples.end_of_other_upgrade ≡ false
+unfolding chars
+end_of_other_upgrade_unlawful = refl
+
+pub close_of_other_queue_unlawful : is_lawful blank samples.close_of_other_queue ≡ false
+unfolding chars
+close_of_other_queue_unlawful = refl
 
 pub drain_twice_unlawful : is_lawful blank samples.drain_twice ≡ false
 unfolding chars

@@ -120,6 +120,9 @@ drop_and_no_throw = changed 9 (UpgradeDone 3 ∷ []) throws
 abbrev pub drop_in_reaction : List Event
 drop_in_reaction = changed 4 (Dropped 1 ∷ UpgradeBegun 3 ∷ []) throws
 
+abbrev pub drop_in_drain : List Event
+drop_in_drain = QueueOpened 1 ∷ Enqueued 1 3 Upgrade 1 ∷ DrainBegun 1 ∷ Dropped 1 ∷ []
+
 abbrev pub throw_with_one_waiting : List Event
 throw_with_one_waiting = changed 8 [] throws
 
@@ -132,6 +135,15 @@ close_with_one_waiting = QueueOpened 1 ∷ Enqueued 1 3 Upgrade 1 ∷ DrainBegun
 
 abbrev pub end_around_another : List Event
 end_around_another = changed 7 (Finished 1 ∷ []) upgrade
+
+abbrev pub end_of_other_reaction : List Event
+end_of_other_reaction = changed 11 (Finished 1 ∷ []) upgrade
+
+abbrev pub end_of_other_upgrade : List Event
+end_of_other_upgrade = changed 7 (UpgradeDone 4 ∷ []) upgrade
+
+abbrev pub close_of_other_queue : List Event
+close_of_other_queue = changed 15 (QueueClosed 2 ∷ []) upgrade
 
 abbrev pub drain_twice : List Event
 drain_twice = changed 2 (DrainBegun 1 ∷ DrainBegun 1 ∷ []) upgrade

@@ -46,11 +46,12 @@ pub fn runs_in_order_refuses()
 {}
 
 /// Unlawful: a drop is no part of a throw, or a throw drops too little.
-#[tactic(auto, using(crate::proofs::Computed::drop_without_throw_unlawful, crate::proofs::Computed::drop_and_no_throw_unlawful, crate::proofs::Computed::drop_in_reaction_unlawful, crate::proofs::Computed::throw_with_one_waiting_unlawful))]
+#[tactic(auto, using(crate::proofs::Computed::drop_without_throw_unlawful, crate::proofs::Computed::drop_and_no_throw_unlawful, crate::proofs::Computed::drop_in_reaction_unlawful, crate::proofs::Computed::drop_in_drain_unlawful, crate::proofs::Computed::throw_with_one_waiting_unlawful))]
 pub fn drops_by_throw_refuses()
     ensures drop_without_throw { is_lawful blank samples.drop_without_throw ≡ false }
     ensures drop_and_no_throw { is_lawful blank samples.drop_and_no_throw ≡ false }
     ensures drop_in_reaction { is_lawful blank samples.drop_in_reaction ≡ false }
+    ensures drop_in_drain { is_lawful blank samples.drop_in_drain ≡ false }
     ensures throw_with_one_waiting { is_lawful blank samples.throw_with_one_waiting ≡ false }
 {}
 
@@ -61,9 +62,12 @@ pub fn closes_empty_refuses()
 {}
 
 /// Unlawful: brackets do not nest, or a checkpoint is missing.
-#[tactic(auto, using(crate::proofs::Computed::end_around_another_unlawful, crate::proofs::Computed::drain_twice_unlawful, crate::proofs::Computed::checkpoint_in_drain_unlawful, crate::proofs::Computed::no_checkpoint_unlawful))]
+#[tactic(auto, using(crate::proofs::Computed::end_around_another_unlawful, crate::proofs::Computed::end_of_other_reaction_unlawful, crate::proofs::Computed::end_of_other_upgrade_unlawful, crate::proofs::Computed::close_of_other_queue_unlawful, crate::proofs::Computed::drain_twice_unlawful, crate::proofs::Computed::checkpoint_in_drain_unlawful, crate::proofs::Computed::no_checkpoint_unlawful))]
 pub fn nests_refuses()
     ensures end_around_another { is_lawful blank samples.end_around_another ≡ false }
+    ensures end_of_other_reaction { is_lawful blank samples.end_of_other_reaction ≡ false }
+    ensures end_of_other_upgrade { is_lawful blank samples.end_of_other_upgrade ≡ false }
+    ensures close_of_other_queue { is_lawful blank samples.close_of_other_queue ≡ false }
     ensures drain_twice { is_lawful blank samples.drain_twice ≡ false }
     ensures checkpoint_in_drain { is_lawful blank samples.checkpoint_in_drain ≡ false }
     ensures no_checkpoint { is_lawful blank samples.no_checkpoint ≡ false }
