@@ -49,11 +49,11 @@ move_to old document node = do
   for_each walk (λ n. change_page (with_forest (with_document n document)))
   for_each walk (adopted old document)
 
--- a node with a parent is removed; then it moves where its document is another
+-- a node with a parent is removed; then it moves where its document was another
 abbrev pub adopt : ℕ → ℕ → Step Work (Unit {0})
 adopt document node = do
-  where_is (λ w. is_some (parent_at w.page.forest node)) (remove node)
   old ← read_page (λ p. document_at p.forest node)
+  where_is (λ w. is_some (parent_at w.page.forest node)) (remove node)
   when (not (old == document)) (move_to old document node)
 
 -- "insert" and "pre-insert"

@@ -21,7 +21,8 @@ use std::alloc::Global;
 impl Page {
     /// Adopts a node, with all below it, into a document (DOM Standard, section "Interface Document",
     /// "adopt"): a node with a parent is removed first. Where its node document is another, each node of
-    /// its shadow-including order gets the document, and then each custom element of them is told.
+    /// its shadow-including order gets the document, and then each custom element of them is told. Each
+    /// reaction spends one unit of fuel. FuelSpent: one was wanted and none was left.
     pub fn adopt_node(
         &mut self,
         alloc: Global,
@@ -37,8 +38,8 @@ impl Page {
         ensures moves { parent_at self.old.forest node ≡ None → OnlyMoves (order_of self.old.forest node) self.old.forest self.new.forest }
         ensures refused { NeverRefuses result }
     {
-        self.detach(alloc, node, fuel)?;
         let old = self.tree.document(node);
+        self.detach(alloc, node, fuel)?;
         if old == document {
             return Ok(());
         }

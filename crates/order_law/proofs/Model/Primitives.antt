@@ -9,7 +9,7 @@ use Rattle.node_trees.specs.Orders.{order_of}
 use Rattle.node_trees.specs.Paths.{is_among}
 use Rattle.node_trees.specs.Spots.{kind_at, parent_at, document_at, attribute_at}
 use Rattle.node_trees.specs.Insertion.{may_insert}
-use Rattle.order_law.proofs.Model.Weights.{IsApart, without_cut}
+use Rattle.order_law.proofs.Model.Weights.{without_cut}
 use Rattle.ce_base.specs.declared.fault.Fault.{Fault}
 use Rattle.ce_algorithms.specs.declared.event.Event.{Event}
 use Rattle.ce_algorithms.specs.Steps.{Outcome, Goes, Throws, Spent, then_do, ◌>>=◌, ◌>>◌, where_is, for_each, throw_any}
@@ -26,6 +26,7 @@ use Rattle.order_law.proofs.Model.Invariant.{Hold, Known}
 use Rattle.order_law.proofs.Model.Hands.{IsHeld, held_row}
 use Rattle.order_law.proofs.Model.Steps.{HoldsAt, Any, AfterAt, KeepsAt, at_bind, at_seq, at_done, at_each, at_when, at_where, at_read, at_where_forest, forest_holds, at_forest, callback_at, enqueue_at}
 use Rattle.order_law.proofs.Model.Giving.{none, AfterGivesAt, GivesAt, given_at}
+use Rattle.node_trees.proofs.Weights.{IsApart}
 
 -- upgrades are enqueued at elements
 
@@ -89,8 +90,8 @@ move_at old document node moves = at_bind (at_read (λ p. order_of p.forest node
 
 pub adopt_at : {q : Trees → Type 0} {h : List Hold} {l : List Event} (document node : ℕ) → ((f : Trees) → IsApart f → q f → q (cut f node)) →
     ((m : ℕ) (f : Trees) → q f → q (with_document m document f)) → KeepsAt q h l (adopt document node)
-adopt_at document node cuts moves = at_seq (at_where (λ w. is_some (parent_at w.page.forest node)) (remove_at node cuts))
-    (at_bind (at_read (λ p. document_at p.forest node)) (λ old. at_when (not (old == document)) (move_at old document node moves)))
+adopt_at document node cuts moves = at_bind (at_read (λ p. document_at p.forest node))
+    (λ old. at_seq (at_where (λ w. is_some (parent_at w.page.forest node)) (remove_at node cuts)) (at_when (not (old == document)) (move_at old document node moves)))
 
 -- insertion
 
