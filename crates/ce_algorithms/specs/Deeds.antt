@@ -94,6 +94,12 @@ is_reacting (OnPage what) = is_reacting_on_page what
 is_reacting (deeds.Ask word n name) = false
 is_reacting (deeds.Let var n) = false
 
+-- the steps of these deeds construct no class
+abbrev pub IsStill : Deed → Type 0
+IsStill (deeds.Create local is document) = ⊥
+IsStill (deeds.New class) = ⊥
+IsStill deed = Unit {0}
+
 -- the variable of an operation that gives a node; the others give none
 abbrev pub variable : Op → Option (List ℕ)
 variable (ops.Create var local is within) = Some var

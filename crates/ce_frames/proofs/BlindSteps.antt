@@ -1,6 +1,6 @@
 -- Steps that read nothing of what classes do and remember. One lemma for each way to make a step.
-use Rattle.std.proofs.Common.{◌≡◌, ℕ, zero, suc, Bool, true, false, List, [], ◌∷◌, ◌++◌, length, Option, Some, None, Result, Ok, Err, refl, sym, ap, ◌∙◌, length-set}
-use Rattle.std.specs.Prelude.{ok_or, slice_set, is_some}
+use Rattle.std.proofs.Common.{◌≡◌, ℕ, zero, suc, Bool, true, false, List, [], ◌∷◌, length, Option, Some, None, Result, Ok, Err, refl, ap, ◌∙◌, length-set}
+use Rattle.std.specs.Prelude.{ok_or}
 use Rattle.ce_base.specs.declared.fault.Fault.{Fault}
 use Rattle.ce_base.specs.declared.fault.Fault.TheVariants.{TypeError}
 use Rattle.rule_lines.specs.declared.op.Op.{Op}
@@ -11,16 +11,15 @@ use Rattle.ce_algorithms.specs.declared.deed.Deed.{Deed}
 use Rattle.ce_algorithms.specs.declared.deed.Deed.TheVariants as deeds
 use Rattle.ce_algorithms.specs.Steps.{Step, Outcome, Goes, Throws, Spent, then_do, ◌>>=◌, ◌>>◌, give, done, throw, settle, read, when, throw_if, found, find_or, throw_where, for_each, attempt, attempt_in}
 use Rattle.ce_algorithms.specs.Page.{Page, Work}
-use Rattle.ce_algorithms.specs.State.{State, Class, View, view, look, log, spend, spend_from, read_page, change_page, on_page, with_outcome, work_of, set_variable, change_class, class_of}
+use Rattle.ce_algorithms.specs.State.{State, Class, view, log, spend, spend_from, read_page, change_page, on_page, with_outcome, work_of, set_variable, change_class, class_of}
 use Rattle.ce_algorithms.specs.Define.{define_name}
 use Rattle.ce_algorithms.specs.Calls.{Again}
-use Rattle.ce_algorithms.specs.Deeds.{resolve}
+use Rattle.ce_algorithms.specs.Deeds.{resolve, IsStill}
 use Rattle.ce_algorithms.specs.Operands.{◌>>=◌ as then_resolve}
 use Rattle.ce_algorithms.specs.Drain.{open_queue, pop_queue}
 use Rattle.ce_algorithms.specs.Perform.{define_element, gives_nothing, page_steps, steps}
-use Rattle.ce_algorithms.specs.Model.{model}
 use Rattle.ce_frames.specs.Places.{Behaviour}
-use Rattle.ce_frames.specs.Whole.{joined_class, whole, whole_in, state_in, IsBlind, IsStill}
+use Rattle.ce_frames.specs.Whole.{joined_class, whole, whole_in, state_in, IsBlind}
 use Rattle.ce_frames.proofs.Wholes.{named_joined, class_facts_joined, set_joined}
 
 -- steps that touch no class
@@ -79,17 +78,6 @@ blind_on_page f = record { same = λ bs s. outcome_whole bs (f (work_of s)) s; c
 
 pub blind_read : {A : Type 0} (f : State → A) → ((bs : List Behaviour) (s : State) → f (whole bs s) ≡ f s) → IsBlind (read f)
 blind_read f h = record { same = λ bs s. ap (λ a. Goes a (whole bs s)) (h bs s); classes = λ s. refl }
-
-settle_whole : {A : Type 0} (bs : List Behaviour) (r : Result A Fault) (s : State) → settle r (whole bs s) ≡ whole_in bs (settle r s)
-settle_whole bs r s = (blind_settle r).same bs s
-
-pub blind_look : {A : Type 0} (this : Option ℕ) (find : View → Result A Fault)
-    → ((bs : List Behaviour) (s : State) → find (view this (whole bs s)) ≡ find (view this s)) → IsBlind (look this find)
-blind_look this find h =
-    record {
-      same = λ bs s. ap (λ r. settle r (whole bs s)) (h bs s) ∙ settle_whole bs (find (view this s)) s;
-      classes = λ s. (blind_settle (find (view this s))).classes s;
-    }
 
 pub blind_change_class : (k : ℕ) (f : Class → Class) → ((c : Class) (b : Behaviour) → f (joined_class c b) ≡ joined_class (f c) b)
     → IsBlind (change_class k f)
@@ -193,10 +181,6 @@ resolve_blind this (ops.Define name class_name base) bs s =
     ap (λ k. then_resolve (ok_or k TypeError) (λ k. Ok (deeds.Define name k base))) (named_joined s.classes bs class_name)
 resolve_blind this op bs s = refl
 
--- so the steps that read them are blind
-pub look_blind : (this : Option ℕ) (op : Op) → IsBlind (look this (λ v. resolve v op))
-look_blind this op = blind_look this (λ v. resolve v op) (resolve_blind this op)
-
 blind_gives : {f : Step State (Unit {0})} → IsBlind f → IsBlind (gives_nothing f)
 blind_gives h = blind_seq h (blind_give _)
 
@@ -222,6 +206,3 @@ still_blind again (deeds.Define name class base) still = blind_gives (define_bli
 still_blind again (deeds.OnPage what) still = blind_on_page (page_steps what)
 still_blind again (deeds.Ask word n name) still = blind_read _ (λ bs s. refl)
 still_blind again (deeds.Let var n) still = blind_gives (blind_set_variable var n)
-
-pub steps_blind : (deed : Deed) → IsStill deed → IsBlind (steps model deed)
-steps_blind deed still = still_blind model deed still

@@ -19,19 +19,19 @@ use Rattle.ce_algorithms.specs.Body.{actions_of}
 use Rattle.ce_algorithms.specs.Upgrade.{drop_reactions, upgrade_threw, upgrade_ends}
 use Rattle.ce_algorithms.specs.Create.{fitting, upgrade_failed}
 use Rattle.ce_algorithms.specs.Drain.{with_backup}
-use Rattle.ce_algorithms.specs.Deeds.{is_reacting}
+use Rattle.ce_algorithms.specs.Deeds.{is_reacting, IsStill}
 use Rattle.ce_algorithms.specs.Perform.{gives_node, keep, named, steps}
 use Rattle.ce_algorithms.specs.Session.{reply}
 use Rattle.ce_frames.specs.Frames.{Frame, Replying, Checking, DrainingBackup, Naming, Stepping, Draining, InReaction, CreatingFit, CreatingExtended, Upgrading, Constructing, InBody}
 use Rattle.ce_frames.specs.Handing.{node_in}
 use Rattle.ce_frames.specs.Rest.{Went, Threw, Over}
 use Rattle.ce_frames.specs.Places.{Behaviour}
-use Rattle.ce_frames.specs.Turned.{Turn, ended, turn_after, ◌>>=◌, ◌>>◌, hand_down, go_on, with_below, below, when_turn, no_calls}
+use Rattle.ce_frames.specs.Turned.{Turn, ended, turn_after, ◌>>=◌, ◌>>◌, hand_down, go_on, with_below, below, no_calls}
 use Rattle.ce_frames.specs.ConstructTurns.{begin_body, construct_turn, fitting_given, created_turn, same_given, upgrade_result_turn, upgraded_turn}
 use Rattle.ce_frames.specs.OperateTurns.{next_turn, pop_turn, steps_turn, deed_turn}
 use Rattle.ce_frames.specs.DrainTurns.{next_backup_turn, checked_turn, check_turn}
 use Rattle.ce_frames.specs.Turns.{turn}
-use Rattle.ce_frames.specs.Whole.{whole, whole_in, whole_turned, state_in, IsBlind, IsBlindTurn, IsStill, GoesBlind, CatchesBlind}
+use Rattle.ce_frames.specs.Whole.{whole, whole_in, whole_turned, state_in, IsBlind, IsBlindTurn, GoesBlind, CatchesBlind}
 use Rattle.ce_frames.proofs.Wholes.{class_name_joined, class_facts_joined}
 use Rattle.ce_frames.proofs.BlindSteps.{blind_steps, blind_give, blind_done, blind_throw, blind_settle, blind_read_page, blind_change_page, blind_log, blind_set_variable, blind_on_page, blind_bind, blind_seq, blind_throw_if, blind_found, blind_attempt, blind_open_queue, blind_pop_queue, still_blind}
 
@@ -84,10 +84,6 @@ blind_turn_seq {f} {t} h next =
       same = λ bs s. ap (λ o. turn_after o (λ _. t)) (h.same bs s) ∙ after_whole bs (f s) (λ _. next);
       classes = λ s. after_classes (f s) (λ _. next) ∙ h.classes s;
     }
-
-pub blind_when_turn : {t : Turn} (test : Bool) → IsBlindTurn t → IsBlindTurn (when_turn test t)
-blind_when_turn true h = h
-blind_when_turn false h = blind_go_on
 
 pub blind_if_turn : {t u : Turn} (test : Bool) → IsBlindTurn t → IsBlindTurn u → IsBlindTurn (if test then t else u)
 blind_if_turn true h k = h

@@ -1,8 +1,6 @@
 -- A state without what its classes do and remember, and the behaviours of the classes beside it: together they are the
 -- whole state. Most of what a machine does between two waits reads nothing of the behaviours.
 use Rattle.std.specs.Prelude.{◌≡◌, true, List, [], ◌∷◌, length}
-use Rattle.ce_algorithms.specs.declared.deed.Deed.{Deed}
-use Rattle.ce_algorithms.specs.declared.deed.Deed.TheVariants.{Create, New}
 use Rattle.ce_algorithms.specs.Steps.{Step, Outcome, Goes, Throws, Spent}
 use Rattle.ce_algorithms.specs.State.{State, Class}
 use Rattle.ce_frames.specs.Frames.{Frame, DrainingBackup, Draining, InBody}
@@ -48,12 +46,6 @@ pub record IsBlind {A : Type 0} (step : Step State A) : Type 0 where
 pub record IsBlindTurn (t : Turn) : Type 0 where
   pub same : (bs : List Behaviour) (s : State) → t (whole bs s) ≡ whole_turned bs (t s)
   pub classes : (s : State) → length (t s).state.classes ≡ length s.classes
-
--- the steps of these deeds construct no class
-abbrev pub IsStill : Deed → Type 0
-IsStill (Create local is document) = ⊥
-IsStill (New class) = ⊥
-IsStill deed = Unit {0}
 
 -- frames that go on with what was given and begin no body: all but those that drain, and those of bodies
 abbrev pub GoesBlind : Frame → Type 0

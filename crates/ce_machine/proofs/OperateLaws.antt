@@ -1,33 +1,30 @@
 -- The turns of operations and of commands.
-use Rattle.std.proofs.Common.{◌≡◌, ℕ, true, false, Bool, List, [], ◌∷◌, ◌++◌, Some, None, Option, ◌≤◌, refl, ap, sym, ◌∙◌, subst, append-nil, arith}
+use Rattle.std.proofs.Common.{◌≡◌, ℕ, true, false, Bool, List, [], ◌∷◌, ◌++◌, Some, None, Option, ◌≤◌, refl, ap, sym, ◌∙◌, subst, arith}
 use Rattle.std.specs.Prelude.{Result, Ok, Err, IfOk, if◌then◌else◌}
 use Rattle.ce_base.specs.declared.fault.Fault.{Fault}
 use Rattle.ce_base.specs.declared.fault.Refused.{Refused as RefusedWith}
 use Rattle.ce_base.specs.declared.fault.Refused.TheVariants.{Fault as IsFault}
-use Rattle.rule_lines.specs.declared.line.Cmd.{Cmd}
-use Rattle.rule_lines.specs.declared.line.Cmd.TheVariants.{Both, Doc}
 use Rattle.rule_lines.specs.declared.op.Op.{Op}
 use Rattle.node_trees.specs.Nodes.{size}
 use Rattle.node_trees.specs.Trees.{Trees}
-use Rattle.reaction_queue.specs.Queues.{ended as popped, current_elements}
+use Rattle.reaction_queue.specs.Queues.{popped_queue, current_elements}
 use Rattle.ce_algorithms.specs.declared.deed.Deed.{Deed}
 use Rattle.ce_algorithms.specs.declared.deed.Deed.TheVariants as deeds
 use Rattle.ce_algorithms.specs.declared.deed.Deed.TheVariants.{OnPage}
 use Rattle.ce_algorithms.specs.declared.event.Event.TheVariants.{DrainBegun}
 use Rattle.ce_algorithms.specs.declared.event.Given.{Given}
-use Rattle.ce_algorithms.specs.Deeds.{is_reacting, resolve, variable}
+use Rattle.ce_algorithms.specs.Deeds.{is_reacting, resolve, variable, IsStill}
 use Rattle.ce_algorithms.specs.Drain.{open_queue}
 use Rattle.ce_algorithms.specs.Making.{make_document}
 use Rattle.ce_algorithms.specs.Model.{model}
 use Rattle.ce_algorithms.specs.Page.{with_queues}
 use Rattle.ce_algorithms.specs.Perform.{steps}
 use Rattle.ce_algorithms.specs.Perform as algorithms
-use Rattle.ce_algorithms.specs.State.{State, logged, on_page, spend, view}
-use Rattle.ce_algorithms.specs.Steps.{Step, Outcome, Goes, Throws, Spent, attempt_in, settle}
+use Rattle.ce_algorithms.specs.State.{State, logged, on_page, view}
+use Rattle.ce_algorithms.specs.Steps.{Step, Outcome, Goes, Throws, attempt_in, settle}
 use Rattle.ce_frames.specs.Frames as waiting
 use Rattle.ce_frames.specs.Frames.{Frame}
 use Rattle.ce_frames.specs.ConstructTurns.{construct_turn}
-use Rattle.ce_frames.specs.Loop.{command_turn, perform_turn}
 use Rattle.ce_frames.specs.OperateTurns.{create_named_turn, deed_turn, named_turn, next_turn, operate_turn, pop_turn, steps_turn}
 use Rattle.ce_frames.specs.Turned.{Turn, ended, turn_after, below, hand_down}
 use Rattle.ce_frames.proofs.BlindSteps.{resolve_blind}
@@ -36,18 +33,15 @@ use Rattle.ce_page.specs.Ends.{Ends}
 use Rattle.ce_page.specs.declared.stop.PageStop.{PageStop}
 use Rattle.ce_operations.specs.Given.{IsThere}
 use Rattle.ce_operations.specs.Resolved.{Resolves}
-use Rattle.ce_operations.specs.Ready.{IsStill}
-use Rattle.frame_stack.specs.Sessions.{ArePaired, session}
-use Rattle.frame_stack.specs.Stacked.{Stacked, behaviours_of, frames_of}
+use Rattle.frame_stack.specs.Sessions.{session}
+use Rattle.frame_stack.specs.Stacked.{Stacked, behaviours_of}
 use Rattle.ce_reactions.specs.declared.came.Came.{Came}
-use Rattle.ce_reactions.specs.declared.came.Came.TheVariants.{Threw, Over}
+use Rattle.ce_reactions.specs.declared.came.Came.TheVariants.{Threw}
 use Rattle.ce_reactions.specs.Blind.{BlindAt}
 use Rattle.ce_reactions.specs.Placed.{IsKeptThere, Lasts, StaysPlaced}
 use Rattle.ce_reactions.specs.Turns.{Turns, came_in}
-use Rattle.ce_reactions.proofs.SessionLaws.{blind_at, lifted, lifted_paired}
-use Rattle.ce_reactions.proofs.TurnLaws.{turns_as, turns_below, turns_pushed, turns_same}
-use Rattle.ce_machine.specs.Turns.{naming}
-use Rattle.ce_machine.proofs.FrameLaws.{lifted_stays}
+use Rattle.ce_reactions.proofs.SessionLaws.{blind_at}
+use Rattle.ce_reactions.proofs.TurnLaws.{turns_as, turns_below, turns_same}
 
 -- steps and their queue
 
@@ -57,7 +51,7 @@ next_lasts F queue [] (Err f) s le h = record { grows = le; gives = tt; placed =
 next_lasts F queue (n ∷ ns) kept s le h = record { grows = le; gives = h; placed = (tt, tt) }
 
 pop_lasts : (F : Trees) (queue : ℕ) (kept : Result Given Fault) (s : State) → size F ≤ size s.page.forest → IsKeptThere s.page.forest kept → Lasts F (pop_turn queue kept s)
-pop_lasts F queue kept s le h = next_lasts F queue (current_elements s.page.queues) kept (logged (DrainBegun queue) (record s { page = with_queues popped s.page })) le h
+pop_lasts F queue kept s le h = next_lasts F queue (current_elements s.page.queues) kept (logged (DrainBegun queue) (record s { page = with_queues popped_queue s.page })) le h
 
 stepped_lasts : (F : Trees) (queue : ℕ) (kept : Result Given Fault) (s : State) (o : Outcome State Given) → settle kept s ≡ o → size F ≤ size s.page.forest → IsKeptThere s.page.forest kept → Lasts F (turn_after (attempt_in o) (pop_turn queue))
 stepped_lasts F queue (Ok given) s o e le h = subst (λ x. Lasts F (turn_after (attempt_in x) (pop_turn queue))) e (pop_lasts F queue (Ok given) s le h)
@@ -141,11 +135,6 @@ new_is class s = refl
 
 -- operations
 
--- a variable waits for what it gives
-pub named_turns : (frames frames' new : List Frame) (now : Came) (var : Option (List ℕ)) (turn : Turn) (s s1 : State) → frames' ≡ frames ++ naming var → Turns frames' new now s1 (turn s) → Turns frames new now s1 (named_turn var turn s)
-named_turns frames frames' new now None turn s s1 put h = subst (λ l. Turns l new now s1 (turn s)) (put ∙ append-nil frames) h
-named_turns frames frames' new now (Some var) turn s s1 put h = turns_pushed frames frames' new (waiting.Naming var) now s1 (turn s) put h
-
 pub named_placed : (F : Trees) (var : Option (List ℕ)) (turn : Turn) (s : State) → Lasts F (turn s) → StaysPlaced F (named_turn var turn s)
 named_placed F None turn s h = record { grows = h.grows; placed = h.placed }
 named_placed F (Some var) turn s h = record { grows = h.grows; placed = (h.gives, h.placed) }
@@ -181,58 +170,3 @@ refused_placed this op f old s r is h = subst (StaysPlaced s.page.forest) (refus
 
 pub document_at : (var : List ℕ) (s : State) → BlindAt (named_turn (Some var) (hand_down (on_page (algorithms.gives_node make_document)))) s
 document_at var s = blind_at (named_turn (Some var) (hand_down (on_page (algorithms.gives_node make_document)))) (blind_below (waiting.Naming var) (blind_page (algorithms.gives_node make_document))) s
-
-performs_is : (c : Cmd) (op : Op) (s : State) → c ≡ Both op → operate_turn None op s ≡ perform_turn c s
-unfolding perform_turn
-performs_is c op s is = sym (ap (λ (x : Cmd). perform_turn x s) is)
-
-pub performs_turns : (frames new : List Frame) (now : Came) (c : Cmd) (op : Op) (s t : State) → c ≡ Both op → Turns frames new now t (operate_turn None op s) → Turns frames new now t (perform_turn c s)
-performs_turns frames new now c op s t is h = turns_as frames new now t _ _ (performs_is c op s is) h
-
-pub performs_placed : (F : Trees) (c : Cmd) (op : Op) (s : State) → c ≡ Both op → StaysPlaced F (operate_turn None op s) → StaysPlaced F (perform_turn c s)
-performs_placed F c op s is h = subst (StaysPlaced F) (performs_is c op s is) h
-
-makes_is : (c : Cmd) (var : List ℕ) (s : State) → c ≡ Doc var → named_turn (Some var) (hand_down (on_page (algorithms.gives_node make_document))) s ≡ perform_turn c s
-unfolding perform_turn
-makes_is c var s is = sym (ap (λ (x : Cmd). perform_turn x s) is)
-
-module _ (old new : Stacked) (c : Cmd) (var : List ℕ) (now : Came) (s s1 : State) (is : c ≡ Doc var) (same : behaviours_of new ≡ behaviours_of old) where
-  abbrev makes : Turn
-  makes = named_turn (Some var) (hand_down (on_page (algorithms.gives_node make_document)))
-
-  pub makes_turns : Turns (frames_of old) (frames_of new) now s1 (makes s) → Turns (frames_of old) (frames_of new) now (session new s1) (perform_turn c (session old s))
-  makes_turns h = turns_as (frames_of old) (frames_of new) now (session new s1) _ _ (makes_is c var (session old s) is) (lifted makes old new (frames_of old) (frames_of new) now s s1 (document_at var s) h same)
-
-  pub makes_paired : Turns (frames_of old) (frames_of new) now s1 (makes s) → ArePaired old s → ArePaired new s1
-  makes_paired h paired = lifted_paired makes old new (frames_of old) (frames_of new) now s s1 (document_at var s) h same paired
-
-  pub makes_placed : (F : Trees) → StaysPlaced F (makes s) → StaysPlaced F (perform_turn c (session old s))
-  makes_placed F h = subst (StaysPlaced F) (makes_is c var (session old s) is) (lifted_stays makes old F s (document_at var s) h)
-
--- a command begins
-
-pub command_turns : (frames frames' new : List Frame) (now : Came) (line : ℕ) (c : Cmd) (s s1 t : State) → Goes tt s1 ≡ spend s → frames' ≡ frames ++ waiting.Replying line ∷ [] → Turns frames' new now t (perform_turn c s1) → Turns frames new now t (command_turn line c s)
-command_turns frames frames' new now line c s s1 t spent put h =
-    turns_as frames new now t (below (waiting.Replying line) (perform_turn c) s1) _ (ap (λ (o : Outcome State (Unit {0})). turn_after o (λ _. below (waiting.Replying line) (perform_turn c))) spent)
-    (turns_below frames frames' new (waiting.Replying line) now (perform_turn c) s1 s1 t put refl h)
-
-pub command_placed : (F : Trees) (line : ℕ) (c : Cmd) (s s1 : State) → Goes tt s1 ≡ spend s → size F ≤ size s1.page.forest → StaysPlaced s1.page.forest (perform_turn c s1) → StaysPlaced F (command_turn line c s)
-command_placed F line c s s1 spent le h =
-    subst (λ (o : Outcome State (Unit {0})). StaysPlaced F (turn_after o (λ _. below (waiting.Replying line) (perform_turn c)))) spent
-    (let x = h.grows in record { grows = omega (arith, x, le); placed = (tt, h.placed) })
-
-module _ (frames : List Frame) (line : ℕ) (c : Cmd) (s s1 : State) where
-  abbrev performing : Unit {0} → Turn
-  performing x = below (waiting.Replying line) (perform_turn c)
-
-  pub command_threw_turns : (f : Fault) → Throws f s1 ≡ spend s → Turns frames frames (Threw f) s1 (command_turn line c s)
-  command_threw_turns f is = turns_as frames frames (Threw f) s1 (ended (Throws f s1)) _ (ap (λ (o : Outcome State (Unit {0})). turn_after o performing) is) (turns_same frames (Threw f) s1 (Throws f s1) refl)
-
-  pub command_threw_placed : (F : Trees) (f : Fault) → Throws f s1 ≡ spend s → size F ≤ size s1.page.forest → StaysPlaced F (command_turn line c s)
-  command_threw_placed F f is le = subst (λ (o : Outcome State (Unit {0})). StaysPlaced F (turn_after o performing)) is (record { grows = le; placed = tt })
-
-  pub command_spent_turns : Spent s1 ≡ spend s → Turns frames frames Over s1 (command_turn line c s)
-  command_spent_turns is = turns_as frames frames Over s1 (ended (Spent s1)) _ (ap (λ (o : Outcome State (Unit {0})). turn_after o performing) is) (turns_same frames Over s1 (Spent s1) refl)
-
-  pub command_spent_placed : (F : Trees) → Spent s1 ≡ spend s → size F ≤ size s1.page.forest → StaysPlaced F (command_turn line c s)
-  command_spent_placed F is le = subst (λ (o : Outcome State (Unit {0})). StaysPlaced F (turn_after o performing)) is (record { grows = le; placed = tt })

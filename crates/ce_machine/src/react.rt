@@ -2,6 +2,7 @@
 ghost use Rattle.std.specs.Prelude.{◌≡◌, ◌≤◌, ◌+◌, ◌<◌, ◌^◌, IfOk, OnOk};
 ghost use Rattle.node_trees.specs.Nodes.{size};
 ghost use Rattle.node_trees.specs.Trees.{Trees};
+ghost use Rattle.ce_algorithms.specs.Deeds.{IsStill};
 ghost use Rattle.ce_algorithms.specs.declared.deed.Deed.TheVariants as deeds;
 ghost use Rattle.ce_algorithms.specs.declared.event.Given.{Given as IsGiven};
 ghost use Rattle.ce_algorithms.specs.Model.{model};
@@ -17,7 +18,7 @@ ghost use Rattle.ce_reactions.specs.Blind.{BlindAt};
 ghost use Rattle.ce_reactions.specs.Turns.{Turns};
 ghost use Rattle.ce_operations.specs.Given.{IsThere};
 ghost use Rattle.ce_reactions.specs.Placed.{Lasts};
-ghost use Rattle.ce_operations.specs.Ready.{IsReady, IsStill};
+ghost use Rattle.ce_operations.specs.Ready.{IsReady};
 
 use crate::drains::pop_turn;
 use ce_algorithms::{Deed, Given};

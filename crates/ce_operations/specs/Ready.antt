@@ -24,12 +24,6 @@ IsReadyOnPage f (page_deeds.Clone n deep) = IsNode f n
 IsReadyOnPage f (page_deeds.Adopt document n) = IsNode f n
 IsReadyOnPage f (page_deeds.Upgrade n) = IsNode f n
 
--- its steps wait for nothing: no class is constructed in them
-abbrev pub IsStill : Deed → Type 0
-IsStill (deeds.Create local is document) = ⊥
-IsStill (deeds.New class) = ⊥
-IsStill deed = Unit {0}
-
 abbrev pub IsReady : Trees → Deed → Type 0
 IsReady f (deeds.Create local is document) = Unit {0}
 IsReady f (deeds.New class) = Unit {0}

@@ -1,6 +1,5 @@
 // What creating an element takes (DOM Standard, section "Interface Element", "create an element").
 ghost use Rattle.std.specs.Prelude.{◌≡◌, ◌≤◌, IfOk};
-ghost use Rattle.std.specs.Str.{str_to_ascii_lowercase};
 ghost use Rattle.node_trees.specs.Nodes.{IsNode, size};
 ghost use Rattle.ce_registry.specs.Registry.{is_autonomous};
 ghost use Rattle.ce_algorithms.specs.Create.{create_failed, fitting, is_no_element, is_unfit};
@@ -18,16 +17,8 @@ use element_names::is_custom_name;
 use session_state::State;
 use std::alloc::Global;
 
-/// A name as creation looks it up.
-pub fn lowercased(alloc: Global, name: &Text) -> Result<Text, NoMemory>
-    ensures { IfOk result (λ t. t ≡ str_to_ascii_lowercase name.now) }
-{
-    let lower = name.as_str().to_ascii_lowercase(alloc)?;
-    Text::of(alloc, lower.as_str())
-}
-
-/// The definition that creation by a local name and an `is` value goes by, in a document. None exactly where there
-/// is none.
+/// The definition that creation by a local name and an `is` value goes by, in a document (HTML Standard, section "Core
+/// concepts", "look up a custom element definition"). None exactly where there is none.
 pub fn lookup(state: &State, local: &Text, is: &Option<Text>, document: NodeNo) -> Option<DefNo>
     ensures { result ≡ lookup_in state.now.page document local.now is.now }
 {
@@ -37,7 +28,8 @@ pub fn lookup(state: &State, local: &Text, is: &Option<Text>, document: NodeNo) 
         .lookup(document == NodeNo(1), local.as_str(), is)
 }
 
-/// An element without a definition. FuelSpent exactly where no fuel is left for it; it refuses nothing.
+/// An element without a definition (DOM Standard, section "Interface Element", "create an element"). FuelSpent exactly
+/// where no fuel is left for it; it refuses nothing. What stands then, and NoMemory: see `State`.
 pub fn create_undefined(
     state: &mut State,
     alloc: Global,
@@ -83,9 +75,9 @@ pub fn class_of(state: &State, d: DefNo) -> ClassNo
     }
 }
 
-/// Why what was constructed does not fit the creation: TypeError where it is no element; NotSupportedError where it
-/// has attributes, children or a parent, is of another document, or has another local name. None exactly where it
-/// fits.
+/// Why what was constructed does not fit the creation (DOM Standard, section "Interface Element", "create an element"):
+/// TypeError where it is no element; NotSupportedError where it has attributes, children or a parent, is of another
+/// document, or has another local name. None exactly where it fits.
 pub fn misfit(state: &State, local: &str, document: NodeNo, n: NodeNo) -> Option<Fault>
     requires { IsNode state.now.page.forest n }
     ensures { tested result n state.now ≡ fitting local.now document n state.now }
@@ -124,8 +116,9 @@ fn is_unfit(state: &State, local: &str, document: NodeNo, n: NodeNo) -> bool
         || tree.local(n) != local
 }
 
-/// A fault of the construction or of the tests is reported, and a new element in state failed is the answer.
-/// FuelSpent exactly where no fuel is left for it; it refuses nothing.
+/// A fault of the construction or of the tests is reported, and a new element in state failed is the answer (DOM
+/// Standard, section "Interface Element", "create an element"). FuelSpent exactly where no fuel is left for it; it
+/// refuses nothing. What stands then, and NoMemory: see `State`.
 pub fn create_failed(
     state: &mut State,
     alloc: Global,

@@ -2,13 +2,14 @@
 ghost use Rattle.std.specs.Prelude.{◌≡◌, ◌≤◌, true, IfOk};
 ghost use Rattle.node_trees.specs.Nodes.{IsNode, size};
 ghost use Rattle.rule_script.specs.Built.{is_built_word};
+ghost use Rattle.ce_algorithms.specs.Deeds.{IsStill};
 ghost use Rattle.ce_algorithms.specs.declared.deed.Deed.TheVariants as deeds;
 ghost use Rattle.ce_algorithms.specs.Model.{model};
 ghost use Rattle.ce_algorithms.specs.Perform.{page_steps, steps};
 ghost use Rattle.ce_algorithms.specs.State.{on_page};
 ghost use Rattle.ce_page.specs.Ends.{Ends};
 ghost use Rattle.ce_operations.specs.Given.{IsThere, node_of, nothing_of};
-ghost use Rattle.ce_operations.specs.Ready.{IsReady, IsReadyOnPage, IsStill};
+ghost use Rattle.ce_operations.specs.Ready.{IsReady, IsReadyOnPage};
 
 use crate::questions::answer;
 use ce_algorithms::{Deed, Given, PageDeed};
@@ -18,7 +19,9 @@ use rule_lines::AskWord;
 use session_state::State;
 use std::alloc::Global;
 
-/// Does the steps of a deed that constructs nothing.
+/// Does the steps of a deed that constructs nothing. Refused, FuelSpent and NoMemory are those of the step of `State`
+/// that it takes: `define_element`, or one of the page. A question, and a variable that is set, refuse nothing and want
+/// no fuel.
 pub fn run(state: &mut State, alloc: Global, deed: Deed) -> Result<Given, PageStop>
     requires ready { IsReady state.old.page.forest deed }
     requires still { IsStill deed }
@@ -38,7 +41,8 @@ pub fn run(state: &mut State, alloc: Global, deed: Deed) -> Result<Given, PageSt
     }
 }
 
-/// Does the steps of a deed on the page.
+/// Does the steps of a deed on the page. Refused, FuelSpent and NoMemory are those of the step of `State` that it
+/// takes.
 pub fn run_on_page(state: &mut State, alloc: Global, what: PageDeed) -> Result<Given, PageStop>
     requires { IsReadyOnPage state.old.page.forest what }
     ensures step { Ends (λ g. g) result state.new (on_page (page_steps what) state.old) }

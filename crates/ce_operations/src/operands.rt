@@ -46,7 +46,8 @@ fn first(state: &State) -> NodeNo
     NodeNo(1)
 }
 
-/// The node that an operand names, or a TypeError where it is not what it has to be.
+/// The node that an operand names: a ReferenceError where nothing is `this`, a TypeError where its variable is not
+/// set or the node is not what it has to be.
 pub fn node_that(
     what: Fit,
     state: &State,
@@ -64,7 +65,8 @@ pub fn node_that(
     Err(Fault::TypeError)
 }
 
-/// The element that an operand names, or a TypeError where it names none.
+/// The element that an operand names: a ReferenceError where nothing is `this`, a TypeError where its variable is not
+/// set or the node is no element.
 pub fn element(state: &State, this: &Option<NodeNo>, operand: &Operand) -> Result<NodeNo, Fault>
     requires { IfSome this.now (IsNode state.now.page.forest) }
     ensures names { result ≡ element (view this.now state.now) operand.now }
@@ -80,7 +82,8 @@ pub fn element(state: &State, this: &Option<NodeNo>, operand: &Operand) -> Resul
     }
 }
 
-/// The document that an operand names, the page's where there is no operand.
+/// The document that an operand names, the page's where there is no operand: a ReferenceError where nothing is `this`,
+/// a TypeError where its variable is not set or the node is no document.
 pub fn document_or_page(
     state: &State,
     this: &Option<NodeNo>,
@@ -105,7 +108,7 @@ pub fn class(state: &State, name: &str) -> Result<ClassNo, Fault>
     }
 }
 
-/// The text of a value that was fixed, as each is at top level.
+/// The text of a value that was fixed, as each is at top level. NoMemory: memory was refused.
 pub fn fixed_text(alloc: Global, v: &Val) -> Result<Text, NoMemory>
     ensures { IfOk result (λ t. t ≡ fixed_text v.now) }
 {
@@ -119,17 +122,7 @@ pub fn fixed_text(alloc: Global, v: &Val) -> Result<Text, NoMemory>
     }
 }
 
-/// A text that may be absent, copied.
-pub fn copy_of(alloc: Global, text: &Option<Text>) -> Result<Option<Text>, NoMemory>
-    ensures { IfOk result (λ copy. copy ≡ text.now) }
-{
-    match text {
-        None => Ok(None),
-        Some(text) => Ok(Some(text.copy(alloc)?)),
-    }
-}
-
-/// The texts of values that were fixed.
+/// The texts of values that were fixed. NoMemory: memory was refused.
 pub fn fixed_texts(alloc: Global, vals: &Vals) -> Result<Texts, NoMemory>
     ensures { IfOk result (λ ts. ts ≡ map fixed_text vals.now) }
 {

@@ -7,15 +7,18 @@ ghost use Rattle.ce_algorithms.specs.State.{view};
 ghost use Rattle.ce_operations.specs.Ready.{IsReady};
 ghost use Rattle.ce_operations.specs.Resolved.{Resolves};
 
-use crate::operands::{class, copy_of, document_or_page, element, fixed_text, node, node_that};
+use crate::operands::{class, document_or_page, element, fixed_text, node, node_that};
 use crate::questions::asked_of;
 use ce_algorithms::{Deed, Fit, PageDeed};
 use ce_base::{NodeNo, Refused};
 use rule_lines::Op;
-use session_state::State;
+use session_state::{State, copy_of};
 use std::alloc::Global;
 
 /// The deed of an operation, or the first fault of its operands, from the left. Nothing is done yet.
+///
+/// ReferenceError: an operand is `this`, and nothing is `this`. TypeError: a variable is not set, a node is not what it
+/// has to be, or no class has the name. NoMemory: memory was refused.
 pub fn resolve(
     state: &State,
     alloc: Global,

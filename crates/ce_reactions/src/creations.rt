@@ -20,16 +20,18 @@ use crate::upgrades::upgrade_turn;
 use ce_algorithms::{Event, Given};
 use ce_base::{CustomState, DefNo, Fault, NoMemory, NodeNo, Text};
 use ce_operations::create::{
-    class_of, create_failed, create_undefined, is_autonomous, lookup, lowercased, misfit,
+    class_of, create_failed, create_undefined, is_autonomous, lookup, misfit,
 };
 use ce_operations::deeds::gives_node;
 use ce_page::PageStop;
 use element_names::is_local_name;
 use frame_stack::{Stack, Waiting};
-use session_state::State;
+use session_state::{State, lowercased};
 use std::alloc::Global;
 
-/// A creation begins: its name is tested (DOM Standard, section "Interface Document", `createElement`).
+/// A creation begins: its name is tested (DOM Standard, section "Interface Document", `createElement`). Where it is no
+/// element's local name, it threw InvalidCharacterError, and nothing has changed. Over where no fuel is left for a new
+/// element. Else it came as `construct` or `upgrade_turn` says. NoMemory: see `Came`.
 pub fn create_named(
     state: &mut State,
     alloc: Global,
@@ -46,7 +48,7 @@ pub fn create_named(
     if !is_local_name(name.as_str()) {
         return Ok(Came::Threw(Fault::InvalidCharacterError));
     }
-    let local = lowercased(alloc, name)?;
+    let local = lowercased(alloc, name.as_str())?;
     let now = create(state, alloc, stack, local, is, document)?;
     Ok(now)
 }
@@ -151,7 +153,8 @@ fn create_extended(
 }
 
 /// What was constructed for a creation is tested, and is the answer; or the fault is reported, and a failed element
-/// is.
+/// is (DOM Standard, section "Interface Element", "create an element"). Over exactly where no fuel is left for that.
+/// NoMemory: see `Came`.
 pub fn fit_turn(
     state: &mut State,
     alloc: Global,
@@ -175,7 +178,8 @@ pub fn fit_turn(
     }
 }
 
-/// The construction for a creation threw: the fault is reported, and a failed element is the answer.
+/// The construction for a creation threw: the fault is reported, and a failed element is the answer (DOM Standard,
+/// section "Interface Element", "create an element"). Over exactly where no fuel is left for it. NoMemory: see `Came`.
 pub fn failed_turn(
     state: &mut State,
     alloc: Global,
@@ -192,7 +196,8 @@ pub fn failed_turn(
     Ok(now)
 }
 
-/// The upgrade for a creation threw: the fault is reported, and the new element, which is failed, is the answer.
+/// The upgrade for a creation threw: the fault is reported, and the new element, which is failed, is the answer (DOM
+/// Standard, section "Interface Element", "create an element"). NoMemory: see `Came`.
 pub fn extended_threw(state: &mut State, n: NodeNo, f: Fault) -> Result<Came, NoMemory>
     ensures turn { IfOk result (λ now. ended (came_in now state.new) ≡ turn_threw (waiting.CreatingExtended n) f state.old) }
     ensures grows { size state.old.page.forest ≤ size state.new.page.forest }

@@ -30,6 +30,10 @@ use std::alloc::Global;
 impl State {
     /// Adds a definition of a class, and freezes the class (HTML Standard, section "The
     /// CustomElementRegistry interface", `define`).
+    ///
+    /// It is refused for the first of these that holds. SyntaxError: the name is no valid custom element name.
+    /// NotSupportedError: a definition has the name; or one has the class; or what it is to extend is a valid custom
+    /// element name, or no element of HTML. FuelSpent, NoMemory: see `State`.
     pub fn define_element(
         &mut self,
         alloc: Global,
@@ -96,7 +100,7 @@ impl State {
     }
 
     /// Logs that a class is constructed (Web IDL, section "Invoking callback functions", "construct a callback
-    /// function").
+    /// function"). NoMemory: see `State`.
     pub fn log_construction(&mut self, alloc: Global, class: ClassNo) -> Result<(), NoMemory>
         ensures logged { OnOk result (self.new ≡ logged (Construct (class_of self.old class).name) self.old) }
         ensures page { self.new.page ≡ self.old.page }
@@ -130,7 +134,7 @@ impl State {
     /// construction stack of its definition is empty, a new element is made, for one unit of fuel. Else the last
     /// entry's element is given, and the already constructed marker takes its place.
     ///
-    /// TypeError: the class has no definition, or the last entry is the marker.
+    /// TypeError: the class has no definition, or the last entry is the marker. FuelSpent, NoMemory: see `State`.
     pub fn base_call(&mut self, alloc: Global, class: ClassNo) -> Result<NodeNo, PageStop>
         ensures step { Ends (λ n. n) result self.new (on_page (base_call class) self.old) }
         ensures made { IfOk result (IsNode self.new.page.forest) }
@@ -228,14 +232,16 @@ fn make_custom(
     Ok(n)
 }
 
-pub(crate) fn lowercased(alloc: Global, name: &str) -> Result<Text, NoMemory>
+/// A name in ASCII lowercase (Infra Standard, section "Strings"). NoMemory: memory was refused.
+pub fn lowercased(alloc: Global, name: &str) -> Result<Text, NoMemory>
     ensures { IfOk result (λ t. t ≡ str_to_ascii_lowercase name.now) }
 {
     let lower = name.to_ascii_lowercase(alloc)?;
     Text::of(alloc, lower.as_str())
 }
 
-pub(crate) fn copy_of(alloc: Global, text: &Option<Text>) -> Result<Option<Text>, NoMemory>
+/// A text that may be absent, copied. NoMemory: memory was refused.
+pub fn copy_of(alloc: Global, text: &Option<Text>) -> Result<Option<Text>, NoMemory>
     ensures { IfOk result (λ copy. copy ≡ text.now) }
 {
     match text {

@@ -15,4 +15,5 @@ mod state;
 mod upgrade;
 mod variables;
 
+pub use construct::{copy_of, lowercased};
 pub use state::State;
