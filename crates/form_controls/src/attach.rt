@@ -2,7 +2,7 @@
 
 /// What is known of an element where its internals are asked for (HTML Standard, section "Element
 /// internals", `attachInternals`).
-#[derive(Clone, Copy, Debug, PartialEq, Eq)]
+#[derive(Clone, Copy, PartialEq, Eq)]
 pub struct Attach {
     /// It has an `is` value.
     pub has_is: bool,

@@ -3,7 +3,7 @@ use ce_base::NodeNo;
 
 /// What became of an element's form owner and of its disabled state as the trees changed (HTML Standard,
 /// section "Custom element reactions": formAssociatedCallback, formDisabledCallback).
-#[derive(Clone, Copy, Debug)]
+#[derive(Clone, Copy)]
 pub struct Change {
     /// The element.
     pub node: NodeNo,

@@ -4,7 +4,7 @@ use ce_base::Text;
 /// What a control, or an option, keeps of what was set (HTML Standard, sections "A form control's value",
 /// "The input element", "The option element"). A dirty flag and what it guards are one: what is not dirty is
 /// never read.
-#[derive(Debug, Drop)]
+#[derive(Drop)]
 pub struct Control {
     /// The raw value, where the dirty value flag is set.
     pub value: Option<Text>,

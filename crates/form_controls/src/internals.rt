@@ -3,7 +3,7 @@ use crate::Value;
 use ce_base::{Flags, Text, Texts};
 
 /// What ElementInternals keeps of an element (HTML Standard, section "Element internals").
-#[derive(Debug, Drop)]
+#[derive(Drop)]
 pub struct Internals {
     /// The submission value.
     pub value: Value,

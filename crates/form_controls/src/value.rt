@@ -2,7 +2,7 @@
 use ce_base::{Entries, Text};
 
 /// A submission value, or a state (HTML Standard, section "Form-associated custom elements").
-#[derive(Debug, Drop)]
+#[derive(Drop)]
 pub enum Value {
     /// None.
     Nothing,

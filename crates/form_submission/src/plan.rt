@@ -2,7 +2,7 @@
 use ce_base::{Nodes, Text};
 
 /// What a submission sends, or what blocks it (HTML Standard, section "Form submission algorithm").
-#[derive(Debug, Drop)]
+#[derive(Drop)]
 pub enum Plan {
     /// A GET of this URL.
     Get(Text),
@@ -20,7 +20,7 @@ pub enum Plan {
 }
 
 /// What blocks a submission: the first of these that holds.
-#[derive(Debug, Drop)]
+#[derive(Drop)]
 pub enum Why {
     /// The form is not in the page's document, nor in a shadow tree of it.
     Disconnected,

@@ -1,6 +1,7 @@
 // Validity flags, as a token names them.
 ghost use Rattle.std.specs.Prelude.{◌≡◌, ◌<◌, ◌++◌, ◌||◌, [], IfOk, OnOk, map, slice_index_or, string_bytes};
-ghost use Rattle.std.specs.List.{list_all, slice_split};
+ghost use Rattle.std.specs.List.{list_all, list_any, slice_split};
+ghost use Rattle.std.specs.Str.{bytes_eq};
 ghost use Rattle.rule_tokens.specs.Flags.{flag_names, flags, is_comma, is_one_of, raised};
 ghost use Rattle.rule_tokens.specs.FlagsText.{flags_text, names_joined, put_name, raised_names};
 ghost use Rattle.rule_tokens.specs.Gives.{GivesSeen, or_word};
@@ -9,22 +10,29 @@ use crate::{Bad, LineRefused, Token};
 use ce_base::{Flags, NoMemory, Text, Texts};
 use std::alloc::{AllocError, Global};
 
+const FLAG_NAMES: [&str; 10] = [
+    "valueMissing",
+    "typeMismatch",
+    "patternMismatch",
+    "tooLong",
+    "tooShort",
+    "rangeUnderflow",
+    "rangeOverflow",
+    "stepMismatch",
+    "badInput",
+    "customError",
+];
+
+fn is_one_of(text: &str, names: &[&str]) -> bool
+    ensures { result ≡ list_any (λ name. bytes_eq text.now name.now) names.now }
+{
+    names.iter().any(|name| text == *name)
+}
+
 fn is_flag_name(name: &str) -> bool
     ensures { result ≡ is_one_of flag_names name.now }
 {
-    match name {
-        "valueMissing" => true,
-        "typeMismatch" => true,
-        "patternMismatch" => true,
-        "tooLong" => true,
-        "tooShort" => true,
-        "rangeUnderflow" => true,
-        "rangeOverflow" => true,
-        "stepMismatch" => true,
-        "badInput" => true,
-        "customError" => true,
-        _ => false,
-    }
+    is_one_of(name, &FLAG_NAMES)
 }
 
 fn are_flag_names(names: &[Text]) -> bool
@@ -74,7 +82,8 @@ fn names_in(alloc: Global, text: &str) -> Result<Texts, NoMemory>
     Ok(names)
 }
 
-/// The flags that the token names: `none`, or names joined by commas. A flag named twice is raised once.
+/// The flags that the token names: `none`, or names joined by commas. A flag named twice is raised once. It is refused
+/// as `Bad::Word` where it is quoted, or a name is no flag's. `NoMemory`: see `LineRefused`.
 pub fn flags(alloc: Global, t: &Token) -> Result<Flags, LineRefused>
     ensures { GivesSeen (λ f. f.0) result (or_word (flags t.now)) }
 {
@@ -130,7 +139,8 @@ fn push_name(
 }
 
 /// Puts the names of the validity flags that are raised at the end, in their order, with a text between
-/// them, or the text for none.
+/// them, or the text for none. `NoMemory` comes only where memory was refused, and then what is written to is only
+/// dropped.
 pub fn push_names(
     out: &mut String,
     raised: &Flags,
@@ -149,7 +159,8 @@ pub fn push_names(
     Ok(())
 }
 
-/// Puts the canonical text of validity flags at the end: their names with commas between them, or `none`.
+/// Puts the canonical text of validity flags at the end: their names with commas between them, or `none`. `NoMemory`:
+/// see `push_names`.
 pub fn push_flags(out: &mut String, raised: &Flags) -> Result<(), NoMemory>
     ensures { OnOk result (string_bytes out.new ≡ string_bytes out.old ++ flags_text raised.now.0) }
 {
