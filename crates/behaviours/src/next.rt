@@ -9,27 +9,32 @@ use rule_tokens::{CallName, Operand};
 pub struct At {
     /// Whose body it is.
     pub call: CallName,
-    /// How many of its actions have begun.
+    /// From which of its actions on it goes, the first being 0. Behind the last one the body is at its end.
     pub index: usize,
 }
 
 /// Where a body stops.
 #[derive(Drop)]
 pub enum Next {
-    /// This action is next. Each value in it is a fixed text, the one that it has now. `guarded` says that it
-    /// stands under a `try`.
+    /// This action is next. Each value in it is the text that it has now.
     Do {
+        /// The action, each value in it a fixed text.
         action: Action,
+        /// It stands under a `try`.
         guarded: bool,
     },
     /// The body returns: this node, or what `this` is.
     Return {
+        /// The node, where one is named.
         value: Option<Operand>,
+        /// The action stands under a `try`.
         guarded: bool,
     },
     /// The body throws.
     Throw {
+        /// What it throws.
         fault: Fault,
+        /// The action stands under a `try`.
         guarded: bool,
     },
     /// A unit of fuel is to be spent, and none is left.

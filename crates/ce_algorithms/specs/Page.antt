@@ -19,7 +19,7 @@ pub record Element : Type 0 where
 
 pub record Page : Type 0 where
   pub forest : Trees  -- all nodes; node 1 is the page's document
-  pub elements : List Element  -- a row for each node, that of node 1 first; of a node that is no element it stays blank
+  pub elements : List Element  -- a row for each node, that of node 1 first
   pub definitions : List Definition  -- the custom element registry, in the order of defining
   pub stacks : List (List (Option ℕ))  -- the construction stacks of the definitions
   pub queues : Queues

@@ -80,7 +80,7 @@ adopt_node document n = do
   throw_where (λ (w : Work). is_shadow_root (kind_at w.page.forest n)) HierarchyRequestError
   adopt document n
 
--- a custom element is defined: its definition is added, and the class is frozen
+-- a custom element is defined: its definition is added, and the class is frozen (HTML Standard, section "The CustomElementRegistry interface", `define`)
 abbrev pub define_element : List ℕ → ℕ → Option (List ℕ) → Step State (Unit {0})
 define_element name k base = do
   c ← read (λ s. class_of s k)

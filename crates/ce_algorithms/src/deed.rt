@@ -28,7 +28,7 @@ pub enum PageDeed {
         parent: NodeNo,
         node: NodeNo,
     },
-    /// Removes a node from its parent, if it has one (section "Interface ChildNode", `remove`).
+    /// Removes a node from its parent, if it has one (section "Mixin ChildNode", `remove`).
     Detach {
         node: NodeNo,
     },

@@ -22,7 +22,8 @@ fn whole_line(alloc: Global, e: &Event) -> Result<Written, NoMemory>
 }
 
 /// Writes the line of an event with its line feed, the line of an event that only a trace shows only with
-/// `trace`. Where it stops, a front of the line is written.
+/// `trace`. Where it stops, a front of the line is written: with `WriteFault` where the sink failed, and else
+/// with `NoMemory`.
 pub fn write_out<K: Sink>(alloc: Global, sink: &mut K, trace: bool, e: &Event) -> Result<(), Stop>
     ensures all { OnOk result (Appends (K.held sink.old) (K.held sink.new) (shown trace e.now)) }
     ensures part { OnErr result (AppendsPart (K.held sink.old) (K.held sink.new) (shown trace e.now)) }

@@ -39,7 +39,8 @@ fn kept(alloc: Global, e: Event, bytes: &[u8]) -> Result<Event, EventRefused>
 }
 
 /// The event that has these bytes as its text: the line of an event, without its line feed. Where several have
-/// it, it is one of them. `NoMemory` comes only where memory was refused, and tells nothing of the bytes.
+/// it, it is one of them. `NotAnEvent` comes only where no event has this text, `NoMemory` only where memory was
+/// refused, and it tells nothing of the bytes.
 #[tactic(auto, using(crate::proofs::ReadLaws::kept_events))]
 pub fn read_event(alloc: Global, bytes: &[u8]) -> Result<Event, EventRefused>
     // The bytes are the text of the event that is read.

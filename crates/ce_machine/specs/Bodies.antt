@@ -21,11 +21,12 @@ use Rattle.frame_stack.specs.Sessions.{ArePaired, session}
 use Rattle.frame_stack.specs.Resumes.{is_guarded}
 use Rattle.frame_stack.specs.Stacked.{Stacked, HasBody, below_top, frames_of, guarded_of, this_of, top_of}
 
--- the topmost of some frames
+-- a frame, or one that stands for it where there is none
 abbrev pub or_constructing : Option Frame → Frame
 or_constructing None = Constructing
 or_constructing (Some f) = f
 
+-- the topmost frame
 abbrev pub frame_on_top : Stacked → Frame
 frame_on_top stack = or_constructing (top_of (frames_of stack))
 

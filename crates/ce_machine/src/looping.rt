@@ -1,4 +1,4 @@
-// The loop: the frames are finished, the topmost first. Only here is anything written out.
+// The loop: the frames are finished, the topmost first. What a command logs is written out here alone.
 ghost use Rattle.std.specs.Prelude.{◌≡◌, ◌≤◌, [], IfOk, OnOk, OnErr, IsErrOf};
 ghost use Rattle.ce_base.specs.Faults.{Rose};
 ghost use Rattle.ce_base.specs.Outside.{AppendsPart};

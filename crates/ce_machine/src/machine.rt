@@ -26,6 +26,9 @@ use std::marker::Model;
 
 /// A machine: the state of a session of which everything logged was written out, and the stack of frames, on which
 /// none lies between two lines. It is handed on by value with each line, so both stand behind pointers.
+///
+/// A line that gives a `Stop` leaves no machine, and a front of what it writes was written. WriteFault: a write failed,
+/// and the sink's count of faults rose. NoMemory: memory was refused.
 #[derive(Drop)]
 pub struct Machine {
     state: Box<State>,
@@ -50,7 +53,7 @@ impl Model for Machine {
 }
 
 impl Machine {
-    /// The machine before the first line, with so much fuel.
+    /// The machine before the first line, with so much fuel. NoMemory: memory was refused.
     pub fn make(alloc: Global, fuel: u32) -> Result<Machine, NoMemory>
         ensures { IfOk result (λ m. m ≡ start (record { fuel = fuel })) }
     {
@@ -60,7 +63,7 @@ impl Machine {
         Ok(Machine { state, stack })
     }
 
-    /// Takes a part of a class, and writes the reply where it is refused.
+    /// Takes a part of a class, and writes the reply where it is refused. WriteFault, NoMemory: see `Machine`.
     pub fn part<K: Sink>(
         self,
         alloc: Global,
@@ -87,7 +90,7 @@ impl Machine {
         }
     }
 
-    /// Replies to a line that was refused.
+    /// Replies to a line that was refused. WriteFault, NoMemory: see `Machine`.
     pub fn refused<K: Sink>(
         self,
         alloc: Global,
@@ -112,7 +115,9 @@ impl Machine {
         }
     }
 
-    /// Runs a command, and writes what comes of it.
+    /// Runs a command, and writes what comes of it. FuelSpent exactly where the fuel is spent in it: then the line
+    /// `fuel` was written last, and the session has ended. Replied: it was replied to. WriteFault, NoMemory: see
+    /// `Machine`.
     pub fn command<K: Sink>(
         self,
         alloc: Global,

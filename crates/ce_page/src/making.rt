@@ -89,7 +89,8 @@ impl Page {
         Ok(n)
     }
 
-    /// Sets the custom element state of an element.
+    /// Sets the custom element state of an element (DOM Standard, section "Interface Element", "custom element
+    /// state"), and tells nobody. A node that the page does not have stays without one.
     pub fn set_state(&mut self, n: NodeNo, state: CustomState)
         ensures page { self.new ≡ with_state n state self.old }
         ensures numbers { SameNumbers self.old self.new }
@@ -100,7 +101,8 @@ impl Page {
         }
     }
 
-    /// Sets or clears the definition of an element, and tells nobody.
+    /// Sets or clears the custom element definition of an element (DOM Standard, section "Interface Element"),
+    /// and tells nobody.
     pub fn set_definition(
         &mut self,
         _alloc: Global,

@@ -28,7 +28,8 @@ impl Page {
         &self.registry
     }
 
-    /// The custom element state of a node. One that is no element is uncustomized.
+    /// The custom element state of a node (DOM Standard, section "Interface Element", "custom element
+    /// state"): that of its making, until `set_state` gives it another.
     pub fn state(&self, n: NodeNo) -> CustomState
         ensures { result ≡ state_of self.now n }
     {
@@ -38,7 +39,8 @@ impl Page {
         }
     }
 
-    /// The number of an element's definition. None exactly where it has none.
+    /// The number of an element's custom element definition (DOM Standard, section "Interface Element").
+    /// None exactly where it has none.
     pub fn definition(&self, n: NodeNo) -> Option<DefNo>
         ensures { result ≡ (element_of self.now n).definition }
     {

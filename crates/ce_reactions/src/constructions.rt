@@ -24,8 +24,9 @@ use rule_tokens::CallName;
 use session_state::State;
 use std::alloc::Global;
 
-/// A class is constructed: the body of its constructor begins. The constructor of a class that has none of its own is
-/// the base call alone, which waits for nothing.
+/// A class is constructed: the body of its constructor begins (Web IDL, section "Invoking callback functions",
+/// "construct a callback function"). The constructor of a class that has none of its own is the base call alone, which
+/// waits for nothing. Only that throws here (TypeError) or finds no fuel (Over). NoMemory: see `Came`.
 pub fn construct(
     state: &mut State,
     alloc: Global,
@@ -70,7 +71,8 @@ fn begin(state: &State, alloc: Global, stack: &mut Stack, class: ClassNo) -> Res
     Ok(Came::Went(Given::Nothing))
 }
 
-/// The body of a constructor has ended: it has to have given a node. ReferenceError where it has not.
+/// The body of a constructor has ended: it has to have given a node (Web IDL, section "Invoking callback functions",
+/// "construct a callback function"). ReferenceError where it has not.
 pub fn given_turn(given: Given) -> Came
     ensures { (s : IsState) → ended (came_in result s) ≡ turn_went waiting.Constructing given s }
 {

@@ -25,7 +25,8 @@ use rule_tokens::CallOrUpgrade;
 use session_state::State;
 use std::alloc::Global;
 
-/// A reaction that was taken starts.
+/// A reaction that was taken starts (HTML Standard, section "Custom element reactions", "invoke custom element
+/// reactions"). Only an upgrade throws here or finds no fuel: see `upgrade_turn`. NoMemory: see `Came`.
 pub fn start(
     state: &mut State,
     alloc: Global,

@@ -24,7 +24,11 @@ use frame_stack::{Stack, Waiting};
 use session_state::State;
 use std::alloc::Global;
 
-/// An element is upgraded by a definition. One that is failed, precustomized or custom is left as it is.
+/// An element is upgraded by a definition (HTML Standard, section "Upgrades", "upgrade an element"). One that is
+/// failed, precustomized or custom is left as it is.
+///
+/// Over where no fuel is left for what the upgrade enqueues. Then it threw NotSupportedError where the definition
+/// disables shadow and the element has a shadow root. Else it came as `construct` says. NoMemory: see `Came`.
 pub fn upgrade_turn(
     state: &mut State,
     alloc: Global,
@@ -107,7 +111,8 @@ fn construct_for(
     Ok(now)
 }
 
-/// What was constructed for an upgrade has to be the element itself, which then is custom; or the upgrade threw.
+/// What was constructed for an upgrade has to be the element itself, which then is custom; or the upgrade threw
+/// TypeError (HTML Standard, section "Upgrades", "upgrade an element"). NoMemory: see `Came`.
 pub fn constructed_turn(
     state: &mut State,
     alloc: Global,
@@ -140,7 +145,8 @@ fn same_given(n: NodeNo, given: Given) -> Result<(), Fault>
     }
 }
 
-/// An upgrade ends, or it threw, and the fault is thrown on. In each case the construction stack loses its last entry.
+/// An upgrade ends, or it threw, and the fault is thrown on (HTML Standard, section "Upgrades", "upgrade an element").
+/// In each case the construction stack loses its last entry. NoMemory: see `Came`.
 pub fn upgraded_turn(
     state: &mut State,
     alloc: Global,

@@ -1,4 +1,4 @@
--- What a call of `define` does.
+-- What a call of `define` does (HTML Standard, section "The CustomElementRegistry interface").
 use Rattle.std.specs.Prelude.{◌≡◌, ℕ, List, [], ◌∷◌, ◌++◌, length, Option, Some, None, Result, Ok, Err, ⊤}
 use Rattle.ce_base.specs.declared.fault.Refused.{Refused}
 use Rattle.ce_base.specs.declared.fault.Refused.TheVariants.{Fault as HasFault, NoMemory}

@@ -46,7 +46,8 @@ impl Registry {
         }
     }
 
-    /// Adds a definition, and gives its number (`define`). It refuses, with the fault of the first that
+    /// Adds a definition, and gives its number (HTML Standard, section "The CustomElementRegistry interface",
+    /// `define`). It refuses, with the fault of the first that
     /// holds: SyntaxError where the name is no custom element's; NotSupportedError where a definition has the
     /// name, where a definition has the class, where `base` is given and is a custom element's name or no
     /// element of HTML.
@@ -128,14 +129,16 @@ impl Registry {
         None
     }
 
-    /// The definition with this name. None exactly where there is none.
+    /// The definition with this name (HTML Standard, section "The CustomElementRegistry interface", `get`).
+    /// None exactly where there is none.
     pub fn get(&self, name: &str) -> Option<DefNo>
         ensures { result ≡ by_name self.now name.now }
     {
         self.names.get(name).copied()
     }
 
-    /// The definition with this class. None exactly where there is none.
+    /// The definition with this class, as the base call of its constructor finds it (HTML Standard, section
+    /// "HTML element constructors"). None exactly where there is none.
     pub fn by_class(&self, class: ClassNo) -> Option<DefNo>
         ensures { result ≡ by_class self.now class }
     {
@@ -160,7 +163,8 @@ impl Registry {
         }
     }
 
-    /// Whether a definition observes the attribute name. One that the registry does not have observes none.
+    /// Whether a definition observes the attribute name (HTML Standard, section "Custom element reactions",
+    /// "enqueue a custom element callback reaction"). One that the registry does not have observes none.
     pub fn observes(&self, d: DefNo, name: &str) -> bool
         ensures { result ≡ observes (slice_get self.now d) name.now }
     {

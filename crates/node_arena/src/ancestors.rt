@@ -56,7 +56,7 @@ impl Tree {
     }
 
     /// Whether the node is connected: whether its shadow-including root is a document (DOM Standard, section
-    /// "Interface Node", "connected").
+    /// "Shadow tree", "connected").
     pub fn is_connected(&self, n: NodeNo) -> bool
         requires { IsNode self.now n }
         ensures { result ≡ connected self.now n }

@@ -12,7 +12,7 @@ use node_trees::NodeKind;
 
 impl Tree {
     /// Of the node and what is below it in its own tree, the first element in tree order whose ID this is
-    /// (DOM Standard, section "Interface NonElementParentNode", `getElementById`). An empty text is no ID.
+    /// (DOM Standard, section "Mixin NonElementParentNode", `getElementById`). An empty text is no ID.
     /// None exactly where there is none.
     pub fn first_with_id(&self, root: NodeNo, id: &str) -> Option<NodeNo>
         requires { IsNode self.now root }

@@ -34,7 +34,7 @@ fn push_links(stack: &mut Vec<NodeNo>, node: &Node) -> Result<(), NoMemory>
 }
 
 impl Tree {
-    /// The node and all below it in shadow-including tree order (DOM Standard, section "Shadow tree",
+    /// The node and all below it in shadow-including tree order (DOM Standard, section "Interface ShadowRoot",
     /// "shadow-including tree order"): a node, then its shadow tree, then its children, each in this order.
     /// They are all connected, or none is.
     pub fn shadow_order(&self, alloc: Global, n: NodeNo) -> Result<Nodes, NoMemory>

@@ -101,8 +101,8 @@ impl Tree {
         text_of(&self.node(n).chars)
     }
 
-    /// The node document (DOM Standard, section "Interface Node", "node document"). That of a document is
-    /// itself.
+    /// The node document (DOM Standard, section "Interface Node", "node document"). A document is made its
+    /// own.
     pub fn document(&self, n: NodeNo) -> NodeNo
         requires { IsNode self.now n }
         ensures { result ≡ document_at self.now n }

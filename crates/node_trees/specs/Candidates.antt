@@ -1,4 +1,4 @@
--- Elements of the shadow-including tree order (DOM Standard, section "Shadow tree"), each a part of that order as it stands.
+-- Elements of the shadow-including tree order (DOM Standard, section "Interface ShadowRoot"), each a part of that order as it stands.
 use Rattle.std.specs.Prelude.{ℕ, Bool, false, ◌&&◌, List, filter, Option, Some, None, bytes_eq}
 use Rattle.node_trees.specs.Facts.{Facts, is_element}
 use Rattle.node_trees.specs.Trees.{Trees}

@@ -3,7 +3,7 @@ use Rattle.std.specs.Prelude.{ℕ, List, [], ◌∷◌, ◌++◌}
 use Rattle.node_trees.specs.Trees.{Trees, none, tree, tree_of}
 
 -- shadow-including tree order: a node, then its shadow tree, then its children, each in this order (DOM Standard,
--- section "Shadow tree", "shadow-including tree order")
+-- section "Interface ShadowRoot", "shadow-including tree order")
 abbrev pub order : Trees → List ℕ
 order none = []
 order (tree m x shadow children rest) = m ∷ (order shadow ++ (order children ++ order rest))

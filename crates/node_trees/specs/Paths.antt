@@ -33,10 +33,10 @@ has_parent forest n = is_some (parent_at forest n)
 abbrev pub root_at : Trees → ℕ → ℕ
 root_at forest n = or_number (find (λ m. not (has_parent forest m)) (reverse (path n forest))) n
 
--- the root of n's tree, from each shadow root on the root of its host's (DOM Standard, section "Shadow tree", "shadow-including root")
+-- the root of n's tree, from each shadow root on the root of its host's (DOM Standard, section "Interface ShadowRoot", "shadow-including root")
 abbrev pub shadow_including_root_at : Trees → ℕ → ℕ
 shadow_including_root_at forest n = or_number (first_of (path n forest)) n
 
--- whether that root is a document (DOM Standard, section "Interface Node", "connected")
+-- whether that root is a document (DOM Standard, section "Shadow tree", "connected")
 abbrev pub connected : Trees → ℕ → Bool
 connected forest n = is_document (kind_at forest (shadow_including_root_at forest n))

@@ -46,7 +46,7 @@ impl Feed {
         }
     }
 
-    /// Feeds a piece.
+    /// Feeds a piece. NoMemory: memory was refused, and the feed is only dropped.
     pub fn piece(&mut self, alloc: Global, bytes: &[u8]) -> Result<(), NoMemory>
         ensures { OnOk result (self.new ≡ self.old ++ bytes.now) }
     {
@@ -60,7 +60,7 @@ impl Feed {
     }
 
     /// The next line that a line feed ends, without it: of one of more than 4096 bytes the first 4097. None
-    /// exactly where no line feed is left.
+    /// exactly where no line feed is left. NoMemory: memory was refused, and the feed is only dropped.
     pub fn next_line(&mut self, alloc: Global) -> Result<Option<Bytes>, NoMemory>
         ensures line { IfOk result (λ o. IfSome o (λ line. GivesLine longest self.old self.new line)) }
         ensures none { IfOk result (λ o. IfNone o (self.new ≡ self.old)) }

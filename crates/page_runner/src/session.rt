@@ -43,7 +43,7 @@ impl Model for Session {
 }
 
 impl Session {
-    /// A session before its first line.
+    /// A session before its first line. NoMemory: memory was refused.
     pub fn make(alloc: Global, options: Options) -> Result<Session, NoMemory>
         ensures { IfOk result (λ s. s ≡ fresh options) }
     {
@@ -70,7 +70,11 @@ impl Session {
         self.line += 1;
     }
 
-    /// Reads a line, runs it, and writes what comes of it.
+    /// Reads a line, runs it, and writes what comes of it. FuelSpent exactly where the fuel is spent in it: then the
+    /// line `fuel` was written last, and the session has ended. Replied: else, also where the line was refused.
+    ///
+    /// A `Stop` leaves no session, and a front of what the line writes was written. WriteFault: a write failed, and the
+    /// sink's count of faults rose. NoMemory: memory was refused.
     pub fn line<K: Sink>(
         self,
         alloc: Global,

@@ -21,6 +21,15 @@ const LIMIT: usize = 16_777_216;
 /// `--trace`, `--fuel N`, or both in either order; others are refused, and then nothing is read or written.
 ///
 /// All lines that were wholly read are run, and their answers written, before the source is asked again.
+///
+/// Usage comes exactly where the words are refused. The others speak of the lines that count: all lines where the
+/// source gave its end within 16,777,216 bytes, else the whole lines within them. Done: the source gave its end within
+/// them, the fuel sufficed, and no line was refused. BadLines: the same, but some line was refused. Fuel: a unit of
+/// fuel was wanted, and none was left. ReadFault: a read failed, and the source's count of faults rose. TooLong: the
+/// source gave more bytes. With each of these the transcript of the lines that count was written whole.
+///
+/// WriteFault: a write failed, and the sink's count of faults rose. NoMemory: memory was refused. With both a front of
+/// that transcript was written.
 pub fn run<S: Source, K: Sink>(
     alloc: Global,
     words: &Vec<String>,

@@ -40,7 +40,7 @@ impl Wraps {
         }
     }
 
-    /// Puts one more inside.
+    /// Puts one more inside. `NoMemory` comes only where memory was refused, and then they are only dropped.
     pub fn push(&mut self, w: Wrap) -> Result<(), NoMemory>
         ensures { OnOk result (self.new ≡ self.old ++ w ∷ []) }
     {
@@ -100,7 +100,9 @@ fn piece_at(alloc: Global, tokens: &[Token]) -> Result<(Piece, &[Token]), LineRe
     Ok((Piece::Within(leaf), &[]))
 }
 
-/// What the tokens of a line say.
+/// What the tokens of a line say. They are refused for the first that is amiss, from the left: as `Bad::Word` where a
+/// token is the first word of no form, or does not have the form that is wanted there; as `Bad::Arity` where a token is
+/// missing or left over. `NoMemory` comes only where memory was refused, and tells nothing of the tokens.
 #[tactic(auto, using(crate::proofs::Joins::join_steps))]
 pub fn form_of(alloc: Global, tokens: &[Token]) -> Result<Form, LineRefused>
     ensures { Gives result (form_of tokens.now) }

@@ -44,7 +44,9 @@ fn said(alloc: Global, limit: usize, bytes: &[u8]) -> Result<Line, LineRefused>
     }
 }
 
-/// Reads a line of at most so many bytes by the whole grammar, also what is not built yet.
+/// Reads a line of at most so many bytes, without its end, by the whole grammar, also what is not built yet. It is
+/// refused for the first case of `Bad` that holds, in their order; `Later` is none here. `NoMemory` comes only where
+/// memory was refused, and tells nothing of the line.
 pub fn grammar_line(alloc: Global, limit: usize, bytes: &[u8]) -> Result<Line, LineRefused>
     // What is read is spelled so.
     ensures found { IfOk result (λ x. Spells limit bytes.now (line_of x)) }

@@ -37,7 +37,7 @@ pub enum Val {
 }
 
 impl Operand {
-    /// A second operand that names the same node.
+    /// A second operand that names the same node. `NoMemory` comes only where memory was refused.
     pub fn copy(&self, alloc: Global) -> Result<Operand, NoMemory>
         ensures { IfOk result (λ x. x ≡ self.now) }
     {
@@ -50,7 +50,7 @@ impl Operand {
 }
 
 impl Val {
-    /// A second value that names the same text.
+    /// A second value that names the same text. `NoMemory` comes only where memory was refused.
     pub fn copy(&self, alloc: Global) -> Result<Val, NoMemory>
         ensures { IfOk result (λ x. x ≡ self.now) }
     {
@@ -147,7 +147,8 @@ pub fn is_word(t: &Token, word: &str) -> bool
     !t.quoted && t.text.as_str() == word
 }
 
-/// The variable that the token names, without its `$`.
+/// The variable that the token names, without its `$`. It is refused as `Bad::Word` where it names none. `NoMemory`:
+/// see `LineRefused`.
 pub fn variable(alloc: Global, t: &Token) -> Result<Text, LineRefused>
     ensures { Gives result (or_word (variable t.now)) }
 {
@@ -160,7 +161,7 @@ pub fn variable(alloc: Global, t: &Token) -> Result<Text, LineRefused>
     }
 }
 
-/// The node that the token names.
+/// The node that the token names. It is refused as `Bad::Word` where it names none. `NoMemory`: see `LineRefused`.
 pub fn node(alloc: Global, t: &Token) -> Result<Operand, LineRefused>
     ensures { Gives result (or_word (node t.now)) }
 {
@@ -173,7 +174,7 @@ pub fn node(alloc: Global, t: &Token) -> Result<Operand, LineRefused>
     Ok(Operand::Variable(variable(alloc, t)?))
 }
 
-/// The name of a class that the token is.
+/// The name of a class that the token is. It is refused as `Bad::Word` where it is none. `NoMemory`: see `LineRefused`.
 pub fn class_name(alloc: Global, t: &Token) -> Result<Text, LineRefused>
     ensures { Gives result (or_word (class_name t.now)) }
 {
@@ -183,7 +184,8 @@ pub fn class_name(alloc: Global, t: &Token) -> Result<Text, LineRefused>
     Ok(t.text.copy(alloc)?)
 }
 
-/// The text that the token is.
+/// The text that the token is. It is refused as `Bad::Word` where it is bare and begins with `$` or `@`. `NoMemory`:
+/// see `LineRefused`.
 pub fn text(alloc: Global, t: &Token) -> Result<Text, LineRefused>
     ensures { Gives result (or_word (text t.now)) }
 {
@@ -193,7 +195,7 @@ pub fn text(alloc: Global, t: &Token) -> Result<Text, LineRefused>
     Ok(t.text.copy(alloc)?)
 }
 
-/// The value that the token names.
+/// The value that the token names. It is refused as `Bad::Word` where it names none. `NoMemory`: see `LineRefused`.
 pub fn value(alloc: Global, t: &Token) -> Result<Val, LineRefused>
     ensures { Gives result (or_word (value t.now)) }
 {

@@ -59,7 +59,7 @@ fn push_all_escaped(out: &mut String, chars: &[char]) -> Result<(), NoMemory>
 }
 
 /// Puts a text in quotes at the end: `\`, `"` and control characters by their escapes, all else as it
-/// stands.
+/// stands. `NoMemory` comes only where memory was refused, and then what is written to is only dropped.
 pub fn push_quoted(alloc: Global, out: &mut String, text: &str) -> Result<(), NoMemory>
     ensures { OnOk result (string_bytes out.new ≡ string_bytes out.old ++ in_quotes text.now) }
 {
@@ -80,7 +80,7 @@ fn quoted_text(alloc: Global, text: &str) -> Result<Text, NoMemory>
     Text::of(alloc, s)
 }
 
-/// The text in quotes.
+/// The text in quotes. `NoMemory` comes only where memory was refused.
 pub fn quoted(alloc: Global, text: &str) -> Result<Text, NoMemory>
     ensures text { IfOk result (λ t. t ≡ in_quotes text.now) }
 

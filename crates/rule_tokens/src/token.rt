@@ -39,7 +39,7 @@ impl Tokens {
         }
     }
 
-    /// Puts a token at the end.
+    /// Puts a token at the end. `NoMemory` comes only where memory was refused, and then the list is only dropped.
     pub fn push(&mut self, t: Token) -> Result<(), NoMemory>
         ensures { OnOk result (self.new ≡ self.old ++ t ∷ []) }
     {

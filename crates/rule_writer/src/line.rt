@@ -175,7 +175,7 @@ fn put_line(alloc: Global, out: &mut String, line: &Line) -> Result<(), NoMemory
     }
 }
 
-/// The canonical tokens of a line, with one space between them.
+/// The canonical tokens of a line, with one space between them. `NoMemory` comes only where memory was refused.
 pub fn as_line(alloc: Global, line: &Line) -> Result<Text, NoMemory>
     ensures text { IfOk result (λ t. t ≡ as_line (said_tokens (line_of line.now))) }
     ensures utf8 { IfOk result (λ t. IsUtf8 t) }

@@ -20,7 +20,8 @@ use reaction_queue::Reaction;
 use std::alloc::Global;
 
 impl State {
-    /// The class of an element's definition. None exactly where it has none. What has one is an element.
+    /// The class of an element's definition, whose callback a reaction runs (HTML Standard, section "Custom element
+    /// reactions"). None exactly where it has none. What has one is an element.
     pub fn callee(&self, e: NodeNo) -> Option<ClassNo>
         ensures class { result ≡ callee (definition_of self.now.page e) }
         ensures element { IfSome result (λ class. IsElement self.now.page.forest e) }
@@ -31,7 +32,8 @@ impl State {
         }
     }
 
-    /// Logs the line of a callback that starts.
+    /// Logs the line of a callback that starts (HTML Standard, section "Custom element reactions"). NoMemory: see
+    /// `State`.
     pub fn log_call(&mut self, alloc: Global, e: NodeNo, r: &Reaction) -> Result<(), NoMemory>
         requires { is_callback r.now ≡ true }
         ensures logged { OnOk result (Goes tt self.new ≡ log_call e r.now self.old) }
@@ -42,7 +44,8 @@ impl State {
         Ok(())
     }
 
-    /// Runs the body on top of a stack up to its next stop, on the fuel of the session.
+    /// Runs the body on top of a stack up to its next stop, on the fuel of the session. NoMemory: memory was refused,
+    /// and the state and the stack are only dropped.
     pub fn resume(&mut self, alloc: Global, stack: &mut Stack) -> Result<Next, NoMemory>
         requires { HasBody (frames_of stack.old) }
         ensures resumed { IfOk result (λ next. Resumes stack.old stack.new self.old.fuel self.new.fuel next) }

@@ -13,7 +13,8 @@ use ce_lines::write_out;
 use std::alloc::Global;
 
 impl State {
-    /// Writes out what was logged, and forgets it.
+    /// Writes out what was logged, and forgets it. WriteFault: a write failed, and the sink's count of faults rose.
+    /// NoMemory: memory was refused. After both a front of the text was written, and the state is only dropped.
     pub fn flush<K: Sink>(&mut self, alloc: Global, trace: bool, sink: &mut K) -> Result<(), Stop>
         ensures written { OnOk result (Appends (K.held sink.old) (K.held sink.new) (text trace self.old.log)) }
         ensures state { OnOk result (self.new ≡ forgotten self.old) }

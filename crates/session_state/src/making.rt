@@ -15,7 +15,8 @@ use ce_page::{Page, PageStop};
 use std::alloc::Global;
 
 impl State {
-    /// Makes an inert document (DOM Standard, section "Interface DOMImplementation", `createHTMLDocument`).
+    /// Makes an inert document (DOM Standard, section "Interface DOMImplementation", `createHTMLDocument`). It refuses
+    /// nothing. FuelSpent, NoMemory: see `State`.
     pub fn make_document(&mut self, alloc: Global) -> Result<NodeNo, PageStop>
         ensures step { Ends (λ n. n) result self.new (on_page make_document self.old) }
         ensures made { IfOk result (IsNode self.new.page.forest) }
@@ -26,7 +27,8 @@ impl State {
         outcome
     }
 
-    /// Makes a text node (DOM Standard, section "Interface Document", `createTextNode`).
+    /// Makes a text node (DOM Standard, section "Interface Document", `createTextNode`). It refuses nothing.
+    /// FuelSpent, NoMemory: see `State`.
     pub fn make_text(
         &mut self,
         alloc: Global,
@@ -45,7 +47,7 @@ impl State {
     }
 
     /// Makes an element in a state (DOM Standard, section "Interface Element", "create an element
-    /// internal").
+    /// internal"). It refuses nothing. FuelSpent, NoMemory: see `State`.
     pub fn make_in_state(
         &mut self,
         alloc: Global,

@@ -17,6 +17,10 @@ use std::alloc::Global;
 impl State {
     /// Takes a part of a class. What it says of the class's behaviour goes to the stack, on which no frame lies. It
     /// spends no fuel.
+    ///
+    /// TypeError: no class has the name. NotSupportedError: a class has the name that a new one is to have; or the
+    /// class is frozen, since a definition has it. After both nothing has changed. NoMemory: memory was refused, and
+    /// the state and the stack are only dropped.
     pub fn part(&mut self, alloc: Global, stack: &mut Stack, p: ClassPart) -> Result<(), Refused>
         requires built { is_built_part (part_of p) ≡ true }
         requires rest { stack.old.frames ≡ [] }

@@ -23,6 +23,12 @@ use std::alloc::Global;
 impl State {
     /// Inserts a node among the children of a parent, before one of them or at the end (DOM Standard, section
     /// "Mutation algorithms", "pre-insert").
+    ///
+    /// It is refused for the first of these that holds ("ensure pre-insert validity"). HierarchyRequestError: the
+    /// parent is a text, or the node is a host-including inclusive ancestor of the parent. NotFoundError: the node
+    /// before which it is to stand is no child of the parent. HierarchyRequestError: the node is a document or a shadow
+    /// root; or the parent is a document, and the node is a text or the document has an element child. FuelSpent,
+    /// NoMemory: see `State`.
     pub fn insert(
         &mut self,
         alloc: Global,
@@ -43,8 +49,8 @@ impl State {
         outcome
     }
 
-    /// Removes a child of a parent (DOM Standard, section "Mutation algorithms", "pre-remove"). A node that
-    /// is no child of it is refused with NotFoundError.
+    /// Removes a child of a parent (DOM Standard, section "Mutation algorithms", "pre-remove"). NotFoundError: the
+    /// node is no child of it. FuelSpent, NoMemory: see `State`.
     pub fn remove_child(
         &mut self,
         alloc: Global,
@@ -60,7 +66,8 @@ impl State {
         outcome
     }
 
-    /// Removes a node from its parent, if it has one (DOM Standard, section "Mixin ChildNode", `remove`).
+    /// Removes a node from its parent, if it has one (DOM Standard, section "Mixin ChildNode", `remove`). It refuses
+    /// nothing. FuelSpent, NoMemory: see `State`.
     pub fn detach(&mut self, alloc: Global, node: NodeNo) -> Result<(), PageStop>
         requires { IsNode self.old.page.forest node }
         ensures step { Does result self.new (on_page (detach node) self.old) }
@@ -72,8 +79,8 @@ impl State {
     }
 
     /// Adopts a node, with all below it, into a document (DOM Standard, section "Interface Document",
-    /// `adoptNode`). A document is refused with NotSupportedError, a shadow root with HierarchyRequestError, and then
-    /// nothing has changed.
+    /// `adoptNode`). NotSupportedError: the node is a document. HierarchyRequestError: it is a shadow root. FuelSpent,
+    /// NoMemory: see `State`.
     pub fn adopt(&mut self, alloc: Global, document: NodeNo, node: NodeNo) -> Result<(), PageStop>
         requires { IsNode self.old.page.forest node }
         ensures step { Does result self.new (on_page (adopt_node document node) self.old) }
@@ -86,8 +93,8 @@ impl State {
 
     /// Clones a node, with all below it where the clone is deep, and gives the copy, which stands nowhere (DOM
     /// Standard, section "Interface Node", `cloneNode`). Shadow trees are not cloned, and the upgrade of a
-    /// custom element is enqueued. A document or a shadow root is refused with NotSupportedError, and then
-    /// nothing has changed.
+    /// custom element is enqueued. NotSupportedError: the node is a document or a shadow root. FuelSpent, NoMemory: see
+    /// `State`.
     pub fn clone_node(
         &mut self,
         alloc: Global,
@@ -105,7 +112,8 @@ impl State {
     }
 
     /// Tries to upgrade each element among a node's shadow-including inclusive descendants, in shadow-including
-    /// tree order (HTML Standard, section "The CustomElementRegistry interface", `upgrade`).
+    /// tree order (HTML Standard, section "The CustomElementRegistry interface", `upgrade`). It refuses nothing.
+    /// FuelSpent, NoMemory: see `State`.
     pub fn upgrade_all(&mut self, alloc: Global, n: NodeNo) -> Result<(), PageStop>
         requires { IsNode self.old.page.forest n }
         ensures step { Does result self.new (on_page (upgrade_all n) self.old) }
@@ -117,7 +125,8 @@ impl State {
     }
 
     /// Sets an attribute of an element by a name that is tested and lowercased (DOM Standard, section
-    /// "Interface Element", `setAttribute`). A name that is none is refused with InvalidCharacterError.
+    /// "Interface Element", `setAttribute`). InvalidCharacterError: the name is no attribute's name. FuelSpent,
+    /// NoMemory: see `State`.
     pub fn set_named(
         &mut self,
         alloc: Global,
@@ -136,7 +145,7 @@ impl State {
     }
 
     /// Removes an attribute of an element by a name that is lowercased (DOM Standard, section "Interface
-    /// Element", `removeAttribute`).
+    /// Element", `removeAttribute`). It refuses nothing. FuelSpent, NoMemory: see `State`.
     pub fn remove_named(&mut self, alloc: Global, n: NodeNo, name: &str) -> Result<(), PageStop>
         requires node { IsNode self.old.page.forest n }
         requires element { kind_at self.old.page.forest n ≡ ElementKind }

@@ -14,7 +14,8 @@ use reaction_queue::{ElementQueue, Reaction};
 use std::alloc::Global;
 
 impl State {
-    /// Pushes a new element queue, and gives its number.
+    /// Pushes a new element queue, and gives its number (HTML Standard, section "Custom element reactions"). NoMemory:
+    /// see `State`.
     pub fn open_queue(&mut self, alloc: Global) -> Result<QueueNo, NoMemory>
         requires { self.old.page.queues.pushed + self.old.fuel + 1 < 2 ^ 64 }
         ensures step { IfOk result (λ q. Goes q self.new ≡ open_queue self.old) }
@@ -25,7 +26,8 @@ impl State {
         Ok(number)
     }
 
-    /// Pops the current element queue, and gives its elements: none where no queue is on the stack.
+    /// Pops the current element queue, and gives its elements (HTML Standard, section "Custom element reactions"): none
+    /// where no queue is on the stack.
     pub fn pop_queue(&mut self) -> ElementQueue
         ensures step { Goes result self.new ≡ pop_queue self.old }
         ensures forest { self.new.page.forest ≡ self.old.page.forest }
@@ -33,7 +35,8 @@ impl State {
         self.page.end()
     }
 
-    /// Takes the first element of a queue that was popped. None exactly where it is empty.
+    /// Takes the first element of a queue that was popped (HTML Standard, section "Custom element reactions", "invoke
+    /// custom element reactions"). None exactly where it is empty.
     pub fn next_element(&mut self, elements: &mut ElementQueue) -> Option<NodeNo>
         ensures first { MatchOption result ((elements.old ≡ []) × (elements.new ≡ [])) (λ e. elements.old ≡ e ∷ elements.new) }
         ensures state { self.new ≡ self.old }
@@ -41,14 +44,15 @@ impl State {
         self.page.next_element(elements)
     }
 
-    /// Whether an element is in the backup element queue.
+    /// Whether an element is in the backup element queue (HTML Standard, section "Custom element reactions").
     pub fn has_backup(&self) -> bool
         ensures { result ≡ not (is_empty self.now.page.queues.backup) }
     {
         self.page.has_backup()
     }
 
-    /// Takes the first element of the backup element queue. None exactly where it is empty.
+    /// Takes the first element of the backup element queue (HTML Standard, section "Custom element reactions"). None
+    /// exactly where it is empty.
     pub fn next_backup(&mut self) -> Option<NodeNo>
         ensures none { IfNone result ((self.old.page.queues.backup ≡ []) × (self.new ≡ self.old)) }
         ensures first { IfSome result (λ e. TakesBackup self.old self.new e) }
@@ -56,7 +60,8 @@ impl State {
         self.page.next_backup()
     }
 
-    /// Takes the first reaction that waits at a node, which then is an element. None exactly where none waits.
+    /// Takes the first reaction that waits at a node, which then is an element (HTML Standard, section "Custom element
+    /// reactions", "invoke custom element reactions"). None exactly where none waits.
     pub fn next_reaction(&mut self, e: NodeNo) -> Option<(ReactionNo, Reaction)>
         ensures none { IfNone result ((waiting_at self.old.page.queues e ≡ []) × (self.new ≡ self.old)) }
         ensures first { IfSome result (λ w. TakesReaction self.old self.new e w) }

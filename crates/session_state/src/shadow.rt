@@ -18,9 +18,8 @@ use std::alloc::Global;
 
 impl State {
     /// Attaches a shadow root to an element (DOM Standard, section "Interface Element", "attach a shadow
-    /// root"). It is refused with NotSupportedError, and then nothing has changed, where the local name is
-    /// none of an element with a shadow tree, where the definition disables shadow, and where there is a
-    /// shadow root already.
+    /// root"). NotSupportedError: the local name is none of an element that may have a shadow tree, or the definition
+    /// disables shadow, or there is a shadow root already. FuelSpent, NoMemory: see `State`.
     pub fn attach_shadow(&mut self, alloc: Global, n: NodeNo) -> Result<NodeNo, PageStop>
         requires node { IsNode self.old.page.forest n }
         requires element { kind_at self.old.page.forest n ≡ ElementKind }

@@ -20,6 +20,17 @@ use std::marker::Model;
 
 /// The state of a session: the page and its fuel, the classes, the variables, and what was logged and not
 /// written out yet. Each variable holds a node of the page, and the fuel bounds what still gets a number.
+///
+/// A step wants one unit of fuel for each node that it makes, each attribute that it clones, and each reaction that
+/// it enqueues. Where it has not gone, its answer is one of these.
+///
+/// Refused: the step throws this fault; its own lines say when. What the page had noted is logged, and else nothing
+/// has changed.
+///
+/// FuelSpent: a unit of fuel was wanted, and none was left. What was done before that stays; what the page noted is
+/// logged, and then the line `fuel`. The session has ended.
+///
+/// NoMemory: memory was refused, and the state is only dropped.
 #[derive(Drop)]
 pub struct State {
     pub(crate) page: Page,
@@ -52,7 +63,7 @@ impl Model for State {
 }
 
 impl State {
-    /// The state before the first line.
+    /// The state before the first line. NoMemory: memory was refused.
     pub fn make(alloc: Global, settings: Settings) -> Result<State, NoMemory>
         ensures { IfOk result (λ s. s ≡ start settings) }
     {
@@ -89,7 +100,7 @@ impl State {
         self.variables.get(name)
     }
 
-    /// Sets a variable to a node.
+    /// Sets a variable to a node. NoMemory: see `State`.
     pub fn set_variable(&mut self, var: Text, n: NodeNo) -> Result<(), NoMemory>
         requires { IsNode self.old.page.forest n }
         ensures set { OnOk result (Goes tt self.new ≡ set_variable var n self.old) }
@@ -106,7 +117,7 @@ impl State {
         self.classes.named(name)
     }
 
-    /// Logs an event.
+    /// Logs an event. NoMemory: see `State`.
     pub fn log(&mut self, e: Event) -> Result<(), NoMemory>
         ensures logged { OnOk result (self.new ≡ logged e self.old) }
         ensures page { self.new.page ≡ self.old.page }
@@ -116,7 +127,8 @@ impl State {
         Ok(())
     }
 
-    /// Spends one unit of fuel, or ends the session.
+    /// Spends one unit of fuel, or ends the session. FuelSpent exactly where none is left: then the line `fuel` is
+    /// logged, and else nothing has changed. It refuses nothing. NoMemory: see `State`.
     pub fn spend(&mut self) -> Result<(), PageStop>
         ensures step { Does result self.new (spend self.old) }
         ensures room { OnOk result (self.new.page.queues.pushed + self.new.fuel + 1 < 2 ^ 64) }

@@ -27,8 +27,9 @@ use std::alloc::Global;
 
 // The parts of "upgrade an element" (HTML Standard, section "Upgrades"), between which the class is constructed.
 impl State {
-    /// The custom element state of a node (DOM Standard, section "Interface Element"), by which an upgrade goes (HTML
-    /// Standard, section "Upgrades"). One that is no element is uncustomized.
+    /// The custom element state of a node (DOM Standard, section "Interface Element", "custom element state"), by which
+    /// an upgrade goes (HTML Standard, section "Upgrades"): that of the node's making, until `set_state` or an upgrade
+    /// gives it another.
     pub fn custom_state(&self, n: NodeNo) -> CustomState
         ensures { result ≡ state_of self.now.page n }
     {
@@ -48,7 +49,7 @@ impl State {
     /// The upgrade of an element by a definition begins (HTML Standard, section "Upgrades", "upgrade an element"): it
     /// has the definition, and is failed for now; its attributes, in the order of first setting, and then that it is
     /// connected, are enqueued; it comes last on the definition's construction stack. FuelSpent exactly where no fuel
-    /// is left for what is enqueued; it refuses nothing.
+    /// is left for what is enqueued; it refuses nothing. What stands then, and NoMemory: see `State`.
     pub fn begin_upgrade(&mut self, alloc: Global, n: NodeNo, d: DefNo) -> Result<(), PageStop>
         requires element { IsElement self.old.page.forest n }
         ensures step { Does result self.new (on_page (begin_upgrade n d) self.old) }
@@ -69,7 +70,7 @@ impl State {
     }
 
     /// The construction for an upgrade has ended, in whatever way: the definition's construction stack loses its last
-    /// entry (HTML Standard, section "Upgrades", "upgrade an element").
+    /// entry (HTML Standard, section "Upgrades", "upgrade an element"). NoMemory: see `State`.
     pub fn pop_construction(&mut self, d: DefNo) -> Result<(), NoMemory>
         ensures step { OnOk result (Goes tt self.new ≡ on_page (pop_construction d) self.old) }
         ensures forest { self.new.page.forest ≡ self.old.page.forest }
@@ -79,7 +80,7 @@ impl State {
     }
 
     /// An upgrade threw, and its fault is thrown on (HTML Standard, section "Upgrades", "upgrade an element"): the
-    /// element has no definition any more, and its reaction queue is emptied. Its state stays.
+    /// element has no definition any more, and its reaction queue is emptied. Its state stays. NoMemory: see `State`.
     pub fn upgrade_threw(&mut self, alloc: Global, n: NodeNo) -> Result<(), NoMemory>
         ensures step { OnOk result ((f : Fault) → Throws f self.new ≡ upgrade_threw n f self.old) }
         ensures forest { self.new.page.forest ≡ self.old.page.forest }
@@ -92,7 +93,7 @@ impl State {
 
     /// An upgrade has gone well (HTML Standard, section "Upgrades", "upgrade an element"): a form-associated element
     /// is told of its form owner and of being disabled, and the element is custom. No form owners are known yet, so
-    /// nothing is told, and FuelSpent does not come.
+    /// nothing is told, and FuelSpent does not come; it refuses nothing. NoMemory: see `State`.
     pub fn upgrade_ends(&mut self, n: NodeNo) -> Result<(), PageStop>
         ensures step { Does result self.new (upgrade_ends n self.old) }
         ensures forest { self.new.page.forest ≡ self.old.page.forest }
