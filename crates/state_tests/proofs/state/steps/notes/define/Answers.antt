@@ -1,7 +1,7 @@
 use Rattle.ce_algorithms.specs.Perform.{define_element}
 use Rattle.ce_frames.proofs.BlindSteps.{define_blind}
 use Rattle.state_tests.proofs.StepLaws.{as_many, where_ok}
-use Rattle.state_tests.proofs.state.steps.define.Goals as goal
+use Rattle.state_tests.proofs.state.steps.notes.define.Goals as goal
 
 pub returns : goal.returns
 returns c =
