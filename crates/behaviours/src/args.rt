@@ -37,31 +37,15 @@ impl Args {
         ensures { IfOk result (λ a. a ≡ args_of r.now) }
     {
         match r {
-            Reaction::Adopted(old, new) => Ok(Args {
-                first: node_text(alloc, *old)?,
-                second: node_text(alloc, *new)?,
-                third: Text::of(alloc, "")?,
-            }),
-            Reaction::Attribute(name, old, new) => Ok(Args {
-                first: name.copy(alloc)?,
-                second: or_empty(alloc, old)?,
-                third: or_empty(alloc, new)?,
-            }),
-            Reaction::FormAssociated(form) => Ok(Args {
-                first: node_or_empty(alloc, *form)?,
-                second: Text::of(alloc, "")?,
-                third: Text::of(alloc, "")?,
-            }),
-            Reaction::FormDisabled(disabled) => Ok(Args {
-                first: Text::of(alloc, truth(*disabled))?,
-                second: Text::of(alloc, "")?,
-                third: Text::of(alloc, "")?,
-            }),
-            Reaction::FormStateRestore(state, why) => Ok(Args {
-                first: state.copy(alloc)?,
-                second: Text::of(alloc, mode(*why))?,
-                third: Text::of(alloc, "")?,
-            }),
+            Reaction::Adopted(old, new) => of_documents(alloc, *old, *new),
+            Reaction::Attribute(name, old, new) => {
+                of_texts(alloc, name.as_str(), or_empty(old), or_empty(new))
+            }
+            Reaction::FormAssociated(form) => of_form(alloc, *form),
+            Reaction::FormDisabled(disabled) => of_texts(alloc, truth(*disabled), "", ""),
+            Reaction::FormStateRestore(state, why) => {
+                of_texts(alloc, state.as_str(), mode(*why), "")
+            }
             Reaction::Upgrade(_) => Args::none(alloc),
             Reaction::Connected => Args::none(alloc),
             Reaction::Disconnected => Args::none(alloc),
@@ -73,11 +57,7 @@ impl Args {
     pub fn none(alloc: Global) -> Result<Args, NoMemory>
         ensures { IfOk result (λ a. a ≡ no_args) }
     {
-        Ok(Args {
-            first: Text::of(alloc, "")?,
-            second: Text::of(alloc, "")?,
-            third: Text::of(alloc, "")?,
-        })
+        of_texts(alloc, "", "", "")
     }
 
     /// The text that a value names, by what the class remembers.
@@ -119,21 +99,42 @@ fn node_text(alloc: Global, n: NodeNo) -> Result<Text, NoMemory>
     Text::of(alloc, format!(in alloc; "#{}", n.0)?.as_str())
 }
 
-fn node_or_empty(alloc: Global, n: Option<NodeNo>) -> Result<Text, NoMemory>
-    ensures { IfOk result (λ t. t ≡ or_empty (option_map text.node n)) }
+fn of_texts(alloc: Global, first: &str, second: &str, third: &str) -> Result<Args, NoMemory>
+    ensures { IfOk result (λ a. a ≡ record { first = first.now; second = second.now; third = third.now }) }
 {
-    match n {
-        None => Text::of(alloc, ""),
-        Some(n) => node_text(alloc, n),
+    Ok(Args {
+        first: Text::of(alloc, first)?,
+        second: Text::of(alloc, second)?,
+        third: Text::of(alloc, third)?,
+    })
+}
+
+fn of_documents(alloc: Global, old: NodeNo, new: NodeNo) -> Result<Args, NoMemory>
+    ensures { IfOk result (λ a. a ≡ record no_args { first = text.node old; second = text.node new }) }
+{
+    let first = node_text(alloc, old)?;
+    let second = node_text(alloc, new)?;
+    of_texts(alloc, first.as_str(), second.as_str(), "")
+}
+
+fn of_form(alloc: Global, form: Option<NodeNo>) -> Result<Args, NoMemory>
+    ensures { IfOk result (λ a. a ≡ record no_args { first = or_empty (option_map text.node form) }) }
+{
+    match form {
+        None => Args::none(alloc),
+        Some(n) => {
+            let first = node_text(alloc, n)?;
+            of_texts(alloc, first.as_str(), "", "")
+        }
     }
 }
 
-fn or_empty(alloc: Global, text: &Option<Text>) -> Result<Text, NoMemory>
-    ensures { IfOk result (λ t. t ≡ or_empty text.now) }
+fn or_empty(text: &Option<Text>) -> &str
+    ensures { result.now ≡ or_empty text.now }
 {
     match text {
-        None => Text::of(alloc, ""),
-        Some(text) => text.copy(alloc),
+        None => "",
+        Some(text) => text.as_str(),
     }
 }
 
