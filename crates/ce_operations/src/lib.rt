@@ -9,3 +9,4 @@ mod fits;
 pub mod operands;
 mod questions;
 pub mod resolve;
+mod several;

@@ -7,12 +7,14 @@ ghost use Rattle.ce_algorithms.specs.State.{view};
 ghost use Rattle.ce_operations.specs.Ready.{IsReady};
 ghost use Rattle.ce_operations.specs.Resolved.{Resolves};
 
-use crate::operands::{class, document_or_page, element, fixed_text, node, node_that};
-use crate::questions::asked_of;
+use crate::operands::{class, element, node, node_that};
+use crate::several::{
+    adopt, append, ask, before, create, define, del_attr, let_node, make_text, remove, set_attr,
+};
 use ce_algorithms::{Deed, Fit, PageDeed};
 use ce_base::{NodeNo, Refused};
 use rule_lines::Op;
-use session_state::{State, copy_of};
+use session_state::State;
 use std::alloc::Global;
 
 /// The deed of an operation, or the first fault of its operands, from the left. Nothing is done yet.
@@ -36,16 +38,7 @@ pub fn resolve(
             local,
             is_value,
             document,
-        } => {
-            let document = document_or_page(state, this, document)?;
-            let local = local.copy(alloc)?;
-            let is_value = copy_of(alloc, is_value)?;
-            Ok(Deed::Create {
-                local,
-                is_value,
-                document,
-            })
-        }
+        } => create(state, alloc, this, local, is_value, document),
         Op::New {
             var: _,
             class: class_name,
@@ -57,11 +50,7 @@ pub fn resolve(
             var: _,
             chars,
             document,
-        } => {
-            let document = document_or_page(state, this, document)?;
-            let chars = chars.copy(alloc)?;
-            Ok(Deed::OnPage(PageDeed::MakeText { chars, document }))
-        }
+        } => make_text(state, alloc, this, chars, document),
         Op::Shadow { var: _, host } => {
             let host = element(state, this, host)?;
             Ok(Deed::OnPage(PageDeed::Shadow { host }))
@@ -69,55 +58,22 @@ pub fn resolve(
         Op::Append {
             parent,
             node: child,
-        } => {
-            let parent = node(state, this, parent)?;
-            let child = node(state, this, child)?;
-            Ok(Deed::OnPage(PageDeed::Insert {
-                parent,
-                node: child,
-                before: None,
-            }))
-        }
+        } => append(state, this, parent, child),
         Op::Before {
             parent,
             node: child,
-            before,
-        } => {
-            let parent = node(state, this, parent)?;
-            let child = node(state, this, child)?;
-            let before = node(state, this, before)?;
-            Ok(Deed::OnPage(PageDeed::Insert {
-                parent,
-                node: child,
-                before: Some(before),
-            }))
-        }
+            before: reference,
+        } => before(state, this, parent, child, reference),
         Op::Remove {
             parent,
             node: child,
-        } => {
-            let parent = node(state, this, parent)?;
-            let child = node(state, this, child)?;
-            Ok(Deed::OnPage(PageDeed::Remove {
-                parent,
-                node: child,
-            }))
-        }
+        } => remove(state, this, parent, child),
         Op::Detach { node } => {
             let node = node_that(Fit::ElementOrText, state, this, node)?;
             Ok(Deed::OnPage(PageDeed::Detach { node }))
         }
-        Op::SetAttr { node, name, value } => {
-            let node = element(state, this, node)?;
-            let name = name.copy(alloc)?;
-            let value = fixed_text(alloc, value)?;
-            Ok(Deed::OnPage(PageDeed::SetAttr { node, name, value }))
-        }
-        Op::DelAttr { node, name } => {
-            let node = element(state, this, node)?;
-            let name = name.copy(alloc)?;
-            Ok(Deed::OnPage(PageDeed::DelAttr { node, name }))
-        }
+        Op::SetAttr { node, name, value } => set_attr(state, alloc, this, node, name, value),
+        Op::DelAttr { node, name } => del_attr(state, alloc, this, node, name),
         Op::Clone {
             var: _,
             node: operand,
@@ -129,39 +85,18 @@ pub fn resolve(
         Op::Adopt {
             document,
             node: operand,
-        } => {
-            let document = node_that(Fit::Document, state, this, document)?;
-            let node = node(state, this, operand)?;
-            Ok(Deed::OnPage(PageDeed::Adopt { document, node }))
-        }
+        } => adopt(state, this, document, operand),
         Op::Define {
             name,
             class: class_name,
             base,
-        } => {
-            let class = class(state, class_name.as_str())?;
-            let name = name.copy(alloc)?;
-            let base = copy_of(alloc, base)?;
-            Ok(Deed::Define { name, class, base })
-        }
+        } => define(state, alloc, name, class_name, base),
         Op::Upgrade { node: operand } => {
             let node = node(state, this, operand)?;
             Ok(Deed::OnPage(PageDeed::Upgrade { node }))
         }
-        Op::Ask { word, node, name } => {
-            let node = node_that(asked_of(*word), state, this, node)?;
-            let name = copy_of(alloc, name)?;
-            Ok(Deed::Ask {
-                word: *word,
-                node,
-                name,
-            })
-        }
-        Op::Let { var, node: operand } => {
-            let node = node(state, this, operand)?;
-            let var = var.copy(alloc)?;
-            Ok(Deed::Let { var, node })
-        }
+        Op::Ask { word, node, name } => ask(state, alloc, this, *word, node, name),
+        Op::Let { var, node: operand } => let_node(state, alloc, this, var, operand),
         _ => unreachable!(),
     }
 }
