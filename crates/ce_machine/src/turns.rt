@@ -185,6 +185,7 @@ fn settled(
             Ok(now)
         }
         Waiting::Checking(line, kept) => {
+            drop(given);
             let now = checked(state, line, kept)?;
             Ok(now)
         }
@@ -197,6 +198,7 @@ fn settled(
             Ok(now)
         }
         Waiting::InReaction(number) => {
+            drop(given);
             let now = finished(state, number)?;
             Ok(now)
         }
@@ -253,10 +255,17 @@ fn threw(
             let now = upgraded_turn(state, alloc, n, d, Err(f))?;
             Ok(now)
         }
-        Waiting::Checking(_, _) => Ok(Came::Threw(f)),
+        Waiting::Checking(_, kept) => {
+            drop(kept);
+            Ok(Came::Threw(f))
+        }
         Waiting::DrainingBackup(_) => Ok(Came::Threw(f)),
         Waiting::Naming(_) => Ok(Came::Threw(f)),
-        Waiting::Draining(_, _, _, _) => Ok(Came::Threw(f)),
+        Waiting::Draining(_, _, elements, kept) => {
+            drop(elements);
+            drop(kept);
+            Ok(Came::Threw(f))
+        }
         Waiting::Constructing => Ok(Came::Threw(f)),
     }
 }

@@ -36,7 +36,7 @@ impl Stack {
         }
         match link(&mut self.chains, class, index) {
             Err(NoMemory) => {
-                self.frames.pop();
+                self.frames.truncate(index);
                 Err(NoMemory)
             }
             Ok(()) => {
