@@ -7,7 +7,7 @@ ghost use Rattle.rule_writer.specs.Canon.{act_tokens};
 
 use crate::op::put_op;
 use crate::operand_words::test;
-use crate::piece::{Piece, put_all};
+use crate::piece::{Piece, put_all, put_four, put_one};
 use ce_base::NoMemory;
 use rule_grammar::Word;
 use rule_lines::Action;
@@ -19,24 +19,12 @@ pub(crate) fn put_action(alloc: Global, out: &mut String, action: &Action) -> Re
 {
     match action {
         Action::Both(op) => put_op(alloc, out, op),
-        Action::Log(vals) => put_all(
-            alloc,
-            out,
-            &[Piece::Word(Word::Log), Piece::AllValues(vals)],
-        ),
+        Action::Log(vals) => put_one(alloc, out, Word::Log, Piece::AllValues(vals)),
         Action::Super => put_all(alloc, out, &[Piece::Word(Word::Super)]),
-        Action::Return(node) => put_all(
-            alloc,
-            out,
-            &[Piece::Word(Word::Return), Piece::MaybeNode(node)],
-        ),
-        Action::Throw(value) => put_all(
-            alloc,
-            out,
-            &[Piece::Word(Word::Throw), Piece::Value(value)],
-        ),
+        Action::Return(node) => put_one(alloc, out, Word::Return, Piece::MaybeNode(node)),
+        Action::Throw(value) => put_one(alloc, out, Word::Throw, Piece::Value(value)),
         Action::Bump => put_all(alloc, out, &[Piece::Word(Word::Bump)]),
-        Action::Keep(value) => put_all(alloc, out, &[Piece::Word(Word::Keep), Piece::Value(value)]),
+        Action::Keep(value) => put_one(alloc, out, Word::Keep, Piece::Value(value)),
         Action::Try(inner) => {
             put_all(alloc, out, &[Piece::Word(Word::Try)])?;
             put_action(alloc, out, inner)
@@ -47,16 +35,14 @@ pub(crate) fn put_action(alloc: Global, out: &mut String, action: &Action) -> Re
             right,
             then,
         } => {
-            put_all(
+            put_four(
                 alloc,
                 out,
-                &[
-                    Piece::Word(Word::If),
-                    Piece::Word(test(*equal)),
-                    Piece::Value(left),
-                    Piece::Value(right),
-                    Piece::Word(Word::Colon),
-                ],
+                Word::If,
+                Piece::Word(test(*equal)),
+                Piece::Value(left),
+                Piece::Value(right),
+                Piece::Word(Word::Colon),
             )?;
             put_action(alloc, out, then)
         }

@@ -9,7 +9,7 @@ ghost use Rattle.rule_writer.specs.Canon.{command_tokens, part_tokens, said_toke
 use crate::action::put_action;
 use crate::op::put_op;
 use crate::operand_words::switch;
-use crate::piece::{Piece, put_all};
+use crate::piece::{Piece, put_one, put_three, put_two};
 use ce_base::{NoMemory, Text};
 use rule_grammar::Word;
 use rule_lines::{ClassPart, Cmd, Line};
@@ -21,74 +21,60 @@ fn put_command(alloc: Global, out: &mut String, c: &Cmd) -> Result<(), NoMemory>
 {
     match c {
         Cmd::Both(op) => put_op(alloc, out, op),
-        Cmd::Doc { var } => put_all(alloc, out, &[Piece::Word(Word::Doc), Piece::Variable(var)]),
-        Cmd::UserEdit { node, value } => put_all(
+        Cmd::Doc { var } => put_one(alloc, out, Word::Doc, Piece::Variable(var)),
+        Cmd::UserEdit { node, value } => put_three(
             alloc,
             out,
-            &[
-                Piece::Word(Word::User),
-                Piece::Word(Word::Edit),
-                Piece::Node(node),
-                Piece::Chars(value),
-            ],
+            Word::User,
+            Piece::Word(Word::Edit),
+            Piece::Node(node),
+            Piece::Chars(value),
         ),
-        Cmd::UserCheck { node, on } => put_all(
+        Cmd::UserCheck { node, on } => put_three(
             alloc,
             out,
-            &[
-                Piece::Word(Word::User),
-                Piece::Word(Word::Check),
-                Piece::Node(node),
-                Piece::Word(switch(*on)),
-            ],
+            Word::User,
+            Piece::Word(Word::Check),
+            Piece::Node(node),
+            Piece::Word(switch(*on)),
         ),
-        Cmd::UserChoose { node, on } => put_all(
+        Cmd::UserChoose { node, on } => put_three(
             alloc,
             out,
-            &[
-                Piece::Word(Word::User),
-                Piece::Word(Word::Choose),
-                Piece::Node(node),
-                Piece::Word(switch(*on)),
-            ],
+            Word::User,
+            Piece::Word(Word::Choose),
+            Piece::Node(node),
+            Piece::Word(switch(*on)),
         ),
-        Cmd::UserReset { form } => put_all(
+        Cmd::UserReset { form } => put_two(
             alloc,
             out,
-            &[
-                Piece::Word(Word::User),
-                Piece::Word(Word::Reset),
-                Piece::Node(form),
-            ],
+            Word::User,
+            Piece::Word(Word::Reset),
+            Piece::Node(form),
         ),
-        Cmd::UserRestore { node, value } => put_all(
+        Cmd::UserRestore { node, value } => put_three(
             alloc,
             out,
-            &[
-                Piece::Word(Word::User),
-                Piece::Word(Word::Restore),
-                Piece::Node(node),
-                Piece::Chars(value),
-            ],
+            Word::User,
+            Piece::Word(Word::Restore),
+            Piece::Node(node),
+            Piece::Chars(value),
         ),
-        Cmd::UserAutofill { node, value } => put_all(
+        Cmd::UserAutofill { node, value } => put_three(
             alloc,
             out,
-            &[
-                Piece::Word(Word::User),
-                Piece::Word(Word::Autofill),
-                Piece::Node(node),
-                Piece::Chars(value),
-            ],
+            Word::User,
+            Piece::Word(Word::Autofill),
+            Piece::Node(node),
+            Piece::Chars(value),
         ),
-        Cmd::UserPress { node } => put_all(
+        Cmd::UserPress { node } => put_two(
             alloc,
             out,
-            &[
-                Piece::Word(Word::User),
-                Piece::Word(Word::Press),
-                Piece::Node(node),
-            ],
+            Word::User,
+            Piece::Word(Word::Press),
+            Piece::Node(node),
         ),
     }
 }
@@ -98,68 +84,50 @@ fn put_part(alloc: Global, out: &mut String, part: &ClassPart) -> Result<(), NoM
     ensures utf8 { OnOk result (AreTexts (part_tokens (part_of part.now))) }
 {
     match part {
-        ClassPart::Class(name) => put_all(
-            alloc,
-            out,
-            &[Piece::Word(Word::Class), Piece::Class(name)],
-        ),
+        ClassPart::Class(name) => put_one(alloc, out, Word::Class, Piece::Class(name)),
         ClassPart::On {
             class,
             call,
             action,
         } => {
-            put_all(
+            put_three(
                 alloc,
                 out,
-                &[
-                    Piece::Word(Word::On),
-                    Piece::Class(class),
-                    Piece::Callback(*call),
-                    Piece::Word(Word::Colon),
-                ],
+                Word::On,
+                Piece::Class(class),
+                Piece::Callback(*call),
+                Piece::Word(Word::Colon),
             )?;
             put_action(alloc, out, action)
         }
-        ClassPart::Has { class, call } => put_all(
+        ClassPart::Has { class, call } => put_two(
             alloc,
             out,
-            &[
-                Piece::Word(Word::Has),
-                Piece::Class(class),
-                Piece::Callback(*call),
-            ],
+            Word::Has,
+            Piece::Class(class),
+            Piece::Callback(*call),
         ),
-        ClassPart::Observe { class, names } => put_all(
+        ClassPart::Observe { class, names } => put_two(
             alloc,
             out,
-            &[
-                Piece::Word(Word::Observe),
-                Piece::Class(class),
-                Piece::AllChars(names),
-            ],
+            Word::Observe,
+            Piece::Class(class),
+            Piece::AllChars(names),
         ),
-        ClassPart::Associate(class) => put_all(
+        ClassPart::Associate(class) => put_one(alloc, out, Word::Associate, Piece::Class(class)),
+        ClassPart::DisableShadow(class) => put_two(
             alloc,
             out,
-            &[Piece::Word(Word::Associate), Piece::Class(class)],
+            Word::Disable,
+            Piece::Class(class),
+            Piece::Word(Word::Shadow),
         ),
-        ClassPart::DisableShadow(class) => put_all(
+        ClassPart::DisableInternals(class) => put_two(
             alloc,
             out,
-            &[
-                Piece::Word(Word::Disable),
-                Piece::Class(class),
-                Piece::Word(Word::Shadow),
-            ],
-        ),
-        ClassPart::DisableInternals(class) => put_all(
-            alloc,
-            out,
-            &[
-                Piece::Word(Word::Disable),
-                Piece::Class(class),
-                Piece::Word(Word::Internals),
-            ],
+            Word::Disable,
+            Piece::Class(class),
+            Piece::Word(Word::Internals),
         ),
     }
 }

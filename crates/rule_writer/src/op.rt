@@ -6,7 +6,7 @@ ghost use Rattle.rule_reader.specs.declared.form.Leaf.TheVariants as leaves;
 ghost use Rattle.rule_writer.specs.Canon.{leaf_tokens};
 
 use crate::operand_words::{ask_as, switch};
-use crate::piece::{Piece, put_all};
+use crate::piece::{Piece, put_four, put_one, put_three, put_two};
 use ce_base::NoMemory;
 use rule_grammar::{Keyword, Word};
 use rule_lines::Op;
@@ -22,272 +22,210 @@ pub(crate) fn put_op(alloc: Global, out: &mut String, op: &Op) -> Result<(), NoM
             local,
             is_value,
             document,
-        } => put_all(
+        } => put_four(
             alloc,
             out,
-            &[
-                Piece::Word(Word::Create),
-                Piece::Variable(var),
-                Piece::Chars(local),
-                Piece::KeyedChars(Keyword::Is, is_value),
-                Piece::KeyedNode(Keyword::In, document),
-            ],
+            Word::Create,
+            Piece::Variable(var),
+            Piece::Chars(local),
+            Piece::KeyedChars(Keyword::Is, is_value),
+            Piece::KeyedNode(Keyword::In, document),
         ),
-        Op::New { var, class } => put_all(
+        Op::New { var, class } => put_two(
             alloc,
             out,
-            &[
-                Piece::Word(Word::New),
-                Piece::Variable(var),
-                Piece::Class(class),
-            ],
+            Word::New,
+            Piece::Variable(var),
+            Piece::Class(class),
         ),
         Op::MakeText {
             var,
             chars,
             document,
-        } => put_all(
+        } => put_three(
             alloc,
             out,
-            &[
-                Piece::Word(Word::Text),
-                Piece::Variable(var),
-                Piece::Chars(chars),
-                Piece::KeyedNode(Keyword::In, document),
-            ],
+            Word::Text,
+            Piece::Variable(var),
+            Piece::Chars(chars),
+            Piece::KeyedNode(Keyword::In, document),
         ),
-        Op::Shadow { var, host } => put_all(
+        Op::Shadow { var, host } => put_two(
             alloc,
             out,
-            &[
-                Piece::Word(Word::Shadow),
-                Piece::Variable(var),
-                Piece::Node(host),
-            ],
+            Word::Shadow,
+            Piece::Variable(var),
+            Piece::Node(host),
         ),
-        Op::Append { parent, node } => put_all(
+        Op::Append { parent, node } => put_two(
             alloc,
             out,
-            &[
-                Piece::Word(Word::Append),
-                Piece::Node(parent),
-                Piece::Node(node),
-            ],
+            Word::Append,
+            Piece::Node(parent),
+            Piece::Node(node),
         ),
         Op::Before {
             parent,
             node,
             before,
-        } => put_all(
+        } => put_three(
             alloc,
             out,
-            &[
-                Piece::Word(Word::Before),
-                Piece::Node(parent),
-                Piece::Node(node),
-                Piece::Node(before),
-            ],
+            Word::Before,
+            Piece::Node(parent),
+            Piece::Node(node),
+            Piece::Node(before),
         ),
-        Op::Remove { parent, node } => put_all(
+        Op::Remove { parent, node } => put_two(
             alloc,
             out,
-            &[
-                Piece::Word(Word::Remove),
-                Piece::Node(parent),
-                Piece::Node(node),
-            ],
+            Word::Remove,
+            Piece::Node(parent),
+            Piece::Node(node),
         ),
-        Op::Detach { node } => put_all(alloc, out, &[Piece::Word(Word::Detach), Piece::Node(node)]),
-        Op::SetAttr { node, name, value } => put_all(
+        Op::Detach { node } => put_one(alloc, out, Word::Detach, Piece::Node(node)),
+        Op::SetAttr { node, name, value } => put_three(
             alloc,
             out,
-            &[
-                Piece::Word(Word::SetAttr),
-                Piece::Node(node),
-                Piece::Chars(name),
-                Piece::Value(value),
-            ],
+            Word::SetAttr,
+            Piece::Node(node),
+            Piece::Chars(name),
+            Piece::Value(value),
         ),
-        Op::DelAttr { node, name } => put_all(
+        Op::DelAttr { node, name } => put_two(
             alloc,
             out,
-            &[
-                Piece::Word(Word::DelAttr),
-                Piece::Node(node),
-                Piece::Chars(name),
-            ],
+            Word::DelAttr,
+            Piece::Node(node),
+            Piece::Chars(name),
         ),
-        Op::Clone { var, node, deep } => put_all(
+        Op::Clone { var, node, deep } => put_three(
             alloc,
             out,
-            &[
-                Piece::Word(Word::Clone),
-                Piece::Variable(var),
-                Piece::Node(node),
-                Piece::Marked(Keyword::Deep, *deep),
-            ],
+            Word::Clone,
+            Piece::Variable(var),
+            Piece::Node(node),
+            Piece::Marked(Keyword::Deep, *deep),
         ),
-        Op::Adopt { document, node } => put_all(
+        Op::Adopt { document, node } => put_two(
             alloc,
             out,
-            &[
-                Piece::Word(Word::Adopt),
-                Piece::Node(document),
-                Piece::Node(node),
-            ],
+            Word::Adopt,
+            Piece::Node(document),
+            Piece::Node(node),
         ),
-        Op::Define { name, class, base } => put_all(
+        Op::Define { name, class, base } => put_three(
             alloc,
             out,
-            &[
-                Piece::Word(Word::Define),
-                Piece::Chars(name),
-                Piece::Class(class),
-                Piece::KeyedChars(Keyword::Extends, base),
-            ],
+            Word::Define,
+            Piece::Chars(name),
+            Piece::Class(class),
+            Piece::KeyedChars(Keyword::Extends, base),
         ),
-        Op::Upgrade { node } => put_all(
+        Op::Upgrade { node } => put_one(alloc, out, Word::Upgrade, Piece::Node(node)),
+        Op::Reset { form } => put_one(alloc, out, Word::Reset, Piece::Node(form)),
+        Op::Internals { node } => put_one(alloc, out, Word::Internals, Piece::Node(node)),
+        Op::FormValue { node, value, saved } => put_three(
             alloc,
             out,
-            &[Piece::Word(Word::Upgrade), Piece::Node(node)],
+            Word::FormValue,
+            Piece::Node(node),
+            Piece::Value(value),
+            Piece::KeyedValue(Keyword::State, saved),
         ),
-        Op::Reset { form } => put_all(alloc, out, &[Piece::Word(Word::Reset), Piece::Node(form)]),
-        Op::Internals { node } => put_all(
+        Op::FormList { node, entries } => put_two(
             alloc,
             out,
-            &[Piece::Word(Word::Internals), Piece::Node(node)],
+            Word::FormList,
+            Piece::Node(node),
+            Piece::AllEntries(entries),
         ),
-        Op::FormValue { node, value, saved } => put_all(
-            alloc,
-            out,
-            &[
-                Piece::Word(Word::FormValue),
-                Piece::Node(node),
-                Piece::Value(value),
-                Piece::KeyedValue(Keyword::State, saved),
-            ],
-        ),
-        Op::FormList { node, entries } => put_all(
-            alloc,
-            out,
-            &[
-                Piece::Word(Word::FormList),
-                Piece::Node(node),
-                Piece::AllEntries(entries),
-            ],
-        ),
-        Op::FormNull { node } => put_all(
-            alloc,
-            out,
-            &[Piece::Word(Word::FormNull), Piece::Node(node)],
-        ),
+        Op::FormNull { node } => put_one(alloc, out, Word::FormNull, Piece::Node(node)),
         Op::Validity {
             node,
             flags,
             message,
-        } => put_all(
+        } => put_three(
             alloc,
             out,
-            &[
-                Piece::Word(Word::Validity),
-                Piece::Node(node),
-                Piece::Flags(flags),
-                Piece::Value(message),
-            ],
+            Word::Validity,
+            Piece::Node(node),
+            Piece::Flags(flags),
+            Piece::Value(message),
         ),
-        Op::StateAdd { node, word } => put_all(
+        Op::StateAdd { node, word } => put_three(
             alloc,
             out,
-            &[
-                Piece::Word(Word::State),
-                Piece::Node(node),
-                Piece::Word(Word::Add),
-                Piece::Chars(word),
-            ],
+            Word::State,
+            Piece::Node(node),
+            Piece::Word(Word::Add),
+            Piece::Chars(word),
         ),
-        Op::StateDelete { node, word } => put_all(
+        Op::StateDelete { node, word } => put_three(
             alloc,
             out,
-            &[
-                Piece::Word(Word::State),
-                Piece::Node(node),
-                Piece::Word(Word::Delete),
-                Piece::Chars(word),
-            ],
+            Word::State,
+            Piece::Node(node),
+            Piece::Word(Word::Delete),
+            Piece::Chars(word),
         ),
-        Op::StateClear { node } => put_all(
+        Op::StateClear { node } => put_two(
             alloc,
             out,
-            &[
-                Piece::Word(Word::State),
-                Piece::Node(node),
-                Piece::Word(Word::Clear),
-            ],
+            Word::State,
+            Piece::Node(node),
+            Piece::Word(Word::Clear),
         ),
-        Op::Custom { node, message } => put_all(
+        Op::Custom { node, message } => put_two(
             alloc,
             out,
-            &[
-                Piece::Word(Word::Custom),
-                Piece::Node(node),
-                Piece::Value(message),
-            ],
+            Word::Custom,
+            Piece::Node(node),
+            Piece::Value(message),
         ),
-        Op::Value { node, value } => put_all(
+        Op::Value { node, value } => put_two(
             alloc,
             out,
-            &[
-                Piece::Word(Word::Value),
-                Piece::Node(node),
-                Piece::Value(value),
-            ],
+            Word::Value,
+            Piece::Node(node),
+            Piece::Value(value),
         ),
-        Op::Check { node, on } => put_all(
+        Op::Check { node, on } => put_two(
             alloc,
             out,
-            &[
-                Piece::Word(Word::Check),
-                Piece::Node(node),
-                Piece::Word(switch(*on)),
-            ],
+            Word::Check,
+            Piece::Node(node),
+            Piece::Word(switch(*on)),
         ),
-        Op::Choose { node, on } => put_all(
+        Op::Choose { node, on } => put_two(
             alloc,
             out,
-            &[
-                Piece::Word(Word::Choose),
-                Piece::Node(node),
-                Piece::Word(switch(*on)),
-            ],
+            Word::Choose,
+            Piece::Node(node),
+            Piece::Word(switch(*on)),
         ),
-        Op::Submit { form } => put_all(alloc, out, &[Piece::Word(Word::Submit), Piece::Node(form)]),
-        Op::Request { form, submitter } => put_all(
+        Op::Submit { form } => put_one(alloc, out, Word::Submit, Piece::Node(form)),
+        Op::Request { form, submitter } => put_two(
             alloc,
             out,
-            &[
-                Piece::Word(Word::Request),
-                Piece::Node(form),
-                Piece::MaybeNode(submitter),
-            ],
+            Word::Request,
+            Piece::Node(form),
+            Piece::MaybeNode(submitter),
         ),
-        Op::Ask { word, node, name } => put_all(
+        Op::Ask { word, node, name } => put_three(
             alloc,
             out,
-            &[
-                Piece::Word(Word::Ask),
-                Piece::Word(ask_as(*word)),
-                Piece::Node(node),
-                Piece::MaybeChars(name),
-            ],
+            Word::Ask,
+            Piece::Word(ask_as(*word)),
+            Piece::Node(node),
+            Piece::MaybeChars(name),
         ),
-        Op::Let { var, node } => put_all(
+        Op::Let { var, node } => put_two(
             alloc,
             out,
-            &[
-                Piece::Word(Word::Let),
-                Piece::Variable(var),
-                Piece::Node(node),
-            ],
+            Word::Let,
+            Piece::Variable(var),
+            Piece::Node(node),
         ),
     }
 }

@@ -1,7 +1,8 @@
 // The pieces of a canonical line.
-ghost use Rattle.std.specs.Prelude.{◌≡◌, ◌++◌, OnOk, string_bytes};
+ghost use Rattle.std.specs.Prelude.{◌≡◌, ◌++◌, ◌∷◌, [], OnOk, string_bytes};
 ghost use Rattle.rule_tokens.specs.Spaced.{spaced};
 ghost use Rattle.rule_writer.specs.Pieces.{all_pieces, piece_tokens};
+ghost use Rattle.rule_writer.specs.declared.piece.Piece.TheVariants as pieces;
 ghost use Rattle.rule_grammar.specs.Clean.{AreTexts};
 
 use crate::many::{put_entries, put_texts, put_values};
@@ -70,4 +71,66 @@ pub(crate) fn put_all(alloc: Global, out: &mut String, pieces: &[Piece]) -> Resu
         put(alloc, out, piece)?;
     }
     Ok(())
+}
+
+// A word, and a piece behind it.
+pub(crate) fn put_one<'a>(
+    alloc: Global,
+    out: &mut String,
+    word: Word,
+    first: Piece<'a>,
+) -> Result<(), NoMemory>
+    ensures text { OnOk result (string_bytes out.new ≡ string_bytes out.old ++ spaced (all_pieces (pieces.Word word ∷ first.entry ∷ []))) }
+    ensures utf8 { OnOk result (AreTexts (all_pieces (pieces.Word word ∷ first.entry ∷ []))) }
+{
+    put_all(alloc, out, &[Piece::Word(word), first])
+}
+
+// A word, and two pieces behind it.
+pub(crate) fn put_two<'a>(
+    alloc: Global,
+    out: &mut String,
+    word: Word,
+    first: Piece<'a>,
+    second: Piece<'a>,
+) -> Result<(), NoMemory>
+    ensures text { OnOk result (string_bytes out.new ≡ string_bytes out.old ++ spaced (all_pieces (pieces.Word word ∷ first.entry ∷ second.entry ∷ []))) }
+    ensures utf8 { OnOk result (AreTexts (all_pieces (pieces.Word word ∷ first.entry ∷ second.entry ∷ []))) }
+{
+    put_all(alloc, out, &[Piece::Word(word), first, second])
+}
+
+// A word, and three pieces behind it.
+pub(crate) fn put_three<'a>(
+    alloc: Global,
+    out: &mut String,
+    word: Word,
+    first: Piece<'a>,
+    second: Piece<'a>,
+    third: Piece<'a>,
+) -> Result<(), NoMemory>
+    ensures text { OnOk result (string_bytes out.new ≡ string_bytes out.old ++ spaced (all_pieces (pieces.Word word ∷ first.entry ∷ second.entry ∷ third.entry ∷ []))) }
+    ensures utf8 { OnOk result (AreTexts (all_pieces (pieces.Word word ∷ first.entry ∷ second.entry ∷ third.entry ∷ []))) }
+{
+    put_all(alloc, out, &[Piece::Word(word), first, second, third])
+}
+
+// A word, and four pieces behind it.
+pub(crate) fn put_four<'a>(
+    alloc: Global,
+    out: &mut String,
+    word: Word,
+    first: Piece<'a>,
+    second: Piece<'a>,
+    third: Piece<'a>,
+    fourth: Piece<'a>,
+) -> Result<(), NoMemory>
+    ensures text { OnOk result (string_bytes out.new ≡ string_bytes out.old ++ spaced (all_pieces (pieces.Word word ∷ first.entry ∷ second.entry ∷ third.entry ∷ fourth.entry ∷ []))) }
+    ensures utf8 { OnOk result (AreTexts (all_pieces (pieces.Word word ∷ first.entry ∷ second.entry ∷ third.entry ∷ fourth.entry ∷ []))) }
+{
+    put_all(
+        alloc,
+        out,
+        &[Piece::Word(word), first, second, third, fourth],
+    )
 }
