@@ -94,7 +94,7 @@ impl Bodies {
         match self.places[place_of(call)].push(place) {
             Ok(_) => Ok(()),
             Err(_) => {
-                self.lines.pop();
+                self.lines.truncate(place);
                 Err(NoMemory)
             }
         }
