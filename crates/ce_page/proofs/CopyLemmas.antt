@@ -39,6 +39,15 @@ moves_next walk i n at a b = record {
 
 -- changes of one node, one after another
 
+-- what is as it was has changed nowhere
+pub nothing_changes : (f : Trees) (n : ℕ) → OnlyChanges n f f
+nothing_changes f n = record {
+  others = λ m a b. refl;
+  kinds = record { nodes = omega arith; kinds = λ m h. refl };
+  alone = λ m h. h;
+  apart = λ m h. h;
+}
+
 pub changes_next : {f g h : Trees} {n : ℕ} → OnlyChanges n f g → OnlyChanges n g h → OnlyChanges n f h
 changes_next a b = record {
   others = λ m one two. b.others m one two ∙ a.others m one two;
