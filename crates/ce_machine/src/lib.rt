@@ -3,7 +3,6 @@
 
 mod bodies;
 mod command;
-mod drains;
 mod end;
 mod looping;
 mod machine;

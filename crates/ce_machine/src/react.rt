@@ -20,13 +20,13 @@ ghost use Rattle.ce_operations.specs.Given.{IsThere};
 ghost use Rattle.ce_reactions.specs.Placed.{Lasts};
 ghost use Rattle.ce_operations.specs.Ready.{IsReady};
 
-use crate::drains::pop_turn;
 use ce_algorithms::{Deed, Given};
 use ce_base::{NoMemory, NodeNo, QueueNo, Text};
 use ce_operations::deeds::run;
 use ce_page::PageStop;
 use ce_reactions::constructions::construct;
 use ce_reactions::creations::create_named;
+use ce_reactions::drains::pop_turn;
 use ce_reactions::{Came, came_from};
 use frame_stack::{Stack, Waiting};
 use session_state::State;

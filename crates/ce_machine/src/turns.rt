@@ -16,12 +16,12 @@ ghost use Rattle.ce_machine.specs.Turns.{left, over};
 ghost use Rattle.ce_reactions.specs.Turns.{Turns, came_in, end_of};
 
 use crate::bodies::{body_over, body_threw, body_went};
-use crate::drains::{backup_turn, check_turn, drain_turn, pop_turn, reply};
 use ce_algorithms::{Event, Given};
 use ce_base::{Fault, NoMemory, ReactionNo, Text};
 use ce_reactions::Came;
 use ce_reactions::constructions::given_turn;
 use ce_reactions::creations::{extended_threw, failed_turn, fit_turn};
+use ce_reactions::drains::{backup_turn, check_turn, drain_turn, pop_turn, reply};
 use ce_reactions::upgrades::{constructed_turn, upgraded_turn};
 use frame_stack::{Stack, Waiting};
 use session_state::State;

@@ -4,6 +4,7 @@
 mod came;
 pub mod constructions;
 pub mod creations;
+pub mod drains;
 pub mod reactions;
 pub mod upgrades;
 

@@ -1,4 +1,6 @@
-// Turns of drains: a popped queue, the backup element queue, and the checkpoint of a command.
+// Turns of drains: a popped queue, the backup element queue, and the checkpoint of a command (HTML Standard, section
+// "Custom element reactions", "invoke custom element reactions" and "enqueue an element on the appropriate element
+// queue").
 ghost use Rattle.std.specs.Prelude.{◌≡◌, ◌≤◌, ◌∷◌, Ok, IfOk, OnOk};
 ghost use Rattle.node_trees.specs.Nodes.{size};
 ghost use Rattle.ce_algorithms.specs.Session.{reply};
@@ -8,17 +10,18 @@ ghost use Rattle.frame_stack.specs.Sessions.{ArePaired, session};
 ghost use Rattle.frame_stack.specs.Stacked.{behaviours_of, frames_of};
 ghost use Rattle.ce_reactions.specs.Turns.{Turns};
 
+use crate::came::{Came, came_of};
+use crate::reactions::start;
 use ce_algorithms::{Event, Given};
 use ce_base::{Fault, NoMemory, NodeNo, QueueNo};
-use ce_reactions::reactions::start;
-use ce_reactions::{Came, came_of};
 use frame_stack::{Stack, Waiting};
 use reaction_queue::ElementQueue;
 use session_state::State;
 use std::alloc::Global;
 
-/// The steps of an operation have ended: its queue is popped, and is to be drained.
-pub(crate) fn pop_turn(
+/// The steps of an operation have ended: its queue is popped, and is to be drained (HTML Standard, section "Custom
+/// element reactions", `CEReactions`). NoMemory: see `Came`.
+pub fn pop_turn(
     state: &mut State,
     stack: &mut Stack,
     queue: QueueNo,
@@ -63,8 +66,9 @@ fn next_turn(
     }
 }
 
-/// The next reaction of a popped queue starts, or the queue goes on.
-pub(crate) fn drain_turn(
+/// The next reaction of a popped queue starts, or the queue goes on (HTML Standard, section "Custom element reactions",
+/// "invoke custom element reactions"). NoMemory: see `Came`.
+pub fn drain_turn(
     state: &mut State,
     alloc: Global,
     stack: &mut Stack,
@@ -91,8 +95,9 @@ pub(crate) fn drain_turn(
     }
 }
 
-/// The next reaction of the element at hand starts, or the backup element queue goes on.
-pub(crate) fn backup_turn(
+/// The next reaction of the element at hand starts, or the backup element queue goes on (HTML Standard, section "Custom
+/// element reactions", "enqueue an element on the appropriate element queue", the microtask). NoMemory: see `Came`.
+pub fn backup_turn(
     state: &mut State,
     alloc: Global,
     stack: &mut Stack,
@@ -135,8 +140,8 @@ fn next_backup_turn(state: &mut State, stack: &mut Stack) -> Result<Came, NoMemo
 }
 
 /// The checkpoint of a command: the backup element queue is drained, where it is not empty, and then comes the
-/// reply.
-pub(crate) fn check_turn(
+/// reply. NoMemory: see `Came`.
+pub fn check_turn(
     state: &mut State,
     stack: &mut Stack,
     line: u64,
@@ -157,7 +162,7 @@ pub(crate) fn check_turn(
 }
 
 /// The reply to a command that gave something, or threw.
-pub(crate) fn reply(line: u64, kept: Result<Given, Fault>) -> Event
+pub fn reply(line: u64, kept: Result<Given, Fault>) -> Event
     ensures { result ≡ reply line kept }
 {
     match kept {
