@@ -27,8 +27,9 @@ fail() {
     failed=$((failed + 1))
 }
 
-# Tells the first line in which a file differs from the one that is wanted.
+# Tells the first line in which a file differs from the one that is wanted, if it does.
 difference() {
+    cmp -s "$1" "$2" && return
     awk -v wanted="$1" -v given="$2" 'BEGIN {
         do {
             number++
@@ -56,7 +57,7 @@ ends() {
     "$program" "$@" <"$input" >"$room/transcript"
     status=$?
     if [ "$status" != "$wanted" ]; then
-        fail "$input $*: the status is $status, and not $wanted"
+        fail "$input${*:+ $*}: the status is $status, and not $wanted"
         return 1
     fi
 }
@@ -114,7 +115,10 @@ compare() {
             fi
         done <"$name.words"
     fi
-    ends "$@" $traced || return 1
+    if ! ends "$@" $traced; then
+        difference "$name.transcript" "$room/transcript"
+        return 1
+    fi
     same "$name.transcript" "$room/transcript" "$1: the transcript differs" || return 1
     if [ -n "$traced" ]; then
         traces "$@" || return 1
@@ -135,7 +139,7 @@ for script in examples/*.script examples/*/*.script; do
 done
 for file in examples/*.* examples/*/*.*; do
     case $file in
-    *.script) ;;
+    *.script | *.md) ;;
     *.transcript | *.status | *.words | *.fuel)
         [ -f "${file%.*}.script" ] || fail "$file has no script"
         ;;
