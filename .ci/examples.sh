@@ -1,10 +1,14 @@
 #!/bin/sh
-# Runs the built program over each examples/NAME.script, with the words of NAME.words, one a line, where that
-# file is there. Compares what it writes with NAME.transcript, and its exit status with the file NAME.status (0
-# where there is none). Then the trace alone may differ: with `--trace` it writes the same, but for lines that
-# begin with `~`. With other words it refuses to run. `rt ci` and `rt run` build it.
+# Runs the built program over each examples/NAME.script, and each in a folder there, with the words of NAME.words, one
+# a line, where that file is there. Compares what it writes with NAME.transcript, and its exit status with the file
+# NAME.status (0 where there is none). Then the trace alone may differ: with `--trace` it writes the same as without,
+# but for lines that begin with `~`. A row of NAME.fuel says that with so many units of fuel it writes so many lines of
+# the transcript, the last of which follows, and then `fuel`. Last, which words are refused. `rt ci` and `rt run` build
+# the program.
 
 program=crates/cepage/out/cepage
+LC_ALL=C
+export LC_ALL
 
 cd "$(dirname "$0")/.." || exit 1
 if [ ! -x "$program" ]; then
@@ -23,6 +27,29 @@ fail() {
     failed=$((failed + 1))
 }
 
+# Tells the first line in which a file differs from the one that is wanted, if it does.
+difference() {
+    cmp -s "$1" "$2" && return
+    awk -v wanted="$1" -v given="$2" 'BEGIN {
+        do {
+            number++
+            if ((getline want < wanted) <= 0) { want = "nothing"; ended++ }
+            if ((getline give < given) <= 0) { give = "nothing"; ended++ }
+        } while (want "" == give "" && !ended)
+        print "    line " number
+        print "    expected: " want
+        print "    got:      " give
+    }' >&2
+}
+
+# Gives 0 where the program wrote what it should have.
+same() {
+    cmp -s "$1" "$2" && return 0
+    fail "$3"
+    difference "$1" "$2"
+    return 1
+}
+
 # Runs the script with these words behind it, and gives 0 where it ends with the status that is wanted.
 ends() {
     input=$1
@@ -30,9 +57,40 @@ ends() {
     "$program" "$@" <"$input" >"$room/transcript"
     status=$?
     if [ "$status" != "$wanted" ]; then
-        fail "$input $*: the status is $status, and not $wanted"
+        fail "$input${*:+ $*}: the status is $status, and not $wanted"
         return 1
     fi
+}
+
+# Runs the script once more, with these words: with the trace where it was run without, and the other way round. Both
+# write the same but for the lines of the trace.
+traces() {
+    grep -v '^~' "$name.transcript" >"$room/wanted"
+    ends "$@" || return 1
+    grep -v '^~' "$room/transcript" >"$room/less"
+    if [ -n "$traced" ]; then
+        same "$room/wanted" "$room/transcript" "$1: the transcript differs without the trace"
+    else
+        same "$room/wanted" "$room/less" "$1: the trace changes the transcript"
+    fi
+}
+
+# Runs the script with the fuel of each row.
+spends() {
+    wanted=3
+    while read -r units count last; do
+        case $units in
+        '' | '#') continue ;;
+        esac
+        head -n "$count" "$name.transcript" >"$room/wanted"
+        if [ "$(tail -n 1 "$room/wanted")" != "$last" ]; then
+            fail "$name.fuel: line $count of the transcript is not: $last"
+            return 1
+        fi
+        echo fuel >>"$room/wanted"
+        ends "$1" $traced --fuel "$units" || return 1
+        same "$room/wanted" "$room/transcript" "$1 --fuel $units: the transcript differs" || return 1
+    done <"$name.fuel"
 }
 
 # Runs one script, and gives 0 where its transcript and its status are as they should be, also with the trace.
@@ -44,56 +102,129 @@ compare() {
     fi
     wanted=0
     if [ -f "$name.status" ]; then
-        wanted=$(cat "$name.status")
+        read -r wanted <"$name.status"
     fi
-    set -- "$1"
     traced=
+    set -- "$1"
     if [ -f "$name.words" ]; then
         while IFS= read -r word; do
-            set -- "$@" "$word"
             if [ "$word" = --trace ]; then
-                traced=yes
+                traced=--trace
+            else
+                set -- "$@" "$word"
             fi
         done <"$name.words"
     fi
-    ends "$@" || return 1
-    if ! cmp "$name.transcript" "$room/transcript" >&2; then
-        fail "$name: the transcript differs"
+    if ! ends "$@" $traced; then
+        difference "$name.transcript" "$room/transcript"
         return 1
     fi
-    if [ -z "$traced" ]; then
-        ends "$@" --trace || return 1
-        grep -v '^~' "$room/transcript" >"$room/less"
-        if ! cmp "$name.transcript" "$room/less" >&2; then
-            fail "$name: the trace changes the transcript"
-            return 1
-        fi
+    same "$name.transcript" "$room/transcript" "$1: the transcript differs" || return 1
+    if [ -n "$traced" ]; then
+        traces "$@" || return 1
+    else
+        traces "$@" --trace || return 1
+    fi
+    if [ -f "$name.fuel" ]; then
+        spends "$1"
     fi
 }
 
-# Other words are refused before anything is read.
-wanted=2
-for word in --help --trace=on --fuel=5 --fuel trace --; do
-    ends examples/first.script "$word"
-    if [ -s "$room/transcript" ]; then
-        fail "$word: something was written"
-    fi
-done
-
-for script in examples/*.script; do
+for script in examples/*.script examples/*/*.script; do
     if [ ! -f "$script" ]; then
-        fail "there is no examples/*.script"
-        break
-    fi
-    if compare "$script"; then
+        fail "there is no $script"
+    elif compare "$script"; then
         passed=$((passed + 1))
     fi
 done
-for file in examples/*.transcript examples/*.status examples/*.words; do
-    if [ -f "$file" ] && [ ! -f "${file%.*}.script" ]; then
-        fail "$file has no script"
-    fi
+for file in examples/*.* examples/*/*.*; do
+    case $file in
+    *.script | *.md) ;;
+    *.transcript | *.status | *.words | *.fuel)
+        [ -f "${file%.*}.script" ] || fail "$file has no script"
+        ;;
+    *) fail "$file is none of a script's files" ;;
+    esac
 done
+
+# Rows of words, quoted as for a shell, and behind ` => ` what comes of `create $a div` with them: the status, and the
+# lines of the transcript. The script wants two units of fuel. Refused words write nothing.
+printf 'create $a div\n' >"$room/script"
+while IFS= read -r row; do
+    eval "set -- ${row% => *}"
+    "$program" "$@" <"$room/script" >"$room/transcript"
+    given="$?$(sed 's,^, / ,' "$room/transcript" | tr -d '\n')"
+    if [ "$given" != "${row#* => }" ]; then
+        fail "the words ${row% => *}: expected ${row#* => }, got $given"
+    fi
+done <<'END'
+ => 0 / 1: #2
+--trace => 0 / ~ open 1 / ~ drain 1 / ~ close 1 / 1: #2
+--fuel 2 => 0 / 1: #2
+--fuel 2 --trace => 0 / ~ open 1 / ~ drain 1 / ~ close 1 / 1: #2
+--trace --fuel 2 => 0 / ~ open 1 / ~ drain 1 / ~ close 1 / 1: #2
+--fuel 1 => 3 / fuel
+--trace --fuel 1 => 3 / ~ open 1 / fuel
+--fuel 200000 => 0 / 1: #2
+--fuel 000000002 => 0 / 1: #2
+--fuel 000000001 => 3 / fuel
+--fuel 0000000002 => 2
+--fuel 000000000 => 2
+--fuel 0 => 2
+--fuel 200001 => 2
+--fuel 999999999 => 2
+--fuel 4294967298 => 2
+--fuel => 2
+--fuel '' => 2
+--fuel +2 => 2
+--fuel -2 => 2
+--fuel ' 2' => 2
+--fuel '2 ' => 2
+--fuel 2. => 2
+--fuel 2a => 2
+--fuel ٢ => 2
+--fuel=2 => 2
+--fuel2 => 2
+--fuel 2 3 => 2
+--fuel --trace => 2
+--fuel --fuel 2 => 2
+--fuel 2 --fuel => 2
+--fuel 2 --fuel 2 => 2
+--fuel 2 --trace --fuel 2 => 2
+--fuel 2 --trace --trace => 2
+--trace --trace => 2
+--trace --trace --fuel 2 => 2
+--trace --fuel => 2
+--trace --fuel 0 => 2
+--trace 2 => 2
+--trace=on => 2
+--Trace => 2
+--tracé => 2
+' --trace' => 2
+-trace => 2
+trace => 2
+2 => 2
+-- => 2
+-- --trace => 2
+--trace -- => 2
+'' => 2
+--trace '' => 2
+--help => 2
+--url http://page.test/ => 2
+--boundary XX => 2
+--make 5 => 2
+--fuel=5 => 2
+--fuel trace => 2
+END
+
+# Without words there are 20,000 units of fuel, which is ten thousand creations.
+awk 'BEGIN { for (i = 0; i <= 10000; i++) print "create $a p" }' >"$room/script"
+wanted=3
+if ends "$room/script"; then
+    printf '10000: #10001\nfuel\n' >"$room/wanted"
+    tail -n 2 "$room/transcript" >"$room/last"
+    same "$room/wanted" "$room/last" "10,001 creations: the transcript ends otherwise"
+fi
 
 echo "examples: $passed passed, $failed failed"
 [ "$failed" -eq 0 ]

@@ -9,7 +9,3 @@ mod limits;
 mod pieces;
 #[cfg(test)]
 mod script;
-#[cfg(test)]
-mod traces;
-#[cfg(test)]
-mod words;

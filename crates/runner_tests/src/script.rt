@@ -1,6 +1,5 @@
 // Scripts as texts: rows that begin with "> " are lines of the script, rows that begin with "< " lines of the
-// transcript. A number before the sign says how many times they come, `/` stands between lines that come in
-// turn, and `%` for a value of 4000 bytes.
+// transcript. A number before the sign says how many times they come, and `%` stands for a value of 4000 bytes.
 use ce_base::{Sink, Source, SureSink, SureSource};
 use page_runner::{Status, run};
 use std::alloc::Global;
@@ -10,9 +9,8 @@ use std::test::Fail;
 // What a row spells, once.
 fn spelled(alloc: Global, row: &str) -> Result<String, Fail> {
     let value = "v".repeat(alloc, 4_000)?;
-    let lines = row.replace(alloc, " / ", "\n")?;
-    let lines = lines.replace(alloc, "%", value.as_str())?;
-    Ok(format!(in alloc; "{lines}\n")?)
+    let line = row.replace(alloc, "%", value.as_str())?;
+    Ok(format!(in alloc; "{line}\n")?)
 }
 
 // The rows of a text with this sign, spelled out.
@@ -59,27 +57,6 @@ pub(crate) fn status_of(alloc: Global, source: &mut impl Source, sink: &mut impl
 pub(crate) fn ran_from(alloc: Global, source: &mut impl Source) -> Result<Ended, Fail> {
     let mut sink = SureSink::make(alloc);
     let status = status_of(alloc, source, &mut sink);
-    let text = String::from_utf8_lossy(alloc, sink.bytes())?;
-    Ok(Ended { status, text })
-}
-
-// The words of a row, with spaces between them. `_` stands for a space within a word, and `''` for a word without
-// characters.
-fn words_of(alloc: Global, row: &str) -> Result<Vec<String>, Fail> {
-    let mut words = Vec::new(alloc);
-    for word in row.split_whitespace() {
-        let word = word.replace(alloc, "''", "")?;
-        words.push(word.replace(alloc, "_", " ")?)?;
-    }
-    Ok(words)
-}
-
-// Runs a script with these words.
-pub(crate) fn ran_with(alloc: Global, words: &str, script: &str) -> Result<Ended, Fail> {
-    let words = words_of(alloc, words)?;
-    let mut source = source_of(alloc, script.as_bytes(), 65_536)?;
-    let mut sink = SureSink::make(alloc);
-    let status = run(alloc, &words, &mut source, &mut sink);
     let text = String::from_utf8_lossy(alloc, sink.bytes())?;
     Ok(Ended { status, text })
 }

@@ -2,8 +2,6 @@
 #![tactic(auto)]
 
 #[cfg(test)]
-mod reading;
-#[cfg(test)]
 mod values;
 #[cfg(test)]
 mod writing;
