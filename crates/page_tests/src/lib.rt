@@ -1,7 +1,5 @@
-//! Tests of events as text, and of the page.
+//! Tests of events as text: lines of a transcript are read, which no program does.
 #![tactic(auto)]
 
 #[cfg(test)]
 mod lines;
-#[cfg(test)]
-mod page;
