@@ -1,26 +1,14 @@
-//! Tests of the crates below the page, a module a crate; `operands` is the second one of rule_tokens, `arena` has
-//! those of upgrade_walk too, and `rows` has what they share.
+//! Tests of the crates below the page: `base` and `names` are those of ce_base and element_names, `kinds` has what
+//! elements are for forms, and `calls` the calls that no program makes. `rows` has what they share.
 #![tactic(auto)]
 
 #[cfg(test)]
-mod arena;
-#[cfg(test)]
 mod base;
 #[cfg(test)]
-mod bodies;
+mod calls;
 #[cfg(test)]
 mod kinds;
 #[cfg(test)]
 mod names;
 #[cfg(test)]
-mod operands;
-#[cfg(test)]
-mod queues;
-#[cfg(test)]
-mod registry;
-#[cfg(test)]
 mod rows;
-#[cfg(test)]
-mod stacks;
-#[cfg(test)]
-mod tokens;

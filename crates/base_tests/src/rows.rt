@@ -26,14 +26,6 @@ pub(crate) fn word_or_none(step: &str, i: usize) -> Option<&str> {
     }
 }
 
-// A word that is a number, or 0.
-pub(crate) fn number(step: &str, i: usize) -> u64 {
-    match word(step, i).parse::<u64>() {
-        Ok(n) => n,
-        Err(_) => 0,
-    }
-}
-
 // Compares what a step gave with what is wanted.
 pub(crate) fn same(rt: &impl Abort, given: &str, want: &str, step: &str) {
     assert_eq!(rt; given, want, "at {step}");
