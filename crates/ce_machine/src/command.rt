@@ -45,14 +45,13 @@ pub(crate) fn reply_to_part(
     }
 }
 
-/// Runs a command on the state of a session, and writes what comes of it: its first turn, and then the loop. A
-/// machine runs its commands so; whoever has a state of their own, in which reactions may wait already, calls it.
+/// Runs a command on the state of a session, and writes what comes of it: its first turn, and then the loop.
 ///
 /// No frame lies on the stack before it, and none after it; each class has its behaviour there.
 ///
 /// FuelSpent exactly where the fuel is spent in it. WriteFault only where a write failed; NoMemory where memory
 /// was refused. The state is only dropped after each of the three.
-pub fn run_command<K: Sink>(
+pub(crate) fn run_command<K: Sink>(
     state: &mut State,
     alloc: Global,
     stack: &mut Stack,

@@ -12,6 +12,5 @@ mod stops;
 mod turns;
 mod writing;
 
-pub use command::run_command;
 pub use end::End;
 pub use machine::Machine;
