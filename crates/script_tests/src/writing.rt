@@ -1,5 +1,5 @@
 // Lines that are read and written again, and copies of their actions.
-ghost use Rattle.std.specs.Prelude.{◌≡◌, IfOk, IfSome};
+ghost use Rattle.std.specs.Prelude.{◌≡◌, IfOk};
 ghost use Rattle.rule_lines.specs.Acts.{Declares, On, act_of, line_of};
 ghost use Rattle.rule_script.specs.Canonical.{CanBeSpelled};
 
@@ -12,16 +12,6 @@ use std::process::Abort;
 use std::test::Fail;
 
 const LONGEST: usize = 4096;
-
-// The line that is read, if one is.
-fn read(alloc: Global, line: &str) -> Option<Line>
-    ensures { IfSome result (λ x. CanBeSpelled (line_of x)) }
-{
-    match grammar_line(alloc, LONGEST, line.as_bytes()) {
-        Ok(x) => Some(x),
-        Err(_) => None,
-    }
-}
 
 fn copy_of(
     alloc: Global,
@@ -77,10 +67,10 @@ fn copied(alloc: Global, line: &Line) -> Result<Text, Fail>
 
 // A line as it is written once it is read and its action is copied.
 fn again(alloc: Global, line: &str) -> Result<Text, Fail> {
-    let read = read(alloc, line);
+    let read = grammar_line(alloc, LONGEST, line.as_bytes());
     match &read {
-        Some(x) => copied(alloc, x),
-        None => Err(Fail::from("refused")),
+        Ok(x) => copied(alloc, x),
+        Err(_) => Err(Fail::from("refused")),
     }
 }
 
