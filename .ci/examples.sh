@@ -65,13 +65,13 @@ ends() {
 # Runs the script once more, with these words: with the trace where it was run without, and the other way round. Both
 # write the same but for the lines of the trace.
 traces() {
-    grep -v '^~' "$name.transcript" >"$room/wanted"
     ends "$@" || return 1
-    grep -v '^~' "$room/transcript" >"$room/less"
     if [ -n "$traced" ]; then
+        grep -v '^~' "$name.transcript" >"$room/wanted"
         same "$room/wanted" "$room/transcript" "$1: the transcript differs without the trace"
     else
-        same "$room/wanted" "$room/less" "$1: the trace changes the transcript"
+        grep -v '^~' "$room/transcript" >"$room/less"
+        same "$name.transcript" "$room/less" "$1: the trace changes the transcript"
     fi
 }
 

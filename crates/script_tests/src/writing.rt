@@ -1,5 +1,5 @@
 // Lines that are read and written again, and copies of their actions.
-ghost use Rattle.std.specs.Prelude.{◌≡◌, IfOk, IfSome};
+ghost use Rattle.std.specs.Prelude.{◌≡◌, IfOk};
 ghost use Rattle.rule_lines.specs.Acts.{Declares, On, act_of, line_of};
 ghost use Rattle.rule_script.specs.Canonical.{CanBeSpelled};
 
@@ -12,16 +12,6 @@ use std::process::Abort;
 use std::test::Fail;
 
 const LONGEST: usize = 4096;
-
-// The line that is read, if one is.
-fn read(alloc: Global, line: &str) -> Option<Line>
-    ensures { IfSome result (λ x. CanBeSpelled (line_of x)) }
-{
-    match grammar_line(alloc, LONGEST, line.as_bytes()) {
-        Ok(x) => Some(x),
-        Err(_) => None,
-    }
-}
 
 fn copy_of(
     alloc: Global,
@@ -40,22 +30,6 @@ fn copy_of(
     }))
 }
 
-// The line with a copy of its action, if it has one.
-fn copied(alloc: Global, line: &Line) -> Option<Line>
-    ensures { IfSome result (λ x. line_of x ≡ line_of line.now) }
-{
-    match line {
-        Line::Part(
-            ClassPart::On {
-                class,
-                call,
-                action,
-            },
-        ) => copy_of(alloc, class, *call, action).ok(),
-        _ => None,
-    }
-}
-
 fn written(alloc: Global, line: &Line) -> Result<Text, Fail>
     requires { CanBeSpelled (line_of line.now) }
 {
@@ -65,31 +39,38 @@ fn written(alloc: Global, line: &Line) -> Result<Text, Fail>
     }
 }
 
-// A line as it is written once it is read.
-fn again(alloc: Global, line: &str) -> Result<Text, Fail> {
-    let read = read(alloc, line);
-    match &read {
-        Some(x) => written(alloc, x),
-        None => Err(Fail::from("refused")),
+fn written_copy(alloc: Global, class: &Text, call: CallName, action: &Action) -> Result<Text, Fail>
+    requires { CanBeSpelled (Declares (On class.now call (act_of action.now))) }
+{
+    let copy = copy_of(alloc, class, call, action);
+    match &copy {
+        Ok(x) => written(alloc, x),
+        Err(_) => Err(Fail::from("no copy")),
     }
 }
 
-fn written_copy(alloc: Global, line: &Line) -> Result<Text, Fail>
+// A line as it is written, with a copy of its action where it has one.
+fn copied(alloc: Global, line: &Line) -> Result<Text, Fail>
     requires { CanBeSpelled (line_of line.now) }
 {
-    let copy = copied(alloc, line);
-    match &copy {
-        Some(copy) => written(alloc, copy),
-        None => Err(Fail::from("no copy")),
+    match line {
+        Line::Part(
+            ClassPart::On {
+                class,
+                call,
+                action,
+            },
+        ) => written_copy(alloc, class, *call, action),
+        _ => written(alloc, line),
     }
 }
 
-// A line of a body as it is written once it is read and its action is copied.
-fn again_copied(alloc: Global, line: &str) -> Result<Text, Fail> {
-    let read = read(alloc, line);
+// A line as it is written once it is read and its action is copied.
+fn again(alloc: Global, line: &str) -> Result<Text, Fail> {
+    let read = grammar_line(alloc, LONGEST, line.as_bytes());
     match &read {
-        Some(x) => written_copy(alloc, x),
-        None => Err(Fail::from("refused")),
+        Ok(x) => copied(alloc, x),
+        Err(_) => Err(Fail::from("refused")),
     }
 }
 
@@ -102,7 +83,8 @@ fn compare(rt: &impl Abort, alloc: Global, rows: &str) -> Result<(), Fail> {
     Ok(())
 }
 
-const OPERATIONS: &str = r#"create $a "div"
+const OPERATIONS: &str = r#"
+create $a "div"
 create $a "div" is "x-b" in doc
 create $a "" in $d
 new $a A
@@ -158,7 +140,9 @@ let $a $b"#;
 
 #[test]
 fn operations_are_written(rt: HostRuntime) -> Result<(), Fail> {
-    compare(&rt, rt.alloc(), OPERATIONS)
+    let actions = OPERATIONS.replace(rt.alloc(), "\n", "\non A connected : ")?;
+    compare(&rt, rt.alloc(), OPERATIONS)?;
+    compare(&rt, rt.alloc(), actions.as_str())
 }
 
 const ACTIONS: &str = r#"on A attribute : log "a" @1 @2 @3 @count @kept
@@ -173,6 +157,7 @@ on A adopted : try bump
 on A formStateRestore : if eq "a" @2 : bump
 on A formStateRestore : if ne @kept ":" : keep ""
 on A connected : try try try try try try try try bump
+on A connected : log "" "" "" "" "" "" "" ""
 on A connected : if eq @1 "" : if ne "" @1 : try if eq "" "" : try throw @count"#;
 
 const CLASSES: &str = r#"
@@ -197,21 +182,6 @@ fn actions_and_classes_are_written(rt: HostRuntime) -> Result<(), Fail> {
     compare(&rt, rt.alloc(), CLASSES)
 }
 
-// Sees that the copy of each action is written as it stands, behind this front.
-fn compare_copies(rt: &impl Abort, alloc: Global, front: &str, lines: &str) -> Result<(), Fail> {
-    for line in lines.lines() {
-        let line = repeated(alloc, front, line, 1, "")?;
-        assert_eq!(rt; again_copied(alloc, line.as_str())?.as_str(), line.as_str());
-    }
-    Ok(())
-}
-
-#[test]
-fn a_copy_does_the_same(rt: HostRuntime) -> Result<(), Fail> {
-    compare_copies(&rt, rt.alloc(), "on A connected : ", OPERATIONS)?;
-    compare_copies(&rt, rt.alloc(), "", ACTIONS)
-}
-
 const SPELLINGS: &str = r#"  # nothing => 
  create  $a div  is x-b in $d  => create $a "div" is "x-b" in $d
 text $a in in doc => text $a "in" in doc
@@ -231,32 +201,14 @@ fn other_spellings_are_written_canonically(rt: HostRuntime) -> Result<(), Fail> 
     compare(&rt, rt.alloc(), SPELLINGS)
 }
 
-// A line of a part that stands so many times between a front and an end.
-fn repeated(
-    alloc: Global,
-    front: &str,
-    part: &str,
-    times: usize,
-    end: &str,
-) -> Result<String, Fail> {
-    let mut line = String::from_str(alloc, front)?;
-    for _ in 0..times {
-        line.push_str(part)?;
-    }
-    line.push_str(end)?;
-    Ok(line)
-}
-
 #[test]
 fn long_lines_are_written(rt: HostRuntime) -> Result<(), Fail> {
-    for (front, part, times, end) in [
-        ("text $t \"", "\\\"", 2000, "\""),
-        ("text $t \"", "a", 4086, "\""),
-        ("formlist $a", " \"n\" \"v\"", 32, ""),
-        ("on A connected : log", " \"\"", 8, ""),
-    ] {
-        let line = repeated(rt.alloc(), front, part, times, end)?;
-        compare(&rt, rt.alloc(), line.as_str())?;
-    }
-    Ok(())
+    let alloc = rt.alloc();
+    let quotes = "\\\"".repeat(alloc, 2000)?;
+    let letters = "a".repeat(alloc, 4086)?;
+    let entries = " \"n\" \"v\"".repeat(alloc, 32)?;
+    let rows = format!(in alloc;
+        "text $t \"{quotes}\"\ntext $t \"{letters}\"\nformlist $a{entries}"
+    )?;
+    compare(&rt, alloc, rows.as_str())
 }
