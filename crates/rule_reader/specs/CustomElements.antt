@@ -8,6 +8,7 @@ use Rattle.rule_lines.specs.declared.op.Op.TheVariants as ops
 use Rattle.rule_grammar.specs.declared.keyword.Keyword.TheVariants as keywords
 use Rattle.rule_reader.specs.declared.form.Leaf.{Leaf}
 use Rattle.rule_reader.specs.declared.form.Leaf.TheVariants as leaves
+use Rattle.rule_reader.specs.Shapes.{only}
 use Rattle.rule_reader.specs.Takes.{take_one, optional, ended}
 
 abbrev pub define_of : List Token → Result Leaf Bad
@@ -20,6 +21,5 @@ define_of ts = do
 
 abbrev pub upgrade_of : List Token → Result Leaf Bad
 upgrade_of ts = do
-  target ← take_one node ts
-  end ← ended target.1
-  Ok (leaves.Both (ops.Upgrade target.0))
+  target ← only node ts
+  Ok (leaves.Both (ops.Upgrade target))

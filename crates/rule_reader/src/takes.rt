@@ -111,63 +111,6 @@ pub(crate) fn behind(tokens: &[Token], word: Word) -> Result<&[Token], LineRefus
     Ok(rest)
 }
 
-pub(crate) fn optional_text(
-    alloc: Global,
-    tokens: &[Token],
-    word: Keyword,
-) -> Result<(Option<Text>, &[Token]), LineRefused>
-    ensures { GivesSeen (λ x. (x.0, x.1.now)) result (optional word text tokens.now) }
-{
-    match tokens {
-        [] => Ok((None, tokens)),
-        [first, rest @ ..] => {
-            if !is_word(first, word.text()) {
-                return Ok((None, tokens));
-            }
-            let (found, rest) = text_at(alloc, rest)?;
-            Ok((Some(found), rest))
-        }
-    }
-}
-
-pub(crate) fn optional_node(
-    alloc: Global,
-    tokens: &[Token],
-    word: Keyword,
-) -> Result<(Option<Operand>, &[Token]), LineRefused>
-    ensures { GivesSeen (λ x. (x.0, x.1.now)) result (optional word node tokens.now) }
-{
-    match tokens {
-        [] => Ok((None, tokens)),
-        [first, rest @ ..] => {
-            if !is_word(first, word.text()) {
-                return Ok((None, tokens));
-            }
-            let (found, rest) = node_at(alloc, rest)?;
-            Ok((Some(found), rest))
-        }
-    }
-}
-
-pub(crate) fn optional_value(
-    alloc: Global,
-    tokens: &[Token],
-    word: Keyword,
-) -> Result<(Option<Val>, &[Token]), LineRefused>
-    ensures { GivesSeen (λ x. (x.0, x.1.now)) result (optional word value tokens.now) }
-{
-    match tokens {
-        [] => Ok((None, tokens)),
-        [first, rest @ ..] => {
-            if !is_word(first, word.text()) {
-                return Ok((None, tokens));
-            }
-            let (found, rest) = value_at(alloc, rest)?;
-            Ok((Some(found), rest))
-        }
-    }
-}
-
 pub(crate) fn marked(tokens: &[Token], word: Keyword) -> (bool, &[Token])
     ensures { marked word tokens.now ≡ (result.0, result.1.now) }
 {
@@ -180,6 +123,51 @@ pub(crate) fn marked(tokens: &[Token], word: Keyword) -> (bool, &[Token])
             (false, tokens)
         }
     }
+}
+
+pub(crate) fn optional_text(
+    alloc: Global,
+    tokens: &[Token],
+    word: Keyword,
+) -> Result<(Option<Text>, &[Token]), LineRefused>
+    ensures { GivesSeen (λ x. (x.0, x.1.now)) result (optional word text tokens.now) }
+{
+    let (there, rest) = marked(tokens, word);
+    if !there {
+        return Ok((None, rest));
+    }
+    let (found, rest) = text_at(alloc, rest)?;
+    Ok((Some(found), rest))
+}
+
+pub(crate) fn optional_node(
+    alloc: Global,
+    tokens: &[Token],
+    word: Keyword,
+) -> Result<(Option<Operand>, &[Token]), LineRefused>
+    ensures { GivesSeen (λ x. (x.0, x.1.now)) result (optional word node tokens.now) }
+{
+    let (there, rest) = marked(tokens, word);
+    if !there {
+        return Ok((None, rest));
+    }
+    let (found, rest) = node_at(alloc, rest)?;
+    Ok((Some(found), rest))
+}
+
+pub(crate) fn optional_value(
+    alloc: Global,
+    tokens: &[Token],
+    word: Keyword,
+) -> Result<(Option<Val>, &[Token]), LineRefused>
+    ensures { GivesSeen (λ x. (x.0, x.1.now)) result (optional word value tokens.now) }
+{
+    let (there, rest) = marked(tokens, word);
+    if !there {
+        return Ok((None, rest));
+    }
+    let (found, rest) = value_at(alloc, rest)?;
+    Ok((Some(found), rest))
 }
 
 pub(crate) fn maybe_node(

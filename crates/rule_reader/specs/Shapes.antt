@@ -1,0 +1,20 @@
+-- The shapes that several forms have: so many operands, and no token after them.
+use Rattle.std.specs.Prelude.{List, Option, Result, Ok}
+use Rattle.rule_tokens.specs.declared.refused.Bad.{Bad}
+use Rattle.rule_tokens.specs.declared.token.Token.{Token}
+use Rattle.rule_tokens.specs.Gives.{◌>>=◌}
+use Rattle.rule_reader.specs.Takes.{take_one, ended}
+
+-- one operand
+abbrev pub only : {A : Type 0} → (Token → Option A) → List Token → Result A Bad
+only kind ts = do
+  a ← take_one kind ts
+  end ← ended a.1
+  Ok a.0
+
+-- two operands
+abbrev pub two : {A B : Type 0} → (Token → Option A) → (Token → Option B) → List Token → Result (A × B) Bad
+two first second ts = do
+  a ← take_one first ts
+  b ← only second a.1
+  Ok (a.0, b)
