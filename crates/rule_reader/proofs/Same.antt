@@ -18,7 +18,7 @@ use Rattle.rule_grammar.specs.declared.read_as.ReadAs.TheVariants as read_as
 use Rattle.rule_grammar.specs.declared.keyword.Keyword.{Keyword}
 use Rattle.rule_grammar.specs.declared.word.Word.TheVariants as words
 use Rattle.rule_reader.specs.AsRead.{part, mark, switch}
-use Rattle.rule_reader.specs.Shapes.{only, two}
+use Rattle.rule_reader.specs.Shapes.{only, only_behind, two}
 use Rattle.rule_reader.specs.Takes.{take_one, optional, marked, maybe, on_off, ended}
 
 -- what was read, seen as a list
@@ -127,13 +127,13 @@ switch_read action x see front is (t ∷ u ∷ ts) = over (is_word (spelling wor
 
 -- ---- operands to the end
 
-carried : {A B C : Type 0} (read : Result A Bad) (f : A → B) (k : B → Result C Bad) → (read >>= λ a. k (f a)) ≡ ((read >>= λ a. Ok (f a)) >>= k)
-carried (Ok a) f k = refl
-carried (Err e) f k = refl
+pub assoc : {A B C : Type 0} (r : Result A Bad) (k : A → Result B Bad) (l : B → Result C Bad) → ((r >>= k) >>= l) ≡ (r >>= λ x. k x >>= l)
+assoc (Ok x) k l = refl
+assoc (Err b) k l = refl
 
 -- what is made of two steps is made of what they give together
 together : {A B C D : Type 0} (read : Result A Bad) (next : A → Result B Bad) (f : A → B → C) (k : C → Result D Bad) → (read >>= λ a. next a >>= λ b. k (f a b)) ≡ ((read >>= λ a. next a >>= λ b. Ok (f a b)) >>= k)
-together (Ok a) next f k = carried (next a) (f a) k
+together (Ok a) next f k = sym (assoc (next a) (λ b. Ok (f a b)) k)
 together (Err e) next f k = refl
 
 pub last_one : {A B : Type 0} (action : List Token → Reads) (kind : Kind) (f : Token → Option A) (g : A → ReadAs) (x : A → B) (see : B → List ReadAs) (front : List ReadAs) → ((t : Token) → said_as kind t ≡ option_map g (f t)) → ((a : A) → front ++ g a ∷ [] ≡ see (x a)) → (ts : List Token) → with_front front (read action (One kind End) ts) ≡ shows see (only f ts >>= λ a. Ok (x a))
@@ -150,3 +150,22 @@ pub node_switched : {B : Type 0} (action : List Token → Reads) (x : Operand �
 node_switched action x see front is ts =
     one action kinds.Node node read_as.Node on_off_wants (λ a. only on_off a.1 >>= λ b. Ok (x a.0 b)) see front (λ t. refl) (λ a rest. switch_read action (x a) see (front ++ read_as.Node a ∷ []) (is a) rest ∙ ap (shows see) (together (take_one on_off rest) (λ b. ended b.1) (λ b e. b.0) (λ b. Ok (x a b)))) ts
     ∙ ap (shows see) (together (take_one node ts) (λ a. only on_off a.1) (λ a b. (a.0, b)) (λ both. Ok (x both.0 both.1)))
+
+-- ---- an operand behind a keyword, to the end
+
+an_end : {A B : Type 0} (end : Result (Unit {0}) Bad) (a : A) (x : Option A → B) → (end >>= λ e. Ok (x (Some a))) ≡ (((end >>= λ e. Ok a) >>= λ b. Ok (Some b)) >>= λ o. Ok (x o))
+an_end (Ok e) a x = refl
+an_end (Err b) a x = refl
+
+some_to_end : {A B : Type 0} (read : Result (A × List Token) Bad) (x : Option A → B) → (then_some read >>= λ o. ended o.1 >>= λ e. Ok (x o.0)) ≡ (((read >>= λ a. ended a.1 >>= λ e. Ok a.0) >>= λ a. Ok (Some a)) >>= λ o. Ok (x o))
+some_to_end (Ok a) x = an_end (ended a.1) a.0 x
+some_to_end (Err b) x = refl
+
+to_end : {A B : Type 0} (there : Bool) (f : Token → Option A) (ts : List Token) (x : Option A → B) → ((if there then some_one f ts else Ok (None, ts)) >>= λ o. ended o.1 >>= λ e. Ok (x o.0)) ≡ ((if there then (only f ts >>= λ a. Ok (Some a)) else (ended ts >>= λ e. Ok None)) >>= λ o. Ok (x o))
+to_end true f ts x = some_to_end (take_one f ts) x
+to_end false f ts x = sym (assoc (ended ts) (λ e. Ok None) (λ o. Ok (x o)))
+
+pub last_opt : {A B : Type 0} (word : Keyword) (kind : Kind) (f : Token → Option A) (g : A → ReadAs) (x : Option A → B) (see : B → List ReadAs) (front : List ReadAs) → ((t : Token) → said_as kind t ≡ option_map g (f t)) → ((o : Option A) → front ++ part g o ∷ [] ≡ see (x o)) → (ts : List Token) → with_front front (read_keys (record { word = word; operand = Some kind } ∷ []) ts) ≡ shows see (only_behind word f ts >>= λ o. Ok (x o))
+last_opt word kind f g x see front said is ts =
+    opt word kind f g [] (λ o. ended o.1 >>= λ e. Ok (x o.0)) see front said (λ o rest. keys_end (front ++ part g o ∷ []) (x o) see (append-nil (front ++ part g o ∷ []) ∙ is o) rest) ts
+    ∙ ap (shows see) (to_end (marked word ts).0 f (marked word ts).1 x)

@@ -22,16 +22,16 @@ use Rattle.rule_reader.specs.Bodies.{base_call_of, return_form_of, throw_of, bum
 use Rattle.rule_reader.specs.Classes.{class_of, has_of, associate_of}
 use Rattle.rule_reader.specs.Users as users
 use Rattle.rule_tokens.specs.Flags.{flags}
-use Rattle.rule_reader.proofs.Same.{shows, one, the_end, last_one, last_two, keys_end, opt, marks, perhaps, node_switched, on_off_wants}
+use Rattle.rule_reader.proofs.Same.{shows, one, the_end, last_one, last_two, keys_end, opt, last_opt, marks, perhaps, node_switched, on_off_wants}
 
 pub same_create : (action : List Token → Reads) (ts : List Token) → with_front (read_as.Word words.Create ∷ []) (read action (One kinds.Variable (One kinds.Chars (Keys (record { word = keywords.Is; operand = Some kinds.Chars } ∷ record { word = keywords.In; operand = Some kinds.Node } ∷ [])))) ts) ≡ shows leaf_as_read (create_of ts)
-same_create action ts = one action kinds.Variable variable read_as.Variable (One kinds.Chars (Keys (record { word = keywords.Is; operand = Some kinds.Chars } ∷ record { word = keywords.In; operand = Some kinds.Node } ∷ []))) _ leaf_as_read (read_as.Word words.Create ∷ []) (λ t. refl) (λ x0 ts0. one action kinds.Chars text read_as.Chars (Keys (record { word = keywords.Is; operand = Some kinds.Chars } ∷ record { word = keywords.In; operand = Some kinds.Node } ∷ [])) _ leaf_as_read (read_as.Word words.Create ∷ read_as.Variable x0 ∷ []) (λ t. refl) (λ x1 ts1. opt keywords.Is kinds.Chars text read_as.Chars (record { word = keywords.In; operand = Some kinds.Node } ∷ []) _ leaf_as_read (read_as.Word words.Create ∷ read_as.Variable x0 ∷ read_as.Chars x1 ∷ []) (λ t. refl) (λ x2 ts2. opt keywords.In kinds.Node node read_as.Node [] _ leaf_as_read (read_as.Word words.Create ∷ read_as.Variable x0 ∷ read_as.Chars x1 ∷ part read_as.Chars x2 ∷ []) (λ t. refl) (λ x3 ts3. keys_end (read_as.Word words.Create ∷ read_as.Variable x0 ∷ read_as.Chars x1 ∷ part read_as.Chars x2 ∷ part read_as.Node x3 ∷ []) _ leaf_as_read refl ts3) ts2) ts1) ts0) ts
+same_create action ts = one action kinds.Variable variable read_as.Variable (One kinds.Chars (Keys (record { word = keywords.Is; operand = Some kinds.Chars } ∷ record { word = keywords.In; operand = Some kinds.Node } ∷ []))) _ leaf_as_read (read_as.Word words.Create ∷ []) (λ t. refl) (λ x0 ts0. one action kinds.Chars text read_as.Chars (Keys (record { word = keywords.Is; operand = Some kinds.Chars } ∷ record { word = keywords.In; operand = Some kinds.Node } ∷ [])) _ leaf_as_read (read_as.Word words.Create ∷ read_as.Variable x0 ∷ []) (λ t. refl) (λ x1 ts1. opt keywords.Is kinds.Chars text read_as.Chars (record { word = keywords.In; operand = Some kinds.Node } ∷ []) _ leaf_as_read (read_as.Word words.Create ∷ read_as.Variable x0 ∷ read_as.Chars x1 ∷ []) (λ t. refl) (λ x2 ts2. last_opt keywords.In kinds.Node node read_as.Node (λ o. leaves.Both (ops.Create x0 x1 x2 o)) leaf_as_read (read_as.Word words.Create ∷ read_as.Variable x0 ∷ read_as.Chars x1 ∷ part read_as.Chars x2 ∷ []) (λ t. refl) (λ o. refl) ts2) ts1) ts0) ts
 
 pub same_new : (action : List Token → Reads) (ts : List Token) → with_front (read_as.Word words.New ∷ []) (read action (One kinds.Variable (One kinds.Class End)) ts) ≡ shows leaf_as_read (new_of ts)
 same_new action ts = one action kinds.Variable variable read_as.Variable (One kinds.Class End) _ leaf_as_read (read_as.Word words.New ∷ []) (λ t. refl) (λ var rest. last_one action kinds.Class class_name read_as.Class (λ a. leaves.Both (ops.New var a)) leaf_as_read (read_as.Word words.New ∷ read_as.Variable var ∷ []) (λ t. refl) (λ a. refl) rest) ts
 
 pub same_make_text : (action : List Token → Reads) (ts : List Token) → with_front (read_as.Word words.Text ∷ []) (read action (One kinds.Variable (One kinds.Chars (Keys (record { word = keywords.In; operand = Some kinds.Node } ∷ [])))) ts) ≡ shows leaf_as_read (make_text_of ts)
-same_make_text action ts = one action kinds.Variable variable read_as.Variable (One kinds.Chars (Keys (record { word = keywords.In; operand = Some kinds.Node } ∷ []))) _ leaf_as_read (read_as.Word words.Text ∷ []) (λ t. refl) (λ x0 ts0. one action kinds.Chars text read_as.Chars (Keys (record { word = keywords.In; operand = Some kinds.Node } ∷ [])) _ leaf_as_read (read_as.Word words.Text ∷ read_as.Variable x0 ∷ []) (λ t. refl) (λ x1 ts1. opt keywords.In kinds.Node node read_as.Node [] _ leaf_as_read (read_as.Word words.Text ∷ read_as.Variable x0 ∷ read_as.Chars x1 ∷ []) (λ t. refl) (λ x2 ts2. keys_end (read_as.Word words.Text ∷ read_as.Variable x0 ∷ read_as.Chars x1 ∷ part read_as.Node x2 ∷ []) _ leaf_as_read refl ts2) ts1) ts0) ts
+same_make_text action ts = one action kinds.Variable variable read_as.Variable (One kinds.Chars (Keys (record { word = keywords.In; operand = Some kinds.Node } ∷ []))) _ leaf_as_read (read_as.Word words.Text ∷ []) (λ t. refl) (λ x0 ts0. one action kinds.Chars text read_as.Chars (Keys (record { word = keywords.In; operand = Some kinds.Node } ∷ [])) _ leaf_as_read (read_as.Word words.Text ∷ read_as.Variable x0 ∷ []) (λ t. refl) (λ x1 ts1. last_opt keywords.In kinds.Node node read_as.Node (λ o. leaves.Both (ops.MakeText x0 x1 o)) leaf_as_read (read_as.Word words.Text ∷ read_as.Variable x0 ∷ read_as.Chars x1 ∷ []) (λ t. refl) (λ o. refl) ts1) ts0) ts
 
 pub same_shadow : (action : List Token → Reads) (ts : List Token) → with_front (read_as.Word words.Shadow ∷ []) (read action (One kinds.Variable (One kinds.Node End)) ts) ≡ shows leaf_as_read (shadow_of ts)
 same_shadow action ts = last_two action kinds.Variable kinds.Node variable node read_as.Variable read_as.Node (λ a b. leaves.Both (ops.Shadow a b)) leaf_as_read (read_as.Word words.Shadow ∷ []) (λ t. refl) (λ t. refl) (λ a b. refl) ts
@@ -67,7 +67,7 @@ pub same_del_attr : (action : List Token → Reads) (ts : List Token) → with_f
 same_del_attr action ts = one action kinds.Node node read_as.Node (One kinds.Chars End) _ leaf_as_read (read_as.Word words.DelAttr ∷ []) (λ t. refl) (λ target rest. last_one action kinds.Chars text read_as.Chars (λ a. leaves.Both (ops.DelAttr target a)) leaf_as_read (read_as.Word words.DelAttr ∷ read_as.Node target ∷ []) (λ t. refl) (λ a. refl) rest) ts
 
 pub same_define : (action : List Token → Reads) (ts : List Token) → with_front (read_as.Word words.Define ∷ []) (read action (One kinds.Chars (One kinds.Class (Keys (record { word = keywords.Extends; operand = Some kinds.Chars } ∷ [])))) ts) ≡ shows leaf_as_read (define_of ts)
-same_define action ts = one action kinds.Chars text read_as.Chars (One kinds.Class (Keys (record { word = keywords.Extends; operand = Some kinds.Chars } ∷ []))) _ leaf_as_read (read_as.Word words.Define ∷ []) (λ t. refl) (λ x0 ts0. one action kinds.Class class_name read_as.Class (Keys (record { word = keywords.Extends; operand = Some kinds.Chars } ∷ [])) _ leaf_as_read (read_as.Word words.Define ∷ read_as.Chars x0 ∷ []) (λ t. refl) (λ x1 ts1. opt keywords.Extends kinds.Chars text read_as.Chars [] _ leaf_as_read (read_as.Word words.Define ∷ read_as.Chars x0 ∷ read_as.Class x1 ∷ []) (λ t. refl) (λ x2 ts2. keys_end (read_as.Word words.Define ∷ read_as.Chars x0 ∷ read_as.Class x1 ∷ part read_as.Chars x2 ∷ []) _ leaf_as_read refl ts2) ts1) ts0) ts
+same_define action ts = one action kinds.Chars text read_as.Chars (One kinds.Class (Keys (record { word = keywords.Extends; operand = Some kinds.Chars } ∷ []))) _ leaf_as_read (read_as.Word words.Define ∷ []) (λ t. refl) (λ x0 ts0. one action kinds.Class class_name read_as.Class (Keys (record { word = keywords.Extends; operand = Some kinds.Chars } ∷ [])) _ leaf_as_read (read_as.Word words.Define ∷ read_as.Chars x0 ∷ []) (λ t. refl) (λ x1 ts1. last_opt keywords.Extends kinds.Chars text read_as.Chars (λ o. leaves.Both (ops.Define x0 x1 o)) leaf_as_read (read_as.Word words.Define ∷ read_as.Chars x0 ∷ read_as.Class x1 ∷ []) (λ t. refl) (λ o. refl) ts1) ts0) ts
 
 pub same_upgrade : (action : List Token → Reads) (ts : List Token) → with_front (read_as.Word words.Upgrade ∷ []) (read action (One kinds.Node End) ts) ≡ shows leaf_as_read (upgrade_of ts)
 same_upgrade action ts = last_one action kinds.Node node read_as.Node (λ a. leaves.Both (ops.Upgrade a)) leaf_as_read (read_as.Word words.Upgrade ∷ []) (λ t. refl) (λ a. refl) ts
@@ -76,7 +76,7 @@ pub same_internals : (action : List Token → Reads) (ts : List Token) → with_
 same_internals action ts = last_one action kinds.Node node read_as.Node (λ a. leaves.Both (ops.Internals a)) leaf_as_read (read_as.Word words.Internals ∷ []) (λ t. refl) (λ a. refl) ts
 
 pub same_form_value : (action : List Token → Reads) (ts : List Token) → with_front (read_as.Word words.FormValue ∷ []) (read action (One kinds.Node (One kinds.Value (Keys (record { word = keywords.State; operand = Some kinds.Value } ∷ [])))) ts) ≡ shows leaf_as_read (form_value_of ts)
-same_form_value action ts = one action kinds.Node node read_as.Node (One kinds.Value (Keys (record { word = keywords.State; operand = Some kinds.Value } ∷ []))) _ leaf_as_read (read_as.Word words.FormValue ∷ []) (λ t. refl) (λ x0 ts0. one action kinds.Value value read_as.Value (Keys (record { word = keywords.State; operand = Some kinds.Value } ∷ [])) _ leaf_as_read (read_as.Word words.FormValue ∷ read_as.Node x0 ∷ []) (λ t. refl) (λ x1 ts1. opt keywords.State kinds.Value value read_as.Value [] _ leaf_as_read (read_as.Word words.FormValue ∷ read_as.Node x0 ∷ read_as.Value x1 ∷ []) (λ t. refl) (λ x2 ts2. keys_end (read_as.Word words.FormValue ∷ read_as.Node x0 ∷ read_as.Value x1 ∷ part read_as.Value x2 ∷ []) _ leaf_as_read refl ts2) ts1) ts0) ts
+same_form_value action ts = one action kinds.Node node read_as.Node (One kinds.Value (Keys (record { word = keywords.State; operand = Some kinds.Value } ∷ []))) _ leaf_as_read (read_as.Word words.FormValue ∷ []) (λ t. refl) (λ x0 ts0. one action kinds.Value value read_as.Value (Keys (record { word = keywords.State; operand = Some kinds.Value } ∷ [])) _ leaf_as_read (read_as.Word words.FormValue ∷ read_as.Node x0 ∷ []) (λ t. refl) (λ x1 ts1. last_opt keywords.State kinds.Value value read_as.Value (λ o. leaves.Both (ops.FormValue x0 x1 o)) leaf_as_read (read_as.Word words.FormValue ∷ read_as.Node x0 ∷ read_as.Value x1 ∷ []) (λ t. refl) (λ o. refl) ts1) ts0) ts
 
 pub same_form_null : (action : List Token → Reads) (ts : List Token) → with_front (read_as.Word words.FormNull ∷ []) (read action (One kinds.Node End) ts) ≡ shows leaf_as_read (form_null_of ts)
 same_form_null action ts = last_one action kinds.Node node read_as.Node (λ a. leaves.Both (ops.FormNull a)) leaf_as_read (read_as.Word words.FormNull ∷ []) (λ t. refl) (λ a. refl) ts

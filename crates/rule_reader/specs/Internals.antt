@@ -13,8 +13,8 @@ use Rattle.rule_grammar.specs.declared.word.Word.TheVariants as words
 use Rattle.rule_grammar.specs.FixedWords.{spelling}
 use Rattle.rule_reader.specs.declared.form.Leaf.{Leaf}
 use Rattle.rule_reader.specs.declared.form.Leaf.TheVariants as leaves
-use Rattle.rule_reader.specs.Shapes.{only, two}
-use Rattle.rule_reader.specs.Takes.{next, take_one, optional, entries_up_to, ended}
+use Rattle.rule_reader.specs.Shapes.{only, only_behind, two}
+use Rattle.rule_reader.specs.Takes.{next, take_one, entries_up_to, ended}
 
 abbrev pub internals_of : List Token → Result Leaf Bad
 internals_of ts = do
@@ -25,9 +25,8 @@ abbrev pub form_value_of : List Token → Result Leaf Bad
 form_value_of ts = do
   target ← take_one node ts
   val ← take_one value target.1
-  saved ← optional keywords.State value val.1
-  end ← ended saved.1
-  Ok (leaves.Both (ops.FormValue target.0 val.0 saved.0))
+  saved ← only_behind keywords.State value val.1
+  Ok (leaves.Both (ops.FormValue target.0 val.0 saved))
 
 abbrev pub form_null_of : List Token → Result Leaf Bad
 form_null_of ts = do

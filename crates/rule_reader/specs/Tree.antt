@@ -8,7 +8,7 @@ use Rattle.rule_lines.specs.declared.op.Op.TheVariants as ops
 use Rattle.rule_grammar.specs.declared.keyword.Keyword.TheVariants as keywords
 use Rattle.rule_reader.specs.declared.form.Leaf.{Leaf}
 use Rattle.rule_reader.specs.declared.form.Leaf.TheVariants as leaves
-use Rattle.rule_reader.specs.Shapes.{only, two}
+use Rattle.rule_reader.specs.Shapes.{only, only_behind, two}
 use Rattle.rule_reader.specs.Takes.{take_one, optional, marked, ended}
 
 abbrev pub create_of : List Token → Result Leaf Bad
@@ -16,9 +16,8 @@ create_of ts = do
   var ← take_one variable ts
   local ← take_one text var.1
   is_value ← optional keywords.Is text local.1
-  document ← optional keywords.In node is_value.1
-  end ← ended document.1
-  Ok (leaves.Both (ops.Create var.0 local.0 is_value.0 document.0))
+  document ← only_behind keywords.In node is_value.1
+  Ok (leaves.Both (ops.Create var.0 local.0 is_value.0 document))
 
 abbrev pub new_of : List Token → Result Leaf Bad
 new_of ts = do
@@ -30,9 +29,8 @@ abbrev pub make_text_of : List Token → Result Leaf Bad
 make_text_of ts = do
   var ← take_one variable ts
   chars ← take_one text var.1
-  document ← optional keywords.In node chars.1
-  end ← ended document.1
-  Ok (leaves.Both (ops.MakeText var.0 chars.0 document.0))
+  document ← only_behind keywords.In node chars.1
+  Ok (leaves.Both (ops.MakeText var.0 chars.0 document))
 
 abbrev pub shadow_of : List Token → Result Leaf Bad
 shadow_of ts = do

@@ -3,8 +3,8 @@ ghost use Rattle.rule_tokens.specs.Gives.{Gives};
 ghost use Rattle.rule_reader.specs.Internals.{custom_of, form_list_of, form_null_of, form_value_of, internals_of, state_change_of, state_of, validity_of};
 
 use crate::Leaf;
-use crate::shapes::{node_and_value, one_node, one_text, one_value};
-use crate::takes::{ended, entries, flags_at, next, node_at, optional_value, value_at};
+use crate::shapes::{node_and_value, one_node, one_text, one_value, value_behind};
+use crate::takes::{ended, entries, flags_at, next, node_at, value_at};
 use rule_grammar::{Keyword, Word};
 use rule_lines::Op;
 use rule_tokens::{Bad, LineRefused, Operand, Token, is_word};
@@ -22,8 +22,7 @@ pub(crate) fn form_value(alloc: Global, tokens: &[Token]) -> Result<Leaf, LineRe
 {
     let (node, rest) = node_at(alloc, tokens)?;
     let (value, rest) = value_at(alloc, rest)?;
-    let (saved, rest) = optional_value(alloc, rest, Keyword::State)?;
-    ended(rest)?;
+    let saved = value_behind(alloc, rest, Keyword::State)?;
     Ok(Leaf::Both(Op::FormValue { node, value, saved }))
 }
 

@@ -1,11 +1,12 @@
 // The shapes that several forms have: so many operands, and no token after them.
 ghost use Rattle.rule_tokens.specs.Gives.{Gives};
 ghost use Rattle.rule_tokens.specs.OperandForms.{class_name, node, text, value, variable};
-ghost use Rattle.rule_reader.specs.Shapes.{only, two};
+ghost use Rattle.rule_reader.specs.Shapes.{only, only_behind, two};
 ghost use Rattle.rule_reader.specs.Takes.{on_off};
 
-use crate::takes::{class_at, ended, node_at, on_off_at, text_at, value_at, variable_at};
+use crate::takes::{class_at, ended, marked, node_at, on_off_at, text_at, value_at, variable_at};
 use ce_base::Text;
+use rule_grammar::Keyword;
 use rule_tokens::{LineRefused, Operand, Token, Val};
 use std::alloc::Global;
 
@@ -47,6 +48,51 @@ pub(crate) fn one_switch(tokens: &[Token]) -> Result<bool, LineRefused>
     let (found, rest) = on_off_at(tokens)?;
     ended(rest)?;
     Ok(found)
+}
+
+pub(crate) fn text_behind(
+    alloc: Global,
+    tokens: &[Token],
+    word: Keyword,
+) -> Result<Option<Text>, LineRefused>
+    ensures { Gives result (only_behind word text tokens.now) }
+{
+    let (there, rest) = marked(tokens, word);
+    if !there {
+        ended(rest)?;
+        return Ok(None);
+    }
+    Ok(Some(one_text(alloc, rest)?))
+}
+
+pub(crate) fn node_behind(
+    alloc: Global,
+    tokens: &[Token],
+    word: Keyword,
+) -> Result<Option<Operand>, LineRefused>
+    ensures { Gives result (only_behind word node tokens.now) }
+{
+    let (there, rest) = marked(tokens, word);
+    if !there {
+        ended(rest)?;
+        return Ok(None);
+    }
+    Ok(Some(one_node(alloc, rest)?))
+}
+
+pub(crate) fn value_behind(
+    alloc: Global,
+    tokens: &[Token],
+    word: Keyword,
+) -> Result<Option<Val>, LineRefused>
+    ensures { Gives result (only_behind word value tokens.now) }
+{
+    let (there, rest) = marked(tokens, word);
+    if !there {
+        ended(rest)?;
+        return Ok(None);
+    }
+    Ok(Some(one_value(alloc, rest)?))
 }
 
 pub(crate) fn two_nodes(alloc: Global, tokens: &[Token]) -> Result<(Operand, Operand), LineRefused>

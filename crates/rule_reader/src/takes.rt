@@ -140,36 +140,6 @@ pub(crate) fn optional_text(
     Ok((Some(found), rest))
 }
 
-pub(crate) fn optional_node(
-    alloc: Global,
-    tokens: &[Token],
-    word: Keyword,
-) -> Result<(Option<Operand>, &[Token]), LineRefused>
-    ensures { GivesSeen (λ x. (x.0, x.1.now)) result (optional word node tokens.now) }
-{
-    let (there, rest) = marked(tokens, word);
-    if !there {
-        return Ok((None, rest));
-    }
-    let (found, rest) = node_at(alloc, rest)?;
-    Ok((Some(found), rest))
-}
-
-pub(crate) fn optional_value(
-    alloc: Global,
-    tokens: &[Token],
-    word: Keyword,
-) -> Result<(Option<Val>, &[Token]), LineRefused>
-    ensures { GivesSeen (λ x. (x.0, x.1.now)) result (optional word value tokens.now) }
-{
-    let (there, rest) = marked(tokens, word);
-    if !there {
-        return Ok((None, rest));
-    }
-    let (found, rest) = value_at(alloc, rest)?;
-    Ok((Some(found), rest))
-}
-
 pub(crate) fn maybe_node(
     alloc: Global,
     tokens: &[Token],

@@ -3,8 +3,8 @@ ghost use Rattle.rule_tokens.specs.Gives.{Gives};
 ghost use Rattle.rule_reader.specs.Tree.{adopt_of, append_of, before_of, clone_of, create_of, detach_of, doc_of, let_variable_of, make_text_of, new_of, remove_of, shadow_of};
 
 use crate::Leaf;
-use crate::shapes::{one_class, one_node, two_nodes, variable_and_node};
-use crate::takes::{ended, marked, node_at, optional_node, optional_text, text_at, variable_at};
+use crate::shapes::{node_behind, one_class, one_node, two_nodes, variable_and_node};
+use crate::takes::{ended, marked, node_at, optional_text, text_at, variable_at};
 use rule_grammar::Keyword;
 use rule_lines::Op;
 use rule_tokens::{LineRefused, Token};
@@ -16,8 +16,7 @@ pub(crate) fn create(alloc: Global, tokens: &[Token]) -> Result<Leaf, LineRefuse
     let (var, rest) = variable_at(alloc, tokens)?;
     let (local, rest) = text_at(alloc, rest)?;
     let (is_value, rest) = optional_text(alloc, rest, Keyword::Is)?;
-    let (document, rest) = optional_node(alloc, rest, Keyword::In)?;
-    ended(rest)?;
+    let document = node_behind(alloc, rest, Keyword::In)?;
     Ok(Leaf::Both(Op::Create {
         var,
         local,
@@ -39,8 +38,7 @@ pub(crate) fn make_text(alloc: Global, tokens: &[Token]) -> Result<Leaf, LineRef
 {
     let (var, rest) = variable_at(alloc, tokens)?;
     let (chars, rest) = text_at(alloc, rest)?;
-    let (document, rest) = optional_node(alloc, rest, Keyword::In)?;
-    ended(rest)?;
+    let document = node_behind(alloc, rest, Keyword::In)?;
     Ok(Leaf::Both(Op::MakeText {
         var,
         chars,
