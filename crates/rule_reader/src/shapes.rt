@@ -4,7 +4,9 @@ ghost use Rattle.rule_tokens.specs.OperandForms.{class_name, node, text, value, 
 ghost use Rattle.rule_reader.specs.Shapes.{only, only_behind, two};
 ghost use Rattle.rule_reader.specs.Takes.{on_off};
 
-use crate::takes::{class_at, ended, marked, node_at, on_off_at, text_at, value_at, variable_at};
+use crate::takes::{
+    class_at, ended, marked, next, node_at, on_off, text_at, value_at, variable_at,
+};
 use ce_base::Text;
 use rule_grammar::Keyword;
 use rule_tokens::{LineRefused, Operand, Token, Val};
@@ -45,7 +47,8 @@ pub(crate) fn one_class(alloc: Global, tokens: &[Token]) -> Result<Text, LineRef
 pub(crate) fn one_switch(tokens: &[Token]) -> Result<bool, LineRefused>
     ensures { Gives result (only on_off tokens.now) }
 {
-    let (found, rest) = on_off_at(tokens)?;
+    let (t, rest) = next(tokens)?;
+    let found = on_off(t)?;
     ended(rest)?;
     Ok(found)
 }

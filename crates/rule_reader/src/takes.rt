@@ -82,7 +82,7 @@ pub(crate) fn call_at(tokens: &[Token]) -> Result<(CallName, &[Token]), LineRefu
     Ok((call_of(t)?, rest))
 }
 
-fn on_off(t: &Token) -> Result<bool, LineRefused>
+pub(crate) fn on_off(t: &Token) -> Result<bool, LineRefused>
     ensures { Gives result (or_word (on_off t.now)) }
 {
     if is_word(t, Word::On.text()) {
@@ -92,13 +92,6 @@ fn on_off(t: &Token) -> Result<bool, LineRefused>
         return Ok(false);
     }
     Err(LineRefused::Bad(Bad::Word))
-}
-
-pub(crate) fn on_off_at(tokens: &[Token]) -> Result<(bool, &[Token]), LineRefused>
-    ensures { GivesSeen (λ x. (x.0, x.1.now)) result (take_one on_off tokens.now) }
-{
-    let (t, rest) = next(tokens)?;
-    Ok((on_off(t)?, rest))
 }
 
 pub(crate) fn behind(tokens: &[Token], word: Word) -> Result<&[Token], LineRefused>
