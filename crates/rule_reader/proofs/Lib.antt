@@ -1,4 +1,3 @@
-pub mod FirstWords
 pub mod Joins
 pub mod Pairs
 pub mod Same

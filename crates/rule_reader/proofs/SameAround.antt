@@ -33,7 +33,7 @@ use Rattle.rule_reader.specs.Around.{on_of, if_of, compared}
 use Rattle.rule_reader.specs.Controls.{name_for, ask_of}
 use Rattle.rule_reader.specs.AsRead.{wrap_as_read, test}
 use Rattle.rule_reader.specs.Takes.{behind}
-use Rattle.rule_reader.proofs.Same.{after, then_some, some_one}
+use Rattle.rule_reader.proofs.Same.{assoc, after, then_some, some_one}
 use Rattle.rule_grammar.specs.Rows.{ask_rows}
 
 one_some : {A B : Type 0} (action : List Token → Reads) (kind : Kind) (f : Token → Option A) (g : A → ReadAs) (more : Wants) (k : Option A × List Token → Result B Bad) (see : B → List ReadAs) (front : List ReadAs) → ((t : Token) → said_as kind t ≡ option_map g (f t)) → ((a : A) (ts : List Token) → with_front (front ++ g a ∷ []) (read action more ts) ≡ shows see (k (Some a, ts))) → (ts : List Token) → with_front front (read action (One kind more) ts) ≡ shows see (some_one f ts >>= k)
@@ -101,10 +101,6 @@ compared_wants = One kinds.Value (One kinds.Value colon_wants)
 
 abbrev if_after : (Bool × Val × Val) × List Token → Result (Wrap × List Token) Bad
 if_after test = behind (spelling words.Colon) test.1 >>= λ rest. Ok (wraps.If test.0.0 test.0.1 test.0.2, rest)
-
-pub assoc : {A B C : Type 0} (r : Result A Bad) (k : A → Result B Bad) (l : B → Result C Bad) → ((r >>= k) >>= l) ≡ (r >>= λ x. k x >>= l)
-assoc (Ok x) k l = refl
-assoc (Err b) k l = refl
 
 abbrev values_of : Bool → Val → Val → List Token → Result ((Bool × Val × Val) × List Token) Bad
 values_of equal left right rest = Ok ((equal, left, right), rest)

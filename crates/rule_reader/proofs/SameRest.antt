@@ -25,7 +25,7 @@ use Rattle.rule_reader.specs.AsRead.{pairs, leaf_as_read}
 use Rattle.rule_reader.specs.Internals.{state_of, state_change_of, form_list_of}
 use Rattle.rule_reader.specs.Takes.{next, up_to, entry, entries_up_to}
 use Rattle.rule_reader.specs.Users.{user_of}
-use Rattle.rule_reader.proofs.Same.{shows, fronts, one, the_end}
+use Rattle.rule_reader.proofs.Same.{shows, fronts, one, last_one, the_end}
 use Rattle.rule_reader.proofs.SameForms.{same_user_edit, same_user_check, same_user_choose, same_user_reset, same_user_restore, same_user_autofill, same_user_press}
 
 -- ---- lists of operands
@@ -102,7 +102,7 @@ same_user action (t ∷ ts) = by_if (is_word (spelling words.Edit) t) (read_as.W
 
 changes : (action : List Token → Reads) (target : Operand) (ts : List Token) → with_front (read_as.Word words.State ∷ read_as.Node target ∷ []) (read action (Pick state_rows) ts) ≡ shows leaf_as_read (next ts >>= λ change. state_change_of target change.0 change.1)
 changes action target [] = refl
-changes action target (t ∷ ts) = by_if (is_word (spelling words.Add) t) (read_as.Word words.State ∷ read_as.Node target ∷ []) leaf_as_read _ _ _ _ (fronts (read_as.Word words.State ∷ read_as.Node target ∷ []) (read_as.Word words.Add) (read action (One kinds.Chars End) ts) ∙ one action kinds.Chars text read_as.Chars End _ leaf_as_read (read_as.Word words.State ∷ read_as.Node target ∷ read_as.Word words.Add ∷ []) (λ t. refl) (λ x rest. the_end action (read_as.Word words.State ∷ read_as.Node target ∷ read_as.Word words.Add ∷ read_as.Chars x ∷ []) (leaves.Both (ops.StateAdd target x)) leaf_as_read refl rest) ts) (by_if (is_word (spelling words.Delete) t) (read_as.Word words.State ∷ read_as.Node target ∷ []) leaf_as_read _ _ _ _ (fronts (read_as.Word words.State ∷ read_as.Node target ∷ []) (read_as.Word words.Delete) (read action (One kinds.Chars End) ts) ∙ one action kinds.Chars text read_as.Chars End _ leaf_as_read (read_as.Word words.State ∷ read_as.Node target ∷ read_as.Word words.Delete ∷ []) (λ t. refl) (λ x rest. the_end action (read_as.Word words.State ∷ read_as.Node target ∷ read_as.Word words.Delete ∷ read_as.Chars x ∷ []) (leaves.Both (ops.StateDelete target x)) leaf_as_read refl rest) ts) (by_if (is_word (spelling words.Clear) t) (read_as.Word words.State ∷ read_as.Node target ∷ []) leaf_as_read _ _ _ _ (fronts (read_as.Word words.State ∷ read_as.Node target ∷ []) (read_as.Word words.Clear) (read action End ts) ∙ the_end action (read_as.Word words.State ∷ read_as.Node target ∷ read_as.Word words.Clear ∷ []) (leaves.Both (ops.StateClear target)) leaf_as_read refl ts) (refl)))
+changes action target (t ∷ ts) = by_if (is_word (spelling words.Add) t) (read_as.Word words.State ∷ read_as.Node target ∷ []) leaf_as_read _ _ _ _ (fronts (read_as.Word words.State ∷ read_as.Node target ∷ []) (read_as.Word words.Add) (read action (One kinds.Chars End) ts) ∙ last_one action kinds.Chars text read_as.Chars (λ x. leaves.Both (ops.StateAdd target x)) leaf_as_read (read_as.Word words.State ∷ read_as.Node target ∷ read_as.Word words.Add ∷ []) (λ t. refl) (λ x. refl) ts) (by_if (is_word (spelling words.Delete) t) (read_as.Word words.State ∷ read_as.Node target ∷ []) leaf_as_read _ _ _ _ (fronts (read_as.Word words.State ∷ read_as.Node target ∷ []) (read_as.Word words.Delete) (read action (One kinds.Chars End) ts) ∙ last_one action kinds.Chars text read_as.Chars (λ x. leaves.Both (ops.StateDelete target x)) leaf_as_read (read_as.Word words.State ∷ read_as.Node target ∷ read_as.Word words.Delete ∷ []) (λ t. refl) (λ x. refl) ts) (by_if (is_word (spelling words.Clear) t) (read_as.Word words.State ∷ read_as.Node target ∷ []) leaf_as_read _ _ _ _ (fronts (read_as.Word words.State ∷ read_as.Node target ∷ []) (read_as.Word words.Clear) (read action End ts) ∙ the_end action (read_as.Word words.State ∷ read_as.Node target ∷ read_as.Word words.Clear ∷ []) (leaves.Both (ops.StateClear target)) leaf_as_read refl ts) (refl)))
 
 pub same_state : (action : List Token → Reads) (ts : List Token) → with_front (read_as.Word words.State ∷ []) (read action (One kinds.Node (Pick state_rows)) ts) ≡ shows leaf_as_read (state_of ts)
 same_state action ts = one action kinds.Node node read_as.Node (Pick state_rows) _ leaf_as_read (read_as.Word words.State ∷ []) (λ t. refl) (λ target rest. changes action target rest) ts

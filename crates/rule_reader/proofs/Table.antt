@@ -28,10 +28,10 @@ use Rattle.rule_reader.specs.CustomElements.{define_of, upgrade_of}
 use Rattle.rule_reader.specs.Internals.{internals_of, form_value_of, form_list_of, form_null_of, validity_of, state_of, custom_of}
 use Rattle.rule_reader.specs.Tree.{create_of, new_of, make_text_of, shadow_of, append_of, before_of, remove_of, detach_of, clone_of, adopt_of, let_variable_of, doc_of}
 use Rattle.rule_reader.specs.Users.{user_of}
-use Rattle.rule_reader.proofs.Same.{shows}
+use Rattle.rule_reader.proofs.Same.{assoc, shows}
 use Rattle.rule_reader.proofs.SameForms.{same_create, same_new, same_make_text, same_shadow, same_append, same_before, same_remove, same_detach, same_set_attr, same_del_attr, same_clone, same_adopt, same_define, same_upgrade, same_reset, same_internals, same_form_value, same_form_null, same_validity, same_custom, same_value, same_check, same_choose, same_submit, same_request, same_let_variable, same_base_call, same_return_form, same_throw, same_bump, same_keep, same_class, same_has, same_associate, same_doc}
 use Rattle.rule_reader.proofs.SameRest.{same_form_list, same_state, same_log, same_observe, same_disable, same_user}
-use Rattle.rule_reader.proofs.SameAround.{same_ask, same_on, same_if, then_action, assoc}
+use Rattle.rule_reader.proofs.SameAround.{same_ask, same_on, same_if, then_action}
 
 abbrev step : ℕ → Piece × List Token → Result Form Bad
 step n p = joined p.0 (form_at n p.1)

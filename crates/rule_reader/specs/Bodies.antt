@@ -6,7 +6,8 @@ use Rattle.rule_tokens.specs.Gives.{◌>>=◌}
 use Rattle.rule_tokens.specs.OperandForms.{node, value}
 use Rattle.rule_reader.specs.declared.form.Leaf.{Leaf}
 use Rattle.rule_reader.specs.declared.form.Leaf.TheVariants as leaves
-use Rattle.rule_reader.specs.Takes.{next, take_one, maybe, up_to, ended}
+use Rattle.rule_reader.specs.Shapes.{only}
+use Rattle.rule_reader.specs.Takes.{next, maybe, up_to, ended}
 
 abbrev pub base_call_of : List Token → Result Leaf Bad
 base_call_of ts = do
@@ -21,9 +22,8 @@ return_form_of ts = do
 
 abbrev pub throw_of : List Token → Result Leaf Bad
 throw_of ts = do
-  val ← take_one value ts
-  end ← ended val.1
-  Ok (leaves.Throw val.0)
+  val ← only value ts
+  Ok (leaves.Throw val)
 
 abbrev pub bump_of : List Token → Result Leaf Bad
 bump_of ts = do
@@ -32,9 +32,8 @@ bump_of ts = do
 
 abbrev pub keep_of : List Token → Result Leaf Bad
 keep_of ts = do
-  val ← take_one value ts
-  end ← ended val.1
-  Ok (leaves.Keep val.0)
+  val ← only value ts
+  Ok (leaves.Keep val)
 
 abbrev pub log_of : List Token → Result Leaf Bad
 log_of ts = do

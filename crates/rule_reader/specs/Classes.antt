@@ -9,13 +9,13 @@ use Rattle.rule_grammar.specs.declared.word.Word.TheVariants as words
 use Rattle.rule_grammar.specs.FixedWords.{spelling}
 use Rattle.rule_reader.specs.declared.form.Leaf.{Leaf}
 use Rattle.rule_reader.specs.declared.form.Leaf.TheVariants as leaves
+use Rattle.rule_reader.specs.Shapes.{only}
 use Rattle.rule_reader.specs.Takes.{next, take_one, up_to, ended}
 
 abbrev pub class_of : List Token → Result Leaf Bad
 class_of ts = do
-  name ← take_one class_name ts
-  end ← ended name.1
-  Ok (leaves.Class name.0)
+  name ← only class_name ts
+  Ok (leaves.Class name)
 
 abbrev pub has_of : List Token → Result Leaf Bad
 has_of ts = do
@@ -26,9 +26,8 @@ has_of ts = do
 
 abbrev pub associate_of : List Token → Result Leaf Bad
 associate_of ts = do
-  class ← take_one class_name ts
-  end ← ended class.1
-  Ok (leaves.Associate class.0)
+  class ← only class_name ts
+  Ok (leaves.Associate class)
 
 abbrev pub observe_of : List Token → Result Leaf Bad
 observe_of ts = do

@@ -10,40 +10,33 @@ use Rattle.rule_tokens.specs.OperandForms.{node, text, value}
 use Rattle.rule_lines.specs.declared.op.Op.TheVariants as ops
 use Rattle.rule_reader.specs.declared.form.Leaf.{Leaf}
 use Rattle.rule_reader.specs.declared.form.Leaf.TheVariants as leaves
+use Rattle.rule_reader.specs.Shapes.{only, two}
 use Rattle.rule_reader.specs.Takes.{take_one, maybe, ended, on_off}
 
 abbrev pub reset_of : List Token → Result Leaf Bad
 reset_of ts = do
-  target ← take_one node ts
-  end ← ended target.1
-  Ok (leaves.Both (ops.Reset target.0))
+  target ← only node ts
+  Ok (leaves.Both (ops.Reset target))
 
 abbrev pub value_of : List Token → Result Leaf Bad
 value_of ts = do
-  target ← take_one node ts
-  val ← take_one value target.1
-  end ← ended val.1
-  Ok (leaves.Both (ops.Value target.0 val.0))
+  both ← two node value ts
+  Ok (leaves.Both (ops.Value both.0 both.1))
 
 abbrev pub check_of : List Token → Result Leaf Bad
 check_of ts = do
-  target ← take_one node ts
-  on ← take_one on_off target.1
-  end ← ended on.1
-  Ok (leaves.Both (ops.Check target.0 on.0))
+  both ← two node on_off ts
+  Ok (leaves.Both (ops.Check both.0 both.1))
 
 abbrev pub choose_of : List Token → Result Leaf Bad
 choose_of ts = do
-  target ← take_one node ts
-  on ← take_one on_off target.1
-  end ← ended on.1
-  Ok (leaves.Both (ops.Choose target.0 on.0))
+  both ← two node on_off ts
+  Ok (leaves.Both (ops.Choose both.0 both.1))
 
 abbrev pub submit_of : List Token → Result Leaf Bad
 submit_of ts = do
-  target ← take_one node ts
-  end ← ended target.1
-  Ok (leaves.Both (ops.Submit target.0))
+  target ← only node ts
+  Ok (leaves.Both (ops.Submit target))
 
 abbrev pub request_of : List Token → Result Leaf Bad
 request_of ts = do

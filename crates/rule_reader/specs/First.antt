@@ -1,5 +1,5 @@
 -- The first words of forms.
-use Rattle.std.specs.Prelude.{ℕ, List, [], ◌∷◌, ◌++◌, Option, None, if◌then◌else◌}
+use Rattle.std.specs.Prelude.{ℕ, List, [], ◌∷◌, Option, None, if◌then◌else◌}
 use Rattle.std.specs.Str.{bytes_eq}
 use Rattle.rule_tokens.specs.declared.token.Token.{Token}
 use Rattle.rule_tokens.specs.Callbacks.{first_with}
@@ -7,9 +7,9 @@ use Rattle.rule_grammar.specs.declared.word.Word.{Word}
 use Rattle.rule_grammar.specs.declared.word.Word.TheVariants as words
 use Rattle.rule_grammar.specs.FixedWords.{spelling}
 
--- the words of forms that make, move and define nodes and elements
-abbrev pub page_words : List Word
-page_words =
+-- the words that forms begin with
+abbrev pub first_words : List Word
+first_words =
     words.Create
     ∷ words.New
     ∷ words.Text
@@ -24,12 +24,7 @@ page_words =
     ∷ words.Adopt
     ∷ words.Define
     ∷ words.Upgrade
-    ∷ []
-
--- those of forms for forms, controls and internals, and those that ask and set a variable
-abbrev pub control_words : List Word
-control_words =
-    words.Reset
+    ∷ words.Reset
     ∷ words.Internals
     ∷ words.FormValue
     ∷ words.FormList
@@ -44,12 +39,7 @@ control_words =
     ∷ words.Request
     ∷ words.Ask
     ∷ words.Let
-    ∷ []
-
--- those of forms for bodies
-abbrev pub body_words : List Word
-body_words =
-    words.Log
+    ∷ words.Log
     ∷ words.Super
     ∷ words.Return
     ∷ words.Throw
@@ -57,12 +47,7 @@ body_words =
     ∷ words.Keep
     ∷ words.Try
     ∷ words.If
-    ∷ []
-
--- those of parts of classes, of documents and of the user
-abbrev pub class_words : List Word
-class_words =
-    words.Class
+    ∷ words.Class
     ∷ words.On
     ∷ words.Has
     ∷ words.Observe
@@ -72,10 +57,7 @@ class_words =
     ∷ words.User
     ∷ []
 
-abbrev pub first_words : List Word
-first_words = page_words ++ control_words ++ body_words ++ class_words
-
--- the word with this text, where it is one of these
+-- the one of these words with this text
 abbrev pub word_in : List Word → List ℕ → Option Word
 word_in some text = first_with (λ word. bytes_eq text (spelling word)) some
 

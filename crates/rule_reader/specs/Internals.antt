@@ -13,54 +13,47 @@ use Rattle.rule_grammar.specs.declared.word.Word.TheVariants as words
 use Rattle.rule_grammar.specs.FixedWords.{spelling}
 use Rattle.rule_reader.specs.declared.form.Leaf.{Leaf}
 use Rattle.rule_reader.specs.declared.form.Leaf.TheVariants as leaves
-use Rattle.rule_reader.specs.Takes.{next, take_one, optional, entries_up_to, ended}
+use Rattle.rule_reader.specs.Shapes.{only, only_behind, two}
+use Rattle.rule_reader.specs.Takes.{next, take_one, entries_up_to, ended}
 
 abbrev pub internals_of : List Token → Result Leaf Bad
 internals_of ts = do
-  target ← take_one node ts
-  end ← ended target.1
-  Ok (leaves.Both (ops.Internals target.0))
+  target ← only node ts
+  Ok (leaves.Both (ops.Internals target))
 
 abbrev pub form_value_of : List Token → Result Leaf Bad
 form_value_of ts = do
   target ← take_one node ts
   val ← take_one value target.1
-  saved ← optional keywords.State value val.1
-  end ← ended saved.1
-  Ok (leaves.Both (ops.FormValue target.0 val.0 saved.0))
+  saved ← only_behind keywords.State value val.1
+  Ok (leaves.Both (ops.FormValue target.0 val.0 saved))
 
 abbrev pub form_null_of : List Token → Result Leaf Bad
 form_null_of ts = do
-  target ← take_one node ts
-  end ← ended target.1
-  Ok (leaves.Both (ops.FormNull target.0))
+  target ← only node ts
+  Ok (leaves.Both (ops.FormNull target))
 
 abbrev pub validity_of : List Token → Result Leaf Bad
 validity_of ts = do
   target ← take_one node ts
   raised ← take_one flags target.1
-  message ← take_one value raised.1
-  end ← ended message.1
-  Ok (leaves.Both (ops.Validity target.0 (record { 0 = raised.0 }) message.0))
+  message ← only value raised.1
+  Ok (leaves.Both (ops.Validity target.0 (record { 0 = raised.0 }) message))
 
 abbrev pub custom_of : List Token → Result Leaf Bad
 custom_of ts = do
-  target ← take_one node ts
-  message ← take_one value target.1
-  end ← ended message.1
-  Ok (leaves.Both (ops.Custom target.0 message.0))
+  both ← two node value ts
+  Ok (leaves.Both (ops.Custom both.0 both.1))
 
 abbrev pub state_add_of : Operand → List Token → Result Leaf Bad
 state_add_of target ts = do
-  word ← take_one text ts
-  end ← ended word.1
-  Ok (leaves.Both (ops.StateAdd target word.0))
+  word ← only text ts
+  Ok (leaves.Both (ops.StateAdd target word))
 
 abbrev pub state_delete_of : Operand → List Token → Result Leaf Bad
 state_delete_of target ts = do
-  word ← take_one text ts
-  end ← ended word.1
-  Ok (leaves.Both (ops.StateDelete target word.0))
+  word ← only text ts
+  Ok (leaves.Both (ops.StateDelete target word))
 
 abbrev pub state_clear_of : Operand → List Token → Result Leaf Bad
 state_clear_of target ts = do

@@ -10,6 +10,7 @@ pub mod Internals
 pub mod Laws
 pub mod Leaves
 pub mod Pieces
+pub mod Shapes
 pub mod Takes
 pub mod Tree
 pub mod Users

@@ -26,15 +26,14 @@ abbrev pub behind : List ℕ → List Token → Result (List Token) Bad
 behind word [] = Err Arity
 behind word (t ∷ ts) = if is_word word t then Ok ts else Err Word
 
--- an operand behind a keyword: it is there only if the bare keyword stands next
-abbrev pub optional : {A : Type 0} → Keyword → (Token → Option A) → List Token → Result (Option A × List Token) Bad
-optional word kind [] = Ok (None, [])
-optional word kind (t ∷ ts) = if is_word (keyword word) t then (take_one kind ts >>= λ x. Ok (Some x.0, x.1)) else Ok (None, t ∷ ts)
-
 -- whether the bare keyword stands next, and the tokens after it
 abbrev pub marked : Keyword → List Token → Bool × List Token
 marked word [] = (false, [])
 marked word (t ∷ ts) = if is_word (keyword word) t then (true, ts) else (false, t ∷ ts)
+
+-- an operand behind a keyword: it is there only if the bare keyword stands next
+abbrev pub optional : {A : Type 0} → Keyword → (Token → Option A) → List Token → Result (Option A × List Token) Bad
+optional word kind ts = if (marked word ts).0 then (take_one kind (marked word ts).1 >>= λ x. Ok (Some x.0, x.1)) else Ok (None, (marked word ts).1)
 
 -- an operand, if a token is there
 abbrev pub maybe : {A : Type 0} → (Token → Option A) → List Token → Result (Option A × List Token) Bad

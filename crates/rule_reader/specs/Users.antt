@@ -9,54 +9,43 @@ use Rattle.rule_grammar.specs.declared.word.Word.TheVariants as words
 use Rattle.rule_grammar.specs.FixedWords.{spelling}
 use Rattle.rule_reader.specs.declared.form.Leaf.{Leaf}
 use Rattle.rule_reader.specs.declared.form.Leaf.TheVariants as leaves
-use Rattle.rule_reader.specs.Takes.{next, take_one, ended, on_off}
+use Rattle.rule_reader.specs.Shapes.{only, two}
+use Rattle.rule_reader.specs.Takes.{next, on_off}
 
 abbrev pub edit_of : List Token → Result Leaf Bad
 edit_of ts = do
-  target ← take_one node ts
-  val ← take_one value target.1
-  end ← ended val.1
-  Ok (leaves.UserEdit target.0 val.0)
+  both ← two node value ts
+  Ok (leaves.UserEdit both.0 both.1)
 
 abbrev pub check_of : List Token → Result Leaf Bad
 check_of ts = do
-  target ← take_one node ts
-  on ← take_one on_off target.1
-  end ← ended on.1
-  Ok (leaves.UserCheck target.0 on.0)
+  both ← two node on_off ts
+  Ok (leaves.UserCheck both.0 both.1)
 
 abbrev pub choose_of : List Token → Result Leaf Bad
 choose_of ts = do
-  target ← take_one node ts
-  on ← take_one on_off target.1
-  end ← ended on.1
-  Ok (leaves.UserChoose target.0 on.0)
+  both ← two node on_off ts
+  Ok (leaves.UserChoose both.0 both.1)
 
 abbrev pub reset_of : List Token → Result Leaf Bad
 reset_of ts = do
-  target ← take_one node ts
-  end ← ended target.1
-  Ok (leaves.UserReset target.0)
+  target ← only node ts
+  Ok (leaves.UserReset target)
 
 abbrev pub restore_of : List Token → Result Leaf Bad
 restore_of ts = do
-  target ← take_one node ts
-  val ← take_one value target.1
-  end ← ended val.1
-  Ok (leaves.UserRestore target.0 val.0)
+  both ← two node value ts
+  Ok (leaves.UserRestore both.0 both.1)
 
 abbrev pub autofill_of : List Token → Result Leaf Bad
 autofill_of ts = do
-  target ← take_one node ts
-  val ← take_one value target.1
-  end ← ended val.1
-  Ok (leaves.UserAutofill target.0 val.0)
+  both ← two node value ts
+  Ok (leaves.UserAutofill both.0 both.1)
 
 abbrev pub press_of : List Token → Result Leaf Bad
 press_of ts = do
-  target ← take_one node ts
-  end ← ended target.1
-  Ok (leaves.UserPress target.0)
+  target ← only node ts
+  Ok (leaves.UserPress target)
 
 -- what the word says that the user does
 abbrev pub deed_of : Token → List Token → Result Leaf Bad

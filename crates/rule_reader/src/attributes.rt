@@ -3,7 +3,8 @@ ghost use Rattle.rule_tokens.specs.Gives.{Gives};
 ghost use Rattle.rule_reader.specs.Attributes.{del_attr_of, set_attr_of};
 
 use crate::Leaf;
-use crate::takes::{ended, node_at, text_at, value_at};
+use crate::shapes::{one_text, one_value};
+use crate::takes::{node_at, text_at};
 use rule_lines::Op;
 use rule_tokens::{LineRefused, Token};
 use std::alloc::Global;
@@ -13,8 +14,7 @@ pub(crate) fn set_attr(alloc: Global, tokens: &[Token]) -> Result<Leaf, LineRefu
 {
     let (node, rest) = node_at(alloc, tokens)?;
     let (name, rest) = text_at(alloc, rest)?;
-    let (value, rest) = value_at(alloc, rest)?;
-    ended(rest)?;
+    let value = one_value(alloc, rest)?;
     Ok(Leaf::Both(Op::SetAttr { node, name, value }))
 }
 
@@ -22,7 +22,6 @@ pub(crate) fn del_attr(alloc: Global, tokens: &[Token]) -> Result<Leaf, LineRefu
     ensures { Gives result (del_attr_of tokens.now) }
 {
     let (node, rest) = node_at(alloc, tokens)?;
-    let (name, rest) = text_at(alloc, rest)?;
-    ended(rest)?;
+    let name = one_text(alloc, rest)?;
     Ok(Leaf::Both(Op::DelAttr { node, name }))
 }

@@ -3,7 +3,8 @@ ghost use Rattle.rule_tokens.specs.Gives.{Gives};
 ghost use Rattle.rule_reader.specs.Bodies.{base_call_of, bump_of, keep_of, log_of, return_form_of, throw_of};
 
 use crate::Leaf;
-use crate::takes::{ended, maybe_node, next, value_at, values};
+use crate::shapes::one_value;
+use crate::takes::{ended, maybe_node, next, values};
 use rule_tokens::{LineRefused, Token};
 use std::alloc::Global;
 
@@ -25,8 +26,7 @@ pub(crate) fn return_form(alloc: Global, tokens: &[Token]) -> Result<Leaf, LineR
 pub(crate) fn throw(alloc: Global, tokens: &[Token]) -> Result<Leaf, LineRefused>
     ensures { Gives result (throw_of tokens.now) }
 {
-    let (value, rest) = value_at(alloc, tokens)?;
-    ended(rest)?;
+    let value = one_value(alloc, tokens)?;
     Ok(Leaf::Throw(value))
 }
 
@@ -40,8 +40,7 @@ pub(crate) fn bump(tokens: &[Token]) -> Result<Leaf, LineRefused>
 pub(crate) fn keep(alloc: Global, tokens: &[Token]) -> Result<Leaf, LineRefused>
     ensures { Gives result (keep_of tokens.now) }
 {
-    let (value, rest) = value_at(alloc, tokens)?;
-    ended(rest)?;
+    let value = one_value(alloc, tokens)?;
     Ok(Leaf::Keep(value))
 }
 

@@ -3,6 +3,7 @@ ghost use Rattle.rule_tokens.specs.Gives.{Gives};
 ghost use Rattle.rule_reader.specs.Classes.{associate_of, class_of, disable_of, disabled_of, has_of, observe_of};
 
 use crate::Leaf;
+use crate::shapes::one_class;
 use crate::takes::{call_at, class_at, ended, next, texts};
 use ce_base::Text;
 use rule_grammar::Word;
@@ -12,8 +13,7 @@ use std::alloc::Global;
 pub(crate) fn class(alloc: Global, tokens: &[Token]) -> Result<Leaf, LineRefused>
     ensures { Gives result (class_of tokens.now) }
 {
-    let (name, rest) = class_at(alloc, tokens)?;
-    ended(rest)?;
+    let name = one_class(alloc, tokens)?;
     Ok(Leaf::Class(name))
 }
 
@@ -29,8 +29,7 @@ pub(crate) fn has(alloc: Global, tokens: &[Token]) -> Result<Leaf, LineRefused>
 pub(crate) fn associate(alloc: Global, tokens: &[Token]) -> Result<Leaf, LineRefused>
     ensures { Gives result (associate_of tokens.now) }
 {
-    let (class, rest) = class_at(alloc, tokens)?;
-    ended(rest)?;
+    let class = one_class(alloc, tokens)?;
     Ok(Leaf::Associate(class))
 }
 

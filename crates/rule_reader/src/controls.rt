@@ -4,7 +4,8 @@ ghost use Rattle.rule_reader.specs.Controls.{ask_of, check_of, choose_of, reques
 ghost use Rattle.rule_reader.specs.Takes.{take_one};
 
 use crate::Leaf;
-use crate::takes::{ended, maybe_node, next, node_at, on_off_at, text_at, value_at};
+use crate::shapes::{node_and_switch, node_and_value, one_node};
+use crate::takes::{ended, maybe_node, next, node_at, text_at};
 use ce_base::Text;
 use rule_lines::{AskWord, Op};
 use rule_tokens::{Bad, LineRefused, Token};
@@ -13,43 +14,35 @@ use std::alloc::Global;
 pub(crate) fn reset(alloc: Global, tokens: &[Token]) -> Result<Leaf, LineRefused>
     ensures { Gives result (reset_of tokens.now) }
 {
-    let (form, rest) = node_at(alloc, tokens)?;
-    ended(rest)?;
+    let form = one_node(alloc, tokens)?;
     Ok(Leaf::Both(Op::Reset { form }))
 }
 
 pub(crate) fn value(alloc: Global, tokens: &[Token]) -> Result<Leaf, LineRefused>
     ensures { Gives result (value_of tokens.now) }
 {
-    let (node, rest) = node_at(alloc, tokens)?;
-    let (value, rest) = value_at(alloc, rest)?;
-    ended(rest)?;
+    let (node, value) = node_and_value(alloc, tokens)?;
     Ok(Leaf::Both(Op::Value { node, value }))
 }
 
 pub(crate) fn check(alloc: Global, tokens: &[Token]) -> Result<Leaf, LineRefused>
     ensures { Gives result (check_of tokens.now) }
 {
-    let (node, rest) = node_at(alloc, tokens)?;
-    let (on, rest) = on_off_at(rest)?;
-    ended(rest)?;
+    let (node, on) = node_and_switch(alloc, tokens)?;
     Ok(Leaf::Both(Op::Check { node, on }))
 }
 
 pub(crate) fn choose(alloc: Global, tokens: &[Token]) -> Result<Leaf, LineRefused>
     ensures { Gives result (choose_of tokens.now) }
 {
-    let (node, rest) = node_at(alloc, tokens)?;
-    let (on, rest) = on_off_at(rest)?;
-    ended(rest)?;
+    let (node, on) = node_and_switch(alloc, tokens)?;
     Ok(Leaf::Both(Op::Choose { node, on }))
 }
 
 pub(crate) fn submit(alloc: Global, tokens: &[Token]) -> Result<Leaf, LineRefused>
     ensures { Gives result (submit_of tokens.now) }
 {
-    let (form, rest) = node_at(alloc, tokens)?;
-    ended(rest)?;
+    let form = one_node(alloc, tokens)?;
     Ok(Leaf::Both(Op::Submit { form }))
 }
 

@@ -3,7 +3,8 @@ ghost use Rattle.rule_tokens.specs.Gives.{Gives};
 ghost use Rattle.rule_reader.specs.CustomElements.{define_of, upgrade_of};
 
 use crate::Leaf;
-use crate::takes::{class_at, ended, node_at, optional_text, text_at};
+use crate::shapes::{one_node, text_behind};
+use crate::takes::{class_at, text_at};
 use rule_grammar::Keyword;
 use rule_lines::Op;
 use rule_tokens::{LineRefused, Token};
@@ -14,15 +15,13 @@ pub(crate) fn define(alloc: Global, tokens: &[Token]) -> Result<Leaf, LineRefuse
 {
     let (name, rest) = text_at(alloc, tokens)?;
     let (class, rest) = class_at(alloc, rest)?;
-    let (base, rest) = optional_text(alloc, rest, Keyword::Extends)?;
-    ended(rest)?;
+    let base = text_behind(alloc, rest, Keyword::Extends)?;
     Ok(Leaf::Both(Op::Define { name, class, base }))
 }
 
 pub(crate) fn upgrade(alloc: Global, tokens: &[Token]) -> Result<Leaf, LineRefused>
     ensures { Gives result (upgrade_of tokens.now) }
 {
-    let (node, rest) = node_at(alloc, tokens)?;
-    ended(rest)?;
+    let node = one_node(alloc, tokens)?;
     Ok(Leaf::Both(Op::Upgrade { node }))
 }

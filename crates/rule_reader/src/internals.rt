@@ -1,9 +1,10 @@
 // The forms for element internals.
 ghost use Rattle.rule_tokens.specs.Gives.{Gives};
-ghost use Rattle.rule_reader.specs.Internals.{custom_of, form_list_of, form_null_of, form_value_of, internals_of, state_add_of, state_change_of, state_clear_of, state_delete_of, state_of, validity_of};
+ghost use Rattle.rule_reader.specs.Internals.{custom_of, form_list_of, form_null_of, form_value_of, internals_of, state_change_of, state_of, validity_of};
 
 use crate::Leaf;
-use crate::takes::{ended, entries, flags_at, next, node_at, optional_value, text_at, value_at};
+use crate::shapes::{node_and_value, one_node, one_text, one_value, value_behind};
+use crate::takes::{ended, entries, flags_at, next, node_at, value_at};
 use rule_grammar::{Keyword, Word};
 use rule_lines::Op;
 use rule_tokens::{Bad, LineRefused, Operand, Token, is_word};
@@ -12,8 +13,7 @@ use std::alloc::Global;
 pub(crate) fn internals(alloc: Global, tokens: &[Token]) -> Result<Leaf, LineRefused>
     ensures { Gives result (internals_of tokens.now) }
 {
-    let (node, rest) = node_at(alloc, tokens)?;
-    ended(rest)?;
+    let node = one_node(alloc, tokens)?;
     Ok(Leaf::Both(Op::Internals { node }))
 }
 
@@ -22,16 +22,14 @@ pub(crate) fn form_value(alloc: Global, tokens: &[Token]) -> Result<Leaf, LineRe
 {
     let (node, rest) = node_at(alloc, tokens)?;
     let (value, rest) = value_at(alloc, rest)?;
-    let (saved, rest) = optional_value(alloc, rest, Keyword::State)?;
-    ended(rest)?;
+    let saved = value_behind(alloc, rest, Keyword::State)?;
     Ok(Leaf::Both(Op::FormValue { node, value, saved }))
 }
 
 pub(crate) fn form_null(alloc: Global, tokens: &[Token]) -> Result<Leaf, LineRefused>
     ensures { Gives result (form_null_of tokens.now) }
 {
-    let (node, rest) = node_at(alloc, tokens)?;
-    ended(rest)?;
+    let node = one_node(alloc, tokens)?;
     Ok(Leaf::Both(Op::FormNull { node }))
 }
 
@@ -40,8 +38,7 @@ pub(crate) fn validity(alloc: Global, tokens: &[Token]) -> Result<Leaf, LineRefu
 {
     let (node, rest) = node_at(alloc, tokens)?;
     let (flags, rest) = flags_at(alloc, rest)?;
-    let (message, rest) = value_at(alloc, rest)?;
-    ended(rest)?;
+    let message = one_value(alloc, rest)?;
     Ok(Leaf::Both(Op::Validity {
         node,
         flags,
@@ -52,33 +49,8 @@ pub(crate) fn validity(alloc: Global, tokens: &[Token]) -> Result<Leaf, LineRefu
 pub(crate) fn custom(alloc: Global, tokens: &[Token]) -> Result<Leaf, LineRefused>
     ensures { Gives result (custom_of tokens.now) }
 {
-    let (node, rest) = node_at(alloc, tokens)?;
-    let (message, rest) = value_at(alloc, rest)?;
-    ended(rest)?;
+    let (node, message) = node_and_value(alloc, tokens)?;
     Ok(Leaf::Both(Op::Custom { node, message }))
-}
-
-fn state_add(alloc: Global, node: Operand, tokens: &[Token]) -> Result<Leaf, LineRefused>
-    ensures { Gives result (state_add_of node tokens.now) }
-{
-    let (word, rest) = text_at(alloc, tokens)?;
-    ended(rest)?;
-    Ok(Leaf::Both(Op::StateAdd { node, word }))
-}
-
-fn state_delete(alloc: Global, node: Operand, tokens: &[Token]) -> Result<Leaf, LineRefused>
-    ensures { Gives result (state_delete_of node tokens.now) }
-{
-    let (word, rest) = text_at(alloc, tokens)?;
-    ended(rest)?;
-    Ok(Leaf::Both(Op::StateDelete { node, word }))
-}
-
-fn state_clear(node: Operand, tokens: &[Token]) -> Result<Leaf, LineRefused>
-    ensures { Gives result (state_clear_of node tokens.now) }
-{
-    ended(tokens)?;
-    Ok(Leaf::Both(Op::StateClear { node }))
 }
 
 fn state_change(
@@ -90,13 +62,16 @@ fn state_change(
     ensures { Gives result (state_change_of node t.now tokens.now) }
 {
     if is_word(t, Word::Add.text()) {
-        return state_add(alloc, node, tokens);
+        let word = one_text(alloc, tokens)?;
+        return Ok(Leaf::Both(Op::StateAdd { node, word }));
     }
     if is_word(t, Word::Delete.text()) {
-        return state_delete(alloc, node, tokens);
+        let word = one_text(alloc, tokens)?;
+        return Ok(Leaf::Both(Op::StateDelete { node, word }));
     }
     if is_word(t, Word::Clear.text()) {
-        return state_clear(node, tokens);
+        ended(tokens)?;
+        return Ok(Leaf::Both(Op::StateClear { node }));
     }
     Err(LineRefused::Bad(Bad::Word))
 }

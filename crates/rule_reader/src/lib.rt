@@ -13,6 +13,7 @@ mod internals;
 mod laws;
 mod leaves;
 mod pieces;
+mod shapes;
 mod takes;
 mod tree;
 mod users;

@@ -82,7 +82,7 @@ pub(crate) fn call_at(tokens: &[Token]) -> Result<(CallName, &[Token]), LineRefu
     Ok((call_of(t)?, rest))
 }
 
-fn on_off(t: &Token) -> Result<bool, LineRefused>
+pub(crate) fn on_off(t: &Token) -> Result<bool, LineRefused>
     ensures { Gives result (or_word (on_off t.now)) }
 {
     if is_word(t, Word::On.text()) {
@@ -94,13 +94,6 @@ fn on_off(t: &Token) -> Result<bool, LineRefused>
     Err(LineRefused::Bad(Bad::Word))
 }
 
-pub(crate) fn on_off_at(tokens: &[Token]) -> Result<(bool, &[Token]), LineRefused>
-    ensures { GivesSeen (λ x. (x.0, x.1.now)) result (take_one on_off tokens.now) }
-{
-    let (t, rest) = next(tokens)?;
-    Ok((on_off(t)?, rest))
-}
-
 pub(crate) fn behind(tokens: &[Token], word: Word) -> Result<&[Token], LineRefused>
     ensures { GivesSeen (λ x. x.now) result (behind (spelling word) tokens.now) }
 {
@@ -109,63 +102,6 @@ pub(crate) fn behind(tokens: &[Token], word: Word) -> Result<&[Token], LineRefus
         return Err(LineRefused::Bad(Bad::Word));
     }
     Ok(rest)
-}
-
-pub(crate) fn optional_text(
-    alloc: Global,
-    tokens: &[Token],
-    word: Keyword,
-) -> Result<(Option<Text>, &[Token]), LineRefused>
-    ensures { GivesSeen (λ x. (x.0, x.1.now)) result (optional word text tokens.now) }
-{
-    match tokens {
-        [] => Ok((None, tokens)),
-        [first, rest @ ..] => {
-            if !is_word(first, word.text()) {
-                return Ok((None, tokens));
-            }
-            let (found, rest) = text_at(alloc, rest)?;
-            Ok((Some(found), rest))
-        }
-    }
-}
-
-pub(crate) fn optional_node(
-    alloc: Global,
-    tokens: &[Token],
-    word: Keyword,
-) -> Result<(Option<Operand>, &[Token]), LineRefused>
-    ensures { GivesSeen (λ x. (x.0, x.1.now)) result (optional word node tokens.now) }
-{
-    match tokens {
-        [] => Ok((None, tokens)),
-        [first, rest @ ..] => {
-            if !is_word(first, word.text()) {
-                return Ok((None, tokens));
-            }
-            let (found, rest) = node_at(alloc, rest)?;
-            Ok((Some(found), rest))
-        }
-    }
-}
-
-pub(crate) fn optional_value(
-    alloc: Global,
-    tokens: &[Token],
-    word: Keyword,
-) -> Result<(Option<Val>, &[Token]), LineRefused>
-    ensures { GivesSeen (λ x. (x.0, x.1.now)) result (optional word value tokens.now) }
-{
-    match tokens {
-        [] => Ok((None, tokens)),
-        [first, rest @ ..] => {
-            if !is_word(first, word.text()) {
-                return Ok((None, tokens));
-            }
-            let (found, rest) = value_at(alloc, rest)?;
-            Ok((Some(found), rest))
-        }
-    }
 }
 
 pub(crate) fn marked(tokens: &[Token], word: Keyword) -> (bool, &[Token])
@@ -180,6 +116,21 @@ pub(crate) fn marked(tokens: &[Token], word: Keyword) -> (bool, &[Token])
             (false, tokens)
         }
     }
+}
+
+pub(crate) fn optional_text(
+    alloc: Global,
+    tokens: &[Token],
+    word: Keyword,
+) -> Result<(Option<Text>, &[Token]), LineRefused>
+    ensures { GivesSeen (λ x. (x.0, x.1.now)) result (optional word text tokens.now) }
+{
+    let (there, rest) = marked(tokens, word);
+    if !there {
+        return Ok((None, rest));
+    }
+    let (found, rest) = text_at(alloc, rest)?;
+    Ok((Some(found), rest))
 }
 
 pub(crate) fn maybe_node(

@@ -3,9 +3,8 @@ ghost use Rattle.rule_tokens.specs.Gives.{Gives};
 ghost use Rattle.rule_reader.specs.Tree.{adopt_of, append_of, before_of, clone_of, create_of, detach_of, doc_of, let_variable_of, make_text_of, new_of, remove_of, shadow_of};
 
 use crate::Leaf;
-use crate::takes::{
-    class_at, ended, marked, node_at, optional_node, optional_text, text_at, variable_at,
-};
+use crate::shapes::{node_behind, one_class, one_node, two_nodes, variable_and_node};
+use crate::takes::{ended, marked, node_at, optional_text, text_at, variable_at};
 use rule_grammar::Keyword;
 use rule_lines::Op;
 use rule_tokens::{LineRefused, Token};
@@ -17,8 +16,7 @@ pub(crate) fn create(alloc: Global, tokens: &[Token]) -> Result<Leaf, LineRefuse
     let (var, rest) = variable_at(alloc, tokens)?;
     let (local, rest) = text_at(alloc, rest)?;
     let (is_value, rest) = optional_text(alloc, rest, Keyword::Is)?;
-    let (document, rest) = optional_node(alloc, rest, Keyword::In)?;
-    ended(rest)?;
+    let document = node_behind(alloc, rest, Keyword::In)?;
     Ok(Leaf::Both(Op::Create {
         var,
         local,
@@ -31,8 +29,7 @@ pub(crate) fn new(alloc: Global, tokens: &[Token]) -> Result<Leaf, LineRefused>
     ensures { Gives result (new_of tokens.now) }
 {
     let (var, rest) = variable_at(alloc, tokens)?;
-    let (class, rest) = class_at(alloc, rest)?;
-    ended(rest)?;
+    let class = one_class(alloc, rest)?;
     Ok(Leaf::Both(Op::New { var, class }))
 }
 
@@ -41,8 +38,7 @@ pub(crate) fn make_text(alloc: Global, tokens: &[Token]) -> Result<Leaf, LineRef
 {
     let (var, rest) = variable_at(alloc, tokens)?;
     let (chars, rest) = text_at(alloc, rest)?;
-    let (document, rest) = optional_node(alloc, rest, Keyword::In)?;
-    ended(rest)?;
+    let document = node_behind(alloc, rest, Keyword::In)?;
     Ok(Leaf::Both(Op::MakeText {
         var,
         chars,
@@ -53,18 +49,14 @@ pub(crate) fn make_text(alloc: Global, tokens: &[Token]) -> Result<Leaf, LineRef
 pub(crate) fn shadow(alloc: Global, tokens: &[Token]) -> Result<Leaf, LineRefused>
     ensures { Gives result (shadow_of tokens.now) }
 {
-    let (var, rest) = variable_at(alloc, tokens)?;
-    let (host, rest) = node_at(alloc, rest)?;
-    ended(rest)?;
+    let (var, host) = variable_and_node(alloc, tokens)?;
     Ok(Leaf::Both(Op::Shadow { var, host }))
 }
 
 pub(crate) fn append(alloc: Global, tokens: &[Token]) -> Result<Leaf, LineRefused>
     ensures { Gives result (append_of tokens.now) }
 {
-    let (parent, rest) = node_at(alloc, tokens)?;
-    let (node, rest) = node_at(alloc, rest)?;
-    ended(rest)?;
+    let (parent, node) = two_nodes(alloc, tokens)?;
     Ok(Leaf::Both(Op::Append { parent, node }))
 }
 
@@ -72,9 +64,7 @@ pub(crate) fn before(alloc: Global, tokens: &[Token]) -> Result<Leaf, LineRefuse
     ensures { Gives result (before_of tokens.now) }
 {
     let (parent, rest) = node_at(alloc, tokens)?;
-    let (node, rest) = node_at(alloc, rest)?;
-    let (before, rest) = node_at(alloc, rest)?;
-    ended(rest)?;
+    let (node, before) = two_nodes(alloc, rest)?;
     Ok(Leaf::Both(Op::Before {
         parent,
         node,
@@ -85,17 +75,14 @@ pub(crate) fn before(alloc: Global, tokens: &[Token]) -> Result<Leaf, LineRefuse
 pub(crate) fn remove(alloc: Global, tokens: &[Token]) -> Result<Leaf, LineRefused>
     ensures { Gives result (remove_of tokens.now) }
 {
-    let (parent, rest) = node_at(alloc, tokens)?;
-    let (node, rest) = node_at(alloc, rest)?;
-    ended(rest)?;
+    let (parent, node) = two_nodes(alloc, tokens)?;
     Ok(Leaf::Both(Op::Remove { parent, node }))
 }
 
 pub(crate) fn detach(alloc: Global, tokens: &[Token]) -> Result<Leaf, LineRefused>
     ensures { Gives result (detach_of tokens.now) }
 {
-    let (node, rest) = node_at(alloc, tokens)?;
-    ended(rest)?;
+    let node = one_node(alloc, tokens)?;
     Ok(Leaf::Both(Op::Detach { node }))
 }
 
@@ -112,18 +99,14 @@ pub(crate) fn clone(alloc: Global, tokens: &[Token]) -> Result<Leaf, LineRefused
 pub(crate) fn adopt(alloc: Global, tokens: &[Token]) -> Result<Leaf, LineRefused>
     ensures { Gives result (adopt_of tokens.now) }
 {
-    let (document, rest) = node_at(alloc, tokens)?;
-    let (node, rest) = node_at(alloc, rest)?;
-    ended(rest)?;
+    let (document, node) = two_nodes(alloc, tokens)?;
     Ok(Leaf::Both(Op::Adopt { document, node }))
 }
 
 pub(crate) fn let_variable(alloc: Global, tokens: &[Token]) -> Result<Leaf, LineRefused>
     ensures { Gives result (let_variable_of tokens.now) }
 {
-    let (var, rest) = variable_at(alloc, tokens)?;
-    let (node, rest) = node_at(alloc, rest)?;
-    ended(rest)?;
+    let (var, node) = variable_and_node(alloc, tokens)?;
     Ok(Leaf::Both(Op::Let { var, node }))
 }
 

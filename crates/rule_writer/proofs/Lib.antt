@@ -1,3 +1,4 @@
 pub mod FormLaws
+pub mod FrontLaws
 pub mod LineLaws
 pub mod PieceLaws

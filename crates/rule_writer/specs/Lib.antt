@@ -1,3 +1,5 @@
 pub mod Canon
+pub mod Fronts
 pub mod Laws
 pub mod Pieces
+pub mod Subjects

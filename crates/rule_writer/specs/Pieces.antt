@@ -4,6 +4,8 @@ use Rattle.rule_tokens.specs.declared.token.Token.{Token}
 use Rattle.rule_grammar.specs.Canon.{all_tokens, keyed, tokens_of}
 use Rattle.rule_grammar.specs.declared.read_as.ReadAs.TheVariants as read_as
 use Rattle.rule_reader.specs.AsRead.{mark, pairs, part}
+use Rattle.rule_writer.specs.declared.piece.Phrase.{Phrase}
+use Rattle.rule_writer.specs.declared.piece.Phrase.TheVariants as phrases
 use Rattle.rule_writer.specs.declared.piece.Piece.{Piece}
 use Rattle.rule_writer.specs.declared.piece.Piece.TheVariants as pieces
 
@@ -29,3 +31,11 @@ piece_tokens (pieces.AllEntries entries) = all_tokens (pairs entries.now)
 abbrev pub all_pieces : List Piece → List Token
 all_pieces [] = []
 all_pieces (p ∷ ps) = piece_tokens p ++ all_pieces ps
+
+-- of a word, and the pieces behind it
+abbrev pub phrase_tokens : Phrase → List Token
+phrase_tokens (phrases.Alone word) = all_pieces (pieces.Word word ∷ [])
+phrase_tokens (phrases.One word first) = all_pieces (pieces.Word word ∷ first ∷ [])
+phrase_tokens (phrases.Two word first second) = all_pieces (pieces.Word word ∷ first ∷ second ∷ [])
+phrase_tokens (phrases.Three word first second third) = all_pieces (pieces.Word word ∷ first ∷ second ∷ third ∷ [])
+phrase_tokens (phrases.Four word first second third fourth) = all_pieces (pieces.Word word ∷ first ∷ second ∷ third ∷ fourth ∷ [])

@@ -5,76 +5,92 @@ ghost use Rattle.rule_tokens.specs.Spaced.{as_line, spaced};
 ghost use Rattle.rule_lines.specs.Acts.{line_of, part_of};
 ghost use Rattle.rule_grammar.specs.Clean.{AreTexts};
 ghost use Rattle.rule_writer.specs.Canon.{command_tokens, part_tokens, said_tokens};
+ghost use Rattle.rule_writer.specs.Fronts.{part_front};
+ghost use Rattle.rule_writer.specs.Pieces.{phrase_tokens};
 
 use crate::action::put_action;
-use crate::op::put_op;
+use crate::op::phrase_of;
 use crate::operand_words::switch;
-use crate::piece::{Piece, put_one, put_three, put_two};
+use crate::piece::{Phrase, Piece, put_phrase};
 use ce_base::{NoMemory, Text};
 use rule_grammar::Word;
 use rule_lines::{ClassPart, Cmd, Line};
 use std::alloc::Global;
 
-fn put_command(alloc: Global, out: &mut String, c: &Cmd) -> Result<(), NoMemory>
-    ensures text { OnOk result (string_bytes out.new ≡ string_bytes out.old ++ spaced (command_tokens c.now)) }
-    ensures utf8 { OnOk result (AreTexts (command_tokens c.now)) }
+// The phrase of a command.
+fn command_phrase<'a>(c: &'a Cmd) -> Phrase<'a>
+    ensures { phrase_tokens result ≡ command_tokens c.now }
 {
     match c {
-        Cmd::Both(op) => put_op(alloc, out, op),
-        Cmd::Doc { var } => put_one(alloc, out, Word::Doc, Piece::Variable(var)),
-        Cmd::UserEdit { node, value } => put_three(
-            alloc,
-            out,
+        Cmd::Both(op) => phrase_of(op),
+        Cmd::Doc { var } => Phrase::One(Word::Doc, Piece::Variable(var)),
+        Cmd::UserEdit { node, value } => Phrase::Three(
             Word::User,
             Piece::Word(Word::Edit),
             Piece::Node(node),
             Piece::Chars(value),
         ),
-        Cmd::UserCheck { node, on } => put_three(
-            alloc,
-            out,
+        Cmd::UserCheck { node, on } => Phrase::Three(
             Word::User,
             Piece::Word(Word::Check),
             Piece::Node(node),
             Piece::Word(switch(*on)),
         ),
-        Cmd::UserChoose { node, on } => put_three(
-            alloc,
-            out,
+        Cmd::UserChoose { node, on } => Phrase::Three(
             Word::User,
             Piece::Word(Word::Choose),
             Piece::Node(node),
             Piece::Word(switch(*on)),
         ),
-        Cmd::UserReset { form } => put_two(
-            alloc,
-            out,
-            Word::User,
-            Piece::Word(Word::Reset),
-            Piece::Node(form),
-        ),
-        Cmd::UserRestore { node, value } => put_three(
-            alloc,
-            out,
+        Cmd::UserReset { form } => {
+            Phrase::Two(Word::User, Piece::Word(Word::Reset), Piece::Node(form))
+        }
+        Cmd::UserRestore { node, value } => Phrase::Three(
             Word::User,
             Piece::Word(Word::Restore),
             Piece::Node(node),
             Piece::Chars(value),
         ),
-        Cmd::UserAutofill { node, value } => put_three(
-            alloc,
-            out,
+        Cmd::UserAutofill { node, value } => Phrase::Three(
             Word::User,
             Piece::Word(Word::Autofill),
             Piece::Node(node),
             Piece::Chars(value),
         ),
-        Cmd::UserPress { node } => put_two(
-            alloc,
-            out,
-            Word::User,
-            Piece::Word(Word::Press),
-            Piece::Node(node),
+        Cmd::UserPress { node } => {
+            Phrase::Two(Word::User, Piece::Word(Word::Press), Piece::Node(node))
+        }
+    }
+}
+
+// The phrase of a part of a class, up to the action within.
+fn part_phrase<'a>(part: &'a ClassPart) -> Phrase<'a>
+    ensures { phrase_tokens result ≡ part_front (part_of part.now) }
+{
+    match part {
+        ClassPart::Class(name) => Phrase::One(Word::Class, Piece::Class(name)),
+        ClassPart::On { class, call, .. } => Phrase::Three(
+            Word::On,
+            Piece::Class(class),
+            Piece::Callback(*call),
+            Piece::Word(Word::Colon),
+        ),
+        ClassPart::Has { class, call } => {
+            Phrase::Two(Word::Has, Piece::Class(class), Piece::Callback(*call))
+        }
+        ClassPart::Observe { class, names } => {
+            Phrase::Two(Word::Observe, Piece::Class(class), Piece::AllChars(names))
+        }
+        ClassPart::Associate(class) => Phrase::One(Word::Associate, Piece::Class(class)),
+        ClassPart::DisableShadow(class) => Phrase::Two(
+            Word::Disable,
+            Piece::Class(class),
+            Piece::Word(Word::Shadow),
+        ),
+        ClassPart::DisableInternals(class) => Phrase::Two(
+            Word::Disable,
+            Piece::Class(class),
+            Piece::Word(Word::Internals),
         ),
     }
 }
@@ -83,52 +99,10 @@ fn put_part(alloc: Global, out: &mut String, part: &ClassPart) -> Result<(), NoM
     ensures text { OnOk result (string_bytes out.new ≡ string_bytes out.old ++ spaced (part_tokens (part_of part.now))) }
     ensures utf8 { OnOk result (AreTexts (part_tokens (part_of part.now))) }
 {
+    put_phrase(alloc, out, part_phrase(part))?;
     match part {
-        ClassPart::Class(name) => put_one(alloc, out, Word::Class, Piece::Class(name)),
-        ClassPart::On {
-            class,
-            call,
-            action,
-        } => {
-            put_three(
-                alloc,
-                out,
-                Word::On,
-                Piece::Class(class),
-                Piece::Callback(*call),
-                Piece::Word(Word::Colon),
-            )?;
-            put_action(alloc, out, action)
-        }
-        ClassPart::Has { class, call } => put_two(
-            alloc,
-            out,
-            Word::Has,
-            Piece::Class(class),
-            Piece::Callback(*call),
-        ),
-        ClassPart::Observe { class, names } => put_two(
-            alloc,
-            out,
-            Word::Observe,
-            Piece::Class(class),
-            Piece::AllChars(names),
-        ),
-        ClassPart::Associate(class) => put_one(alloc, out, Word::Associate, Piece::Class(class)),
-        ClassPart::DisableShadow(class) => put_two(
-            alloc,
-            out,
-            Word::Disable,
-            Piece::Class(class),
-            Piece::Word(Word::Shadow),
-        ),
-        ClassPart::DisableInternals(class) => put_two(
-            alloc,
-            out,
-            Word::Disable,
-            Piece::Class(class),
-            Piece::Word(Word::Internals),
-        ),
+        ClassPart::On { action, .. } => put_action(alloc, out, action),
+        _ => Ok(()),
     }
 }
 
@@ -138,7 +112,7 @@ fn put_line(alloc: Global, out: &mut String, line: &Line) -> Result<(), NoMemory
 {
     match line {
         Line::Blank => Ok(()),
-        Line::Command(c) => put_command(alloc, out, c),
+        Line::Command(c) => put_phrase(alloc, out, command_phrase(c)),
         Line::Part(part) => put_part(alloc, out, part),
     }
 }

@@ -1,20 +1,118 @@
-// Writes operations.
-ghost use Rattle.std.specs.Prelude.{◌≡◌, ◌++◌, OnOk, string_bytes};
-ghost use Rattle.rule_tokens.specs.Spaced.{spaced};
-ghost use Rattle.rule_grammar.specs.Clean.{AreTexts};
+// The phrases of operations.
+ghost use Rattle.std.specs.Prelude.{◌≡◌, false, true};
 ghost use Rattle.rule_reader.specs.declared.form.Leaf.TheVariants as leaves;
 ghost use Rattle.rule_writer.specs.Canon.{leaf_tokens};
+ghost use Rattle.rule_writer.specs.Pieces.{phrase_tokens};
+ghost use Rattle.rule_writer.specs.Subjects.{is_for_control, is_on_tree};
 
 use crate::operand_words::{ask_as, switch};
-use crate::piece::{Piece, put_four, put_one, put_three, put_two};
-use ce_base::NoMemory;
+use crate::piece::{Phrase, Piece};
 use rule_grammar::{Keyword, Word};
 use rule_lines::Op;
-use std::alloc::Global;
 
-pub(crate) fn put_op(alloc: Global, out: &mut String, op: &Op) -> Result<(), NoMemory>
-    ensures text { OnOk result (string_bytes out.new ≡ string_bytes out.old ++ spaced (leaf_tokens (leaves.Both op.now))) }
-    ensures utf8 { OnOk result (AreTexts (leaf_tokens (leaves.Both op.now))) }
+// Of an operation on controls or forms, or of a question.
+fn control_phrase<'a>(op: &'a Op) -> Phrase<'a>
+    requires { is_for_control op.now ≡ true }
+    ensures { phrase_tokens result ≡ leaf_tokens (leaves.Both op.now) }
+{
+    match op {
+        Op::Reset { form } => Phrase::One(Word::Reset, Piece::Node(form)),
+        Op::Value { node, value } => Phrase::Two(
+            Word::Value,
+            Piece::Node(node),
+            Piece::Value(value),
+        ),
+        Op::Check { node, on } => Phrase::Two(
+            Word::Check,
+            Piece::Node(node),
+            Piece::Word(switch(*on)),
+        ),
+        Op::Choose { node, on } => Phrase::Two(
+            Word::Choose,
+            Piece::Node(node),
+            Piece::Word(switch(*on)),
+        ),
+        Op::Submit { form } => Phrase::One(Word::Submit, Piece::Node(form)),
+        Op::Request { form, submitter } => Phrase::Two(
+            Word::Request,
+            Piece::Node(form),
+            Piece::MaybeNode(submitter),
+        ),
+        Op::Ask { word, node, name } => Phrase::Three(
+            Word::Ask,
+            Piece::Word(ask_as(*word)),
+            Piece::Node(node),
+            Piece::MaybeChars(name),
+        ),
+        _ => unreachable!(),
+    }
+}
+
+// Of an operation on definitions or element internals, or of one on controls.
+fn element_phrase<'a>(op: &'a Op) -> Phrase<'a>
+    requires { is_on_tree op.now ≡ false }
+    ensures { phrase_tokens result ≡ leaf_tokens (leaves.Both op.now) }
+{
+    match op {
+        Op::Define { name, class, base } => Phrase::Three(
+            Word::Define,
+            Piece::Chars(name),
+            Piece::Class(class),
+            Piece::KeyedChars(Keyword::Extends, base),
+        ),
+        Op::Upgrade { node } => Phrase::One(Word::Upgrade, Piece::Node(node)),
+        Op::Internals { node } => Phrase::One(Word::Internals, Piece::Node(node)),
+        Op::FormValue { node, value, saved } => Phrase::Three(
+            Word::FormValue,
+            Piece::Node(node),
+            Piece::Value(value),
+            Piece::KeyedValue(Keyword::State, saved),
+        ),
+        Op::FormList { node, entries } => Phrase::Two(
+            Word::FormList,
+            Piece::Node(node),
+            Piece::AllEntries(entries),
+        ),
+        Op::FormNull { node } => Phrase::One(Word::FormNull, Piece::Node(node)),
+        Op::Validity {
+            node,
+            flags,
+            message,
+        } => Phrase::Three(
+            Word::Validity,
+            Piece::Node(node),
+            Piece::Flags(flags),
+            Piece::Value(message),
+        ),
+        Op::StateAdd { node, word } => Phrase::Three(
+            Word::State,
+            Piece::Node(node),
+            Piece::Word(Word::Add),
+            Piece::Chars(word),
+        ),
+        Op::StateDelete { node, word } => Phrase::Three(
+            Word::State,
+            Piece::Node(node),
+            Piece::Word(Word::Delete),
+            Piece::Chars(word),
+        ),
+        Op::StateClear { node } => Phrase::Two(
+            Word::State,
+            Piece::Node(node),
+            Piece::Word(Word::Clear),
+        ),
+        Op::Custom { node, message } => Phrase::Two(
+            Word::Custom,
+            Piece::Node(node),
+            Piece::Value(message),
+        ),
+        _ => control_phrase(op),
+    }
+}
+
+/// The phrase of an operation.
+pub(crate) fn phrase_of<'a>(op: &'a Op) -> Phrase<'a>
+    ensures { phrase_tokens result ≡ leaf_tokens (leaves.Both op.now) }
 {
     match op {
         Op::Create {
@@ -22,44 +120,30 @@ pub(crate) fn put_op(alloc: Global, out: &mut String, op: &Op) -> Result<(), NoM
             local,
             is_value,
             document,
-        } => put_four(
-            alloc,
-            out,
+        } => Phrase::Four(
             Word::Create,
             Piece::Variable(var),
             Piece::Chars(local),
             Piece::KeyedChars(Keyword::Is, is_value),
             Piece::KeyedNode(Keyword::In, document),
         ),
-        Op::New { var, class } => put_two(
-            alloc,
-            out,
-            Word::New,
-            Piece::Variable(var),
-            Piece::Class(class),
-        ),
+        Op::New { var, class } => Phrase::Two(Word::New, Piece::Variable(var), Piece::Class(class)),
         Op::MakeText {
             var,
             chars,
             document,
-        } => put_three(
-            alloc,
-            out,
+        } => Phrase::Three(
             Word::Text,
             Piece::Variable(var),
             Piece::Chars(chars),
             Piece::KeyedNode(Keyword::In, document),
         ),
-        Op::Shadow { var, host } => put_two(
-            alloc,
-            out,
+        Op::Shadow { var, host } => Phrase::Two(
             Word::Shadow,
             Piece::Variable(var),
             Piece::Node(host),
         ),
-        Op::Append { parent, node } => put_two(
-            alloc,
-            out,
+        Op::Append { parent, node } => Phrase::Two(
             Word::Append,
             Piece::Node(parent),
             Piece::Node(node),
@@ -68,164 +152,41 @@ pub(crate) fn put_op(alloc: Global, out: &mut String, op: &Op) -> Result<(), NoM
             parent,
             node,
             before,
-        } => put_three(
-            alloc,
-            out,
+        } => Phrase::Three(
             Word::Before,
             Piece::Node(parent),
             Piece::Node(node),
             Piece::Node(before),
         ),
-        Op::Remove { parent, node } => put_two(
-            alloc,
-            out,
+        Op::Remove { parent, node } => Phrase::Two(
             Word::Remove,
             Piece::Node(parent),
             Piece::Node(node),
         ),
-        Op::Detach { node } => put_one(alloc, out, Word::Detach, Piece::Node(node)),
-        Op::SetAttr { node, name, value } => put_three(
-            alloc,
-            out,
+        Op::Detach { node } => Phrase::One(Word::Detach, Piece::Node(node)),
+        Op::SetAttr { node, name, value } => Phrase::Three(
             Word::SetAttr,
             Piece::Node(node),
             Piece::Chars(name),
             Piece::Value(value),
         ),
-        Op::DelAttr { node, name } => put_two(
-            alloc,
-            out,
+        Op::DelAttr { node, name } => Phrase::Two(
             Word::DelAttr,
             Piece::Node(node),
             Piece::Chars(name),
         ),
-        Op::Clone { var, node, deep } => put_three(
-            alloc,
-            out,
+        Op::Clone { var, node, deep } => Phrase::Three(
             Word::Clone,
             Piece::Variable(var),
             Piece::Node(node),
             Piece::Marked(Keyword::Deep, *deep),
         ),
-        Op::Adopt { document, node } => put_two(
-            alloc,
-            out,
+        Op::Adopt { document, node } => Phrase::Two(
             Word::Adopt,
             Piece::Node(document),
             Piece::Node(node),
         ),
-        Op::Define { name, class, base } => put_three(
-            alloc,
-            out,
-            Word::Define,
-            Piece::Chars(name),
-            Piece::Class(class),
-            Piece::KeyedChars(Keyword::Extends, base),
-        ),
-        Op::Upgrade { node } => put_one(alloc, out, Word::Upgrade, Piece::Node(node)),
-        Op::Reset { form } => put_one(alloc, out, Word::Reset, Piece::Node(form)),
-        Op::Internals { node } => put_one(alloc, out, Word::Internals, Piece::Node(node)),
-        Op::FormValue { node, value, saved } => put_three(
-            alloc,
-            out,
-            Word::FormValue,
-            Piece::Node(node),
-            Piece::Value(value),
-            Piece::KeyedValue(Keyword::State, saved),
-        ),
-        Op::FormList { node, entries } => put_two(
-            alloc,
-            out,
-            Word::FormList,
-            Piece::Node(node),
-            Piece::AllEntries(entries),
-        ),
-        Op::FormNull { node } => put_one(alloc, out, Word::FormNull, Piece::Node(node)),
-        Op::Validity {
-            node,
-            flags,
-            message,
-        } => put_three(
-            alloc,
-            out,
-            Word::Validity,
-            Piece::Node(node),
-            Piece::Flags(flags),
-            Piece::Value(message),
-        ),
-        Op::StateAdd { node, word } => put_three(
-            alloc,
-            out,
-            Word::State,
-            Piece::Node(node),
-            Piece::Word(Word::Add),
-            Piece::Chars(word),
-        ),
-        Op::StateDelete { node, word } => put_three(
-            alloc,
-            out,
-            Word::State,
-            Piece::Node(node),
-            Piece::Word(Word::Delete),
-            Piece::Chars(word),
-        ),
-        Op::StateClear { node } => put_two(
-            alloc,
-            out,
-            Word::State,
-            Piece::Node(node),
-            Piece::Word(Word::Clear),
-        ),
-        Op::Custom { node, message } => put_two(
-            alloc,
-            out,
-            Word::Custom,
-            Piece::Node(node),
-            Piece::Value(message),
-        ),
-        Op::Value { node, value } => put_two(
-            alloc,
-            out,
-            Word::Value,
-            Piece::Node(node),
-            Piece::Value(value),
-        ),
-        Op::Check { node, on } => put_two(
-            alloc,
-            out,
-            Word::Check,
-            Piece::Node(node),
-            Piece::Word(switch(*on)),
-        ),
-        Op::Choose { node, on } => put_two(
-            alloc,
-            out,
-            Word::Choose,
-            Piece::Node(node),
-            Piece::Word(switch(*on)),
-        ),
-        Op::Submit { form } => put_one(alloc, out, Word::Submit, Piece::Node(form)),
-        Op::Request { form, submitter } => put_two(
-            alloc,
-            out,
-            Word::Request,
-            Piece::Node(form),
-            Piece::MaybeNode(submitter),
-        ),
-        Op::Ask { word, node, name } => put_three(
-            alloc,
-            out,
-            Word::Ask,
-            Piece::Word(ask_as(*word)),
-            Piece::Node(node),
-            Piece::MaybeChars(name),
-        ),
-        Op::Let { var, node } => put_two(
-            alloc,
-            out,
-            Word::Let,
-            Piece::Variable(var),
-            Piece::Node(node),
-        ),
+        Op::Let { var, node } => Phrase::Two(Word::Let, Piece::Variable(var), Piece::Node(node)),
+        _ => element_phrase(op),
     }
 }

@@ -1,8 +1,7 @@
 // The pieces of a canonical line.
-ghost use Rattle.std.specs.Prelude.{◌≡◌, ◌++◌, ◌∷◌, [], OnOk, string_bytes};
+ghost use Rattle.std.specs.Prelude.{◌≡◌, ◌++◌, OnOk, string_bytes};
 ghost use Rattle.rule_tokens.specs.Spaced.{spaced};
-ghost use Rattle.rule_writer.specs.Pieces.{all_pieces, piece_tokens};
-ghost use Rattle.rule_writer.specs.declared.piece.Piece.TheVariants as pieces;
+ghost use Rattle.rule_writer.specs.Pieces.{all_pieces, phrase_tokens, piece_tokens};
 ghost use Rattle.rule_grammar.specs.Clean.{AreTexts};
 
 use crate::many::{put_entries, put_texts, put_values};
@@ -63,7 +62,7 @@ fn put(alloc: Global, out: &mut String, piece: &Piece) -> Result<(), NoMemory>
     }
 }
 
-pub(crate) fn put_all(alloc: Global, out: &mut String, pieces: &[Piece]) -> Result<(), NoMemory>
+fn put_all(alloc: Global, out: &mut String, pieces: &[Piece]) -> Result<(), NoMemory>
     ensures text { OnOk result (string_bytes out.new ≡ string_bytes out.old ++ spaced (all_pieces pieces.now)) }
     ensures utf8 { OnOk result (AreTexts (all_pieces pieces.now)) }
 {
@@ -73,64 +72,38 @@ pub(crate) fn put_all(alloc: Global, out: &mut String, pieces: &[Piece]) -> Resu
     Ok(())
 }
 
-// A word, and a piece behind it.
-pub(crate) fn put_one<'a>(
-    alloc: Global,
-    out: &mut String,
-    word: Word,
-    first: Piece<'a>,
-) -> Result<(), NoMemory>
-    ensures text { OnOk result (string_bytes out.new ≡ string_bytes out.old ++ spaced (all_pieces (pieces.Word word ∷ first.entry ∷ []))) }
-    ensures utf8 { OnOk result (AreTexts (all_pieces (pieces.Word word ∷ first.entry ∷ []))) }
-{
-    put_all(alloc, out, &[Piece::Word(word), first])
+/// A word, and the pieces behind it.
+#[derive(Drop)]
+pub(crate) enum Phrase<'a> {
+    Alone(Word),
+    One(Word, Piece<'a>),
+    Two(Word, Piece<'a>, Piece<'a>),
+    Three(Word, Piece<'a>, Piece<'a>, Piece<'a>),
+    Four(Word, Piece<'a>, Piece<'a>, Piece<'a>, Piece<'a>),
 }
 
-// A word, and two pieces behind it.
-pub(crate) fn put_two<'a>(
+/// Writes a phrase, each token behind a space.
+pub(crate) fn put_phrase<'a>(
     alloc: Global,
     out: &mut String,
-    word: Word,
-    first: Piece<'a>,
-    second: Piece<'a>,
+    phrase: Phrase<'a>,
 ) -> Result<(), NoMemory>
-    ensures text { OnOk result (string_bytes out.new ≡ string_bytes out.old ++ spaced (all_pieces (pieces.Word word ∷ first.entry ∷ second.entry ∷ []))) }
-    ensures utf8 { OnOk result (AreTexts (all_pieces (pieces.Word word ∷ first.entry ∷ second.entry ∷ []))) }
+    ensures text { OnOk result (string_bytes out.new ≡ string_bytes out.old ++ spaced (phrase_tokens phrase.entry)) }
+    ensures utf8 { OnOk result (AreTexts (phrase_tokens phrase.entry)) }
 {
-    put_all(alloc, out, &[Piece::Word(word), first, second])
-}
-
-// A word, and three pieces behind it.
-pub(crate) fn put_three<'a>(
-    alloc: Global,
-    out: &mut String,
-    word: Word,
-    first: Piece<'a>,
-    second: Piece<'a>,
-    third: Piece<'a>,
-) -> Result<(), NoMemory>
-    ensures text { OnOk result (string_bytes out.new ≡ string_bytes out.old ++ spaced (all_pieces (pieces.Word word ∷ first.entry ∷ second.entry ∷ third.entry ∷ []))) }
-    ensures utf8 { OnOk result (AreTexts (all_pieces (pieces.Word word ∷ first.entry ∷ second.entry ∷ third.entry ∷ []))) }
-{
-    put_all(alloc, out, &[Piece::Word(word), first, second, third])
-}
-
-// A word, and four pieces behind it.
-pub(crate) fn put_four<'a>(
-    alloc: Global,
-    out: &mut String,
-    word: Word,
-    first: Piece<'a>,
-    second: Piece<'a>,
-    third: Piece<'a>,
-    fourth: Piece<'a>,
-) -> Result<(), NoMemory>
-    ensures text { OnOk result (string_bytes out.new ≡ string_bytes out.old ++ spaced (all_pieces (pieces.Word word ∷ first.entry ∷ second.entry ∷ third.entry ∷ fourth.entry ∷ []))) }
-    ensures utf8 { OnOk result (AreTexts (all_pieces (pieces.Word word ∷ first.entry ∷ second.entry ∷ third.entry ∷ fourth.entry ∷ []))) }
-{
-    put_all(
-        alloc,
-        out,
-        &[Piece::Word(word), first, second, third, fourth],
-    )
+    match phrase {
+        Phrase::Alone(word) => put_bare(out, word.text()),
+        Phrase::One(word, first) => put_all(alloc, out, &[Piece::Word(word), first]),
+        Phrase::Two(word, first, second) => {
+            put_all(alloc, out, &[Piece::Word(word), first, second])
+        }
+        Phrase::Three(word, first, second, third) => {
+            put_all(alloc, out, &[Piece::Word(word), first, second, third])
+        }
+        Phrase::Four(word, first, second, third, fourth) => put_all(
+            alloc,
+            out,
+            &[Piece::Word(word), first, second, third, fourth],
+        ),
+    }
 }
