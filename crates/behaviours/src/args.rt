@@ -1,5 +1,5 @@
 // The arguments of a callback, as texts.
-ghost use Rattle.std.specs.Prelude.{◌≡◌, List, ℕ, [], map, option_map, IfOk};
+ghost use Rattle.std.specs.Prelude.{◌≡◌, map, option_map, IfOk};
 ghost use Rattle.reaction_queue.specs.Queues.{or_empty};
 ghost use Rattle.ce_algorithms.specs.Values.{args_of, fixed_value, no_args, text_of};
 ghost use Rattle.ce_algorithms.specs.Text as text;

@@ -3,7 +3,6 @@ use Rattle.std.proofs.Common.{◌≡◌, true, Some, refl, sym, ap, ◌∙◌}
 use Rattle.std.proofs.lemmas.Slice.Eq.{bytes_eq-Decides}
 use Rattle.rule_tokens.specs.Callbacks.{call_named, call_word}
 use Rattle.rule_tokens.specs.declared.callback.CallName.{CallName}
-use Rattle.rule_tokens.specs.declared.callback.CallName.TheVariants as calls
 use Rattle.rule_tokens.proofs.CallNames.{call_again}
 use Rattle.ce_algorithms.specs.Body.{same_call}
 

@@ -13,7 +13,7 @@ use Rattle.ce_algorithms.specs.Steps.{Step, Outcome, Goes, Throws, Spent, then_d
 use Rattle.ce_algorithms.specs.Page.{Page, Work, Element, spend, spend_from, read_page, change_page, with_forest, with_queues, with_element, with_state, with_definition}
 use Rattle.ce_algorithms.specs.Making.{with_new, make_node, make_element, make_text, make_shadow_root}
 use Rattle.ce_algorithms.specs.Enqueue.{noted, enqueue, enqueue_callback, enqueue_upgrade, enqueue_found, try_upgrade}
-use Rattle.ce_algorithms.specs.FormChanges.{FormChange, tell_owner, tell_disabled, tell, tell_form_change, tell_at_turn, tell_others, tell_first_owner, tell_first, tell_form}
+use Rattle.ce_algorithms.specs.FormChanges.{FormChange, tell_owner, tell_disabled, tell, tell_form_change, tell_at_turn, tell_others, tell_form}
 use Rattle.ce_algorithms.specs.Mutation.{removed, remove, adopted, move_to, adopt, connected_now, inserted, put_in, insert, pre_insert}
 use Rattle.ce_algorithms.specs.Attributes.{handle_attribute_change, set_attribute, remove_there, remove_attribute}
 use Rattle.ce_algorithms.specs.Define.{with_defined, upgrade_candidates, define_name}
@@ -187,15 +187,8 @@ module _ (R : Work → Work → Type 0) (c : Closed R) where
   pub keeps_tell_others : (xs : List FormChange) (walk : List ℕ) → Keeps R (tell_others xs walk)
   keeps_tell_others xs walk = keeps_each _ keeps_tell_form_change
 
-  pub keeps_tell_first_owner : (n : ℕ) (o : Option ℕ) → Keeps R (tell_first_owner n o)
-  keeps_tell_first_owner n None = keeps_done
-  keeps_tell_first_owner n (Some form) = keeps_enqueue_callback n (FormAssociated (Some form))
-
-  pub keeps_tell_first : (n : ℕ) → Keeps R (tell_first n)
-  keeps_tell_first n = search (page_steps, keeps_tell_first_owner, keeps_enqueue_callback) depth 12
-
   pub keeps_tell_form : (n : ℕ) → Keeps R (tell_form n)
-  keeps_tell_form n = search (page_steps, keeps_tell_first) depth 12
+  keeps_tell_form n = search (page_steps) depth 12
 
   -- removal, adoption, insertion
 
@@ -272,7 +265,7 @@ module _ (R : Work → Work → Type 0) (c : Closed R) where
 
   pub keeps_make_later : (local : List ℕ) (is : Option (List ℕ)) (d : ℕ) (o : Option ℕ) → Keeps R (make_later local is d o)
   keeps_make_later local is d None = keeps_make_in_state local is d _
-  keeps_make_later local is d (Some x) = search (page_steps, keeps_make_in_state, keeps_enqueue_upgrade) depth 12
+  keeps_make_later local is d (Some x) = search (page_steps, keeps_make_in_state) depth 12
 
   pub keeps_create_later : (local : List ℕ) (is : Option (List ℕ)) (d : ℕ) → Keeps R (create_later local is d)
   keeps_create_later local is d = search (page_steps, keeps_make_later) depth 12

@@ -3,7 +3,7 @@ pub mod Scripts
 pub mod Logs
 pub mod Corners
 pub mod CornerLogs
-use Rattle.std.specs.Prelude.{ℕ, true, not, List, filter, Result}
+use Rattle.std.specs.Prelude.{ℕ, not, List, filter, Result}
 use Rattle.rule_lines.specs.Acts.{Said}
 use Rattle.rule_tokens.specs.declared.refused.Bad.{Bad}
 use Rattle.ce_algorithms.specs.declared.event.Event.{Event}

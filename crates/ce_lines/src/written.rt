@@ -1,5 +1,5 @@
 // A line that is being written: its bytes so far.
-ghost use Rattle.std.specs.Prelude.{◌≡◌, ◌++◌, [], IfOk, OnOk};
+ghost use Rattle.std.specs.Prelude.{◌≡◌, ◌++◌, [], OnOk};
 ghost use Rattle.std.specs.Fmt.{decimal};
 ghost use Rattle.rule_tokens.specs.Quoted.{in_quotes};
 ghost use Rattle.ce_algorithms.specs.Text.{node, node_or_null, raised_or_valid, text_or_null};

@@ -7,7 +7,6 @@ ghost use Rattle.node_trees.specs.Nodes.{IsNode};
 ghost use Rattle.node_trees.specs.Kinds.{IsElement};
 ghost use Rattle.ce_algorithms.specs.Clone.{copy_attribute, copy_node};
 ghost use Rattle.ce_algorithms.specs.CreateLater.{create_later};
-ghost use Rattle.ce_algorithms.specs.Making.{make_text};
 ghost use Rattle.ce_algorithms.specs.Steps.{for_each};
 ghost use Rattle.ce_page.specs.Ends.{Does, Ends, NeverRefuses, work};
 ghost use Rattle.ce_page.specs.Numbers.{GrowsWithin, StaysWithin};

@@ -1,5 +1,5 @@
 // Defining a custom element.
-ghost use Rattle.std.specs.Prelude.{◌≡◌, ◌+◌, ◌<◌, ◌^◌};
+ghost use Rattle.std.specs.Prelude.{◌+◌, ◌<◌, ◌^◌};
 ghost use Rattle.ce_algorithms.specs.Define.{define_name};
 ghost use Rattle.ce_page.specs.Ends.{Ends, Keeps, work};
 ghost use Rattle.ce_page.specs.Numbers.{StaysWithin};

@@ -1,6 +1,5 @@
 // Enqueuing reactions.
-ghost use Rattle.std.specs.Prelude.{◌≡◌, ◌+◌, ◌<◌, ◌^◌, ◌∷◌, ◌++◌, [], true, slice_get, IfSome, OnOk, OnErr};
-ghost use Rattle.rule_tokens.specs.declared.callback.CallOrUpgrade.{CallOrUpgrade};
+ghost use Rattle.std.specs.Prelude.{◌≡◌, ◌+◌, ◌<◌, ◌^◌, true, slice_get, IfSome, OnOk};
 ghost use Rattle.node_trees.specs.Kinds.{IsElement};
 ghost use Rattle.reaction_queue.specs.Queues.{enqueued};
 ghost use Rattle.ce_algorithms.specs.Steps.{where_is};

@@ -1,6 +1,5 @@
 // What is read of a page.
 ghost use Rattle.std.specs.Prelude.{◌≡◌, not, option_copied, IfSome};
-ghost use Rattle.node_trees.specs.Nodes.{IsNode};
 ghost use Rattle.node_trees.specs.Kinds.{IsElement};
 ghost use Rattle.ce_algorithms.specs.Page.{element_of, state_of, definition_of, is_custom};
 ghost use Rattle.reaction_queue.specs.ElementQueues.{is_empty};

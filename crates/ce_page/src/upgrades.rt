@@ -1,11 +1,11 @@
 // Enqueuing upgrades.
-ghost use Rattle.std.specs.Prelude.{◌≡◌, ◌+◌, ◌<◌, ◌^◌, ◌∷◌, All, IfOk, Some, length, slice_get};
+ghost use Rattle.std.specs.Prelude.{◌≡◌, ◌+◌, ◌<◌, ◌^◌, All, IfOk, length};
 ghost use Rattle.node_trees.specs.Candidates.{candidates, elements};
 ghost use Rattle.node_trees.specs.Kinds.{IsElement};
 ghost use Rattle.node_trees.specs.Nodes.{IsNode};
 ghost use Rattle.ce_registry.specs.Registry.{is_value_of};
 ghost use Rattle.ce_algorithms.specs.Define.{upgrade_candidates};
-ghost use Rattle.ce_algorithms.specs.Enqueue.{enqueue_found, enqueue_upgrade, lookup_for, try_upgrade};
+ghost use Rattle.ce_algorithms.specs.Enqueue.{enqueue_upgrade, lookup_for, try_upgrade};
 ghost use Rattle.ce_algorithms.specs.Page.{definition_at};
 ghost use Rattle.ce_algorithms.specs.Perform.{upgrade_all};
 ghost use Rattle.ce_algorithms.specs.Steps.{for_each};

@@ -1,7 +1,6 @@
 // The custom element registry.
-ghost use Rattle.std.specs.Prelude.{◌≡◌, ◌<◌, ◌++◌, ◌∷◌, [], length, option_copied, slice_get, None, Some, OnErr, OnOk};
-ghost use Rattle.ce_base.specs.declared.fault.Refused.TheVariants.{Fault as FaultIs};
-ghost use Rattle.ce_registry.specs.Registry.{by_name, by_class, by_names, by_is_value, local_of, lookup, may_define, may_extend, observes};
+ghost use Rattle.std.specs.Prelude.{◌≡◌, ◌<◌, [], length, option_copied, slice_get, None, Some, OnErr, OnOk};
+ghost use Rattle.ce_registry.specs.Registry.{by_name, by_class, by_names, by_is_value, lookup, may_define, may_extend, observes};
 ghost use Rattle.ce_registry.specs.Defines.{Adds, Allows, Defines};
 ghost use Rattle.ce_registry.specs.Found.{has_local, Follows, Stays};
 

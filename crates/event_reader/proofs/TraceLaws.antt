@@ -14,6 +14,7 @@ use Rattle.ce_algorithms.specs.declared.event.Event.{Event}
 use Rattle.ce_algorithms.specs.declared.event.Event.TheVariants.{QueueOpened, Enqueued, DrainBegun, Started, Finished, Dropped, QueueClosed, UpgradeBegun, UpgradeDone, UpgradeThrew}
 use Rattle.ce_algorithms.specs.Text.{event_text, node, what}
 use Rattle.event_reader.specs.IsEvent.{IsNumber}
+use Rattle.event_reader.specs.Parts.{node_in, number_in}
 use Rattle.event_reader.specs.Traces.{trace_by, what_named}
 use Rattle.event_reader.proofs.NumberLaws.{number_back}
 use Rattle.event_reader.proofs.Told.{IsTold}
@@ -22,7 +23,7 @@ use Rattle.event_reader.proofs.TokenLaws.{bare, four_spaced, word_clean, number_
 abbrev trace_tokens : List ℕ → List ℕ → List Token → List Token
 trace_tokens word number ts = bare (codes "~") ∷ bare word ∷ bare number ∷ ts
 
-told_trace : (e : Event) (word number : List ℕ) (ts : List Token) → event_text e ≡ as_line (trace_tokens word number ts) → IsClean (bare word) → IsClean (bare number) → AreClean ts → trace_by word number ts ≡ Some e → IsTold e
+told_trace : (e : Event) (word number : List ℕ) (ts : List Token) → event_text e ≡ as_line (trace_tokens word number ts) → IsClean (bare word) → IsClean (bare number) → AreClean ts → trace_by word (number_in number) (node_in number) ts ≡ Some e → IsTold e
 told_trace e word number ts line word_is number_is clean read = record {
   tokens = trace_tokens word number ts;
   line = line;

@@ -17,21 +17,22 @@ abbrev pub enqueued_of : ℕ → List Token → Option Event
 enqueued_of r (n ∷ what ∷ q ∷ []) = option_map (λ w. Enqueued r (node_in n.text) w (number_in q.text)) (what_named what.text)
 enqueued_of r ts = None
 
-abbrev pub trace_by : List ℕ → List ℕ → List Token → Option Event
-trace_by word number ts =
-    if bytes_eq word (codes "open") then Some (QueueOpened (number_in number))
-    else (if bytes_eq word (codes "enq") then enqueued_of (number_in number) ts
-    else (if bytes_eq word (codes "drain") then Some (DrainBegun (number_in number))
-    else (if bytes_eq word (codes "start") then Some (Started (number_in number))
-    else (if bytes_eq word (codes "finish") then Some (Finished (number_in number))
-    else (if bytes_eq word (codes "drop") then Some (Dropped (number_in number))
-    else (if bytes_eq word (codes "close") then Some (QueueClosed (number_in number))
-    else (if bytes_eq word (codes "up") then Some (UpgradeBegun (node_in number))
-    else (if bytes_eq word (codes "done") then Some (UpgradeDone (node_in number))
-    else (if bytes_eq word (codes "threw") then Some (UpgradeThrew (node_in number))
+-- a word, the number or the node behind it, and what is behind
+abbrev pub trace_by : List ℕ → ℕ → ℕ → List Token → Option Event
+trace_by word number n ts =
+    if bytes_eq word (codes "open") then Some (QueueOpened number)
+    else (if bytes_eq word (codes "enq") then enqueued_of number ts
+    else (if bytes_eq word (codes "drain") then Some (DrainBegun number)
+    else (if bytes_eq word (codes "start") then Some (Started number)
+    else (if bytes_eq word (codes "finish") then Some (Finished number)
+    else (if bytes_eq word (codes "drop") then Some (Dropped number)
+    else (if bytes_eq word (codes "close") then Some (QueueClosed number)
+    else (if bytes_eq word (codes "up") then Some (UpgradeBegun n)
+    else (if bytes_eq word (codes "done") then Some (UpgradeDone n)
+    else (if bytes_eq word (codes "threw") then Some (UpgradeThrew n)
     else None)))))))))
 
 -- a word, a number or a node, and what is behind
 abbrev pub trace_of : List Token → Option Event
-trace_of (word ∷ number ∷ ts) = trace_by word.text number.text ts
+trace_of (word ∷ number ∷ ts) = trace_by word.text (number_in number.text) (node_in number.text) ts
 trace_of ts = None

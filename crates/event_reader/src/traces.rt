@@ -7,7 +7,7 @@ ghost use Rattle.event_reader.specs.Traces.{enqueued_of, trace_by, trace_of, wha
 use crate::EventRefused;
 use crate::parts::{node_in, number_in};
 use ce_algorithms::Event;
-use ce_base::{QueueNo, ReactionNo};
+use ce_base::{NodeNo, QueueNo, ReactionNo};
 use rule_tokens::{CallName, CallOrUpgrade, Token};
 
 fn what_named(word: &str) -> Option<CallOrUpgrade>
@@ -40,22 +40,23 @@ fn enqueued_of(r: ReactionNo, tokens: &[Token]) -> Result<Event, EventRefused>
     }
 }
 
-fn trace_by(word: &str, number: &str, rest: &[Token]) -> Result<Event, EventRefused>
-    ensures reads { Reads result (trace_by word.now number.now rest.now) }
+fn trace_by(word: &str, number: u64, n: NodeNo, rest: &[Token]) -> Result<Event, EventRefused>
+    requires number { IsNumber number }
+    requires node { IsNumber n }
+    ensures reads { Reads result (trace_by word.now number n rest.now) }
     ensures fits { IfOk result IsEvent }
 {
-    let n = number_in(number.as_bytes());
     match word {
-        "open" => Ok(Event::QueueOpened(QueueNo(n))),
-        "enq" => enqueued_of(ReactionNo(n), rest),
-        "drain" => Ok(Event::DrainBegun(QueueNo(n))),
-        "start" => Ok(Event::Started(ReactionNo(n))),
-        "finish" => Ok(Event::Finished(ReactionNo(n))),
-        "drop" => Ok(Event::Dropped(ReactionNo(n))),
-        "close" => Ok(Event::QueueClosed(QueueNo(n))),
-        "up" => Ok(Event::UpgradeBegun(node_in(number))),
-        "done" => Ok(Event::UpgradeDone(node_in(number))),
-        "threw" => Ok(Event::UpgradeThrew(node_in(number))),
+        "open" => Ok(Event::QueueOpened(QueueNo(number))),
+        "enq" => enqueued_of(ReactionNo(number), rest),
+        "drain" => Ok(Event::DrainBegun(QueueNo(number))),
+        "start" => Ok(Event::Started(ReactionNo(number))),
+        "finish" => Ok(Event::Finished(ReactionNo(number))),
+        "drop" => Ok(Event::Dropped(ReactionNo(number))),
+        "close" => Ok(Event::QueueClosed(QueueNo(number))),
+        "up" => Ok(Event::UpgradeBegun(n)),
+        "done" => Ok(Event::UpgradeDone(n)),
+        "threw" => Ok(Event::UpgradeThrew(n)),
         _ => Err(EventRefused::NotAnEvent),
     }
 }
@@ -65,7 +66,11 @@ pub(crate) fn trace_of(tokens: &[Token]) -> Result<Event, EventRefused>
     ensures fits { IfOk result IsEvent }
 {
     match tokens {
-        [word, number, rest @ ..] => { trace_by(word.text.as_str(), number.text.as_str(), rest) }
+        [word, number, rest @ ..] => {
+            let n = node_in(number.text.as_str());
+            let number = number_in(number.text.as_str().as_bytes());
+            trace_by(word.text.as_str(), number, n, rest)
+        }
         _ => Err(EventRefused::NotAnEvent),
     }
 }

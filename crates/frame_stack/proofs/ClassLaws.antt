@@ -15,7 +15,6 @@ use Rattle.frame_stack.specs.Chains.{AreChained}
 use Rattle.frame_stack.specs.Changes.{extended as extended_in}
 use Rattle.frame_stack.specs.Order.{AreInOrder}
 use Rattle.frame_stack.specs.Stacked.{Stacked, behaviour_at, behaviours_of, placed_from}
-use Rattle.frame_stack.specs.Stacked as stacked
 use Rattle.frame_stack.proofs.BuiltLaws.{behaviour_built, class_built, more_built, set_built}
 use Rattle.frame_stack.proofs.Settled.{behaviours_are, in_order}
 

@@ -1,6 +1,6 @@
 // The frame of a body.
 ghost use Rattle.std.specs.Prelude.{◌≡◌, ◌≤◌, None, IfOk};
-ghost use Rattle.ce_frames.specs.Places.{Body as BodyHeld, held_in, holding};
+ghost use Rattle.ce_frames.specs.Places.{Body as BodyHeld, holding};
 ghost use Rattle.behaviours.specs.Next.{stop_of};
 ghost use Rattle.frame_stack.specs.Frames.{first_place, with_this};
 ghost use Rattle.frame_stack.specs.Kinds.{body_of};

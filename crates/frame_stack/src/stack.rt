@@ -1,5 +1,5 @@
 // The stack.
-ghost use Rattle.std.specs.Prelude.{◌≡◌, ◌-◌, ◌<◌, ◌++◌, ◌∷◌, [], false, length, slice_get, IfNone, MatchOption, OnOk};
+ghost use Rattle.std.specs.Prelude.{◌≡◌, ◌-◌, ◌<◌, ◌++◌, ◌∷◌, [], length, slice_get, IfNone, MatchOption, OnOk};
 ghost use Rattle.reaction_queue.specs.ElementQueues.{is_empty};
 ghost use Rattle.ce_frames.specs.Places.{Stands};
 ghost use Rattle.frame_stack.specs.Frames.{is_waiting, waiting_of};

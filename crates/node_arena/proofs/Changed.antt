@@ -3,9 +3,10 @@ use Rattle.std.proofs.Common.{◌≡◌, ◌≢◌, ℕ, ◌==◌, if◌then◌e
 use Rattle.std.proofs.lemmas.Bool.Decides.{nat_tests}
 use Rattle.node_trees.specs.Facts.{Facts}
 use Rattle.node_trees.specs.Trees.{Trees, none, tree, roots, with_facts}
-use Rattle.node_trees.specs.Nodes.{weight, times, size}
+use Rattle.node_trees.specs.Nodes.{times, size}
 use Rattle.node_trees.specs.Paths.{path}
 use Rattle.node_trees.specs.Spots.{Spot, spot_in, or_spot}
+use Rattle.node_trees.proofs.Weights.{weight-with}
 
 module _ (n : ℕ) (c : Facts → Facts) where
   pub roots-with : (f : Trees) → roots (with_facts n c f) ≡ roots f
@@ -16,16 +17,11 @@ module _ (n : ℕ) (c : Facts → Facts) where
   path-with i none = refl
   path-with i (tree m x s k r) = grind (arith, nat_tests, path-with i s, path-with i k, path-with i r)
 
-  -- a sum that takes no heed of the change
-  pub weight-with : (w : ℕ → Facts → ℕ) → ((x : Facts) → w n (c x) ≡ w n x) → (f : Trees) → weight w (with_facts n c f) ≡ weight w f
-  weight-with w same none = refl
-  weight-with w same (tree m x s k r) = let e = same x in grind (arith, nat_tests, e, weight-with w same s, weight-with w same k, weight-with w same r)
-
   pub size-with : (f : Trees) → size (with_facts n c f) ≡ size f
-  size-with = weight-with (λ m x. 1) (λ x. refl)
+  size-with = weight-with (λ m x. 1) n c (λ x. refl)
 
   pub times-with : (i : ℕ) (f : Trees) → times i (with_facts n c f) ≡ times i f
-  times-with i = weight-with (λ m x. if m == i then 1 else 0) (λ x. refl)
+  times-with i = weight-with (λ m x. if m == i then 1 else 0) n c (λ x. refl)
 
 -- a spot with other facts
 abbrev pub changed : (Facts → Facts) → Option Spot → Option Spot

@@ -7,15 +7,11 @@ use Rattle.node_trees.specs.Nodes.{times}
 use Rattle.node_trees.specs.Orders.{tree_order}
 use Rattle.node_trees.specs.Paths.{is_among}
 use Rattle.node_trees.specs.Spots.{Spot, spot_of, spot_in, first_of, after}
+pub use Rattle.node_arena.specs.Walks.{parent_or as or_else}
 use Rattle.node_arena.proofs.Sums.{apart-children, apart-rest, here, in_shadow, in_children, in_rest, stands_where}
 use Rattle.node_arena.proofs.Pieces.{spot-here, spot-children, spot-rest}
 use Rattle.node_trees.proofs.Weights.{IsApart}
 use Rattle.node_trees.proofs.Absent.{is_among-append}
-
--- the first of two that is there
-abbrev pub or_else : Option ℕ → Option ℕ → Option ℕ
-or_else None b = b
-or_else (Some a) b = Some a
 
 or_else-assoc : (a b c : Option ℕ) → or_else (or_else a b) c ≡ or_else a (or_else b c)
 or_else-assoc None b c = refl

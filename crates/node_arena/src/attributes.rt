@@ -1,5 +1,5 @@
 // An element's attributes.
-ghost use Rattle.std.specs.Prelude.{◌≡◌, ◌≤◌, ◌<◌, ◌++◌, ◌∷◌, [], Some, true, length, IfOk, IfSome, OnOk, OnErr, option_copied, slice_get};
+ghost use Rattle.std.specs.Prelude.{◌≡◌, ◌≤◌, ◌<◌, ◌++◌, ◌∷◌, [], Some, true, length, IfOk, OnOk, OnErr, option_copied, slice_get};
 ghost use Rattle.std.specs.List.{remove};
 ghost use Rattle.node_trees.specs.Facts.{value_in, with_value, without_value};
 ghost use Rattle.node_arena.specs.Attributes.{name_place, names_of};

@@ -8,7 +8,7 @@ ghost use Rattle.node_trees.specs.Nodes.{size, IsNode};
 ghost use Rattle.node_trees.specs.Kinds.{KeepsKinds};
 ghost use Rattle.node_trees.specs.Links.{IsAlone, KeepsApart, KeepsSpots};
 ghost use Rattle.node_trees.specs.Insertion.{may_insert};
-ghost use Rattle.node_arena.specs.NodeRows.{rows, row};
+ghost use Rattle.node_arena.specs.NodeRows.{rows};
 ghost use Rattle.node_arena.specs.Rows.{row_at, Changed};
 
 use crate::Tree;

@@ -1,8 +1,8 @@
 // What is known of a node, and who stands next to it.
-ghost use Rattle.std.specs.Prelude.{◌≡◌, ◌<◌, ◌∷◌, ◌++◌, [], Some, None, true, false, IfOk, IfSome, length, option_copied, slice_get};
+ghost use Rattle.std.specs.Prelude.{◌≡◌, ◌∷◌, ◌++◌, [], Some, None, true, false, IfOk, option_copied};
 ghost use Rattle.node_trees.specs.Facts.{is_element, is_text};
 ghost use Rattle.node_trees.specs.Trees.{none, roots, tree_of};
-ghost use Rattle.node_trees.specs.Spots.{spot, facts_at, kind_at, attribute_at, document_at, parent_at, host_at, shadow_at, children_at, first_child_at, next_sibling_at};
+ghost use Rattle.node_trees.specs.Spots.{spot, facts_at, kind_at, document_at, parent_at, host_at, shadow_at, children_at, first_child_at, next_sibling_at};
 ghost use Rattle.node_trees.specs.Orders.{order};
 ghost use Rattle.node_trees.specs.Nodes.{size, HasOwnParts, IsNode, IsNodeOrNone, IsTidy};
 ghost use Rattle.node_trees.specs.Links.{below, AreRead};

@@ -2,7 +2,7 @@
 use Rattle.std.proofs.Common.{◌≡◌, ℕ, ◌+◌, ◌≤◌, Option, refl, arith, cond, eqb}
 use Rattle.std.proofs.lemmas.Bool.Decides.{nat_tests}
 use Rattle.node_trees.specs.Facts.{Facts}
-use Rattle.node_trees.specs.Trees.{Trees, none, tree, join, tree_of, without, place, before, put, with_shadow}
+use Rattle.node_trees.specs.Trees.{Trees, none, tree, join, tree_of, without, place, before, put, with_shadow, with_facts}
 use Rattle.node_trees.specs.Nodes.{weight, times}
 
 -- no number stands twice
@@ -40,3 +40,8 @@ module _ (w : ℕ → Facts → ℕ) where
   weight-shadow q t none h = omega arith
   weight-shadow q t (tree m x s k r) h =
       grind (arith, nat_tests, weight-join s t, weight-shadow q t s (omega arith), weight-shadow q t k (omega arith), weight-shadow q t r (omega arith))
+
+  -- a change of facts that the sum takes no heed of
+  pub weight-with : (n : ℕ) (change : Facts → Facts) → ((x : Facts) → w n (change x) ≡ w n x) → (f : Trees) → weight w (with_facts n change f) ≡ weight w f
+  weight-with n change same none = refl
+  weight-with n change same (tree m x s k r) = let e = same x in grind (arith, nat_tests, e, weight-with n change same s, weight-with n change same k, weight-with n change same r)

@@ -12,7 +12,7 @@ use Rattle.order_law.specs.Clauses.{begins_drain, ends_drain, ends_reaction, end
 use Rattle.order_law.specs.After.{after, started, marked}
 use Rattle.order_law.specs.Law.{read, Lawful}
 use Rattle.order_law.specs.Words.{Says, enqueue_line}
-use Rattle.order_law.proofs.Fronts.{left_true, right_true}
+use Rattle.order_law.proofs.Fronts.{left_true, right_true, false_true}
 use Rattle.order_law.proofs.Walk.{Keeps, at, past_of, says_turned, says_back}
 use Rattle.order_law.proofs.Entries.{IsAmong, found_among, among_found, among_more, among_last, without_among, none_of_queue_says}
 use Rattle.order_law.proofs.Waiting.{Kept, kept_first, kept_step, same_line}
@@ -66,9 +66,6 @@ stays past b e c k no_line hr fits hw hq =
   where
     line : (w : Entry) → Says (e ∷ past) (enqueue_line w) → Says past (enqueue_line w)
     line w s = ⊎_elim (λ i. absurd (no_line w i)) (λ i. i) s
-
-false_true : {A : Type 0} → false ≡ true → A
-false_true h = absurd cc
 
 enqueues : (past : List Event) (b : Book) (v : Entry) → Ends past b → Pushed past b → v.queue ≡ current b.brackets →
     Ends (enqueue_line v ∷ past) (after b (enqueue_line v))

@@ -14,6 +14,9 @@ pub right_true : (a b : Bool) → a && b ≡ true → b ≡ true
 right_true true b h = h
 right_true false b h = absurd (let k : false ≡ true = h in cc)
 
+pub false_true : {A : Type 0} → false ≡ true → A
+false_true h = absurd cc
+
 pub front_from : (b : Book) (front rest : List Event) → is_lawful b (front ++ rest) ≡ true → is_lawful b front ≡ true
 front_from b [] rest h = refl
 front_from b (e ∷ front) rest h =

@@ -16,7 +16,7 @@ use Rattle.order_law.specs.Clauses.{is_in_drain, may_call, begins_drain, ends_dr
 use Rattle.order_law.specs.After.{after, started, marked}
 use Rattle.order_law.specs.Words.{Says, enqueue_line}
 use Rattle.order_law.specs.Brackets.{is_plain, Whole, Empty, Plain, Line, Operation, Checkpoint, Reaction, Done, Threw}
-use Rattle.order_law.proofs.Fronts.{left_true, right_true}
+use Rattle.order_law.proofs.Fronts.{left_true, right_true, false_true}
 use Rattle.order_law.proofs.Walk.{Keeps, past_of}
 use Rattle.order_law.proofs.Entries.{found_among}
 use Rattle.order_law.proofs.Waiting.{Kept}
@@ -64,9 +64,6 @@ ended bs calls opening closing log outside inside cut piece o =
 
 plain : (bs : List Bracket) (log : List Event) (e : Event) → is_plain e ≡ true → Opens log bs → Opens (log ++ e ∷ []) bs
 plain bs log e is o = more_in bs log (e ∷ []) (λ calls l w. Plain e is w) o
-
-false_true : {A : Type 0} → false ≡ true → A
-false_true h = absurd cc
 
 begins : (q : ℕ) (bs : List Bracket) (log : List Event) → begins_drain q bs ≡ true → Opens log bs → Opens (log ++ DrainBegun q ∷ []) (Draining q ∷ around bs)
 begins q [] log h o = (log, [], refl, Empty, inl (eqb-true q 0 h, refl, o))

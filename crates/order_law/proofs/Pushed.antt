@@ -1,5 +1,5 @@
 -- The queues that fill, in the book and in the log.
-use Rattle.std.proofs.Common.{◌≡◌, ℕ, ◌+◌, ◌<◌, ◌≤◌, true, false, List, [], ◌∷◌, ◌++◌, Option, Some, None, refl, sym, ap, ◌∙◌, subst, arith, ⊎_elim, inl, inr}
+use Rattle.std.proofs.Common.{◌≡◌, ℕ, ◌+◌, ◌<◌, ◌≤◌, true, List, [], ◌∷◌, ◌++◌, Option, Some, None, refl, sym, ap, ◌∙◌, subst, arith, ⊎_elim, inl, inr}
 use Rattle.std.specs.Prelude.{◌⊎◌, ◌==◌}
 use Rattle.std.proofs.lemmas.Bool.{eqb-true}
 use Rattle.rule_tokens.specs.declared.callback.CallName.{CallName}
@@ -13,7 +13,7 @@ use Rattle.order_law.specs.Clauses.{begins_drain, ends_drain, ends_reaction, end
 use Rattle.order_law.specs.After.{after, started, marked}
 use Rattle.order_law.specs.Law.{read, Lawful}
 use Rattle.order_law.specs.Words.{Says, IsFilling, IsCurrent}
-use Rattle.order_law.proofs.Fronts.{left_true, right_true}
+use Rattle.order_law.proofs.Fronts.{left_true, right_true, false_true}
 use Rattle.order_law.proofs.Walk.{Keeps, at, past_of, says_turned, says_back}
 use Rattle.order_law.proofs.Upgrading.{start_unmoved}
 
@@ -106,9 +106,6 @@ checks past b c k hb hc hq =
       below = λ p i. let f = k.below p (no_push past 0 p i) in omega (arith, f, hq);
       begun = λ p i. ⊎_elim (λ e. let g = ap queue_of e in omega (arith, g)) (λ e. let f = k.begun p e in omega (arith, f, hq)) i;
     }
-
-false_true : {A : Type 0} → false ≡ true → A
-false_true h = absurd cc
 
 begins : (past : List Event) (b : Book) (q : ℕ) → Pushed past b → (bs : List Bracket) → b.brackets ≡ bs → begins_drain q bs ≡ true →
     Pushed (DrainBegun q ∷ past) (after b (DrainBegun q))

@@ -16,7 +16,7 @@ use Rattle.order_law.specs.After.{after}
 use Rattle.order_law.specs.Law.{may_come, read, is_lawful, Lawful}
 use Rattle.order_law.specs.Words.{Says, Waits, enqueue_line}
 use Rattle.order_law.specs.Brackets.{Whole, Empty, Innermost, Runs, MayUpgrade, HasRun, AreLines}
-use Rattle.order_law.proofs.Fronts.{left_true, right_true, front_lawful}
+use Rattle.order_law.proofs.Fronts.{left_true, right_true, front_lawful, false_true}
 use Rattle.order_law.proofs.Walk.{Keeps, keeps, past_of, rest_from}
 use Rattle.order_law.proofs.Entries.{among_found}
 use Rattle.order_law.proofs.Waiting.{Kept, kept_first, kept_step}
@@ -59,9 +59,6 @@ here before behind e h =
       stands = stands before (front_lawful before (e ∷ behind) h);
       keeps = keeps (read blank before) e (left_true (may_come (read blank before) e) _ (rest_from blank before (e ∷ behind) h));
     }
-
-false_true : {A : Type 0} → false ≡ true → A
-false_true h = absurd cc
 
 innermost : (calls : List Event) (opening : Event) (P : List Event → Type 0) (log : List Event) → Around calls opening P log → Innermost calls opening log
 innermost calls opening P log a = record { outside = a.0; inside = a.1; cut = a.2; whole = a.3 }

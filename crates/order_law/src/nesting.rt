@@ -1,5 +1,5 @@
 // Brackets: where an event stands among them, each a statement that is the contract of a function that does nothing.
-ghost use Rattle.std.specs.Prelude.{◌≡◌, ◌⊎◌, ℕ, ◌<◌, List, [], ◌∷◌, ◌++◌, true, Some};
+ghost use Rattle.std.specs.Prelude.{◌≡◌, ℕ, ◌<◌, List, [], ◌∷◌, ◌++◌, true, Some};
 ghost use Rattle.rule_tokens.specs.declared.callback.CallName.{CallName};
 ghost use Rattle.rule_tokens.specs.declared.callback.CallOrUpgrade.TheVariants.{Call};
 ghost use Rattle.ce_algorithms.specs.declared.event.Event.{Event};

@@ -1,5 +1,5 @@
 // The reaction queues of all nodes.
-ghost use Rattle.std.specs.Prelude.{◌≡◌, ◌-◌, ◌<◌, ◌++◌, ◌∷◌, [], length, vec_len, IfNone, MatchOption, OnOk, OnErr};
+ghost use Rattle.std.specs.Prelude.{◌≡◌, ◌-◌, ◌<◌, ◌++◌, ◌∷◌, [], vec_len, IfNone, MatchOption, OnOk, OnErr};
 ghost use Rattle.reaction_queue.specs.Queues.{list_at, with_list};
 ghost use Rattle.reaction_queue.specs.Trimmed.{trimmed};
 

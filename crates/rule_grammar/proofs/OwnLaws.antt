@@ -2,7 +2,6 @@
 use Rattle.std.proofs.Common.{◌≡◌, ◌==◌, ℕ, Bool, true, false, cond, not, ◌||◌, List, [], ◌∷◌, Option, Some, None, refl, subst}
 use Rattle.std.specs.Option.{option_map}
 use Rattle.rule_tokens.specs.declared.callback.CallName.{CallName}
-use Rattle.rule_tokens.specs.declared.callback.CallName.TheVariants as calls
 use Rattle.rule_tokens.specs.declared.operand.Operand.{Operand}
 use Rattle.rule_tokens.specs.declared.operand.Operand.TheVariants as operands
 use Rattle.rule_tokens.specs.declared.operand.Val.{Val}

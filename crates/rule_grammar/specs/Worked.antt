@@ -1,14 +1,9 @@
 -- Lines whose answer the definitions compute.
-use Rattle.std.specs.Prelude.{◌≡◌, ℕ, true, false, List, [], ◌∷◌, Ok, Err, codes}
+use Rattle.std.specs.Prelude.{◌≡◌, ℕ, List, [], ◌∷◌, Ok, Err, codes}
 use Rattle.rule_tokens.specs.declared.refused.Bad.TheVariants.{Word, Arity}
 use Rattle.rule_tokens.specs.declared.token.Token.{Token}
+use Rattle.rule_grammar.specs.Canon.{bare, quoted}
 use Rattle.rule_grammar.specs.Read.{Reads, read_tokens}
-
-abbrev bare : List ℕ → Token
-bare text = record { quoted = false; text = text }
-
-abbrev quoted : List ℕ → Token
-quoted text = record { quoted = true; text = text }
 
 -- it is a form
 abbrev IsRead : Reads → Type 0

@@ -1,5 +1,5 @@
 // Cuts a line at its spaces, and knows what stands between quotes.
-ghost use Rattle.std.specs.Prelude.{◌≡◌, ℕ, List, []};
+ghost use Rattle.std.specs.Prelude.{[]};
 ghost use Rattle.rule_tokens.specs.Cut.{cut, CutStep};
 ghost use Rattle.rule_tokens.specs.Gives.{GivesSeen, with_front};
 ghost use Rattle.rule_tokens.specs.declared.cutting.Within.TheVariants.{Gap};

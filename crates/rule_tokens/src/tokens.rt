@@ -1,5 +1,5 @@
 // The tokens of a line, or what is wrong with it.
-ghost use Rattle.std.specs.Prelude.{◌≡◌, ℕ, List, IfOk, Ok, Option, Some, None, encode_utf8_all, option_copied, if◌then◌else◌};
+ghost use Rattle.std.specs.Prelude.{◌≡◌, List, IfOk, Ok, Option, Some, None, encode_utf8_all, option_copied, if◌then◌else◌};
 ghost use Rattle.std.specs.Char.{is_ascii_control};
 ghost use Rattle.std.specs.List.{list_any};
 ghost use Rattle.std.specs.Str.{chars, is_utf8};

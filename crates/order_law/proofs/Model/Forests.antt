@@ -15,8 +15,8 @@ use Rattle.node_trees.specs.Insertion.{may_insert, is_child_or_none, has_element
 use Rattle.element_names.specs.Names.{custom_name}
 use Rattle.element_names.specs.Hosts.{shadow_host}
 use Rattle.std.specs.Str.{chars}
-use Rattle.order_law.proofs.Model.Weights.{changed, on_path}
-use Rattle.node_trees.proofs.Weights.{IsApart, weight-join, weight-without, weight-place, weight-put, weight-shadow}
+use Rattle.order_law.proofs.Model.Weights.{on_path}
+use Rattle.node_trees.proofs.Weights.{IsApart, weight-join, weight-without, weight-place, weight-put, weight-shadow, weight-with}
 use Rattle.node_trees.proofs.Absent.{spot-absent}
 
 -- the nodes of one forest are those of another, each of its kind
@@ -42,7 +42,7 @@ alike_graft f p n b one outside w =
     grind (arith, nat_tests, outside, parts, put_in)
 
 pub alike_facts : (n : ℕ) (change : Facts → Facts) → ((x : Facts) → (change x).kind ≡ x.kind) → (f : Trees) → Alike f (with_facts n change f)
-alike_facts n change keeps f w = changed (λ (m : ℕ) (x : Facts). w m x.kind) n change (λ x. ap (w n) (keeps x)) f
+alike_facts n change keeps f w = weight-with (λ (m : ℕ) (x : Facts). w m x.kind) n change (λ x. ap (w n) (keeps x)) f
 
 pub more_node : (n : ℕ) (x : Facts) (f : Trees) → HasMore f (with_node n x f) n x.kind
 more_node n x f w = let all = weight-join (λ (m : ℕ) (y : Facts). w m y.kind) f (single n x) in omega (arith, all)
@@ -136,5 +136,5 @@ outside_facts p n m change (tree i x shadow children rest) =
       outside_facts p n m change shadow,
       outside_facts p n m change children,
       outside_facts p n m change rest,
-      changed (λ j y. if j == p then 1 else 0) m change (λ y. refl) rest,
+      weight-with (λ j y. if j == p then 1 else 0) m change (λ y. refl) rest,
     )

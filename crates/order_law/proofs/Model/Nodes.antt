@@ -17,7 +17,7 @@ use Rattle.ce_registry.specs.Registry.{by_class, is_value_of}
 use Rattle.construction.specs.Stacks.{stack_of, with_stack}
 use Rattle.ce_algorithms.specs.declared.event.Event.{Event}
 use Rattle.ce_algorithms.specs.Steps.{Outcome, Goes, Throws, Spent, then_do, ◌>>=◌, ◌>>◌, give, throw_if, throw_where, found}
-use Rattle.ce_algorithms.specs.Page.{Page, Work, Element, element_of, state_of, or_uncustomized, uncustomized, with_element, with_state, with_definition, definition_at}
+use Rattle.ce_algorithms.specs.Page.{Page, Work, Element, element_of, or_uncustomized, uncustomized, with_element, with_state, with_definition, definition_at}
 use Rattle.ce_algorithms.specs.Page as page
 use Rattle.ce_algorithms.specs.State.{event_of}
 use Rattle.ce_algorithms.specs.Making.{next_number, with_new, make_node, make_element, make_text, make_document, make_shadow_root}

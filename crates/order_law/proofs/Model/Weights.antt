@@ -3,18 +3,11 @@ use Rattle.std.proofs.Common.{◌≡◌, ◌≢◌, ℕ, ◌+◌, ◌<◌, ◌�
 use Rattle.std.specs.Prelude.{◌||◌}
 use Rattle.std.proofs.lemmas.Bool.Decides.{nat_tests}
 use Rattle.std.proofs.lemmas.Bool.{cases_eq, cases_lt}
-use Rattle.node_trees.specs.Facts.{Facts}
-use Rattle.node_trees.specs.Trees.{Trees, none, tree, join, tree_of, without, place, cut, with_facts}
-use Rattle.node_trees.specs.Nodes.{weight, times}
+use Rattle.node_trees.specs.Trees.{Trees, none, tree, join, tree_of, without, place, cut}
+use Rattle.node_trees.specs.Nodes.{times}
 use Rattle.node_trees.specs.Paths.{path, under, is_among}
 use Rattle.node_trees.proofs.Weights.{IsApart, weight-join, weight-without}
 use Rattle.node_trees.proofs.Absent.{without-absent, is_among-append}
-
-module _ (w : ℕ → Facts → ℕ) where
-  -- a change of facts that the sum takes no heed of
-  pub changed : (n : ℕ) (change : Facts → Facts) → ((x : Facts) → w n (change x) ≡ w n x) → (f : Trees) → weight w (with_facts n change f) ≡ weight w f
-  changed n change same none = refl
-  changed n change same (tree m x s k r) = let e = same x in grind (arith, nat_tests, e, changed n change same s, changed n change same k, changed n change same r)
 
 -- a node's tree has no more than there is
 fewer : (i n : ℕ) (f : Trees) → times i (tree_of n f) ≤ times i f
