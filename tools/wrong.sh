@@ -88,7 +88,7 @@ try_crate() {
     [ ! -d "crates/$1/out/incremental" ] || [ -d "$crate/out/incremental" ] ||
         { mkdir -p "$crate/out" && cp -a "crates/$1/out/incremental" "$crate/out/"; } || exit 1
     if ! (cd "$crate" && rt check) >"$room/log" 2>&1; then
-        echo "$1: not proved as it stands, so no edit was tried"
+        echo "$1: not proved as it stands, so no edit was tried: $(tail -n 1 "$room/log")"
         failed=$((failed + 1))
         return
     fi
