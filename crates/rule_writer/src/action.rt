@@ -47,7 +47,7 @@ pub(crate) fn put_action(alloc: Global, out: &mut String, action: &Action) -> Re
     ensures text { OnOk result (string_bytes out.new ≡ string_bytes out.old ++ spaced (act_tokens (act_of action.now))) }
     ensures utf8 { OnOk result (AreTexts (act_tokens (act_of action.now))) }
 {
-    put_phrase(alloc, out, front_of(action))?;
+    put_phrase(alloc, out, &front_of(action))?;
     match action {
         Action::Try(inner) => put_action(alloc, out, inner),
         Action::If { then, .. } => put_action(alloc, out, then),

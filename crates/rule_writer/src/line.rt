@@ -99,7 +99,7 @@ fn put_part(alloc: Global, out: &mut String, part: &ClassPart) -> Result<(), NoM
     ensures text { OnOk result (string_bytes out.new ≡ string_bytes out.old ++ spaced (part_tokens (part_of part.now))) }
     ensures utf8 { OnOk result (AreTexts (part_tokens (part_of part.now))) }
 {
-    put_phrase(alloc, out, part_phrase(part))?;
+    put_phrase(alloc, out, &part_phrase(part))?;
     match part {
         ClassPart::On { action, .. } => put_action(alloc, out, action),
         _ => Ok(()),
@@ -112,7 +112,7 @@ fn put_line(alloc: Global, out: &mut String, line: &Line) -> Result<(), NoMemory
 {
     match line {
         Line::Blank => Ok(()),
-        Line::Command(c) => put_phrase(alloc, out, command_phrase(c)),
+        Line::Command(c) => put_phrase(alloc, out, &command_phrase(c)),
         Line::Part(part) => put_part(alloc, out, part),
     }
 }

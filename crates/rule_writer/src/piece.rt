@@ -16,7 +16,7 @@ use rule_tokens::{CallName, Operand, Val};
 use std::alloc::Global;
 
 /// A piece of a line: an operand, an optional part, or operands that repeat.
-#[derive(Drop)]
+#[derive(Clone, Copy)]
 pub(crate) enum Piece<'a> {
     Word(Word),
     Variable(&'a Text),
@@ -73,7 +73,7 @@ fn put_all(alloc: Global, out: &mut String, pieces: &[Piece]) -> Result<(), NoMe
 }
 
 /// A word, and the pieces behind it.
-#[derive(Drop)]
+#[derive(Clone, Copy)]
 pub(crate) enum Phrase<'a> {
     Alone(Word),
     One(Word, Piece<'a>),
@@ -86,24 +86,24 @@ pub(crate) enum Phrase<'a> {
 pub(crate) fn put_phrase<'a>(
     alloc: Global,
     out: &mut String,
-    phrase: Phrase<'a>,
+    phrase: &Phrase<'a>,
 ) -> Result<(), NoMemory>
-    ensures text { OnOk result (string_bytes out.new ≡ string_bytes out.old ++ spaced (phrase_tokens phrase.entry)) }
-    ensures utf8 { OnOk result (AreTexts (phrase_tokens phrase.entry)) }
+    ensures text { OnOk result (string_bytes out.new ≡ string_bytes out.old ++ spaced (phrase_tokens phrase.now)) }
+    ensures utf8 { OnOk result (AreTexts (phrase_tokens phrase.now)) }
 {
     match phrase {
         Phrase::Alone(word) => put_bare(out, word.text()),
-        Phrase::One(word, first) => put_all(alloc, out, &[Piece::Word(word), first]),
+        Phrase::One(word, first) => put_all(alloc, out, &[Piece::Word(*word), *first]),
         Phrase::Two(word, first, second) => {
-            put_all(alloc, out, &[Piece::Word(word), first, second])
+            put_all(alloc, out, &[Piece::Word(*word), *first, *second])
         }
         Phrase::Three(word, first, second, third) => {
-            put_all(alloc, out, &[Piece::Word(word), first, second, third])
+            put_all(alloc, out, &[Piece::Word(*word), *first, *second, *third])
         }
         Phrase::Four(word, first, second, third, fourth) => put_all(
             alloc,
             out,
-            &[Piece::Word(word), first, second, third, fourth],
+            &[Piece::Word(*word), *first, *second, *third, *fourth],
         ),
     }
 }
