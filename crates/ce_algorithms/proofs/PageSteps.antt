@@ -148,7 +148,7 @@ module _ (R : Work → Work → Type 0) (c : Closed R) where
       go w zero e = c.same w
       go w (suc k) e = c.enqueued n r k w e
 
-  pub ruleset page_steps = (keeps_where_is, keeps_throw_where, keeps_refuse, keeps_find_or, keeps_bind, keeps_seq, keeps_read, keeps_read_page, keeps_done, keeps_give, keeps_when, keeps_each, keeps_throw, keeps_throw_any, keeps_throw_if, keeps_spend, keeps_forest, keeps_state, keeps_definition, keeps_defined, keeps_new, keeps_stacks, keeps_enqueue)
+  pub ruleset page_steps = (keeps_where_is, keeps_throw_where, keeps_refuse, keeps_find_or, keeps_bind, keeps_seq, keeps_read, keeps_read_page, keeps_done, keeps_give, keeps_when, keeps_each, keeps_throw_if, keeps_spend, keeps_forest, keeps_state, keeps_definition, keeps_defined, keeps_new, keeps_stacks, keeps_enqueue)
 
   -- enqueues
 

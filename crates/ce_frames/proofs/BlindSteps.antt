@@ -9,7 +9,7 @@ use Rattle.ce_registry.specs.declared.class_facts.ClassFacts.{ClassFacts}
 use Rattle.ce_algorithms.specs.declared.event.Event.{Event}
 use Rattle.ce_algorithms.specs.declared.deed.Deed.{Deed}
 use Rattle.ce_algorithms.specs.declared.deed.Deed.TheVariants as deeds
-use Rattle.ce_algorithms.specs.Steps.{Step, Outcome, Goes, Throws, Spent, then_do, ◌>>=◌, ◌>>◌, give, done, throw, settle, read, when, throw_if, found, find_or, throw_where, for_each, attempt, attempt_in}
+use Rattle.ce_algorithms.specs.Steps.{Step, Outcome, Goes, Throws, Spent, then_do, ◌>>=◌, ◌>>◌, give, done, throw, settle, read, throw_if, found, find_or, throw_where, for_each, attempt, attempt_in}
 use Rattle.ce_algorithms.specs.Page.{Page, Work}
 use Rattle.ce_algorithms.specs.State.{State, Class, view, log, spend, spend_from, read_page, change_page, on_page, with_outcome, work_of, set_variable, change_class, class_of}
 use Rattle.ce_algorithms.specs.Define.{define_name}
@@ -121,10 +121,6 @@ blind_each (x ∷ xs) h = blind_seq (h x) (blind_each xs h)
 
 -- steps by a test
 
-pub blind_when : {f : Step State (Unit {0})} (t : Bool) → IsBlind f → IsBlind (when t f)
-blind_when true h = h
-blind_when false h = blind_done
-
 pub blind_throw_if : (t : Bool) (f : Fault) → IsBlind (throw_if t f)
 blind_throw_if true f = blind_throw f
 blind_throw_if false f = blind_done
@@ -162,7 +158,7 @@ blind_attempt {f} h =
 
 -- what the proofs by `search` cite
 pub ruleset blind_steps =
-    (blind_give, blind_done, blind_throw, blind_settle, blind_read_page, blind_change_page, blind_set_variable, blind_log, blind_spend, blind_on_page, blind_read, blind_bind, blind_seq, blind_each, blind_when, blind_throw_if, blind_found, blind_throw_where, blind_attempt, refl)
+    (blind_give, blind_throw, blind_read_page, blind_change_page, blind_log, blind_on_page, blind_bind, blind_seq, blind_each, blind_throw_where, refl)
 
 -- element queues
 

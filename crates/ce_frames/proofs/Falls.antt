@@ -7,7 +7,7 @@ use Rattle.ce_base.specs.declared.fault.Fault.{Fault}
 use Rattle.reaction_queue.specs.declared.reaction.Reaction.{Reaction}
 use Rattle.reaction_queue.specs.Queues.{Queues, Open, waiting_at, with_waiting, counted, appended_to, enqueued}
 use Rattle.ce_algorithms.specs.declared.event.Event.{Event}
-use Rattle.ce_algorithms.specs.Steps.{Step, Outcome, Goes, Throws, Spent, then_do, ◌>>=◌, ◌>>◌, give, done, throw, settle, read, when, throw_if, found, throw_where, for_each, catch_in, attempt_in}
+use Rattle.ce_algorithms.specs.Steps.{Step, Outcome, Goes, Throws, Spent, then_do, ◌>>=◌, ◌>>◌, give, done, throw, settle, read, throw_if, found, throw_where, for_each, catch_in, attempt_in}
 use Rattle.ce_algorithms.specs.Page.{Page, Work, with_queues, with_state, with_definition}
 use Rattle.ce_algorithms.specs.Enqueue.{noted}
 use Rattle.ce_algorithms.specs.State.{State, Class, View, view, look, log, logged, on_page, with_outcome, work_of, read_page, change_page, set_variable, change_class}
@@ -145,10 +145,6 @@ pub falls_dropped : (n : ℕ) → Falls (change_page (with_queues (with_waiting 
 unfolding potential
 falls_dropped n = record { at = λ s. let h = with_waiting_load n [] s.page.queues in omega (arith, h) }
 
-pub falls_when : {f : Step State (Unit {0})} (test : Bool) → Falls f → Falls (when test f)
-falls_when true h = h
-falls_when false h = falls_done
-
 pub falls_throw_if : (test : Bool) (f : Fault) → Falls (throw_if test f)
 falls_throw_if true f = falls_throw f
 falls_throw_if false f = falls_done
@@ -166,4 +162,4 @@ falls_each (x ∷ xs) h = falls_seq (h x) (falls_each xs h)
 
 -- what the proofs by `search` cite
 pub ruleset falls_steps =
-    (falls_throw_where, falls_bind, falls_seq, falls_read, falls_read_page, falls_give, falls_done, falls_throw, falls_log, falls_set_variable, falls_change_class, falls_state, falls_definition, falls_dropped, falls_throw_if, falls_found, falls_when, falls_each, falls_look, falls_page)
+    (falls_throw_where, falls_bind, falls_seq, falls_read, falls_read_page, falls_give, falls_throw, falls_log, falls_change_class, falls_state, falls_definition, falls_dropped, falls_throw_if, falls_each, falls_look, falls_page)

@@ -41,7 +41,7 @@ use Rattle.frame_stack.specs.Stacked.{Stacked, HasBody, Running, behaviour_at, b
 use Rattle.frame_stack.proofs.TopLaws.{below_push, top_below, top_push}
 use Rattle.ce_machine.specs.Bodies.{GoesOn, StopsAt, acting_turn, answer, frame_on_top, given_node, or_constructing, running_turn, stopped_turn}
 use Rattle.ce_reactions.specs.declared.came.Came.{Came}
-use Rattle.ce_reactions.specs.declared.came.Came.TheVariants.{Went, Threw, Over}
+use Rattle.ce_reactions.specs.declared.came.Came.TheVariants.{Threw, Over}
 use Rattle.ce_operations.specs.Given.{IsThere}
 use Rattle.ce_reactions.specs.Placed.{Lasts}
 use Rattle.ce_reactions.specs.Turns.{Turns}

@@ -1,5 +1,5 @@
 // A whole run, from the words and the source to the sink and a status.
-ghost use Rattle.std.specs.Prelude.{◌≡◌, ◌≤◌, ◌<◌, ◌↔◌, length, map, string_bytes, Some, IfOk, vec_len, List, ℕ};
+ghost use Rattle.std.specs.Prelude.{◌≡◌, ◌≤◌, ◌↔◌, length, map, string_bytes, Some, IfOk, vec_len, List, ℕ};
 ghost use Rattle.ce_base.specs.Faults.{Rose};
 ghost use Rattle.page_runner.specs.Table.{RunMeets, RunsWhole, limit, piece, status_of};
 ghost use Rattle.page_runner.specs.Words.{meaning};
