@@ -5,7 +5,7 @@ use Rattle.std.proofs.lemmas.List.{set-set}
 use Rattle.ce_base.specs.declared.fault.Fault.TheVariants.{UserThrow}
 use Rattle.rule_tokens.specs.declared.operand.Val.{Val}
 use Rattle.rule_lines.specs.Acts.{Act, Both, Log, Super, Return, Throw, Bump, Keep, Try, If}
-use Rattle.ce_algorithms.specs.declared.event.Event.TheVariants.{Logged}
+use Rattle.ce_events.specs.declared.event.Event.TheVariants.{Logged}
 use Rattle.ce_algorithms.specs.Steps.{Outcome, Goes, Throws, then_do, give}
 use Rattle.ce_algorithms.specs.State.{State, Class, Memory, class_of, or_new_class, change_memory, logged, spend}
 use Rattle.ce_algorithms.specs.Values.{Args, text_of, fixed, fixed_value, fixed_text}

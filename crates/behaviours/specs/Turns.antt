@@ -1,7 +1,7 @@
 -- The turn of a body, from where it has stopped on.
 use Rattle.std.specs.Prelude.{ℕ, Bool, List, map, Option, slice_set}
 use Rattle.rule_lines.specs.Acts.{Act, Both, Log}
-use Rattle.ce_algorithms.specs.declared.event.Event.TheVariants.{Logged}
+use Rattle.ce_events.specs.declared.event.Event.TheVariants.{Logged}
 use Rattle.ce_algorithms.specs.Steps.{throw}
 use Rattle.ce_algorithms.specs.State.{State, Memory, class_of, log, ended_by_fuel}
 use Rattle.ce_algorithms.specs.Values.{Args, fixed_text}

@@ -2,7 +2,7 @@
 ghost use Rattle.std.specs.Prelude.{◌≡◌, map, option_map, IfOk};
 ghost use Rattle.reaction_queue.specs.Queues.{or_empty};
 ghost use Rattle.ce_algorithms.specs.Values.{args_of, fixed_value, no_args, text_of};
-ghost use Rattle.ce_algorithms.specs.Text as text;
+ghost use Rattle.ce_events.specs.Text as text;
 
 use crate::Memory;
 use ce_base::{NoMemory, NodeNo, Text, Texts};
@@ -96,7 +96,7 @@ impl Args {
 fn node_text(alloc: Global, n: NodeNo) -> Result<Text, NoMemory>
     ensures { IfOk result (λ t. t ≡ text.node n) }
 {
-    Text::of(alloc, format!(in alloc; "#{}", n.0)?.as_str())
+    Ok(Text::from(format!(in alloc; "#{}", n.0)?))
 }
 
 fn of_texts(alloc: Global, first: &str, second: &str, third: &str) -> Result<Args, NoMemory>

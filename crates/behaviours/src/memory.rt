@@ -38,7 +38,7 @@ impl Memory {
     pub fn count(&self, alloc: Global) -> Result<Text, NoMemory>
         ensures { IfOk result (λ t. t ≡ decimal self.now.count) }
     {
-        Text::of(alloc, format!(in alloc; "{}", self.count)?.as_str())
+        Ok(Text::from(format!(in alloc; "{}", self.count)?))
     }
 
     /// The kept text.

@@ -4,6 +4,7 @@ use Rattle.ce_base.specs.declared.fault.Fault.{Fault}
 use Rattle.rule_tokens.specs.declared.callback.CallName.TheVariants.{Constructor}
 use Rattle.rule_tokens.specs.declared.operand.Operand.{Operand}
 use Rattle.rule_lines.specs.Acts.{Act, Both, Log, Super, Return, Throw, Bump, Keep, Try, If}
+use Rattle.rule_lines.specs.declared.line.Cmd.{Cmd}
 use Rattle.rule_lines.specs.declared.op.Op.{Op}
 use Rattle.reaction_queue.specs.declared.reaction.Reaction.{Reaction}
 use Rattle.reaction_queue.specs.declared.reaction.Reaction.TheVariants.{Upgrade as UpgradeReaction, Connected, Disconnected, Adopted, Attribute, FormAssociated, FormDisabled, FormReset, FormStateRestore}
@@ -14,8 +15,8 @@ use Rattle.ce_registry.specs.Registry.{is_autonomous}
 use Rattle.ce_algorithms.specs.declared.deed.Deed.{Deed}
 use Rattle.ce_algorithms.specs.declared.deed.Deed.TheVariants as deeds
 use Rattle.ce_algorithms.specs.declared.deed.Deed.TheVariants.{OnPage}
-use Rattle.ce_algorithms.specs.declared.event.Given.{Given}
-use Rattle.ce_algorithms.specs.declared.event.Given.TheVariants.{Nothing, Node, Answers, Ignored}
+use Rattle.ce_algorithms.specs.declared.given.Given.{Given}
+use Rattle.ce_algorithms.specs.declared.given.Given.TheVariants.{Nothing, Node, Answers, Ignored}
 use Rattle.ce_algorithms.specs.Steps.{Step}
 use Rattle.ce_algorithms.specs.Page.{with_queues}
 use Rattle.ce_algorithms.specs.CreateLater.{make_undefined}
@@ -27,8 +28,8 @@ use Rattle.ce_algorithms.specs.Construct.{base_alone, constructor_body, construc
 use Rattle.ce_algorithms.specs.Upgrade.{construct_for, drop_reactions, upgrade_threw, upgrade_now, upgrade}
 use Rattle.ce_algorithms.specs.Drain.{log_call, call_back, call_defined, run_reaction, react, drain, open_queue, pop_queue, drain_popped, reacting, with_backup, drain_first, drain_backup}
 use Rattle.ce_algorithms.specs.Create.{construct_fit, create_failed, upgrade_failed, create_extended, create_defined, create_found, create}
-use Rattle.ce_algorithms.specs.Perform.{create_named, define_element, gives_nothing, gives_node, page_steps, steps, perform_deed, keep, kept, operate}
-use Rattle.ce_algorithms.specs.Deeds.{resolve, is_reacting, variable}
+use Rattle.ce_algorithms.specs.Perform.{create_named, define_element, gives_nothing, gives_node, page_steps, steps, perform_deed, keep, kept, operate, act_as_user}
+use Rattle.ce_algorithms.specs.Deeds.{resolve, resolve_user, is_reacting, variable}
 use Rattle.ce_algorithms.specs.Model.{level}
 use Rattle.ce_algorithms.proofs.Framed.{Framed, framed_steps, framed_bind, framed_seq, framed_give, framed_done, framed_read, framed_read_page, framed_look, framed_change_page, framed_log, framed_on_page, framed_spend, framed_set_variable, framed_list, framed_if, framed_catch, framed_finally}
 
@@ -216,6 +217,9 @@ module _ (again : Again) (below : (call : Call) → Framed (again call)) where
 
   pub operate_framed : (this : Option ℕ) (op : Op) → Framed (operate again this op)
   operate_framed this op = framed_bind (framed_look this (λ v. resolve v op)) (λ deed. framed_kept (variable op) (perform_deed_framed deed))
+
+  pub act_as_user_framed : (c : Cmd) → Framed (act_as_user again c)
+  act_as_user_framed c = framed_bind (framed_look None (λ v. resolve_user v c)) (λ deed. perform_deed_framed deed)
 
   -- a level
   pub level_framed : (call : Call) → Framed (level again call)

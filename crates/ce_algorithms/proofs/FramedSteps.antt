@@ -7,8 +7,8 @@ use Rattle.rule_lines.specs.Acts.{Class as NewClass}
 use Rattle.rule_lines.specs.declared.line.Cmd.{Cmd}
 use Rattle.rule_lines.specs.declared.line.Cmd.TheVariants.{Both, Doc}
 use Rattle.rule_tokens.specs.declared.refused.Bad.{Bad}
-use Rattle.ce_algorithms.specs.declared.event.Event.{Event}
-use Rattle.ce_algorithms.specs.declared.event.Event.TheVariants.{Threw}
+use Rattle.ce_events.specs.declared.event.Event.{Event}
+use Rattle.ce_events.specs.declared.event.Event.TheVariants.{Threw}
 use Rattle.ce_algorithms.specs.State.{State, Class}
 use Rattle.ce_algorithms.specs.Drain.{drain_all_backup, checkpoint}
 use Rattle.ce_algorithms.specs.Making.{make_document}
@@ -17,9 +17,9 @@ use Rattle.ce_algorithms.specs.Perform.{gives_node}
 use Rattle.ce_algorithms.specs.Parts.{add_class, change_open, part}
 use Rattle.ce_algorithms.specs.Session.{perform, command, part_reply, class_part, run_line, run_lines}
 use Rattle.ce_algorithms.specs.Written.{behind, behind_in}
-use Rattle.ce_algorithms.proofs.Framed.{Framed, framed_steps, framed_give, framed_done, framed_log, framed_seq, framed_on_page}
+use Rattle.ce_algorithms.proofs.Framed.{Framed, framed_steps, framed_done, framed_log, framed_seq, framed_on_page}
 use Rattle.ce_algorithms.proofs.FramedLevels.{framed_kept}
-use Rattle.ce_algorithms.proofs.FramedDrain.{framed_drain_backup, framed_operate}
+use Rattle.ce_algorithms.proofs.FramedDrain.{framed_drain_backup, framed_operate, framed_act_as_user}
 
 -- the checkpoint
 
@@ -35,7 +35,7 @@ framed_checkpoint = search (framed_steps, framed_drain_all_backup) depth 12
 pub framed_perform : (c : Cmd) → Framed (perform model c)
 framed_perform (Both op) = framed_operate None op
 framed_perform (Doc var) = framed_kept (Some var) (framed_on_page (gives_node make_document))
-framed_perform _ = framed_give _
+framed_perform c = framed_act_as_user c
 
 -- a command
 pub framed_command : (line : ℕ) (c : Cmd) → Framed (command model line c)

@@ -13,7 +13,8 @@ use Rattle.ce_algorithms.specs.Steps.{Step, Outcome, Goes, Throws, Spent, then_d
 use Rattle.ce_algorithms.specs.Page.{Page, Work, Element, spend, spend_from, read_page, change_page, with_forest, with_queues, with_element, with_state, with_definition}
 use Rattle.ce_algorithms.specs.Making.{with_new, make_node, make_element, make_text, make_shadow_root}
 use Rattle.ce_algorithms.specs.Enqueue.{noted, enqueue, enqueue_callback, enqueue_upgrade, enqueue_found, try_upgrade}
-use Rattle.ce_algorithms.specs.FormChanges.{FormChange, tell_owner, tell_disabled, tell, tell_form_change, tell_at_turn, tell_others, tell_form}
+use Rattle.form_controls.specs.declared.change.Change.{Change}
+use Rattle.ce_algorithms.specs.FormChanges.{tell_owner, tell_disabled, tell, tell_form_change, tell_at_turn, tell_others, tell_form}
 use Rattle.ce_algorithms.specs.Mutation.{removed, remove, adopted, move_to, adopt, connected_now, inserted, put_in, insert, pre_insert}
 use Rattle.ce_algorithms.specs.Attributes.{handle_attribute_change, set_attribute, remove_there, remove_attribute}
 use Rattle.ce_algorithms.specs.Define.{with_defined, upgrade_candidates, define_name}
@@ -175,16 +176,16 @@ module _ (R : Work → Work → Type 0) (c : Closed R) where
   keeps_tell_disabled n None = keeps_done
   keeps_tell_disabled n (Some disabled) = keeps_enqueue_callback n (FormDisabled disabled)
 
-  pub keeps_tell : (x : FormChange) → Keeps R (tell x)
+  pub keeps_tell : (x : Change) → Keeps R (tell x)
   keeps_tell x = search (page_steps, keeps_tell_owner, keeps_tell_disabled) depth 12
 
-  pub keeps_tell_form_change : (x : FormChange) → Keeps R (tell_form_change x)
+  pub keeps_tell_form_change : (x : Change) → Keeps R (tell_form_change x)
   keeps_tell_form_change x = search (page_steps, keeps_tell) depth 12
 
-  pub keeps_tell_at_turn : (xs : List FormChange) (n : ℕ) → Keeps R (tell_at_turn xs n)
+  pub keeps_tell_at_turn : (xs : List Change) (n : ℕ) → Keeps R (tell_at_turn xs n)
   keeps_tell_at_turn xs n = keeps_each _ keeps_tell_form_change
 
-  pub keeps_tell_others : (xs : List FormChange) (walk : List ℕ) → Keeps R (tell_others xs walk)
+  pub keeps_tell_others : (xs : List Change) (walk : List ℕ) → Keeps R (tell_others xs walk)
   keeps_tell_others xs walk = keeps_each _ keeps_tell_form_change
 
   pub keeps_tell_form : (n : ℕ) → Keeps R (tell_form n)
@@ -192,7 +193,7 @@ module _ (R : Work → Work → Type 0) (c : Closed R) where
 
   -- removal, adoption, insertion
 
-  pub keeps_removed : (xs : List FormChange) (b : Bool) (n : ℕ) → Keeps R (removed xs b n)
+  pub keeps_removed : (xs : List Change) (b : Bool) (n : ℕ) → Keeps R (removed xs b n)
   keeps_removed xs b n = search (page_steps, keeps_tell_at_turn, keeps_enqueue_callback) depth 12
 
   pub keeps_remove : (n : ℕ) → Keeps R (remove n)
@@ -211,7 +212,7 @@ module _ (R : Work → Work → Type 0) (c : Closed R) where
   keeps_connected_now n true = keeps_enqueue_callback n Connected
   keeps_connected_now n false = search (page_steps, keeps_try_upgrade) depth 12
 
-  pub keeps_inserted : (xs : List FormChange) (n : ℕ) → Keeps R (inserted xs n)
+  pub keeps_inserted : (xs : List Change) (n : ℕ) → Keeps R (inserted xs n)
   keeps_inserted xs n = search (page_steps, keeps_tell_at_turn, keeps_connected_now) depth 12
 
   pub keeps_put_in : (parent n : ℕ) (b : Option ℕ) → Keeps R (put_in parent n b)
@@ -312,13 +313,5 @@ module _ (R : Work → Work → Type 0) (c : Closed R) where
   pub ruleset deed_steps = (page_steps, keeps_make_node, keeps_make_shadow_root, keeps_pre_insert, keeps_remove, keeps_adopt, keeps_set_attribute, keeps_remove_attribute, keeps_copy_node, keeps_copy_below, keeps_try_upgrade)
 
   pub keeps_page_steps : (what : PageDeed) → Keeps R (perform.page_steps what)
-  keeps_page_steps (page_deeds.MakeText chars document) = search deed_steps depth 20
-  keeps_page_steps (page_deeds.Shadow host) = search deed_steps depth 20
-  keeps_page_steps (page_deeds.Insert parent n before) = search deed_steps depth 20
-  keeps_page_steps (page_deeds.Remove parent n) = search deed_steps depth 20
-  keeps_page_steps (page_deeds.Detach n) = search deed_steps depth 20
-  keeps_page_steps (page_deeds.SetAttr n name value) = search deed_steps depth 20
-  keeps_page_steps (page_deeds.DelAttr n name) = search deed_steps depth 20
-  keeps_page_steps (page_deeds.Clone n deep) = search deed_steps depth 20
-  keeps_page_steps (page_deeds.Adopt document n) = search deed_steps depth 20
   keeps_page_steps (page_deeds.Upgrade n) = search deed_steps depth 20
+  keeps_page_steps what = search deed_steps depth 20

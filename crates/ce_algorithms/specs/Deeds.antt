@@ -1,6 +1,7 @@
 -- What operations come to: deeds, once their operands were read and fit.
 use Rattle.std.specs.Prelude.{ℕ, Bool, true, false, List, Option, Some, None, Result, Ok}
 use Rattle.ce_base.specs.declared.fault.Fault.{Fault}
+use Rattle.rule_lines.specs.declared.line.Cmd.{Cmd}
 use Rattle.rule_lines.specs.declared.op.Op.{Op}
 use Rattle.rule_lines.specs.declared.op.Op.TheVariants as ops
 use Rattle.ce_algorithms.specs.declared.deed.Deed.{Deed}
@@ -71,6 +72,10 @@ resolve v (ops.Let var operand) = do
   n ← node v operand
   Ok (deeds.Let var n)
 resolve v op = Ok unbuilt_deed
+
+-- the same of what the user does, where nothing is `this`. Nothing of that is built yet
+abbrev pub resolve_user : View → Cmd → Result Deed Fault
+resolve_user v c = Ok unbuilt_deed
 
 -- which deeds push an element queue ([CEReactions]; HTML Standard, section "Custom element reactions")
 

@@ -4,18 +4,13 @@ use Rattle.reaction_queue.specs.declared.reaction.Reaction.TheVariants.{FormAsso
 use Rattle.ce_registry.specs.declared.definition.Definition.{Definition}
 use Rattle.ce_registry.specs.Registry.{is_autonomous}
 use Rattle.node_trees.specs.Paths.{is_among}
+use Rattle.form_controls.specs.declared.change.Change.{Change}
 use Rattle.ce_algorithms.specs.Steps.{Step, ◌>>=◌, ◌>>◌, done, where_is, for_each}
 use Rattle.ce_algorithms.specs.Page.{Page, Work, read_page, definition_of, is_custom}
 use Rattle.ce_algorithms.specs.Enqueue.{enqueue_callback}
 
--- an element's new form owner, and its new disabled state, each where it differs from before
-pub record FormChange : Type 0 where
-  pub node : ℕ
-  pub owner : Option (Option ℕ)
-  pub disabled : Option Bool
-
 -- the changes from one page to another, in the order of the nodes' numbers. No form owners are known yet
-abbrev pub form_changes : Page → Page → List FormChange
+abbrev pub form_changes : Page → Page → List Change
 form_changes old new = []
 
 -- a form-associated custom element goes by its definition (HTML Standard, section "Core concepts")
@@ -32,7 +27,7 @@ tell_disabled n None = done
 tell_disabled n (Some disabled) = enqueue_callback n (FormDisabled disabled)
 
 -- the owner comes first
-abbrev pub tell : FormChange → Step Work (Unit {0})
+abbrev pub tell : Change → Step Work (Unit {0})
 tell c = do
   tell_owner c.node c.owner
   tell_disabled c.node c.disabled
@@ -61,13 +56,13 @@ abbrev pub tell_form : ℕ → Step Work (Unit {0})
 tell_form n = where_is (λ w. is_form_associated (definition_of w.page n)) (tell_first n)
 
 -- a custom form-associated element is told of its change
-abbrev pub tell_form_change : FormChange → Step Work (Unit {0})
+abbrev pub tell_form_change : Change → Step Work (Unit {0})
 tell_form_change c = where_is (λ w. is_custom w.page c.node && is_form_associated (definition_of w.page c.node)) (tell c)
 
 -- a node of a walk is told at its turn
-abbrev pub tell_at_turn : List FormChange → ℕ → Step Work (Unit {0})
-tell_at_turn changes n = for_each (filter (λ (c : FormChange). c.node == n) changes) tell_form_change
+abbrev pub tell_at_turn : List Change → ℕ → Step Work (Unit {0})
+tell_at_turn changes n = for_each (filter (λ (c : Change). c.node == n) changes) tell_form_change
 
 -- and those outside the walk after it
-abbrev pub tell_others : List FormChange → List ℕ → Step Work (Unit {0})
-tell_others changes walk = for_each (filter (λ (c : FormChange). not (is_among c.node walk)) changes) tell_form_change
+abbrev pub tell_others : List Change → List ℕ → Step Work (Unit {0})
+tell_others changes walk = for_each (filter (λ (c : Change). not (is_among c.node walk)) changes) tell_form_change

@@ -11,7 +11,6 @@ pub mod Clone
 pub mod Construction
 pub mod State
 pub mod Calls
-pub mod Text
 pub mod Fits
 pub mod Operands
 pub mod Values

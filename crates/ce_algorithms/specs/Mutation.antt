@@ -10,7 +10,8 @@ use Rattle.node_trees.specs.Insertion.{may_insert}
 use Rattle.ce_algorithms.specs.Steps.{Step, ◌>>=◌, ◌>>◌, refuse, when, where_is, for_each}
 use Rattle.ce_algorithms.specs.Page.{Page, Work, read_page, change_page, with_forest, is_custom}
 use Rattle.ce_algorithms.specs.Enqueue.{enqueue_callback, try_upgrade}
-use Rattle.ce_algorithms.specs.FormChanges.{FormChange, form_changes, tell_at_turn, tell_others}
+use Rattle.form_controls.specs.declared.change.Change.{Change}
+use Rattle.ce_algorithms.specs.FormChanges.{form_changes, tell_at_turn, tell_others}
 
 abbrev pub is_connected : Page → ℕ → Bool
 is_connected p n = connected p.forest n
@@ -22,7 +23,7 @@ is_connected_parent p None = false
 is_connected_parent p (Some parent) = is_connected p parent
 
 -- one node of the removed tree, which was connected or not
-abbrev pub removed : List FormChange → Bool → ℕ → Step Work (Unit {0})
+abbrev pub removed : List Change → Bool → ℕ → Step Work (Unit {0})
 removed changes was_connected n = do
   tell_at_turn changes n
   where_is (λ w. was_connected && is_custom w.page n) (enqueue_callback n Disconnected)
@@ -64,7 +65,7 @@ connected_now n true = enqueue_callback n Connected
 connected_now n false = where_is (λ w. is_element (kind_at w.page.forest n)) (try_upgrade n)
 
 -- one node of the inserted tree
-abbrev pub inserted : List FormChange → ℕ → Step Work (Unit {0})
+abbrev pub inserted : List Change → ℕ → Step Work (Unit {0})
 inserted changes n = do
   tell_at_turn changes n
   now_connected ← read_page (λ p. is_connected p n)

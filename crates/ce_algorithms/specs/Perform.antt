@@ -8,14 +8,15 @@ use Rattle.node_trees.specs.Facts.{is_document, is_shadow_root}
 use Rattle.node_trees.specs.Trees.{is_number}
 use Rattle.node_trees.specs.Candidates.{elements}
 use Rattle.node_trees.specs.Spots.{facts_at, kind_at, parent_at, shadow_at}
+use Rattle.rule_lines.specs.declared.line.Cmd.{Cmd}
 use Rattle.rule_lines.specs.declared.op.Op.{Op}
 use Rattle.ce_algorithms.specs.declared.deed.Deed.{Deed}
 use Rattle.ce_algorithms.specs.declared.deed.Deed.TheVariants as deeds
 use Rattle.ce_algorithms.specs.declared.deed.Deed.TheVariants.{OnPage}
 use Rattle.ce_algorithms.specs.declared.deed.PageDeed.{PageDeed}
 use Rattle.ce_algorithms.specs.declared.deed.PageDeed.TheVariants as page_deeds
-use Rattle.ce_algorithms.specs.declared.event.Given.{Given}
-use Rattle.ce_algorithms.specs.declared.event.Given.TheVariants.{Nothing, Node, Answers}
+use Rattle.ce_algorithms.specs.declared.given.Given.{Given}
+use Rattle.ce_algorithms.specs.declared.given.Given.TheVariants.{Nothing, Node, Answers}
 use Rattle.ce_algorithms.specs.Steps.{Step, ◌>>=◌, ◌>>◌, give, done, read, throw_where, throw_if, where_is, for_each}
 use Rattle.ce_algorithms.specs.Page.{Page, Work, definition_at}
 use Rattle.ce_algorithms.specs.Page as page
@@ -28,7 +29,7 @@ use Rattle.ce_algorithms.specs.Clone.{clone}
 use Rattle.ce_algorithms.specs.State.{State, look, on_page, set_variable, class_of, change_class}
 use Rattle.ce_algorithms.specs.Calls.{Again}
 use Rattle.ce_algorithms.specs.Questions.{question}
-use Rattle.ce_algorithms.specs.Deeds.{resolve, is_reacting, variable}
+use Rattle.ce_algorithms.specs.Deeds.{resolve, resolve_user, is_reacting, variable}
 use Rattle.ce_algorithms.specs.Construct.{construct}
 use Rattle.ce_algorithms.specs.Drain.{reacting}
 use Rattle.ce_algorithms.specs.Create.{create}
@@ -149,3 +150,9 @@ abbrev pub operate : Again → Option ℕ → Op → Step State Given
 operate again this op = do
   deed ← look this (λ v. resolve v op)
   kept (variable op) (perform_deed again deed)
+
+-- what the user does; it sets no variable
+abbrev pub act_as_user : Again → Cmd → Step State Given
+act_as_user again c = do
+  deed ← look None (λ v. resolve_user v c)
+  perform_deed again deed

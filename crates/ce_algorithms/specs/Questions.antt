@@ -5,8 +5,8 @@ use Rattle.node_trees.specs.Spots.{parent_at, children_at, attribute_at}
 use Rattle.rule_lines.specs.declared.ask_word.AskWord.{AskWord}
 use Rattle.rule_lines.specs.declared.ask_word.AskWord.TheVariants as words
 use Rattle.reaction_queue.specs.Queues.{or_empty}
-use Rattle.ce_algorithms.specs.declared.event.Answer.{Answer}
-use Rattle.ce_algorithms.specs.declared.event.Answer.TheVariants as answers
+use Rattle.ce_events.specs.declared.event.Answer.{Answer}
+use Rattle.ce_events.specs.declared.event.Answer.TheVariants as answers
 use Rattle.ce_algorithms.specs.declared.fit.Fit.{Fit}
 use Rattle.ce_algorithms.specs.declared.fit.Fit.TheVariants as fit
 use Rattle.ce_algorithms.specs.Unbuilt.{unbuilt_answer}

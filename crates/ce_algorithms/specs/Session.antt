@@ -5,26 +5,25 @@ use Rattle.rule_lines.specs.Acts.{Part, Said, Blank, Command, Declares}
 use Rattle.rule_lines.specs.declared.line.Cmd.{Cmd}
 use Rattle.rule_lines.specs.declared.line.Cmd.TheVariants.{Both, Doc}
 use Rattle.rule_tokens.specs.declared.refused.Bad.{Bad}
-use Rattle.ce_algorithms.specs.declared.event.Event.{Event}
-use Rattle.ce_algorithms.specs.declared.event.Event.TheVariants as events
-use Rattle.ce_algorithms.specs.declared.event.Given.{Given}
-use Rattle.ce_algorithms.specs.declared.event.Given.TheVariants.{Nothing, Node, Answers, Ignored}
+use Rattle.ce_events.specs.declared.event.Event.{Event}
+use Rattle.ce_events.specs.declared.event.Event.TheVariants as events
+use Rattle.ce_algorithms.specs.declared.given.Given.{Given}
+use Rattle.ce_algorithms.specs.declared.given.Given.TheVariants.{Nothing, Node, Answers, Ignored}
 use Rattle.ce_algorithms.specs.declared.settings.Settings.{Settings}
-use Rattle.ce_algorithms.specs.Steps.{Step, Outcome, Goes, Throws, Spent, ◌>>◌, ◌>>=◌, give, done, attempt}
+use Rattle.ce_algorithms.specs.Steps.{Step, Outcome, Goes, Throws, Spent, ◌>>◌, ◌>>=◌, done, attempt}
 use Rattle.ce_algorithms.specs.Page.{blank_page}
-use Rattle.ce_algorithms.specs.Unbuilt.{unbuilt_given}
 use Rattle.ce_algorithms.specs.Making.{make_document}
 use Rattle.ce_algorithms.specs.State.{State, log, on_page, spend}
 use Rattle.ce_algorithms.specs.Calls.{Again}
 use Rattle.ce_algorithms.specs.Drain.{checkpoint}
-use Rattle.ce_algorithms.specs.Perform.{gives_node, kept, operate}
+use Rattle.ce_algorithms.specs.Perform.{act_as_user, gives_node, kept, operate}
 use Rattle.ce_algorithms.specs.Parts.{part}
 
 -- one command; at top level nothing is `this`
 abbrev pub perform : Again → Cmd → Step State Given
 perform again (Both op) = operate again None op
 perform again (Doc var) = kept (Some var) (on_page (gives_node make_document))
-perform again c = give unbuilt_given
+perform again c = act_as_user again c
 
 abbrev pub reply : ℕ → Result Given Fault → Event
 reply line (Ok Nothing) = events.Fine line

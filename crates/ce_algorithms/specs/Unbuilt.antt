@@ -3,10 +3,8 @@ use Rattle.std.specs.Prelude.{ℕ, None}
 use Rattle.rule_lines.specs.declared.ask_word.AskWord.TheVariants.{Parent}
 use Rattle.ce_algorithms.specs.declared.deed.Deed.{Deed}
 use Rattle.ce_algorithms.specs.declared.deed.Deed.TheVariants.{Ask}
-use Rattle.ce_algorithms.specs.declared.event.Answer.{Answer}
-use Rattle.ce_algorithms.specs.declared.event.Answer.TheVariants.{Node as NodeAnswer}
-use Rattle.ce_algorithms.specs.declared.event.Given.{Given}
-use Rattle.ce_algorithms.specs.declared.event.Given.TheVariants.{Node as NodeGiven}
+use Rattle.ce_events.specs.declared.event.Answer.{Answer}
+use Rattle.ce_events.specs.declared.event.Answer.TheVariants.{Node as NodeAnswer}
 
 -- the first number that no node can have, as a node's number has 64 bits
 abbrev pub no_node : ℕ
@@ -17,6 +15,3 @@ unbuilt_deed = Ask Parent no_node None
 
 abbrev pub unbuilt_answer : Answer
 unbuilt_answer = NodeAnswer no_node
-
-abbrev pub unbuilt_given : Given
-unbuilt_given = NodeGiven no_node

@@ -9,7 +9,7 @@ use Rattle.reaction_queue.specs.declared.reaction.Reaction.{Reaction}
 use Rattle.reaction_queue.specs.declared.reaction.Reaction.TheVariants.{Adopted, Attribute, FormAssociated, FormDisabled, FormStateRestore}
 use Rattle.reaction_queue.specs.Queues.{or_empty}
 use Rattle.ce_algorithms.specs.State.{Memory}
-use Rattle.ce_algorithms.specs.Text as text
+use Rattle.ce_events.specs.Text as text
 
 -- the texts of a callback's arguments
 pub record Args : Type 0 where

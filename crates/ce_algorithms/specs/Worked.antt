@@ -6,12 +6,12 @@ pub mod CornerLogs
 use Rattle.std.specs.Prelude.{ℕ, not, List, filter, Result}
 use Rattle.rule_lines.specs.Acts.{Said}
 use Rattle.rule_tokens.specs.declared.refused.Bad.{Bad}
-use Rattle.ce_algorithms.specs.declared.event.Event.{Event}
+use Rattle.ce_events.specs.declared.event.Event.{Event}
 use Rattle.ce_algorithms.specs.Steps.{Outcome}
 use Rattle.ce_algorithms.specs.State.{State}
 use Rattle.ce_algorithms.specs.Model.{model}
 use Rattle.ce_algorithms.specs.Session.{run_lines, start, log_of}
-use Rattle.ce_algorithms.specs.Text.{is_trace}
+use Rattle.ce_events.specs.Text.{is_trace}
 
 -- the session of a script, with so much fuel
 abbrev pub worked : ℕ → List (Result Said Bad) → Outcome State (Unit {0})

@@ -65,12 +65,7 @@ impl PageDeed {
     pub fn is_reacting(&self) -> bool
         ensures { result ≡ is_reacting_on_page self.now }
     {
-        match self {
-            PageDeed::MakeText { .. } | PageDeed::Shadow { .. } => false,
-            PageDeed::Insert { .. } | PageDeed::Remove { .. } | PageDeed::Detach { .. } => true,
-            PageDeed::SetAttr { .. } | PageDeed::DelAttr { .. } => true,
-            PageDeed::Clone { .. } | PageDeed::Adopt { .. } | PageDeed::Upgrade { .. } => true,
-        }
+        !matches!(self, PageDeed::MakeText { .. } | PageDeed::Shadow { .. })
     }
 }
 

@@ -4,7 +4,7 @@ ghost use Rattle.rule_lines.specs.Acts.{Said};
 ghost use Rattle.rule_lines.specs.declared.line.Cmd.{Cmd};
 ghost use Rattle.rule_tokens.specs.declared.refused.Bad.{Bad};
 ghost use Rattle.ce_algorithms.specs.Calls.{Call};
-ghost use Rattle.ce_algorithms.specs.declared.event.Event.{Event};
+ghost use Rattle.ce_events.specs.declared.event.Event.{Event};
 ghost use Rattle.ce_algorithms.specs.Worked.CornerLogs as corner_logs;
 ghost use Rattle.ce_algorithms.specs.Worked.Corners as corners;
 ghost use Rattle.ce_algorithms.specs.Worked.Logs as logs;
@@ -15,11 +15,12 @@ ghost use Rattle.ce_algorithms.specs.Session.{command, run_line};
 ghost use Rattle.ce_algorithms.specs.State.{State};
 ghost use Rattle.ce_algorithms.specs.Steps.{GoesOn};
 ghost use Rattle.ce_algorithms.specs.Worked.{seen, traced, worked};
-ghost use Rattle.ce_algorithms.specs.Unbuilt.{no_node, unbuilt_answer, unbuilt_deed, unbuilt_given};
+ghost use Rattle.ce_algorithms.specs.Unbuilt.{no_node, unbuilt_answer, unbuilt_deed};
 ghost use Rattle.ce_algorithms.specs.Written.{behind, behind_in};
 
-use crate::{Answer, Deed, Given};
+use crate::Deed;
 use ce_base::NodeNo;
+use ce_events::Answer;
 
 /// Each algorithm calls the others as they are: the model is the fixed point of its algorithms, however
 /// many levels of them are counted.
@@ -47,7 +48,7 @@ pub fn no_code_has_no_node(n: NodeNo)
     let _number = n;
 }
 
-/// No code has the deed that an operation which is not built comes to: no body can do it.
+/// No code has the deed that an operation, or a command of the user, which is not built comes to: no body can do it.
 pub fn no_code_has_the_unbuilt_deed(deed: &Deed)
     ensures { deed.now ≡ unbuilt_deed → ⊥ }
 {
@@ -67,16 +68,6 @@ pub fn no_code_has_the_unbuilt_answer(answer: &Answer)
 {
     match answer {
         Answer::Node(n) => no_code_has_no_node(*n),
-        _ => (),
-    }
-}
-
-/// No code has what a command that is not built gives.
-pub fn no_code_has_the_unbuilt_given(given: &Given)
-    ensures { given.now ≡ unbuilt_given → ⊥ }
-{
-    match given {
-        Given::Node(n) => no_code_has_no_node(*n),
         _ => (),
     }
 }

@@ -1,26 +1,25 @@
 //! The Standard's algorithms for custom elements, as definitions that compute.
 //!
 //! The definitions stand in `specs/`. This crate's own types are what the definitions and the code share: what
-//! the page tells of an enqueue, and what a session writes down.
+//! the page tells of an enqueue, what operations come to, and what they give.
 #![tactic(auto)]
 
 mod callback;
 mod deed;
-mod event;
 mod fit;
+mod given;
 mod laws;
 mod note;
 mod settings;
 
 pub use callback::same_call;
 pub use deed::{Deed, PageDeed};
-pub use event::{Answer, Cause, Event, Given};
 pub use fit::Fit;
+pub use given::Given;
 pub use laws::{
     each_calls_the_others, no_code_has_no_node, no_code_has_the_unbuilt_answer,
-    no_code_has_the_unbuilt_deed, no_code_has_the_unbuilt_given, no_command_throws,
-    no_step_reads_the_log, worked_callbacks, worked_corners, worked_first, worked_traces,
-    worked_upgrades,
+    no_code_has_the_unbuilt_deed, no_command_throws, no_step_reads_the_log, worked_callbacks,
+    worked_corners, worked_first, worked_traces, worked_upgrades,
 };
 pub use note::Note;
 pub use settings::Settings;

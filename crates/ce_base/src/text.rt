@@ -43,3 +43,13 @@ impl Text {
         self.inner.as_str()
     }
 }
+
+impl From<String> for Text {
+    ghost use Rattle.std.specs.Prelude.{string_bytes};
+
+    ghost from_gives = { λ s t. t ≡ string_bytes s };
+
+    fn from(s: String) -> Self {
+        Text { inner: s }
+    }
+}

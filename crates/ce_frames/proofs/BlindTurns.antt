@@ -7,9 +7,9 @@ use Rattle.rule_tokens.specs.declared.callback.CallName.TheVariants.{Constructor
 use Rattle.ce_registry.specs.ClassFacts.{has_call}
 use Rattle.ce_algorithms.specs.declared.deed.Deed.{Deed}
 use Rattle.ce_algorithms.specs.declared.deed.Deed.TheVariants as deeds
-use Rattle.ce_algorithms.specs.declared.event.Event.TheVariants.{Construct, DrainBegun, QueueClosed}
-use Rattle.ce_algorithms.specs.declared.event.Given.{Given}
-use Rattle.ce_algorithms.specs.declared.event.Given.TheVariants.{Nothing, Node, Answers, Ignored}
+use Rattle.ce_events.specs.declared.event.Event.TheVariants.{Construct, DrainBegun, QueueClosed}
+use Rattle.ce_algorithms.specs.declared.given.Given.{Given}
+use Rattle.ce_algorithms.specs.declared.given.Given.TheVariants.{Nothing, Node, Answers, Ignored}
 use Rattle.ce_algorithms.specs.Steps.{Step, Outcome, Goes, Throws, Spent}
 use Rattle.ce_algorithms.specs.Page.{Work, with_queues}
 use Rattle.ce_algorithms.specs.Construction.{base_call, pop_construction}

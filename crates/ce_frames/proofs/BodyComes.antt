@@ -2,7 +2,7 @@
 use Rattle.std.proofs.Common.{◌≡◌, ℕ, zero, suc, Bool, true, false, List, [], ◌∷◌, Option, refl, ap, sym, ◌∙◌}
 use Rattle.rule_lines.specs.declared.op.Op.{Op}
 use Rattle.rule_lines.specs.Acts.{Act, Both, Try, If}
-use Rattle.ce_algorithms.specs.declared.event.Event.TheVariants.{FuelLine}
+use Rattle.ce_events.specs.declared.event.Event.TheVariants.{FuelLine}
 use Rattle.ce_algorithms.specs.Steps.{Step, Goes, Spent, then_do, ◌>>◌, give}
 use Rattle.ce_algorithms.specs.State.{State, class_of, logged, spend, spend_from}
 use Rattle.ce_algorithms.specs.Calls.{Operate}

@@ -1,7 +1,7 @@
 -- What a turn comes to: what the frames that it pushed still do. One lemma for each way to make a turn.
 use Rattle.std.proofs.Common.{◌≡◌, Bool, true, false, refl, ap, sym, ◌∙◌}
 use Rattle.std.specs.Prelude.{if◌then◌else◌}
-use Rattle.ce_algorithms.specs.declared.event.Given.{Given}
+use Rattle.ce_algorithms.specs.declared.given.Given.{Given}
 use Rattle.ce_algorithms.specs.Steps.{Step, Outcome, Goes, Throws, Spent, then_do, when}
 use Rattle.ce_algorithms.specs.State.{State}
 use Rattle.ce_frames.specs.Frames.{Frame}

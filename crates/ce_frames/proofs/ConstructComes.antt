@@ -8,9 +8,9 @@ use Rattle.rule_lines.specs.Acts.{Act}
 use Rattle.ce_registry.specs.declared.definition.Definition.{Definition}
 use Rattle.ce_registry.specs.ClassFacts.{has_call}
 use Rattle.ce_registry.specs.Registry.{is_autonomous}
-use Rattle.ce_algorithms.specs.declared.event.Event.TheVariants.{Construct, UpgradeBegun, UpgradeThrew}
-use Rattle.ce_algorithms.specs.declared.event.Given.{Given}
-use Rattle.ce_algorithms.specs.declared.event.Given.TheVariants.{Nothing, Node, Answers, Ignored}
+use Rattle.ce_events.specs.declared.event.Event.TheVariants.{Construct, UpgradeBegun, UpgradeThrew}
+use Rattle.ce_algorithms.specs.declared.given.Given.{Given}
+use Rattle.ce_algorithms.specs.declared.given.Given.TheVariants.{Nothing, Node, Answers, Ignored}
 use Rattle.ce_algorithms.specs.Steps.{Step, Outcome, Goes, Throws, Spent, then_do, give, catch_in, attempt_in}
 use Rattle.ce_algorithms.specs.Page.{with_state, state_of, definition_at, with_definition}
 use Rattle.ce_algorithms.specs.Enqueue.{lookup_in}

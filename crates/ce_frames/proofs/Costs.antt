@@ -4,9 +4,9 @@ use Rattle.std.specs.Prelude.{if◌then◌else◌, sum_by}
 use Rattle.std.proofs.lemmas.List.Sums.{sum_by-cons}
 use Rattle.reaction_queue.specs.declared.reaction.Reaction.{Reaction}
 use Rattle.reaction_queue.specs.Queues.{Open, waiting_at, with_waiting, popped_queue, elements_of, others_of, current_elements}
-use Rattle.ce_algorithms.specs.declared.event.Event.TheVariants.{FuelLine}
-use Rattle.ce_algorithms.specs.declared.event.Given.{Given}
-use Rattle.ce_algorithms.specs.declared.event.Given.TheVariants.{Nothing}
+use Rattle.ce_events.specs.declared.event.Event.TheVariants.{FuelLine}
+use Rattle.ce_algorithms.specs.declared.given.Given.{Given}
+use Rattle.ce_algorithms.specs.declared.given.Given.TheVariants.{Nothing}
 use Rattle.ce_algorithms.specs.Steps.{Step, Outcome, Goes, Throws, Spent}
 use Rattle.ce_algorithms.specs.Page.{with_queues}
 use Rattle.ce_algorithms.specs.State.{State, logged, spend, spend_from}

@@ -8,9 +8,9 @@ use Rattle.reaction_queue.specs.Reactions.{what_of}
 use Rattle.reaction_queue.specs.Queues.{waiting_at, with_waiting}
 use Rattle.reaction_queue.specs.ElementQueues.{is_empty}
 use Rattle.ce_registry.specs.declared.definition.Definition.{Definition}
-use Rattle.ce_algorithms.specs.declared.event.Event.TheVariants.{DrainBegun, Started, QueueClosed}
-use Rattle.ce_algorithms.specs.declared.event.Given.{Given}
-use Rattle.ce_algorithms.specs.declared.event.Given.TheVariants.{Nothing}
+use Rattle.ce_events.specs.declared.event.Event.TheVariants.{DrainBegun, Started, QueueClosed}
+use Rattle.ce_algorithms.specs.declared.given.Given.{Given}
+use Rattle.ce_algorithms.specs.declared.given.Given.TheVariants.{Nothing}
 use Rattle.ce_algorithms.specs.Steps.{when, Step, Outcome, Goes, Throws, Spent, then_do, ◌>>◌, give, done, settle}
 use Rattle.ce_algorithms.specs.Page.{with_queues, definition_of}
 use Rattle.ce_algorithms.specs.State.{State, class_of, log, logged, change_page}

@@ -6,7 +6,7 @@ use Rattle.ce_base.specs.declared.custom_state.CustomState.{CustomState}
 use Rattle.ce_base.specs.declared.fault.Fault.{Fault}
 use Rattle.reaction_queue.specs.declared.reaction.Reaction.{Reaction}
 use Rattle.reaction_queue.specs.Queues.{Queues, Open, waiting_at, with_waiting, counted, appended_to, enqueued}
-use Rattle.ce_algorithms.specs.declared.event.Event.{Event}
+use Rattle.ce_events.specs.declared.event.Event.{Event}
 use Rattle.ce_algorithms.specs.Steps.{Step, Outcome, Goes, Throws, Spent, then_do, ◌>>=◌, ◌>>◌, give, done, throw, settle, read, throw_if, found, throw_where, for_each, catch_in, attempt_in}
 use Rattle.ce_algorithms.specs.Page.{Page, Work, with_queues, with_state, with_definition}
 use Rattle.ce_algorithms.specs.Enqueue.{noted}

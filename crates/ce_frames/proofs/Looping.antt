@@ -4,11 +4,10 @@ use Rattle.std.specs.Prelude.{sum_by}
 use Rattle.std.proofs.lemmas.List.Sums.{sum_by-cons}
 use Rattle.rule_lines.specs.declared.line.Cmd.{Cmd}
 use Rattle.rule_lines.specs.declared.line.Cmd.TheVariants.{Both, Doc}
-use Rattle.ce_algorithms.specs.declared.event.Given.{Given}
-use Rattle.ce_algorithms.specs.Steps.{Outcome, then_do, attempt_in, give}
+use Rattle.ce_algorithms.specs.declared.given.Given.{Given}
+use Rattle.ce_algorithms.specs.Steps.{Outcome, then_do, attempt_in}
 use Rattle.ce_algorithms.specs.Making.{make_document}
 use Rattle.ce_algorithms.specs.State.{State, on_page}
-use Rattle.ce_algorithms.specs.Unbuilt.{unbuilt_given}
 use Rattle.ce_algorithms.specs.Perform.{gives_node}
 use Rattle.ce_algorithms.specs.Model.{model}
 use Rattle.ce_algorithms.specs.Session.{perform, reply_to, command}
@@ -21,7 +20,7 @@ use Rattle.ce_frames.specs.Turned.{Turned, below, to_come}
 use Rattle.ce_frames.specs.Turns.{turn}
 use Rattle.ce_frames.specs.Loop.{perform_turn, command_turn, onto, loop, loop_from, looped}
 use Rattle.ce_frames.proofs.Comes.{comes, Comes, comes_down, comes_below, comes_then}
-use Rattle.ce_frames.proofs.OperateComes.{named_comes, operate_comes}
+use Rattle.ce_frames.proofs.OperateComes.{named_comes, operate_comes, user_comes}
 use Rattle.ce_frames.proofs.TurnComes.{turn_comes, comes_is}
 use Rattle.ce_frames.proofs.Costs.{cost}
 use Rattle.ce_frames.proofs.TurnCosts.{turn_cost}
@@ -82,7 +81,7 @@ perform_comes : (c : Cmd) → Comes (perform_turn c) (perform model c)
 unfolding perform_turn
 perform_comes (Both op) = operate_comes None op
 perform_comes (Doc var) = named_comes (Some var) (comes_down (on_page (gives_node make_document)))
-perform_comes c = comes_down (give unbuilt_given)
+perform_comes c = user_comes c
 
 replying_comes : (line : ℕ) (c : Cmd)
     → Comes (below (Replying line) (perform_turn c)) (λ s. nothing (then_do (attempt_in (perform model c s)) (reply_to model line)))

@@ -13,9 +13,9 @@ use Rattle.ce_registry.specs.Registry.{is_autonomous}
 use Rattle.ce_algorithms.specs.declared.deed.Deed.{Deed}
 use Rattle.ce_algorithms.specs.declared.deed.Deed.TheVariants as deeds
 use Rattle.ce_algorithms.specs.declared.deed.Deed.TheVariants.{OnPage}
-use Rattle.ce_algorithms.specs.declared.event.Event.TheVariants.{Caught, Construct, UpgradeBegun, DrainBegun}
-use Rattle.ce_algorithms.specs.declared.event.Given.{Given}
-use Rattle.ce_algorithms.specs.declared.event.Given.TheVariants.{Nothing, Node}
+use Rattle.ce_events.specs.declared.event.Event.TheVariants.{Caught, Construct, UpgradeBegun, DrainBegun}
+use Rattle.ce_algorithms.specs.declared.given.Given.{Given}
+use Rattle.ce_algorithms.specs.declared.given.Given.TheVariants.{Nothing, Node}
 use Rattle.ce_algorithms.specs.Steps.{Step}
 use Rattle.ce_algorithms.specs.Page.{with_queues, definition_at, state_of}
 use Rattle.ce_algorithms.specs.Enqueue.{lookup_in}

@@ -3,25 +3,26 @@ use Rattle.std.proofs.Common.{◌≡◌, ℕ, ◌+◌, List, [], ◌∷◌, Opti
 use Rattle.std.specs.Prelude.{Result, Ok, Err}
 use Rattle.std.specs.Str.{str_to_ascii_lowercase}
 use Rattle.ce_base.specs.declared.fault.Fault.{Fault}
+use Rattle.rule_lines.specs.declared.line.Cmd.{Cmd}
 use Rattle.rule_lines.specs.declared.op.Op.{Op}
 use Rattle.reaction_queue.specs.Queues.{pushed_queue, popped_queue, current_elements}
 use Rattle.ce_algorithms.specs.declared.deed.Deed.{Deed}
 use Rattle.ce_algorithms.specs.declared.deed.Deed.TheVariants.{Create, New}
-use Rattle.ce_algorithms.specs.declared.event.Event.TheVariants.{QueueOpened, DrainBegun, QueueClosed}
-use Rattle.ce_algorithms.specs.declared.event.Given.{Given}
+use Rattle.ce_events.specs.declared.event.Event.TheVariants.{QueueOpened, DrainBegun, QueueClosed}
+use Rattle.ce_algorithms.specs.declared.given.Given.{Given}
 use Rattle.ce_algorithms.specs.Steps.{Step, Outcome, Goes, Throws, Spent, then_do, settle, finally_in, attempt_in}
 use Rattle.ce_algorithms.specs.Page.{with_queues}
-use Rattle.ce_algorithms.specs.State.{State, logged}
-use Rattle.ce_algorithms.specs.Deeds.{is_reacting, variable}
+use Rattle.ce_algorithms.specs.State.{State, logged, look}
+use Rattle.ce_algorithms.specs.Deeds.{is_reacting, resolve_user, variable}
 use Rattle.ce_algorithms.specs.Drain.{drain_popped, reacting}
-use Rattle.ce_algorithms.specs.Perform.{create_named, steps, perform_deed, kept, operate}
+use Rattle.ce_algorithms.specs.Perform.{create_named, steps, perform_deed, kept, operate, act_as_user}
 use Rattle.ce_algorithms.specs.Model.{model}
 use Rattle.ce_frames.specs.Frames.{Naming, Stepping}
 use Rattle.ce_frames.specs.Handing.{a_node}
 use Rattle.ce_frames.specs.After.{after, drain_on}
 use Rattle.ce_frames.specs.Rest.{rest}
 use Rattle.ce_frames.specs.Turned.{Turn, turn_after, below, no_calls}
-use Rattle.ce_frames.specs.OperateTurns.{next_turn, pop_turn, steps_turn, create_named_turn, deed_turn, named_turn, operate_turn}
+use Rattle.ce_frames.specs.OperateTurns.{next_turn, pop_turn, steps_turn, create_named_turn, deed_turn, named_turn, operate_turn, user_turn}
 use Rattle.ce_frames.proofs.Comes.{comes, Comes, comes_ended, comes_down, comes_below, comes_bind, comes_then, comes_if}
 use Rattle.ce_frames.proofs.ConstructComes.{construct_comes, create_comes}
 
@@ -87,3 +88,7 @@ named_comes (Some var) h = comes_below (Naming var) h (λ s. refl)
 pub operate_comes : (this : Option ℕ) (op : Op) → Comes (operate_turn this op) (operate model this op)
 unfolding operate_turn
 operate_comes this op = comes_bind _ _ (λ deed. named_comes (variable op) (deed_comes deed))
+
+pub user_comes : (c : Cmd) → Comes (user_turn c) (act_as_user model c)
+unfolding user_turn
+user_comes c = comes_bind (look None (λ v. resolve_user v c)) (perform_deed model) deed_comes

@@ -4,8 +4,8 @@ use Rattle.ce_base.specs.declared.fault.Fault.{Fault}
 use Rattle.rule_tokens.specs.declared.operand.Operand.{Operand}
 use Rattle.reaction_queue.specs.declared.reaction.Reaction.{Reaction}
 use Rattle.reaction_queue.specs.declared.reaction.Reaction.TheVariants.{Upgrade, Connected, Disconnected, Adopted, Attribute, FormAssociated, FormDisabled, FormReset, FormStateRestore}
-use Rattle.ce_algorithms.specs.declared.event.Given.{Given}
-use Rattle.ce_algorithms.specs.declared.event.Given.TheVariants.{Nothing, Node, Answers, Ignored}
+use Rattle.ce_algorithms.specs.declared.given.Given.{Given}
+use Rattle.ce_algorithms.specs.declared.given.Given.TheVariants.{Nothing, Node, Answers, Ignored}
 use Rattle.ce_algorithms.specs.Body.{told, returned}
 use Rattle.ce_algorithms.specs.Upgrade.{drop_reactions, upgrade_threw, upgrade_ends}
 use Rattle.ce_algorithms.specs.Drain.{log_call}

@@ -3,9 +3,9 @@ use Rattle.std.proofs.Common.{◌≡◌, ℕ, Bool, true, List, [], ◌∷◌, �
 use Rattle.std.specs.Prelude.{Ok, Err}
 use Rattle.ce_base.specs.declared.fault.Fault.{Fault}
 use Rattle.rule_lines.specs.Acts.{Act}
-use Rattle.ce_algorithms.specs.declared.event.Event.TheVariants.{Asked, Caught}
-use Rattle.ce_algorithms.specs.declared.event.Given.{Given}
-use Rattle.ce_algorithms.specs.declared.event.Given.TheVariants.{Nothing, Node, Answers, Ignored}
+use Rattle.ce_events.specs.declared.event.Event.TheVariants.{Asked, Caught}
+use Rattle.ce_algorithms.specs.declared.given.Given.{Given}
+use Rattle.ce_algorithms.specs.declared.given.Given.TheVariants.{Nothing, Node, Answers, Ignored}
 use Rattle.ce_algorithms.specs.Steps.{Goes, Throws, Spent}
 use Rattle.ce_algorithms.specs.State.{State, logged}
 use Rattle.ce_algorithms.specs.Values.{Args}

@@ -9,9 +9,9 @@ use Rattle.reaction_queue.specs.declared.reaction.Reaction.TheVariants.{Upgrade}
 use Rattle.reaction_queue.specs.Reactions.{what_of}
 use Rattle.reaction_queue.specs.Queues.{waiting_at, with_waiting}
 use Rattle.ce_registry.specs.declared.definition.Definition.{Definition}
-use Rattle.ce_algorithms.specs.declared.event.Event.TheVariants.{Caught, DrainBegun, Started, QueueClosed, Reported, Finished}
-use Rattle.ce_algorithms.specs.declared.event.Given.{Given}
-use Rattle.ce_algorithms.specs.declared.event.Given.TheVariants.{Node}
+use Rattle.ce_events.specs.declared.event.Event.TheVariants.{Caught, DrainBegun, Started, QueueClosed, Reported, Finished}
+use Rattle.ce_algorithms.specs.declared.given.Given.{Given}
+use Rattle.ce_algorithms.specs.declared.given.Given.TheVariants.{Node}
 use Rattle.ce_algorithms.specs.Steps.{Spent, throw}
 use Rattle.ce_algorithms.specs.Page.{with_queues, definition_of}
 use Rattle.ce_algorithms.specs.State.{State, class_of, logged}

@@ -3,8 +3,8 @@ use Rattle.std.specs.Prelude.{ℕ, Bool, true, false, List, Option, Some, Result
 use Rattle.ce_base.specs.declared.fault.Fault.{Fault}
 use Rattle.ce_base.specs.declared.fault.Fault.TheVariants.{ReferenceError}
 use Rattle.rule_lines.specs.Acts.{Act}
-use Rattle.ce_algorithms.specs.declared.event.Event.TheVariants.{Reported, Finished, QueueClosed}
-use Rattle.ce_algorithms.specs.declared.event.Given.{Given}
+use Rattle.ce_events.specs.declared.event.Event.TheVariants.{Reported, Finished, QueueClosed}
+use Rattle.ce_algorithms.specs.declared.given.Given.{Given}
 use Rattle.ce_algorithms.specs.Steps.{Step, Outcome, then_do, ◌>>◌, give, settle, found, catch_in, finally_in, attempt_in}
 use Rattle.ce_algorithms.specs.Construction.{pop_construction}
 use Rattle.ce_algorithms.specs.State.{State, log, on_page}

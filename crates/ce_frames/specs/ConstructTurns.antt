@@ -8,9 +8,9 @@ use Rattle.rule_tokens.specs.declared.callback.CallName.TheVariants.{Constructor
 use Rattle.rule_lines.specs.Acts.{Act}
 use Rattle.ce_registry.specs.ClassFacts.{has_call}
 use Rattle.ce_registry.specs.Registry.{is_autonomous}
-use Rattle.ce_algorithms.specs.declared.event.Event.TheVariants.{Construct, UpgradeBegun}
-use Rattle.ce_algorithms.specs.declared.event.Given.{Given}
-use Rattle.ce_algorithms.specs.declared.event.Given.TheVariants.{Node}
+use Rattle.ce_events.specs.declared.event.Event.TheVariants.{Construct, UpgradeBegun}
+use Rattle.ce_algorithms.specs.declared.given.Given.{Given}
+use Rattle.ce_algorithms.specs.declared.given.Given.TheVariants.{Node}
 use Rattle.ce_algorithms.specs.Steps.{read, throw_where, Step, give, throw}
 use Rattle.ce_algorithms.specs.Page.{with_state, state_of, definition_at}
 use Rattle.ce_algorithms.specs.Enqueue.{lookup_in}

@@ -6,8 +6,8 @@ use Rattle.reaction_queue.specs.declared.reaction.Reaction.TheVariants.{Upgrade}
 use Rattle.reaction_queue.specs.Reactions.{what_of}
 use Rattle.reaction_queue.specs.Queues.{waiting_at, with_waiting}
 use Rattle.ce_registry.specs.declared.definition.Definition.{Definition}
-use Rattle.ce_algorithms.specs.declared.event.Event.TheVariants.{DrainBegun, Started, QueueClosed}
-use Rattle.ce_algorithms.specs.declared.event.Given.{Given}
+use Rattle.ce_events.specs.declared.event.Event.TheVariants.{DrainBegun, Started, QueueClosed}
+use Rattle.ce_algorithms.specs.declared.given.Given.{Given}
 use Rattle.ce_algorithms.specs.Steps.{read}
 use Rattle.ce_algorithms.specs.Page.{with_queues, definition_of}
 use Rattle.ce_algorithms.specs.State.{class_of, log, read_page, change_page}

@@ -2,8 +2,8 @@
 -- nothing, are written so, and read back so.
 use Rattle.std.specs.Prelude.{ℕ, Option, Some, None}
 use Rattle.ce_base.specs.declared.fault.Fault.TheVariants.{TypeError}
-use Rattle.ce_algorithms.specs.declared.event.Given.{Given}
-use Rattle.ce_algorithms.specs.declared.event.Given.TheVariants.{Nothing, Node}
+use Rattle.ce_algorithms.specs.declared.given.Given.{Given}
+use Rattle.ce_algorithms.specs.declared.given.Given.TheVariants.{Nothing, Node}
 use Rattle.ce_algorithms.specs.Steps.{Outcome, then_do, give, done, found}
 use Rattle.ce_algorithms.specs.State.{State}
 

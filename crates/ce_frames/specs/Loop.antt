@@ -2,24 +2,23 @@
 use Rattle.std.specs.Prelude.{ℕ, zero, suc, List, [], ◌∷◌, Some, None}
 use Rattle.rule_lines.specs.declared.line.Cmd.{Cmd}
 use Rattle.rule_lines.specs.declared.line.Cmd.TheVariants.{Both, Doc}
-use Rattle.ce_algorithms.specs.declared.event.Given.{Given}
-use Rattle.ce_algorithms.specs.Steps.{Outcome, Spent, give}
+use Rattle.ce_algorithms.specs.declared.given.Given.{Given}
+use Rattle.ce_algorithms.specs.Steps.{Outcome, Spent}
 use Rattle.ce_algorithms.specs.Making.{make_document}
 use Rattle.ce_algorithms.specs.State.{State, on_page, spend}
-use Rattle.ce_algorithms.specs.Unbuilt.{unbuilt_given}
 use Rattle.ce_algorithms.specs.Perform.{gives_node}
 use Rattle.ce_frames.specs.Frames.{Frame, Replying}
 use Rattle.ce_frames.specs.Rest.{End, outcome_of}
 use Rattle.ce_frames.specs.Work.{work}
 use Rattle.ce_frames.specs.Turned.{Turned, Turn, ◌>>◌, hand_down, below}
-use Rattle.ce_frames.specs.OperateTurns.{named_turn, operate_turn}
+use Rattle.ce_frames.specs.OperateTurns.{named_turn, operate_turn, user_turn}
 use Rattle.ce_frames.specs.Turns.{turn}
 
 -- what a command performs
 unfoldable pub perform_turn : Cmd → Turn
 perform_turn (Both op) = operate_turn None op
 perform_turn (Doc var) = named_turn (Some var) (hand_down (on_page (gives_node make_document)))
-perform_turn c = hand_down (give unbuilt_given)
+perform_turn c = user_turn c
 
 -- a command begins: one fuel, and what it performs
 abbrev pub command_turn : ℕ → Cmd → Turn

@@ -4,14 +4,15 @@ use Rattle.std.specs.Str.{str_to_ascii_lowercase}
 use Rattle.ce_base.specs.declared.fault.Fault.{Fault}
 use Rattle.ce_base.specs.declared.fault.Fault.TheVariants.{InvalidCharacterError}
 use Rattle.element_names.specs.Names.{local_name}
+use Rattle.rule_lines.specs.declared.line.Cmd.{Cmd}
 use Rattle.rule_lines.specs.declared.op.Op.{Op}
 use Rattle.ce_algorithms.specs.declared.deed.Deed.{Deed}
 use Rattle.ce_algorithms.specs.declared.deed.Deed.TheVariants.{Create, New}
-use Rattle.ce_algorithms.specs.declared.event.Event.TheVariants.{DrainBegun, QueueClosed}
-use Rattle.ce_algorithms.specs.declared.event.Given.{Given}
+use Rattle.ce_events.specs.declared.event.Event.TheVariants.{DrainBegun, QueueClosed}
+use Rattle.ce_algorithms.specs.declared.given.Given.{Given}
 use Rattle.ce_algorithms.specs.Steps.{Step, settle, attempt, throw_if}
-use Rattle.ce_algorithms.specs.State.{State, look, log}
-use Rattle.ce_algorithms.specs.Deeds.{resolve, is_reacting, variable}
+use Rattle.ce_algorithms.specs.State.{State, View, look, log}
+use Rattle.ce_algorithms.specs.Deeds.{resolve, resolve_user, is_reacting, variable}
 use Rattle.ce_algorithms.specs.Drain.{open_queue, pop_queue}
 use Rattle.ce_algorithms.specs.Perform.{steps}
 use Rattle.ce_frames.specs.Frames.{Naming, Stepping, Draining}
@@ -64,8 +65,15 @@ abbrev pub named_turn : Option (List ℕ) → Turn → Turn
 named_turn None turn = turn
 named_turn (Some var) turn = below (Naming var) turn
 
--- the operands are read and fit, and then it is done
+-- the operands are read and fit, and then the deed is done
+abbrev pub resolved_turn : Option ℕ → (View → Result Deed Fault) → Option (List ℕ) → Turn
+resolved_turn this resolved var = do
+  deed ← look this resolved
+  named_turn var (deed_turn deed)
+
 unfoldable pub operate_turn : Option ℕ → Op → Turn
-operate_turn this op = do
-  deed ← look this (λ v. resolve v op)
-  named_turn (variable op) (deed_turn deed)
+operate_turn this op = resolved_turn this (λ v. resolve v op) (variable op)
+
+-- what the user does
+unfoldable pub user_turn : Cmd → Turn
+user_turn c = resolved_turn None (λ v. resolve_user v c) None

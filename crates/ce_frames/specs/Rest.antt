@@ -1,7 +1,7 @@
 -- What is still to come, of frames that lie on each other and of how the topmost one's wait ended.
 use Rattle.std.specs.Prelude.{List, [], ◌∷◌}
 use Rattle.ce_base.specs.declared.fault.Fault.{Fault}
-use Rattle.ce_algorithms.specs.declared.event.Given.{Given}
+use Rattle.ce_algorithms.specs.declared.given.Given.{Given}
 use Rattle.ce_algorithms.specs.Steps.{Outcome, Goes, Throws, Spent}
 use Rattle.ce_algorithms.specs.State.{State}
 use Rattle.ce_frames.specs.Frames.{Frame}

@@ -2,9 +2,9 @@
 use Rattle.std.specs.Prelude.{true, Some, Ok, Err}
 use Rattle.ce_base.specs.declared.fault.Fault.{Fault}
 use Rattle.ce_base.specs.declared.fault.Fault.TheVariants.{ReferenceError}
-use Rattle.ce_algorithms.specs.declared.event.Event.TheVariants.{Caught, Reported, Finished}
-use Rattle.ce_algorithms.specs.declared.event.Given.{Given}
-use Rattle.ce_algorithms.specs.declared.event.Given.TheVariants.{Node}
+use Rattle.ce_events.specs.declared.event.Event.TheVariants.{Caught, Reported, Finished}
+use Rattle.ce_algorithms.specs.declared.given.Given.{Given}
+use Rattle.ce_algorithms.specs.declared.given.Given.TheVariants.{Node}
 use Rattle.ce_algorithms.specs.Steps.{Spent, give, throw, found, attempt}
 use Rattle.ce_algorithms.specs.State.{log}
 use Rattle.ce_algorithms.specs.Body.{told}

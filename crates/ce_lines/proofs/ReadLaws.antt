@@ -3,7 +3,7 @@ use Rattle.std.proofs.Common.{◌≡◌, ◌≢◌, ℕ, true, false, List, Resu
 use Rattle.std.specs.Prelude.{IfOk}
 use Rattle.std.specs.Str.{bytes_eq}
 use Rattle.std.proofs.lemmas.Slice.Eq.{bytes_eq-Decides}
-use Rattle.ce_algorithms.specs.declared.event.Event.{Event}
+use Rattle.ce_events.specs.declared.event.Event.{Event}
 use Rattle.event_reader.specs.declared.refused.EventRefused.{EventRefused}
 use Rattle.event_reader.specs.IsEvent.{IsEvent}
 use Rattle.ce_lines.specs.Reading.{IsKept}

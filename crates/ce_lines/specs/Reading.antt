@@ -1,7 +1,7 @@
 -- Whether an event has these bytes as its text.
 use Rattle.std.specs.Prelude.{◌≡◌, ◌≢◌, ℕ, List, Result, Ok, Err}
-use Rattle.ce_algorithms.specs.declared.event.Event.{Event}
-use Rattle.ce_algorithms.specs.Text.{event_text}
+use Rattle.ce_events.specs.declared.event.Event.{Event}
+use Rattle.ce_events.specs.Text.{event_text}
 use Rattle.event_reader.specs.declared.refused.EventRefused.{EventRefused}
 use Rattle.event_reader.specs.declared.refused.EventRefused.TheVariants as refused
 

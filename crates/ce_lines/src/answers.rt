@@ -1,12 +1,12 @@
 // What is answered.
 ghost use Rattle.std.specs.Prelude.{◌≡◌, ◌++◌, OnOk};
-ghost use Rattle.ce_algorithms.specs.Text.{answer, event_text};
+ghost use Rattle.ce_events.specs.Text.{answer, event_text};
 
 use crate::lists::{put_nodes, put_texts};
 use crate::words::{state_word, yes_or_no};
 use crate::written::Written;
-use ce_algorithms::{Answer, Event};
 use ce_base::NoMemory;
+use ce_events::{Answer, Event};
 use std::alloc::Global;
 
 /// Puts an answer behind.

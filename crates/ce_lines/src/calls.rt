@@ -1,13 +1,13 @@
 // What bodies do: the lines of callbacks that start, and of what a body wrote, caught or asked.
 ghost use Rattle.std.specs.Prelude.{◌≡◌, ◌++◌, OnOk, codes};
 ghost use Rattle.rule_tokens.specs.Quoted.{in_quotes};
-ghost use Rattle.ce_algorithms.specs.Text.{call, event_text, fault, text_or_null};
+ghost use Rattle.ce_events.specs.Text.{call, event_text, fault, text_or_null};
 
 use crate::lists::put_spaced;
 use crate::words::{mode_word, truth_word};
 use crate::written::Written;
-use ce_algorithms::Event;
 use ce_base::{Fault, NoMemory, NodeNo, Text, Texts};
+use ce_events::Event;
 use reaction_queue::Mode;
 use std::alloc::Global;
 

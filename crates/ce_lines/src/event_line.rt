@@ -1,6 +1,6 @@
 // The line of an event.
 ghost use Rattle.std.specs.Prelude.{◌≡◌, ◌++◌, OnOk, IfOk};
-ghost use Rattle.ce_algorithms.specs.Text.{event_text};
+ghost use Rattle.ce_events.specs.Text.{event_text};
 
 use crate::answers::put_asked;
 use crate::calls::{
@@ -11,8 +11,8 @@ use crate::replies::{put_answered, put_gave, put_reply, put_threw, put_was_bad};
 use crate::submissions::{put_blocked, put_get, put_post};
 use crate::trace::put_traced;
 use crate::written::Written;
-use ce_algorithms::Event;
 use ce_base::{NoMemory, Text};
+use ce_events::Event;
 use std::alloc::Global;
 
 /// Puts the line of an event behind, without its line feed.

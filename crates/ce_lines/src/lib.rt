@@ -1,6 +1,6 @@
 //! Events as the lines of a transcript.
 //!
-//! What the line of an event is, is defined beside the type, in `ce_algorithms`.
+//! What the line of an event is, is defined beside the type, in `ce_events`.
 #![tactic(auto)]
 
 mod answers;
@@ -15,7 +15,7 @@ mod trace;
 mod words;
 mod written;
 
-pub use ce_algorithms::{Answer, Cause, Event};
+pub use ce_events::{Answer, Cause, Event};
 pub use event_line::write_event;
 pub use event_reader::EventRefused;
 pub use out::write_out;

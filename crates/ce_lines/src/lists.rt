@@ -1,6 +1,6 @@
 // Lists of texts and of nodes.
 ghost use Rattle.std.specs.Prelude.{◌≡◌, ◌<◌, ◌++◌, OnOk, codes, drop, length, slice_index};
-ghost use Rattle.ce_algorithms.specs.Text.{node, nodes_or_empty, spaced, spaced_nodes, texts_or_empty};
+ghost use Rattle.ce_events.specs.Text.{node, nodes_or_empty, spaced, spaced_nodes, texts_or_empty};
 
 use crate::written::Written;
 use ce_base::{NoMemory, Nodes, Text};

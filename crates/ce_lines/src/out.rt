@@ -3,13 +3,13 @@ ghost use Rattle.std.specs.Prelude.{◌≡◌, ◌≤◌, ◌++◌, ◌∷◌, [
 ghost use Rattle.std.specs.Io.KnownBytes.{Appends};
 ghost use Rattle.ce_base.specs.Faults.{Rose};
 ghost use Rattle.ce_base.specs.Outside.{AppendsPart};
-ghost use Rattle.ce_algorithms.specs.Text.{event_text, shown};
+ghost use Rattle.ce_events.specs.Text.{event_text, shown};
 
 use crate::event_line::put_event;
 use crate::trace::is_trace;
 use crate::written::Written;
-use ce_algorithms::Event;
 use ce_base::{NoMemory, Sink, Stop, write_all};
+use ce_events::Event;
 use std::alloc::Global;
 
 fn whole_line(alloc: Global, e: &Event) -> Result<Written, NoMemory>

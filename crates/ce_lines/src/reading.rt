@@ -1,13 +1,13 @@
 // Reads the line of an event.
 ghost use Rattle.std.specs.Prelude.{◌≡◌, IfOk, Err};
 ghost use Rattle.std.specs.Str.{bytes_eq};
-ghost use Rattle.ce_algorithms.specs.Text.{event_text};
+ghost use Rattle.ce_events.specs.Text.{event_text};
 ghost use Rattle.event_reader.specs.IsEvent.{IsEvent, IsNoText};
 ghost use Rattle.ce_lines.specs.Reading.{IsKept};
 
 use crate::event_line::write_event;
-use ce_algorithms::Event;
 use ce_base::NoMemory;
+use ce_events::Event;
 use event_reader::{EventRefused, guess};
 use std::alloc::Global;
 

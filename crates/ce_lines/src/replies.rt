@@ -1,13 +1,13 @@
 // The replies of lines.
 ghost use Rattle.std.specs.Prelude.{◌≡◌, ◌++◌, OnOk};
-ghost use Rattle.ce_algorithms.specs.Text.{event_text, reply};
+ghost use Rattle.ce_events.specs.Text.{event_text, reply};
 
 use crate::answers::put_answer;
 use crate::calls::put_thrown;
 use crate::words::bad_word;
 use crate::written::Written;
-use ce_algorithms::{Answer, Event};
 use ce_base::{Fault, NoMemory, NodeNo};
+use ce_events::{Answer, Event};
 use rule_tokens::Bad;
 use std::alloc::Global;
 

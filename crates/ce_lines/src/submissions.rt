@@ -1,11 +1,11 @@
 // Submissions of forms.
 ghost use Rattle.std.specs.Prelude.{◌≡◌, ◌++◌, OnOk};
-ghost use Rattle.ce_algorithms.specs.Text.{cause, event_text, submit};
+ghost use Rattle.ce_events.specs.Text.{cause, event_text, submit};
 
 use crate::lists::put_nodes_from;
 use crate::written::Written;
-use ce_algorithms::{Cause, Event};
 use ce_base::{NoMemory, NodeNo, Text};
+use ce_events::{Cause, Event};
 use std::alloc::Global;
 
 fn put_submit(out: &mut Written, n: NodeNo, rest: &str) -> Result<(), NoMemory>

@@ -1,12 +1,12 @@
 // The lines of a trace.
 ghost use Rattle.std.specs.Prelude.{◌≡◌, ◌++◌, OnOk, true};
 ghost use Rattle.std.specs.Fmt.{decimal};
-ghost use Rattle.ce_algorithms.specs.Text.{event_text, is_trace, node};
+ghost use Rattle.ce_events.specs.Text.{event_text, is_trace, node};
 
 use crate::words::what_word;
 use crate::written::Written;
-use ce_algorithms::Event;
 use ce_base::{NoMemory, NodeNo, QueueNo, ReactionNo};
+use ce_events::Event;
 use rule_tokens::CallOrUpgrade;
 
 /// Puts a word and a number behind.

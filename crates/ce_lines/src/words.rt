@@ -1,6 +1,6 @@
 // The words of a line.
 ghost use Rattle.std.specs.Prelude.{◌≡◌};
-ghost use Rattle.ce_algorithms.specs.Text.{bad_word, custom_state, mode, truth, what, yes_or_no};
+ghost use Rattle.ce_events.specs.Text.{bad_word, custom_state, mode, truth, what, yes_or_no};
 
 use ce_base::CustomState;
 use reaction_queue::Mode;

@@ -2,7 +2,7 @@
 ghost use Rattle.std.specs.Prelude.{◌≡◌, ◌++◌, [], OnOk};
 ghost use Rattle.std.specs.Fmt.{decimal};
 ghost use Rattle.rule_tokens.specs.Quoted.{in_quotes};
-ghost use Rattle.ce_algorithms.specs.Text.{node, node_or_null, raised_or_valid, text_or_null};
+ghost use Rattle.ce_events.specs.Text.{node, node_or_null, raised_or_valid, text_or_null};
 
 use ce_base::{Flags, NoMemory, NodeNo, Text};
 use rule_tokens::{push_names, push_quoted};

@@ -17,9 +17,9 @@ use Rattle.behaviours.specs.Next.{stop_of}
 use Rattle.behaviours.specs.Resume.{Doing, Resumed, Returning, Stop, Throwing, resumed}
 use Rattle.behaviours.specs.Turns.{remembering, stop_turn}
 use Rattle.ce_algorithms.specs.Body.{Ended, told}
-use Rattle.ce_algorithms.specs.declared.event.Event.TheVariants.{Caught}
-use Rattle.ce_algorithms.specs.declared.event.Given.{Given}
-use Rattle.ce_algorithms.specs.declared.event.Given.TheVariants.{Answers, Ignored, Node, Nothing}
+use Rattle.ce_events.specs.declared.event.Event.TheVariants.{Caught}
+use Rattle.ce_algorithms.specs.declared.given.Given.{Given}
+use Rattle.ce_algorithms.specs.declared.given.Given.TheVariants.{Answers, Ignored, Node, Nothing}
 use Rattle.ce_algorithms.specs.Operands.{node}
 use Rattle.ce_algorithms.specs.State.{Class, State, logged, view}
 use Rattle.ce_algorithms.specs.Steps.{Goes, Outcome, Spent, Throws, give, settle, then_do}
@@ -42,7 +42,7 @@ use Rattle.frame_stack.proofs.TopLaws.{below_push, top_below, top_push}
 use Rattle.ce_machine.specs.Bodies.{GoesOn, StopsAt, acting_turn, answer, frame_on_top, given_node, or_constructing, running_turn, stopped_turn}
 use Rattle.ce_reactions.specs.declared.came.Came.{Came}
 use Rattle.ce_reactions.specs.declared.came.Came.TheVariants.{Threw, Over}
-use Rattle.ce_operations.specs.Given.{IsThere}
+use Rattle.page_calls.specs.Given.{IsThere}
 use Rattle.ce_reactions.specs.Placed.{Lasts}
 use Rattle.ce_reactions.specs.Turns.{Turns}
 use Rattle.ce_reactions.proofs.SessionLaws.{session_is}

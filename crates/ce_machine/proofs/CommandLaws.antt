@@ -2,13 +2,13 @@
 use Rattle.std.proofs.Common.{◌≡◌, ℕ, Bool, List, [], ◌++◌, map, Option, refl, ap, sym, ◌∙◌, subst}
 use Rattle.ce_base.specs.Outside.{AppendsPart}
 use Rattle.rule_lines.specs.declared.line.Cmd.{Cmd}
-use Rattle.ce_algorithms.specs.declared.event.Event.{Event}
-use Rattle.ce_algorithms.specs.declared.event.Given.{Given}
+use Rattle.ce_events.specs.declared.event.Event.{Event}
+use Rattle.ce_algorithms.specs.declared.given.Given.{Given}
 use Rattle.ce_algorithms.specs.Model.{model}
 use Rattle.ce_algorithms.specs.Session.{command, log_of}
 use Rattle.ce_algorithms.specs.State.{State}
 use Rattle.ce_algorithms.specs.Steps.{Outcome, Goes, Throws, Spent}
-use Rattle.ce_algorithms.specs.Text.{text}
+use Rattle.ce_events.specs.Text.{text}
 use Rattle.ce_algorithms.specs.Written.{Did, behind_in}
 use Rattle.ce_algorithms.proofs.Calm.{command-no_throw}
 use Rattle.ce_algorithms.proofs.Writing.{did_through, did_nothing}

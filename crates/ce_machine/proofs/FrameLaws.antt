@@ -1,6 +1,6 @@
 -- Turns that read nothing of what classes do and remember: of frames, and where what they push stays placed.
 use Rattle.ce_base.specs.declared.fault.Fault.{Fault}
-use Rattle.ce_algorithms.specs.declared.event.Given.{Given}
+use Rattle.ce_algorithms.specs.declared.given.Given.{Given}
 use Rattle.ce_algorithms.specs.State.{State}
 use Rattle.ce_frames.specs.Frames.{Frame}
 use Rattle.ce_frames.specs.Turns.{turn, turn_threw, turn_went}

@@ -2,11 +2,11 @@
 use Rattle.std.proofs.Common.{◌≡◌, ◌<◌, ℕ, Bool, true, false, List, [], ◌∷◌, ◌++◌, Option, refl, ap, sym, ◌∙◌, subst, arith}
 use Rattle.std.specs.Io.KnownBytes.{Appends}
 use Rattle.ce_base.specs.Outside.{AppendsPart}
-use Rattle.ce_algorithms.specs.declared.event.Given.{Given}
+use Rattle.ce_algorithms.specs.declared.given.Given.{Given}
 use Rattle.ce_algorithms.specs.Session.{log_of}
 use Rattle.ce_algorithms.specs.State.{State}
 use Rattle.ce_algorithms.specs.Steps.{Outcome}
-use Rattle.ce_algorithms.specs.Text.{text}
+use Rattle.ce_events.specs.Text.{text}
 use Rattle.ce_algorithms.specs.Written.{Did}
 use Rattle.ce_algorithms.proofs.Growth.{Grows, log_of-behind}
 use Rattle.ce_algorithms.proofs.Writing.{did_through, part_through, part_grows}

@@ -11,28 +11,28 @@ use Rattle.reaction_queue.specs.Queues.{popped_queue, current_elements}
 use Rattle.ce_algorithms.specs.declared.deed.Deed.{Deed}
 use Rattle.ce_algorithms.specs.declared.deed.Deed.TheVariants as deeds
 use Rattle.ce_algorithms.specs.declared.deed.Deed.TheVariants.{OnPage}
-use Rattle.ce_algorithms.specs.declared.event.Event.TheVariants.{DrainBegun}
-use Rattle.ce_algorithms.specs.declared.event.Given.{Given}
-use Rattle.ce_algorithms.specs.Deeds.{is_reacting, resolve, variable, IsStill}
+use Rattle.ce_events.specs.declared.event.Event.TheVariants.{DrainBegun}
+use Rattle.ce_algorithms.specs.declared.given.Given.{Given}
+use Rattle.ce_algorithms.specs.Deeds.{is_reacting, resolve, IsStill}
 use Rattle.ce_algorithms.specs.Drain.{open_queue}
 use Rattle.ce_algorithms.specs.Making.{make_document}
 use Rattle.ce_algorithms.specs.Model.{model}
 use Rattle.ce_algorithms.specs.Page.{with_queues}
 use Rattle.ce_algorithms.specs.Perform.{steps}
 use Rattle.ce_algorithms.specs.Perform as algorithms
-use Rattle.ce_algorithms.specs.State.{State, logged, on_page, view}
+use Rattle.ce_algorithms.specs.State.{State, View, logged, on_page, view}
 use Rattle.ce_algorithms.specs.Steps.{Step, Outcome, Goes, Throws, attempt_in, settle}
 use Rattle.ce_frames.specs.Frames as waiting
 use Rattle.ce_frames.specs.Frames.{Frame}
 use Rattle.ce_frames.specs.ConstructTurns.{construct_turn}
-use Rattle.ce_frames.specs.OperateTurns.{create_named_turn, deed_turn, named_turn, next_turn, operate_turn, pop_turn, steps_turn}
+use Rattle.ce_frames.specs.OperateTurns.{create_named_turn, deed_turn, named_turn, next_turn, pop_turn, resolved_turn, steps_turn}
 use Rattle.ce_frames.specs.Turned.{Turn, ended, turn_after, below, hand_down}
 use Rattle.ce_frames.proofs.BlindSteps.{resolve_blind}
 use Rattle.ce_frames.proofs.BlindTurns.{blind_below, blind_page, deed_turn_blind}
 use Rattle.ce_page.specs.Ends.{Ends}
 use Rattle.ce_page.specs.declared.stop.PageStop.{PageStop}
-use Rattle.ce_operations.specs.Given.{IsThere}
-use Rattle.ce_operations.specs.Resolved.{Resolves}
+use Rattle.page_calls.specs.Given.{IsThere}
+use Rattle.page_calls.specs.Resolved.{Resolves}
 use Rattle.frame_stack.specs.Sessions.{session}
 use Rattle.frame_stack.specs.Stacked.{Stacked, behaviours_of}
 use Rattle.ce_reactions.specs.declared.came.Came.{Came}
@@ -141,30 +141,31 @@ named_placed F (Some var) turn s h = record { grows = h.grows; placed = (h.gives
 
 -- its operands are read
 
-done_is : (this : Option ℕ) (op : Op) (deed : Deed) (old : Stacked) (s : State) → resolve (view this s) op ≡ Ok deed → named_turn (variable op) (deed_turn deed) (session old s) ≡ operate_turn this op (session old s)
-unfolding operate_turn
-done_is this op deed old s is =
-    ap (λ (r : Result Deed Fault). turn_after (settle r (session old s)) (λ d. named_turn (variable op) (deed_turn d))) (sym (resolve_blind this op (behaviours_of old) s ∙ is))
+done_is : (this : Option ℕ) (find : View → Result Deed Fault) (var : Option (List ℕ)) (deed : Deed) (s : State) → find (view this s) ≡ Ok deed → named_turn var (deed_turn deed) s ≡ resolved_turn this find var s
+done_is this find var deed s is = ap (λ (r : Result Deed Fault). turn_after (settle r s) (λ d. named_turn var (deed_turn d))) (sym is)
 
-pub operate_turns : (frames new : List Frame) (now : Came) (this : Option ℕ) (op : Op) (deed : Deed) (old : Stacked) (s t : State) → resolve (view this s) op ≡ Ok deed → Turns frames new now t (named_turn (variable op) (deed_turn deed) (session old s)) → Turns frames new now t (operate_turn this op (session old s))
-operate_turns frames new now this op deed old s t is h = turns_as frames new now t _ _ (done_is this op deed old s is) h
+pub resolved_turns : (frames new : List Frame) (now : Came) (this : Option ℕ) (find : View → Result Deed Fault) (var : Option (List ℕ)) (deed : Deed) (s t : State) → find (view this s) ≡ Ok deed → Turns frames new now t (named_turn var (deed_turn deed) s) → Turns frames new now t (resolved_turn this find var s)
+resolved_turns frames new now this find var deed s t is h = turns_as frames new now t _ _ (done_is this find var deed s is) h
 
-pub operate_placed : (F : Trees) (this : Option ℕ) (op : Op) (deed : Deed) (old : Stacked) (s : State) → resolve (view this s) op ≡ Ok deed → StaysPlaced F (named_turn (variable op) (deed_turn deed) (session old s)) → StaysPlaced F (operate_turn this op (session old s))
-operate_placed F this op deed old s is h = subst (StaysPlaced F) (done_is this op deed old s is) h
+pub resolved_placed : (F : Trees) (this : Option ℕ) (find : View → Result Deed Fault) (var : Option (List ℕ)) (deed : Deed) (s : State) → find (view this s) ≡ Ok deed → StaysPlaced F (named_turn var (deed_turn deed) s) → StaysPlaced F (resolved_turn this find var s)
+resolved_placed F this find var deed s is h = subst (StaysPlaced F) (done_is this find var deed s is) h
 
 -- one of them is at fault
 
-refused_is : (this : Option ℕ) (op : Op) (f : Fault) (old : Stacked) (s : State) (r : Result Deed RefusedWith) → r ≡ Err (IsFault f) → Resolves r (resolve (view this s) op) → ended (Throws f (session old s)) ≡ operate_turn this op (session old s)
-unfolding operate_turn
-refused_is this op f old s r is h =
-    let found : resolve (view this s) op ≡ Err f = subst (λ (x : Result Deed RefusedWith). Resolves x (resolve (view this s) op)) is h in
-    ap (λ (x : Result Deed Fault). turn_after (settle x (session old s)) (λ d. named_turn (variable op) (deed_turn d))) (sym (resolve_blind this op (behaviours_of old) s ∙ found))
+refused_is : (this : Option ℕ) (find : View → Result Deed Fault) (var : Option (List ℕ)) (f : Fault) (s : State) (r : Result Deed RefusedWith) → r ≡ Err (IsFault f) → Resolves r (find (view this s)) → ended (Throws f s) ≡ resolved_turn this find var s
+refused_is this find var f s r is h =
+    let found : find (view this s) ≡ Err f = subst (λ (x : Result Deed RefusedWith). Resolves x (find (view this s))) is h in
+    ap (λ (x : Result Deed Fault). turn_after (settle x s) (λ d. named_turn var (deed_turn d))) (sym found)
 
-pub refused_turns : (frames : List Frame) (this : Option ℕ) (op : Op) (f : Fault) (old : Stacked) (s : State) (r : Result Deed RefusedWith) → r ≡ Err (IsFault f) → Resolves r (resolve (view this s) op) → Turns frames frames (Threw f) (session old s) (operate_turn this op (session old s))
-refused_turns frames this op f old s r is h = turns_as frames frames (Threw f) (session old s) _ _ (refused_is this op f old s r is h) (turns_same frames (Threw f) (session old s) (Throws f (session old s)) refl)
+pub refused_turns : (frames : List Frame) (this : Option ℕ) (find : View → Result Deed Fault) (var : Option (List ℕ)) (f : Fault) (s : State) (r : Result Deed RefusedWith) → r ≡ Err (IsFault f) → Resolves r (find (view this s)) → Turns frames frames (Threw f) s (resolved_turn this find var s)
+refused_turns frames this find var f s r is h = turns_as frames frames (Threw f) s _ _ (refused_is this find var f s r is h) (turns_same frames (Threw f) s (Throws f s) refl)
 
-pub refused_placed : (this : Option ℕ) (op : Op) (f : Fault) (old : Stacked) (s : State) (r : Result Deed RefusedWith) → r ≡ Err (IsFault f) → Resolves r (resolve (view this s) op) → StaysPlaced s.page.forest (operate_turn this op (session old s))
-refused_placed this op f old s r is h = subst (StaysPlaced s.page.forest) (refused_is this op f old s r is h) (record { grows = omega arith; placed = tt })
+pub refused_placed : (this : Option ℕ) (find : View → Result Deed Fault) (var : Option (List ℕ)) (f : Fault) (s : State) (r : Result Deed RefusedWith) → r ≡ Err (IsFault f) → Resolves r (find (view this s)) → StaysPlaced s.page.forest (resolved_turn this find var s)
+refused_placed this find var f s r is h = subst (StaysPlaced s.page.forest) (refused_is this find var f s r is h) (record { grows = omega arith; placed = tt })
+
+-- operands read no behaviour
+pub resolved_whole : (this : Option ℕ) (op : Op) (old : Stacked) (s : State) (r : Result Deed RefusedWith) → Resolves r (resolve (view this s) op) → Resolves r (resolve (view this (session old s)) op)
+resolved_whole this op old s r h = subst (λ (x : Result Deed Fault). Resolves r x) (sym (resolve_blind this op (behaviours_of old) s)) h
 
 -- commands
 

@@ -11,9 +11,9 @@ use Rattle.reaction_queue.specs.declared.reaction.Reaction.{Reaction}
 use Rattle.reaction_queue.specs.declared.reaction.Reaction.TheVariants.{Upgrade, Connected, Disconnected, Adopted, Attribute, FormAssociated, FormDisabled, FormReset, FormStateRestore}
 use Rattle.reaction_queue.specs.Queues.{current_elements, popped_queue, waiting_at, with_waiting}
 use Rattle.ce_registry.specs.declared.definition.Definition.{Definition}
-use Rattle.ce_algorithms.specs.declared.event.Event.TheVariants.{DrainBegun, QueueClosed, Started}
-use Rattle.ce_algorithms.specs.declared.event.Given.{Given}
-use Rattle.ce_algorithms.specs.declared.event.Given.TheVariants.{Nothing, Node, Answers, Ignored}
+use Rattle.ce_events.specs.declared.event.Event.TheVariants.{DrainBegun, QueueClosed, Started}
+use Rattle.ce_algorithms.specs.declared.given.Given.{Given}
+use Rattle.ce_algorithms.specs.declared.given.Given.TheVariants.{Nothing, Node, Answers, Ignored}
 use Rattle.ce_algorithms.specs.Page.{Page, definition_of, element_of, with_queues}
 use Rattle.ce_algorithms.specs.Perform.{gives_node, named}
 use Rattle.ce_algorithms.specs.State.{State, logged}
@@ -39,7 +39,7 @@ use Rattle.ce_machine.specs.Bodies.{frame_on_top}
 use Rattle.ce_reactions.specs.Turns.{Turns, end_of}
 use Rattle.ce_reactions.proofs.SettleLaws.{threw_settles, upgrade_settles, went_settles}
 use Rattle.ce_machine.proofs.BodyLaws.{on_top, popped_body}
-use Rattle.ce_operations.specs.Given.{IsThere}
+use Rattle.page_calls.specs.Given.{IsThere}
 use Rattle.ce_reactions.specs.Placed.{IsEndThere, IsKeptThere, Reaches, Gives, IsNamed, ArePlaced, Creates, IfCreating, Lasts}
 
 -- where the forest has grown

@@ -1,7 +1,7 @@
 -- The turns of frames are those of the definitions.
 use Rattle.std.proofs.Common.{◌≡◌, List, refl, ap, sym}
 use Rattle.ce_base.specs.declared.fault.Fault.{Fault}
-use Rattle.ce_algorithms.specs.declared.event.Given.{Given}
+use Rattle.ce_algorithms.specs.declared.given.Given.{Given}
 use Rattle.ce_algorithms.specs.State.{State}
 use Rattle.ce_algorithms.specs.Steps.{Spent}
 use Rattle.ce_frames.specs.Frames.{Frame}

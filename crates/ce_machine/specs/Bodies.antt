@@ -5,8 +5,8 @@ use Rattle.ce_base.specs.declared.fault.Fault.TheVariants.{ReferenceError}
 use Rattle.node_trees.specs.Nodes.{IsNode, size}
 use Rattle.rule_tokens.specs.declared.operand.Operand.{Operand}
 use Rattle.rule_lines.specs.Acts.{Act}
-use Rattle.ce_algorithms.specs.declared.event.Given.{Given}
-use Rattle.ce_algorithms.specs.declared.event.Given.TheVariants.{Node}
+use Rattle.ce_algorithms.specs.declared.given.Given.{Given}
+use Rattle.ce_algorithms.specs.declared.given.Given.TheVariants.{Node}
 use Rattle.ce_algorithms.specs.Body.{Next}
 use Rattle.ce_algorithms.specs.Operands.{node}
 use Rattle.ce_algorithms.specs.State.{State, view}

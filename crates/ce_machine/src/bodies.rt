@@ -12,8 +12,9 @@ ghost use Rattle.ce_reactions.specs.Placed.{Lasts};
 ghost use Rattle.ce_reactions.specs.Turns.{Turns};
 
 use crate::stops::go_on;
-use ce_algorithms::{Event, Given};
+use ce_algorithms::Given;
 use ce_base::{Fault, NoMemory};
+use ce_events::Event;
 use ce_reactions::Came;
 use frame_stack::Stack;
 use session_state::State;

@@ -7,7 +7,7 @@ ghost use Rattle.rule_script.specs.Built.{is_built_command, is_built_part};
 ghost use Rattle.ce_algorithms.specs.Model.{model};
 ghost use Rattle.ce_algorithms.specs.Session.{command, class_part, log_of};
 ghost use Rattle.ce_algorithms.specs.Steps.{Goes};
-ghost use Rattle.ce_algorithms.specs.Text.{text};
+ghost use Rattle.ce_events.specs.Text.{text};
 ghost use Rattle.ce_algorithms.specs.Written.{Did};
 ghost use Rattle.frame_stack.specs.Sessions.{ArePaired, session};
 ghost use Rattle.ce_machine.specs.Ended.{IsNoFault, end_for, outcome_of};
@@ -15,8 +15,8 @@ ghost use Rattle.ce_machine.specs.Ended.{IsNoFault, end_for, outcome_of};
 use crate::End;
 use crate::looping::run;
 use crate::operate::begin;
-use ce_algorithms::Event;
 use ce_base::{NoMemory, Refused, Sink, Stop};
+use ce_events::Event;
 use ce_reactions::Came;
 use frame_stack::Stack;
 use rule_lines::{ClassPart, Cmd};
@@ -56,18 +56,18 @@ pub(crate) fn run_command<K: Sink>(
     alloc: Global,
     stack: &mut Stack,
     line: u64,
-    c: &Cmd,
+    c: Cmd,
     trace: bool,
     sink: &mut K,
 ) -> Result<End, Stop>
-    requires built { is_built_command c.now ≡ true }
+    requires built { is_built_command c ≡ true }
     requires rest { stack.old.frames ≡ [] }
     requires paired { ArePaired stack.old state.old }
-    ensures ran { IfOk result (λ end. Did trace (K.held sink.old) (K.held sink.new) (command model line c.now (session stack.old state.old)) (outcome_of end (session stack.new state.new))) }
+    ensures ran { IfOk result (λ end. Did trace (K.held sink.old) (K.held sink.new) (command model line c (session stack.old state.old)) (outcome_of end (session stack.new state.new))) }
     ensures empty { OnOk result (state.new.log ≡ []) }
     ensures rest { OnOk result (stack.new.frames ≡ []) }
     ensures paired { OnOk result (ArePaired stack.new state.new) }
-    ensures part { OnErr result (AppendsPart (K.held sink.old) (K.held sink.new) (text trace (log_of (command model line c.now (session stack.old state.old))))) }
+    ensures part { OnErr result (AppendsPart (K.held sink.old) (K.held sink.new) (text trace (log_of (command model line c (session stack.old state.old))))) }
     ensures later { K.failed sink.old ≤ K.failed sink.new }
     ensures cause { IsErrOf result Stop.WriteFault → Rose (K.failed sink.old) (K.failed sink.new) }
     ensures home { K.home sink.new ≡ K.home sink.old }

@@ -3,7 +3,7 @@ ghost use Rattle.std.specs.Prelude.{◌≡◌, ◌≤◌, [], IfOk, OnOk, OnErr,
 ghost use Rattle.ce_base.specs.Faults.{Rose};
 ghost use Rattle.ce_base.specs.Outside.{AppendsPart};
 ghost use Rattle.ce_algorithms.specs.Session.{log_of};
-ghost use Rattle.ce_algorithms.specs.Text.{text};
+ghost use Rattle.ce_events.specs.Text.{text};
 ghost use Rattle.ce_algorithms.specs.Written.{Did};
 ghost use Rattle.frame_stack.specs.Sessions.{ArePaired, session};
 ghost use Rattle.frame_stack.specs.Stacked.{frames_of};

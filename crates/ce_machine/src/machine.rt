@@ -7,7 +7,7 @@ ghost use Rattle.rule_script.specs.Built.{is_built_command, is_built_part};
 ghost use Rattle.ce_algorithms.specs.Model.{model};
 ghost use Rattle.ce_algorithms.specs.Session.{command, class_part, run_line, start, log_of};
 ghost use Rattle.ce_algorithms.specs.Steps.{Goes};
-ghost use Rattle.ce_algorithms.specs.Text.{text};
+ghost use Rattle.ce_events.specs.Text.{text};
 ghost use Rattle.ce_algorithms.specs.Written.{Did};
 ghost use Rattle.frame_stack.specs.Sessions.{session};
 ghost use Rattle.ce_machine.specs.Ended.{IsAtRest, outcome_of};
@@ -138,8 +138,7 @@ impl Machine {
         let Machine { state, stack } = self;
         let mut state = state;
         let mut stack = stack;
-        let ran = run_command(&mut *state, alloc, &mut *stack, line, &c, trace, sink);
-        drop(c);
+        let ran = run_command(&mut *state, alloc, &mut *stack, line, c, trace, sink);
         with_end(state, stack, ran)
     }
 }

@@ -1,13 +1,16 @@
 // Turns of operations: what they come to is resolved, and done; their variable waits for it.
-ghost use Rattle.std.specs.Prelude.{◌≡◌, ◌≤◌, ◌+◌, ◌++◌, ◌<◌, ◌^◌, Some, option_copied, true, IfOk, IfSome, OnOk};
+ghost use Rattle.std.specs.Prelude.{◌≡◌, ◌≤◌, ◌+◌, ◌++◌, ◌<◌, ◌^◌, ℕ, Option, Result, Some, true, IfOk, IfSome, OnOk};
 ghost use Rattle.node_trees.specs.Nodes.{IsNode, size};
 ghost use Rattle.rule_script.specs.Built.{is_built_command, is_built_op};
 ghost use Rattle.ce_algorithms.specs.Deeds.{variable};
 ghost use Rattle.ce_algorithms.specs.Making.{make_document};
 ghost use Rattle.ce_algorithms.specs.Perform.{gives_node};
-ghost use Rattle.ce_algorithms.specs.State.{on_page};
+ghost use Rattle.ce_algorithms.specs.declared.deed.Deed.{Deed as IsDeed};
+ghost use Rattle.ce_algorithms.specs.State.{View, on_page, view};
+ghost use Rattle.ce_base.specs.declared.fault.Fault.{Fault as IsFault};
+ghost use Rattle.page_calls.specs.Resolved.{Resolves};
 ghost use Rattle.ce_frames.specs.Loop.{command_turn, perform_turn};
-ghost use Rattle.ce_frames.specs.OperateTurns.{deed_turn, named_turn, operate_turn};
+ghost use Rattle.ce_frames.specs.OperateTurns.{deed_turn, named_turn, operate_turn, resolved_turn};
 ghost use Rattle.ce_frames.specs.Turned.{hand_down};
 ghost use Rattle.ce_page.specs.Ends.{Ends};
 ghost use Rattle.frame_stack.specs.Sessions.{ArePaired, session};
@@ -15,18 +18,18 @@ ghost use Rattle.frame_stack.specs.Stacked.{behaviours_of, frames_of};
 ghost use Rattle.ce_reactions.specs.Blind.{BlindAt};
 ghost use Rattle.ce_machine.specs.Turns.{naming};
 ghost use Rattle.ce_reactions.specs.Turns.{Turns};
-ghost use Rattle.ce_operations.specs.Given.{IsThere};
+ghost use Rattle.page_calls.specs.Given.{IsThere};
 ghost use Rattle.ce_reactions.specs.Placed.{Lasts, StaysPlaced};
 ghost use Rattle.ce_operations.specs.Ready.{IsReady};
 
 use crate::react::deed_turn;
 use ce_algorithms::{Deed, Given};
 use ce_base::{NoMemory, NodeNo, Refused, Text};
-use ce_operations::deeds::gives_node;
 use ce_operations::resolve::resolve;
 use ce_page::PageStop;
 use ce_reactions::{Came, came_from};
 use frame_stack::{Stack, Waiting};
+use page_calls::gives_node;
 use rule_lines::{Cmd, Op};
 use session_state::State;
 use std::alloc::Global;
@@ -37,35 +40,49 @@ pub(crate) fn begin(
     alloc: Global,
     stack: &mut Stack,
     line: u64,
-    c: &Cmd,
+    c: Cmd,
 ) -> Result<Came, NoMemory>
-    requires built { is_built_command c.now ≡ true }
+    requires built { is_built_command c ≡ true }
     requires paired { ArePaired stack.old state.old }
-    ensures turn { IfOk result (λ now. Turns (frames_of stack.old) (frames_of stack.new) now (session stack.new state.new) (command_turn line c.now (session stack.old state.old))) }
+    ensures turn { IfOk result (λ now. Turns (frames_of stack.old) (frames_of stack.new) now (session stack.new state.new) (command_turn line c (session stack.old state.old))) }
     ensures paired { OnOk result (ArePaired stack.new state.new) }
-    ensures placed { OnOk result (StaysPlaced state.old.page.forest (command_turn line c.now (session stack.old state.old))) }
+    ensures placed { OnOk result (StaysPlaced state.old.page.forest (command_turn line c (session stack.old state.old))) }
 {
     match state.spend() {
-        Ok(()) => {
-            stack.push(Waiting::Replying(line))?;
-            let now = perform(state, alloc, stack, c)?;
-            Ok(now)
+        Ok(()) => match stack.push(Waiting::Replying(line)) {
+            Ok(()) => {
+                let now = perform(state, alloc, stack, c)?;
+                Ok(now)
+            }
+            Err(NoMemory) => {
+                drop(c);
+                Err(NoMemory)
+            }
+        },
+        Err(PageStop::Refused(f)) => {
+            drop(c);
+            Ok(Came::Threw(f))
         }
-        Err(PageStop::Refused(f)) => Ok(Came::Threw(f)),
-        Err(PageStop::FuelSpent) => Ok(Came::Over),
-        Err(PageStop::NoMemory) => Err(NoMemory),
+        Err(PageStop::FuelSpent) => {
+            drop(c);
+            Ok(Came::Over)
+        }
+        Err(PageStop::NoMemory) => {
+            drop(c);
+            Err(NoMemory)
+        }
     }
 }
 
 // Performs a command.
 #[tactic(auto, unfolding(ce_frames::specs::Loop::perform_turn))]
-fn perform(state: &mut State, alloc: Global, stack: &mut Stack, c: &Cmd) -> Result<Came, NoMemory>
-    requires built { is_built_command c.now ≡ true }
+fn perform(state: &mut State, alloc: Global, stack: &mut Stack, c: Cmd) -> Result<Came, NoMemory>
+    requires built { is_built_command c ≡ true }
     requires paired { ArePaired stack.old state.old }
     requires room { state.old.page.queues.pushed + state.old.fuel + 1 < 2 ^ 64 }
-    ensures turn { IfOk result (λ now. Turns (frames_of stack.old) (frames_of stack.new) now (session stack.new state.new) (perform_turn c.now (session stack.old state.old))) }
+    ensures turn { IfOk result (λ now. Turns (frames_of stack.old) (frames_of stack.new) now (session stack.new state.new) (perform_turn c (session stack.old state.old))) }
     ensures paired { OnOk result (ArePaired stack.new state.new) }
-    ensures placed { OnOk result (StaysPlaced state.old.page.forest (perform_turn c.now (session stack.old state.old))) }
+    ensures placed { OnOk result (StaysPlaced state.old.page.forest (perform_turn c (session stack.old state.old))) }
 {
     match c {
         Cmd::Both(op) => {
@@ -85,14 +102,14 @@ fn make_document(
     state: &mut State,
     alloc: Global,
     stack: &mut Stack,
-    var: &Text,
+    var: Text,
 ) -> Result<Came, NoMemory>
-    ensures turn { IfOk result (λ now. Turns (frames_of stack.old) (frames_of stack.new) now state.new (named_turn (Some var.now) (hand_down (on_page (gives_node make_document))) state.old)) }
+    ensures turn { IfOk result (λ now. Turns (frames_of stack.old) (frames_of stack.new) now state.new (named_turn (Some var) (hand_down (on_page (gives_node make_document))) state.old)) }
     ensures same { OnOk result (behaviours_of stack.new ≡ behaviours_of stack.old) }
-    ensures blind { OnOk result (BlindAt (named_turn (Some var.now) (hand_down (on_page (gives_node make_document)))) state.old) }
-    ensures placed { OnOk result (StaysPlaced state.old.page.forest (named_turn (Some var.now) (hand_down (on_page (gives_node make_document))) state.old)) }
+    ensures blind { OnOk result (BlindAt (named_turn (Some var) (hand_down (on_page (gives_node make_document)))) state.old) }
+    ensures placed { OnOk result (StaysPlaced state.old.page.forest (named_turn (Some var) (hand_down (on_page (gives_node make_document))) state.old)) }
 {
-    name(alloc, stack, Some(var))?;
+    name(stack, Some(var))?;
     let made = document(state, alloc);
     let now = came_from(made)?;
     Ok(now)
@@ -113,42 +130,70 @@ pub(crate) fn operate(
     alloc: Global,
     stack: &mut Stack,
     this: &Option<NodeNo>,
-    op: &Op,
+    op: Op,
 ) -> Result<Came, NoMemory>
-    requires built { is_built_op op.now ≡ true }
+    requires built { is_built_op op ≡ true }
     requires there { IfSome this.now (IsNode state.old.page.forest) }
     requires paired { ArePaired stack.old state.old }
     requires room { state.old.page.queues.pushed + state.old.fuel + 1 < 2 ^ 64 }
-    ensures turn { IfOk result (λ now. Turns (frames_of stack.old) (frames_of stack.new) now (session stack.new state.new) (operate_turn this.now op.now (session stack.old state.old))) }
+    ensures turn { IfOk result (λ now. Turns (frames_of stack.old) (frames_of stack.new) now (session stack.new state.new) (operate_turn this.now op (session stack.old state.old))) }
     ensures paired { OnOk result (ArePaired stack.new state.new) }
-    ensures placed { OnOk result (StaysPlaced state.old.page.forest (operate_turn this.now op.now (session stack.old state.old))) }
+    ensures placed { OnOk result (StaysPlaced state.old.page.forest (operate_turn this.now op (session stack.old state.old))) }
 {
-    match resolve(state, alloc, this, op) {
-        Err(Refused::Fault(f)) => Ok(Came::Threw(f)),
-        Err(Refused::NoMemory) => Err(NoMemory),
-        Ok(deed) => {
-            let now = named(state, alloc, stack, op, deed)?;
+    match variable(alloc, &op) {
+        Err(NoMemory) => {
+            drop(op);
+            Err(NoMemory)
+        }
+        Ok(var) => {
+            let resolved = resolve(state, alloc, this, op);
+            let now = do_resolved(state, alloc, stack, resolved, var)?;
             Ok(now)
         }
     }
 }
 
-// Does what an operation came to. Where it gives a node, its variable waits for it.
+// Does what was resolved; where it gives a node, its variable waits for it. Or an operand was at fault.
+fn do_resolved(
+    state: &mut State,
+    alloc: Global,
+    stack: &mut Stack,
+    resolved: Result<Deed, Refused>,
+    var: Option<Text>,
+) -> Result<Came, NoMemory>
+    requires ready { IfOk resolved (IsReady state.old.page.forest) }
+    requires paired { ArePaired stack.old state.old }
+    requires room { state.old.page.queues.pushed + state.old.fuel + 1 < 2 ^ 64 }
+    ensures turn { (this : Option ℕ) (find : View → Result IsDeed IsFault) → Resolves resolved (find (view this (session stack.old state.old))) → IfOk result (λ now. Turns (frames_of stack.old) (frames_of stack.new) now (session stack.new state.new) (resolved_turn this find var (session stack.old state.old))) }
+    ensures paired { OnOk result (ArePaired stack.new state.new) }
+    ensures placed { (this : Option ℕ) (find : View → Result IsDeed IsFault) → Resolves resolved (find (view this (session stack.old state.old))) → OnOk result (StaysPlaced state.old.page.forest (resolved_turn this find var (session stack.old state.old))) }
+{
+    match resolved {
+        Err(Refused::Fault(f)) => Ok(Came::Threw(f)),
+        Err(Refused::NoMemory) => Err(NoMemory),
+        Ok(deed) => {
+            let now = named(state, alloc, stack, var, deed)?;
+            Ok(now)
+        }
+    }
+}
+
+// Does a deed. Where it gives a node, its variable waits for it.
 fn named(
     state: &mut State,
     alloc: Global,
     stack: &mut Stack,
-    op: &Op,
+    var: Option<Text>,
     deed: Deed,
 ) -> Result<Came, NoMemory>
     requires ready { IsReady state.old.page.forest deed }
     requires paired { ArePaired stack.old state.old }
     requires room { state.old.page.queues.pushed + state.old.fuel + 1 < 2 ^ 64 }
-    ensures turn { IfOk result (λ now. Turns (frames_of stack.old) (frames_of stack.new) now (session stack.new state.new) (named_turn (variable op.now) (deed_turn deed) (session stack.old state.old))) }
+    ensures turn { IfOk result (λ now. Turns (frames_of stack.old) (frames_of stack.new) now (session stack.new state.new) (named_turn var (deed_turn deed) (session stack.old state.old))) }
     ensures paired { OnOk result (ArePaired stack.new state.new) }
-    ensures placed { OnOk result (StaysPlaced state.old.page.forest (named_turn (variable op.now) (deed_turn deed) (session stack.old state.old))) }
+    ensures placed { OnOk result (StaysPlaced state.old.page.forest (named_turn var (deed_turn deed) (session stack.old state.old))) }
 {
-    match name(alloc, stack, variable(op)) {
+    match name(stack, var) {
         Err(NoMemory) => Err(NoMemory),
         Ok(()) => {
             let now = deed_turn(state, alloc, stack, deed)?;
@@ -158,14 +203,13 @@ fn named(
 }
 
 // The frame of a variable, where there is one.
-fn name(alloc: Global, stack: &mut Stack, var: Option<&Text>) -> Result<(), NoMemory>
-    ensures frames { OnOk result (frames_of stack.new ≡ frames_of stack.old ++ naming (option_copied var.entry)) }
+fn name(stack: &mut Stack, var: Option<Text>) -> Result<(), NoMemory>
+    ensures frames { OnOk result (frames_of stack.new ≡ frames_of stack.old ++ naming var) }
     ensures same { OnOk result (behaviours_of stack.new ≡ behaviours_of stack.old) }
 {
     match var {
         None => Ok(()),
         Some(var) => {
-            let var = var.copy(alloc)?;
             stack.push(Waiting::Naming(var))?;
             Ok(())
         }
@@ -173,15 +217,15 @@ fn name(alloc: Global, stack: &mut Stack, var: Option<&Text>) -> Result<(), NoMe
 }
 
 // The variable of an operation that gives a node. None for the others.
-fn variable(op: &Op) -> Option<&Text>
-    ensures { option_copied result ≡ variable op.now }
+fn variable(alloc: Global, op: &Op) -> Result<Option<Text>, NoMemory>
+    ensures { IfOk result (λ var. var ≡ variable op.now) }
 {
     match op {
-        Op::Create { var, .. } => Some(var),
-        Op::New { var, .. } => Some(var),
-        Op::MakeText { var, .. } => Some(var),
-        Op::Shadow { var, .. } => Some(var),
-        Op::Clone { var, .. } => Some(var),
-        _ => None,
+        Op::Create { var, .. } => Ok(Some(var.copy(alloc)?)),
+        Op::New { var, .. } => Ok(Some(var.copy(alloc)?)),
+        Op::MakeText { var, .. } => Ok(Some(var.copy(alloc)?)),
+        Op::Shadow { var, .. } => Ok(Some(var.copy(alloc)?)),
+        Op::Clone { var, .. } => Ok(Some(var.copy(alloc)?)),
+        _ => Ok(None),
     }
 }

@@ -4,7 +4,7 @@ ghost use Rattle.node_trees.specs.Nodes.{size};
 ghost use Rattle.node_trees.specs.Trees.{Trees};
 ghost use Rattle.ce_algorithms.specs.Deeds.{IsStill};
 ghost use Rattle.ce_algorithms.specs.declared.deed.Deed.TheVariants as deeds;
-ghost use Rattle.ce_algorithms.specs.declared.event.Given.{Given as IsGiven};
+ghost use Rattle.ce_algorithms.specs.declared.given.Given.{Given as IsGiven};
 ghost use Rattle.ce_algorithms.specs.Model.{model};
 ghost use Rattle.ce_algorithms.specs.Perform.{steps};
 ghost use Rattle.ce_algorithms.specs.State.{State as IsState};
@@ -16,7 +16,7 @@ ghost use Rattle.frame_stack.specs.Sessions.{ArePaired, session};
 ghost use Rattle.frame_stack.specs.Stacked.{behaviours_of, frames_of};
 ghost use Rattle.ce_reactions.specs.Blind.{BlindAt};
 ghost use Rattle.ce_reactions.specs.Turns.{Turns};
-ghost use Rattle.ce_operations.specs.Given.{IsThere};
+ghost use Rattle.page_calls.specs.Given.{IsThere};
 ghost use Rattle.ce_reactions.specs.Placed.{Lasts};
 ghost use Rattle.ce_operations.specs.Ready.{IsReady};
 

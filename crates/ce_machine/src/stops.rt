@@ -4,21 +4,22 @@ ghost use Rattle.node_trees.specs.Nodes.{IsNode};
 ghost use Rattle.rule_lines.specs.Acts.{Both, Super, act_of};
 ghost use Rattle.rule_script.specs.Built.{is_built_op};
 ghost use Rattle.behaviours.specs.Resume.{Doing, OutOfFuel, Returning, Throwing};
-ghost use Rattle.ce_algorithms.specs.declared.event.Event.TheVariants.{Logged};
+ghost use Rattle.ce_events.specs.declared.event.Event.TheVariants.{Logged};
 ghost use Rattle.ce_algorithms.specs.State.{logged};
 ghost use Rattle.ce_algorithms.specs.Values.{fixed_text};
 ghost use Rattle.frame_stack.specs.Resumes.{IsBuiltStop};
 ghost use Rattle.frame_stack.specs.Sessions.{ArePaired, session};
 ghost use Rattle.frame_stack.specs.Stacked.{HasBody, below_top, frames_of, this_of, top_of};
 ghost use Rattle.ce_machine.specs.Bodies.{GoesOn, acting_turn, answer, based_turn, frame_on_top, running_turn, stopped_turn};
-ghost use Rattle.ce_operations.specs.Given.{IsThere};
+ghost use Rattle.page_calls.specs.Given.{IsThere};
 ghost use Rattle.ce_reactions.specs.Placed.{Lasts};
 ghost use Rattle.ce_reactions.specs.Turns.{Turns};
 
 use crate::operate::operate;
 use behaviours::Next;
-use ce_algorithms::{Event, Given};
+use ce_algorithms::Given;
 use ce_base::{Fault, NoMemory, NodeNo};
+use ce_events::Event;
 use ce_operations::operands::{fixed_texts, node};
 use ce_page::PageStop;
 use ce_reactions::Came;
@@ -169,9 +170,7 @@ fn act(
             Ok(Some(now))
         }
         Action::Log(vals) => {
-            let written = log_fixed(state, alloc, &vals);
-            drop(vals);
-            written?;
+            log_fixed(state, alloc, vals)?;
             Ok(None)
         }
         Action::Super => {
@@ -243,14 +242,12 @@ fn operation(state: &mut State, alloc: Global, stack: &mut Stack, op: Op) -> Res
     ensures lasts { OnOk result (Lasts state.old.page.forest (acting_turn (Both op) (frame_on_top stack.old) (session stack.old state.old))) }
 {
     let this = stack.this();
-    let now = operate(state, alloc, stack, &this, &op);
-    drop(op);
-    now
+    operate(state, alloc, stack, &this, op)
 }
 
 // Writes texts that were fixed.
-fn log_fixed(state: &mut State, alloc: Global, vals: &Vals) -> Result<(), NoMemory>
-    ensures logged { OnOk result (state.new ≡ logged (Logged (map fixed_text vals.now)) state.old) }
+fn log_fixed(state: &mut State, alloc: Global, vals: Vals) -> Result<(), NoMemory>
+    ensures logged { OnOk result (state.new ≡ logged (Logged (map fixed_text vals)) state.old) }
 {
     let texts = fixed_texts(alloc, vals)?;
     state.log(Event::Logged(texts))?;

@@ -9,15 +9,16 @@ ghost use Rattle.ce_frames.specs.Whole.{GoesBlind};
 ghost use Rattle.frame_stack.specs.Frames.{waiting_of};
 ghost use Rattle.frame_stack.specs.Sessions.{ArePaired, session};
 ghost use Rattle.frame_stack.specs.Stacked.{HasBody, behaviours_of, below_top, frames_of};
-ghost use Rattle.ce_operations.specs.Given.{IsThere};
+ghost use Rattle.page_calls.specs.Given.{IsThere};
 ghost use Rattle.ce_machine.specs.Bodies.{frame_on_top};
 ghost use Rattle.ce_reactions.specs.Placed.{ArePlaced, Creates, IfCreating, Lasts};
 ghost use Rattle.ce_machine.specs.Turns.{left, over};
 ghost use Rattle.ce_reactions.specs.Turns.{Turns, came_in, end_of};
 
 use crate::bodies::{body_over, body_threw, body_went};
-use ce_algorithms::{Event, Given};
+use ce_algorithms::Given;
 use ce_base::{Fault, NoMemory, ReactionNo, Text};
+use ce_events::Event;
 use ce_reactions::Came;
 use ce_reactions::constructions::given_turn;
 use ce_reactions::creations::{extended_threw, failed_turn, fit_turn};

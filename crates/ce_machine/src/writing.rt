@@ -7,13 +7,13 @@ ghost use Rattle.rule_script.specs.Built.{is_built_part};
 ghost use Rattle.ce_algorithms.specs.Model.{model};
 ghost use Rattle.ce_algorithms.specs.Session.{class_part, log_of, run_line};
 ghost use Rattle.ce_algorithms.specs.Steps.{Goes};
-ghost use Rattle.ce_algorithms.specs.Text.{text};
+ghost use Rattle.ce_events.specs.Text.{text};
 ghost use Rattle.ce_algorithms.specs.Written.{Did};
 ghost use Rattle.frame_stack.specs.Sessions.{ArePaired, session};
 
 use crate::command::reply_to_part;
-use ce_algorithms::Event;
 use ce_base::{Sink, Stop};
+use ce_events::Event;
 use frame_stack::Stack;
 use rule_lines::ClassPart;
 use rule_tokens::Bad;

@@ -1,3 +1,2 @@
-pub mod Given
+pub mod Fitting
 pub mod Ready
-pub mod Resolved

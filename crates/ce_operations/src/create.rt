@@ -8,10 +8,10 @@ ghost use Rattle.ce_algorithms.specs.Enqueue.{lookup_in};
 ghost use Rattle.ce_algorithms.specs.Page.{definition_at};
 ghost use Rattle.ce_algorithms.specs.State.{on_page};
 ghost use Rattle.ce_page.specs.Ends.{Ends};
-ghost use Rattle.ce_operations.specs.Given.{tested};
+ghost use Rattle.ce_operations.specs.Fitting.{tested};
 
-use ce_algorithms::Event;
 use ce_base::{ClassNo, CustomState, DefNo, Fault, NoMemory, NodeNo, Text};
+use ce_events::Event;
 use ce_page::{NodeKind, PageStop};
 use element_names::is_custom_name;
 use session_state::State;

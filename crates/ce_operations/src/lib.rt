@@ -5,8 +5,5 @@
 
 pub mod create;
 pub mod deeds;
-mod fits;
 pub mod operands;
-mod questions;
 pub mod resolve;
-mod several;

@@ -7,10 +7,10 @@ ghost use Rattle.ce_algorithms.specs.Operands.{class, document_or_page, element,
 ghost use Rattle.ce_algorithms.specs.State.{view};
 ghost use Rattle.ce_algorithms.specs.Values.{fixed_text};
 
-use crate::fits::fits;
 use ce_algorithms::Fit;
 use ce_base::{ClassNo, Fault, NoMemory, NodeNo, Text, Texts};
 use ce_page::NodeKind;
+use page_calls::fits::fits;
 use rule_lines::Vals;
 use rule_tokens::{Operand, Val};
 use session_state::State;
@@ -59,7 +59,7 @@ pub fn node_that(
     ensures there { IfOk result (IsNode state.now.page.forest) }
 {
     let n = node(state, this, operand)?;
-    if fits(what, state, n) {
+    if fits(what, state.page(), n) {
         return Ok(n);
     }
     Err(Fault::TypeError)
@@ -109,11 +109,11 @@ pub fn class(state: &State, name: &str) -> Result<ClassNo, Fault>
 }
 
 /// The text of a value that was fixed, as each is at top level. NoMemory: memory was refused.
-pub fn fixed_text(alloc: Global, v: &Val) -> Result<Text, NoMemory>
-    ensures { IfOk result (λ t. t ≡ fixed_text v.now) }
+pub fn fixed_text(alloc: Global, v: Val) -> Result<Text, NoMemory>
+    ensures { IfOk result (λ t. t ≡ fixed_text v) }
 {
     match v {
-        Val::Fixed(t) => t.copy(alloc),
+        Val::Fixed(t) => Ok(t),
         Val::Count => Text::of(alloc, ""),
         Val::Kept => Text::of(alloc, ""),
         Val::First => Text::of(alloc, ""),
@@ -123,11 +123,11 @@ pub fn fixed_text(alloc: Global, v: &Val) -> Result<Text, NoMemory>
 }
 
 /// The texts of values that were fixed. NoMemory: memory was refused.
-pub fn fixed_texts(alloc: Global, vals: &Vals) -> Result<Texts, NoMemory>
-    ensures { IfOk result (λ ts. ts ≡ map fixed_text vals.now) }
+pub fn fixed_texts(alloc: Global, vals: Vals) -> Result<Texts, NoMemory>
+    ensures { IfOk result (λ ts. ts ≡ map fixed_text vals) }
 {
     let mut texts = Texts::make(alloc);
-    for v in vals.as_slice() {
+    for v in vals.into_items() {
         texts.push(alloc, fixed_text(alloc, v)?)?;
     }
     Ok(texts)

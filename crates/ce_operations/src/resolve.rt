@@ -1,35 +1,34 @@
 // What an operation comes to: its operands, all read before a queue is pushed.
+mod attributes;
+mod session;
+mod tree;
+
 ghost use Rattle.std.specs.Prelude.{◌≡◌, true, IfOk, IfSome};
 ghost use Rattle.node_trees.specs.Nodes.{IsNode};
 ghost use Rattle.rule_script.specs.Built.{is_built_op};
 ghost use Rattle.ce_algorithms.specs.Deeds.{resolve};
 ghost use Rattle.ce_algorithms.specs.State.{view};
 ghost use Rattle.ce_operations.specs.Ready.{IsReady};
-ghost use Rattle.ce_operations.specs.Resolved.{Resolves};
+ghost use Rattle.page_calls.specs.Resolved.{Resolves};
 
 use crate::operands::{class, element, node, node_that};
-use crate::several::{
-    adopt, append, ask, before, create, define, del_attr, let_node, make_text, remove, set_attr,
-};
+use attributes::{del_attr, set_attr};
 use ce_algorithms::{Deed, Fit, PageDeed};
 use ce_base::{NodeNo, Refused};
 use rule_lines::Op;
+use session::{ask, define, let_node};
 use session_state::State;
 use std::alloc::Global;
+use tree::{adopt, append, before, create, make_text, remove};
 
 /// The deed of an operation, or the first fault of its operands, from the left. Nothing is done yet.
 ///
 /// ReferenceError: an operand is `this`, and nothing is `this`. TypeError: a variable is not set, a node is not what it
 /// has to be, or no class has the name. NoMemory: memory was refused.
-pub fn resolve(
-    state: &State,
-    alloc: Global,
-    this: &Option<NodeNo>,
-    op: &Op,
-) -> Result<Deed, Refused>
-    requires built { is_built_op op.now ≡ true }
+pub fn resolve(state: &State, alloc: Global, this: &Option<NodeNo>, op: Op) -> Result<Deed, Refused>
+    requires built { is_built_op op ≡ true }
     requires there { IfSome this.now (IsNode state.now.page.forest) }
-    ensures deed { Resolves result (resolve (view this.now state.now) op.now) }
+    ensures deed { Resolves result (resolve (view this.now state.now) op) }
     ensures ready { IfOk result (IsReady state.now.page.forest) }
 {
     match op {
@@ -38,7 +37,7 @@ pub fn resolve(
             local,
             is_value,
             document,
-        } => create(state, alloc, this, local, is_value, document),
+        } => create(state, this, local, is_value, &document),
         Op::New {
             var: _,
             class: class_name,
@@ -50,53 +49,53 @@ pub fn resolve(
             var: _,
             chars,
             document,
-        } => make_text(state, alloc, this, chars, document),
+        } => make_text(state, this, chars, &document),
         Op::Shadow { var: _, host } => {
-            let host = element(state, this, host)?;
+            let host = element(state, this, &host)?;
             Ok(Deed::OnPage(PageDeed::Shadow { host }))
         }
         Op::Append {
             parent,
             node: child,
-        } => append(state, this, parent, child),
+        } => append(state, this, &parent, &child),
         Op::Before {
             parent,
             node: child,
             before: reference,
-        } => before(state, this, parent, child, reference),
+        } => before(state, this, &parent, &child, &reference),
         Op::Remove {
             parent,
             node: child,
-        } => remove(state, this, parent, child),
+        } => remove(state, this, &parent, &child),
         Op::Detach { node } => {
-            let node = node_that(Fit::ElementOrText, state, this, node)?;
+            let node = node_that(Fit::ElementOrText, state, this, &node)?;
             Ok(Deed::OnPage(PageDeed::Detach { node }))
         }
-        Op::SetAttr { node, name, value } => set_attr(state, alloc, this, node, name, value),
-        Op::DelAttr { node, name } => del_attr(state, alloc, this, node, name),
+        Op::SetAttr { node, name, value } => set_attr(state, alloc, this, &node, name, value),
+        Op::DelAttr { node, name } => del_attr(state, this, &node, name),
         Op::Clone {
             var: _,
             node: operand,
             deep,
         } => {
-            let node = node(state, this, operand)?;
-            Ok(Deed::OnPage(PageDeed::Clone { node, deep: *deep }))
+            let node = node(state, this, &operand)?;
+            Ok(Deed::OnPage(PageDeed::Clone { node, deep }))
         }
         Op::Adopt {
             document,
             node: operand,
-        } => adopt(state, this, document, operand),
+        } => adopt(state, this, &document, &operand),
         Op::Define {
             name,
             class: class_name,
             base,
-        } => define(state, alloc, name, class_name, base),
+        } => define(state, name, &class_name, base),
         Op::Upgrade { node: operand } => {
-            let node = node(state, this, operand)?;
+            let node = node(state, this, &operand)?;
             Ok(Deed::OnPage(PageDeed::Upgrade { node }))
         }
-        Op::Ask { word, node, name } => ask(state, alloc, this, *word, node, name),
-        Op::Let { var, node: operand } => let_node(state, alloc, this, var, operand),
+        Op::Ask { word, node, name } => ask(state, this, word, &node, name),
+        Op::Let { var, node: operand } => let_node(state, this, var, &operand),
         _ => unreachable!(),
     }
 }

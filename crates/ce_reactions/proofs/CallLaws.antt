@@ -7,7 +7,7 @@ use Rattle.reaction_queue.specs.declared.reaction.Reaction.TheVariants.{Upgrade,
 use Rattle.reaction_queue.specs.Reactions.{what_of}
 use Rattle.ce_registry.specs.declared.definition.Definition.{Definition}
 use Rattle.ce_algorithms.specs.Body.{actions_of}
-use Rattle.ce_algorithms.specs.declared.event.Given.TheVariants.{Nothing}
+use Rattle.ce_algorithms.specs.declared.given.Given.TheVariants.{Nothing}
 use Rattle.ce_algorithms.specs.Drain.{actions_for, log_call}
 use Rattle.ce_algorithms.specs.Page.{definition_of}
 use Rattle.ce_algorithms.specs.State.{State, class_of}

@@ -5,9 +5,9 @@ use Rattle.rule_tokens.specs.declared.callback.CallName.TheVariants.{Constructor
 use Rattle.ce_registry.specs.ClassFacts.{has_call}
 use Rattle.node_trees.specs.Nodes.{IsNode, size}
 use Rattle.node_trees.specs.Trees.{Trees}
-use Rattle.ce_algorithms.specs.declared.event.Event.TheVariants.{Construct}
-use Rattle.ce_algorithms.specs.declared.event.Given.{Given}
-use Rattle.ce_algorithms.specs.declared.event.Given.TheVariants.{Nothing}
+use Rattle.ce_events.specs.declared.event.Event.TheVariants.{Construct}
+use Rattle.ce_algorithms.specs.declared.given.Given.{Given}
+use Rattle.ce_algorithms.specs.declared.given.Given.TheVariants.{Nothing}
 use Rattle.ce_algorithms.specs.Body.{actions_of}
 use Rattle.ce_algorithms.specs.Construction.{base_call}
 use Rattle.ce_algorithms.specs.Perform as algorithms
@@ -24,7 +24,7 @@ use Rattle.ce_frames.proofs.Wholes.{class_bodies_joined, class_facts_joined, cla
 use Rattle.frame_stack.specs.Sessions.{ArePaired, session}
 use Rattle.frame_stack.specs.Stacked.{Stacked, actions_at, behaviours_of, frames_of}
 use Rattle.ce_page.specs.declared.stop.PageStop.{PageStop}
-use Rattle.ce_operations.specs.Given.{IsThere, node_of}
+use Rattle.page_calls.specs.Given.{IsThere, node_of}
 use Rattle.ce_reactions.specs.declared.came.Came.{Came}
 use Rattle.ce_reactions.specs.declared.came.Came.TheVariants.{Went, Threw, Over}
 use Rattle.ce_reactions.specs.Blind.{BlindAt}

@@ -7,7 +7,7 @@ use Rattle.node_trees.specs.Nodes.{IsNode, size}
 use Rattle.node_trees.specs.Trees.{Trees}
 use Rattle.ce_registry.specs.declared.definition.Definition.{Definition}
 use Rattle.ce_registry.specs.Registry.{is_autonomous}
-use Rattle.ce_algorithms.specs.declared.event.Given.TheVariants.{Node}
+use Rattle.ce_algorithms.specs.declared.given.Given.TheVariants.{Node}
 use Rattle.ce_algorithms.specs.Create.{fitting}
 use Rattle.ce_algorithms.specs.CreateLater.{make_in_state, make_undefined}
 use Rattle.ce_algorithms.specs.Enqueue.{lookup_in}

@@ -7,8 +7,8 @@ use Rattle.ce_base.specs.declared.fault.Fault.TheVariants.{NotSupportedError}
 use Rattle.node_trees.specs.Trees.{Trees}
 use Rattle.rule_tokens.specs.declared.callback.CallName.TheVariants.{Constructor}
 use Rattle.ce_registry.specs.ClassFacts.{has_call}
-use Rattle.ce_algorithms.specs.declared.event.Event.TheVariants.{Construct, UpgradeBegun}
-use Rattle.ce_algorithms.specs.declared.event.Given.{Given}
+use Rattle.ce_events.specs.declared.event.Event.TheVariants.{Construct, UpgradeBegun}
+use Rattle.ce_algorithms.specs.declared.given.Given.{Given}
 use Rattle.ce_algorithms.specs.Body.{actions_of}
 use Rattle.ce_algorithms.specs.Construction.{base_call, pop_construction}
 use Rattle.ce_algorithms.specs.Page.{definition_at, state_of, with_state}

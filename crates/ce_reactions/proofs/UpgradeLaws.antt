@@ -4,8 +4,8 @@ use Rattle.std.specs.Prelude.{Result, Ok, Err}
 use Rattle.ce_base.specs.declared.custom_state.CustomState.TheVariants.{Precustomized}
 use Rattle.ce_base.specs.declared.fault.Fault.{Fault}
 use Rattle.ce_base.specs.declared.fault.Fault.TheVariants.{NotSupportedError}
-use Rattle.ce_algorithms.specs.declared.event.Event.TheVariants.{UpgradeBegun}
-use Rattle.ce_algorithms.specs.declared.event.Given.TheVariants.{Nothing}
+use Rattle.ce_events.specs.declared.event.Event.TheVariants.{UpgradeBegun}
+use Rattle.ce_algorithms.specs.declared.given.Given.TheVariants.{Nothing}
 use Rattle.ce_algorithms.specs.Construction.{pop_construction}
 use Rattle.ce_algorithms.specs.Page.{definition_at, state_of, with_state}
 use Rattle.ce_algorithms.specs.State.{State, change_page, logged, on_page, read_page}

@@ -3,11 +3,11 @@ use Rattle.std.specs.Prelude.{◌≡◌, ◌≤◌, List, [], ◌∷◌, Result,
 use Rattle.ce_base.specs.declared.fault.Fault.{Fault}
 use Rattle.node_trees.specs.Nodes.{IsNode, size}
 use Rattle.node_trees.specs.Trees.{Trees}
-use Rattle.ce_algorithms.specs.declared.event.Given.{Given}
+use Rattle.ce_algorithms.specs.declared.given.Given.{Given}
 use Rattle.ce_frames.specs.Frames.{Frame, Naming, Stepping, Draining, CreatingFit, CreatingExtended, Constructing, InBody}
 use Rattle.ce_frames.specs.Rest.{End, Went, Threw, Over}
 use Rattle.ce_frames.specs.Turned.{Turned}
-use Rattle.ce_operations.specs.Given.{IsThere}
+use Rattle.page_calls.specs.Given.{IsThere}
 use Rattle.ce_reactions.specs.declared.came.Came.{Came}
 use Rattle.ce_reactions.specs.declared.came.Came.TheVariants as came
 

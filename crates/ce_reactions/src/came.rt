@@ -1,11 +1,11 @@
 // How what was waited for has ended.
 ghost use Rattle.std.specs.Prelude.{◌≡◌, Err, IfErr, IfOk};
 ghost use Rattle.node_trees.specs.Trees.{Trees};
-ghost use Rattle.ce_algorithms.specs.declared.event.Given.{Given as IsGiven};
+ghost use Rattle.ce_algorithms.specs.declared.given.Given.{Given as IsGiven};
 ghost use Rattle.ce_algorithms.specs.State.{State};
 ghost use Rattle.ce_algorithms.specs.Steps.{Outcome};
 ghost use Rattle.ce_page.specs.Ends.{Ends};
-ghost use Rattle.ce_operations.specs.Given.{IsThere};
+ghost use Rattle.page_calls.specs.Given.{IsThere};
 ghost use Rattle.ce_reactions.specs.Placed.{IsEndThere};
 ghost use Rattle.ce_reactions.specs.Turns.{came_in, came_of};
 

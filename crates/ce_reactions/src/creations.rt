@@ -10,23 +10,24 @@ ghost use Rattle.ce_frames.specs.Turned.{ended};
 ghost use Rattle.ce_frames.specs.Turns.{turn_threw, turn_went};
 ghost use Rattle.frame_stack.specs.Sessions.{ArePaired, session};
 ghost use Rattle.frame_stack.specs.Stacked.{frames_of};
-ghost use Rattle.ce_operations.specs.Given.{IsThere};
+ghost use Rattle.page_calls.specs.Given.{IsThere};
 ghost use Rattle.ce_reactions.specs.Placed.{IsEndThere, Lasts};
 ghost use Rattle.ce_reactions.specs.Turns.{Turns, came_in};
 
 use crate::came::{Came, came_from};
 use crate::constructions::construct;
 use crate::upgrades::upgrade_turn;
-use ce_algorithms::{Event, Given};
+use ce_algorithms::Given;
 use ce_base::{CustomState, DefNo, Fault, NoMemory, NodeNo, Text};
+use ce_events::Event;
 use ce_operations::create::{
     class_of, create_failed, create_undefined, is_autonomous, lookup, misfit,
 };
-use ce_operations::deeds::gives_node;
 use ce_page::PageStop;
 use element_names::is_local_name;
 use frame_stack::{Stack, Waiting};
-use session_state::{State, lowercased};
+use page_calls::{gives_node, lowercased};
+use session_state::State;
 use std::alloc::Global;
 
 /// A creation begins: its name is tested (DOM Standard, section "Interface Document", `createElement`). Where it is no

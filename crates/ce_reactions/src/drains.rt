@@ -12,8 +12,9 @@ ghost use Rattle.ce_reactions.specs.Turns.{Turns};
 
 use crate::came::{Came, came_of};
 use crate::reactions::start;
-use ce_algorithms::{Event, Given};
+use ce_algorithms::Given;
 use ce_base::{Fault, NoMemory, NodeNo, QueueNo};
+use ce_events::Event;
 use frame_stack::{Stack, Waiting};
 use reaction_queue::ElementQueue;
 use session_state::State;

@@ -15,12 +15,13 @@ ghost use Rattle.ce_reactions.specs.Turns.{Turns, came_in};
 
 use crate::came::{Came, came_from};
 use crate::constructions::construct;
-use ce_algorithms::{Event, Given};
+use ce_algorithms::Given;
 use ce_base::{CustomState, DefNo, Fault, NoMemory, NodeNo};
+use ce_events::Event;
 use ce_operations::create::class_of;
-use ce_operations::deeds::gives_nothing;
 use ce_page::PageStop;
 use frame_stack::{Stack, Waiting};
+use page_calls::gives_nothing;
 use session_state::State;
 use std::alloc::Global;
 

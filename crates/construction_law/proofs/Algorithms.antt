@@ -14,9 +14,9 @@ use Rattle.construction.specs.Stacks.{popped}
 use Rattle.ce_algorithms.specs.declared.deed.Deed.{Deed}
 use Rattle.ce_algorithms.specs.declared.deed.Deed.TheVariants as deeds
 use Rattle.ce_algorithms.specs.declared.deed.Deed.TheVariants.{OnPage}
-use Rattle.ce_algorithms.specs.declared.event.Event.TheVariants.{UpgradeBegun}
-use Rattle.ce_algorithms.specs.declared.event.Given.{Given}
-use Rattle.ce_algorithms.specs.declared.event.Given.TheVariants.{Node, Answers}
+use Rattle.ce_events.specs.declared.event.Event.TheVariants.{UpgradeBegun}
+use Rattle.ce_algorithms.specs.declared.given.Given.{Given}
+use Rattle.ce_algorithms.specs.declared.given.Given.TheVariants.{Node, Answers}
 use Rattle.ce_algorithms.specs.Steps.{Step, Outcome, Goes, Throws, Spent, then_do, ◌>>◌, catch, catch_in, finally, finally_in}
 use Rattle.ce_algorithms.specs.Page.{Work, with_queues}
 use Rattle.ce_algorithms.specs.Construction.{with_stacks, pop_construction}
@@ -28,8 +28,8 @@ use Rattle.ce_algorithms.specs.Construct.{constructor_body, construct}
 use Rattle.ce_algorithms.specs.Upgrade.{begin_upgrade, construct_for, upgrade_threw, upgrade_ends, upgrade_now, upgrade}
 use Rattle.ce_algorithms.specs.Drain.{log_call, call_defined, run_reaction, react, drain, drain_popped, drain_first, drain_backup, checkpoint}
 use Rattle.ce_algorithms.specs.Create.{create_found, create}
-use Rattle.ce_algorithms.specs.Perform.{steps, perform_deed, keep, kept, operate}
-use Rattle.ce_algorithms.specs.Deeds.{resolve, variable}
+use Rattle.ce_algorithms.specs.Perform.{steps, perform_deed, keep, kept, operate, act_as_user}
+use Rattle.ce_algorithms.specs.Deeds.{resolve, resolve_user, variable}
 use Rattle.ce_algorithms.specs.Session.{perform, command}
 use Rattle.ce_algorithms.specs.Model.{clock, level, run, model}
 use Rattle.construction_law.proofs.StackDepths.{one_more, pop_takes_back}
@@ -180,12 +180,15 @@ module _ (again : Again) (below : (call : Call) → Leaves of_session (again cal
   pub operate_leaves : (this : Option ℕ) (op : Op) → Leaves of_session (operate again this op)
   operate_leaves this op = leaves_bind (leaves_look this (λ v. resolve v op)) (λ deed. leaves_kept (variable op) (perform_deed_leaves deed))
 
+  act_as_user_leaves : (c : Cmd) → Leaves of_session (act_as_user again c)
+  act_as_user_leaves c = leaves_bind (leaves_look None (λ v. resolve_user v c)) (λ deed. perform_deed_leaves deed)
+
   -- commands
 
   perform_leaves : (c : Cmd) → Leaves of_session (perform again c)
   perform_leaves (BothCommand op) = operate_leaves None op
   perform_leaves (Doc var) = leaves_kept (Some var) (leaves_on_page leaves_document)
-  perform_leaves c = leaves_give _
+  perform_leaves c = act_as_user_leaves c
 
   pub command_leaves : (line : ℕ) (c : Cmd) → Leaves of_session (command again line c)
   command_leaves line c = search (leaves_steps, perform_leaves, checkpoint_leaves) depth 12

@@ -20,7 +20,8 @@ use Rattle.ce_algorithms.specs.Steps.{Step, Outcome, Goes, Throws, Spent, then_d
 use Rattle.ce_algorithms.specs.Page.{Page, Work, read_page, definition_at, with_state, with_definition}
 use Rattle.ce_algorithms.specs.Making.{make_node, make_document}
 use Rattle.ce_algorithms.specs.Enqueue.{enqueue_callback, enqueue_found}
-use Rattle.ce_algorithms.specs.FormChanges.{FormChange, tell_owner, tell_disabled, tell_form_change, tell_form}
+use Rattle.form_controls.specs.declared.change.Change.{Change}
+use Rattle.ce_algorithms.specs.FormChanges.{tell_owner, tell_disabled, tell_form_change, tell_form}
 use Rattle.ce_algorithms.specs.Mutation.{is_connected, remove, adopt, connected_now, inserted, pre_insert}
 use Rattle.ce_algorithms.specs.Attributes.{handle_attribute_change, remove_there}
 use Rattle.ce_algorithms.specs.Define.{define_name}
@@ -49,7 +50,7 @@ leaves_tell_disabled : (n : ℕ) (o : Option Bool) → Leaves of_page (tell_disa
 leaves_tell_disabled n None = leaves_done
 leaves_tell_disabled n (Some disabled) = leaves_callback n (FormDisabled disabled)
 
-leaves_form_change : (c : FormChange) → Leaves of_page (tell_form_change c)
+leaves_form_change : (c : Change) → Leaves of_page (tell_form_change c)
 leaves_form_change c = search (leaves_steps, leaves_tell_owner, leaves_tell_disabled) depth 12
 
 pub leaves_tell_form : (n : ℕ) → Leaves of_page (tell_form n)
@@ -65,7 +66,7 @@ leaves_connected_now : (n : ℕ) (custom : Bool) → Leaves of_page (connected_n
 leaves_connected_now n true = leaves_callback n Connected
 leaves_connected_now n false = search (leaves_steps, leaves_enqueue_found) depth 12
 
-leaves_inserted : (changes : List FormChange) (n : ℕ) → Leaves of_page (inserted changes n)
+leaves_inserted : (changes : List Change) (n : ℕ) → Leaves of_page (inserted changes n)
 leaves_inserted changes n = search (leaves_steps, leaves_form_change, leaves_connected_now) depth 14
 
 leaves_pre_insert : (parent n : ℕ) (before : Option ℕ) → Leaves of_page (pre_insert parent n before)

@@ -12,9 +12,9 @@ use Rattle.rule_tokens.specs.Flags.{flag_names, raised}
 use Rattle.rule_tokens.specs.FlagsText.{names_after, names_joined, raised_names}
 use Rattle.rule_tokens.specs.Laws.{FlagsAreNamed}
 use Rattle.rule_tokens.specs.Spaced.{AreClean, as_line, spaced as spaced_tokens}
-use Rattle.ce_algorithms.specs.declared.event.Answer.{Answer}
-use Rattle.ce_algorithms.specs.declared.event.Answer.TheVariants.{Null, One, Many, Node as NodeAnswer, Nodes, Texts, State, Truth, Raised}
-use Rattle.ce_algorithms.specs.Text.{answer, custom_state, node, yes_or_no}
+use Rattle.ce_events.specs.declared.event.Answer.{Answer}
+use Rattle.ce_events.specs.declared.event.Answer.TheVariants.{Null, One, Many, Node as NodeAnswer, Nodes, Texts, State, Truth, Raised}
+use Rattle.ce_events.specs.Text.{answer, custom_state, node, yes_or_no}
 use Rattle.event_reader.specs.Answers.{answer_named, answer_of}
 use Rattle.event_reader.specs.IsEvent.{IsAnswer}
 use Rattle.event_reader.specs.Parts.{begins_node, texts_of}

@@ -9,9 +9,9 @@ use Rattle.reaction_queue.specs.declared.reaction.Mode.TheVariants.{Restore, Aut
 use Rattle.rule_tokens.specs.declared.token.Token.{Token}
 use Rattle.rule_tokens.specs.Quoted.{in_quotes}
 use Rattle.rule_tokens.specs.Spaced.{AreClean, IsClean, as_line, spaced as spaced_tokens}
-use Rattle.ce_algorithms.specs.declared.event.Event.{Event}
-use Rattle.ce_algorithms.specs.declared.event.Event.TheVariants.{Connected, Disconnected, Adopted, Attribute, FormAssociated, FormDisabled, FormReset, FormStateRestore}
-use Rattle.ce_algorithms.specs.Text.{call, event_text, mode, node, node_or_null, text_or_null}
+use Rattle.ce_events.specs.declared.event.Event.{Event}
+use Rattle.ce_events.specs.declared.event.Event.TheVariants.{Connected, Disconnected, Adopted, Attribute, FormAssociated, FormDisabled, FormReset, FormStateRestore}
+use Rattle.ce_events.specs.Text.{call, event_text, mode, node, node_or_null, text_or_null}
 use Rattle.event_reader.specs.Calls.{call_by, mode_named}
 use Rattle.event_reader.specs.IsEvent.{IsNumber, IsNumberOrNone, IsTextOrNone}
 use Rattle.event_reader.specs.Reading.{event_of}

@@ -12,10 +12,10 @@ use Rattle.rule_tokens.specs.declared.token.Token.{Token}
 use Rattle.rule_tokens.specs.Laws.{FlagsAreNamed}
 use Rattle.rule_tokens.specs.Spaced.{WrittenIsRead, WrittenIsText, as_line, spaced as spaced_tokens}
 use Rattle.rule_tokens.specs.Tokens.{tokens_of}
-use Rattle.ce_algorithms.specs.declared.event.Answer.{Answer}
-use Rattle.ce_algorithms.specs.declared.event.Event.{Event}
-use Rattle.ce_algorithms.specs.declared.event.Event.TheVariants.{Construct, Connected, Disconnected, Adopted, Attribute, FormAssociated, FormDisabled, FormReset, FormStateRestore, Logged, Caught, Reported, Asked, SubmitGet, SubmitPost, SubmitBlocked, Fine, Gave, Answered, Ignored, Threw, WasBad, FuelLine, QueueOpened, Enqueued, DrainBegun, Started, Finished, Dropped, QueueClosed, UpgradeBegun, UpgradeDone, UpgradeThrew}
-use Rattle.ce_algorithms.specs.Text.{event_text}
+use Rattle.ce_events.specs.declared.event.Answer.{Answer}
+use Rattle.ce_events.specs.declared.event.Event.{Event}
+use Rattle.ce_events.specs.declared.event.Event.TheVariants.{Construct, Connected, Disconnected, Adopted, Attribute, FormAssociated, FormDisabled, FormReset, FormStateRestore, Logged, Caught, Reported, Asked, SubmitGet, SubmitPost, SubmitBlocked, Fine, Gave, Answered, Ignored, Threw, WasBad, FuelLine, QueueOpened, Enqueued, DrainBegun, Started, Finished, Dropped, QueueClosed, UpgradeBegun, UpgradeDone, UpgradeThrew}
+use Rattle.ce_events.specs.Text.{event_text}
 use Rattle.event_reader.specs.Answers.{answer_of}
 use Rattle.event_reader.specs.Guessed.{IsTextGuessed, TextsAreGuessed}
 use Rattle.event_reader.specs.IsEvent.{AreTexts, IsAnswer, IsFault}

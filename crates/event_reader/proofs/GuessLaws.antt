@@ -1,7 +1,7 @@
 -- What is guessed of bytes that are the text of an event.
 use Rattle.std.proofs.Common.{◌≡◌, ℕ, List, Some, None, Result, Ok, Err, refl, sym, ap, ◌∙◌, subst}
-use Rattle.ce_algorithms.specs.declared.event.Event.{Event}
-use Rattle.ce_algorithms.specs.Text.{event_text}
+use Rattle.ce_events.specs.declared.event.Event.{Event}
+use Rattle.ce_events.specs.Text.{event_text}
 use Rattle.event_reader.specs.declared.refused.EventRefused.{EventRefused}
 use Rattle.event_reader.specs.declared.refused.EventRefused.TheVariants.{NotAnEvent, NoMemory}
 use Rattle.event_reader.specs.Guessed.{IsGuessed, TextsAreGuessed}

@@ -11,11 +11,11 @@ use Rattle.rule_tokens.specs.declared.refused.Bad.TheVariants.{Long, Utf8, Quote
 use Rattle.rule_tokens.specs.declared.token.Token.{Token}
 use Rattle.rule_tokens.specs.Laws.{FlagsAreNamed}
 use Rattle.rule_tokens.specs.Spaced.{AreClean, IsClean, as_line, spaced as spaced_tokens}
-use Rattle.ce_algorithms.specs.declared.event.Answer.{Answer}
-use Rattle.ce_algorithms.specs.declared.event.Answer.TheVariants.{Null, One, Many, Node as NodeAnswer, Nodes, Texts, State, Truth, Raised}
-use Rattle.ce_algorithms.specs.declared.event.Event.{Event}
-use Rattle.ce_algorithms.specs.declared.event.Event.TheVariants.{Fine, Gave, Answered, Ignored, Threw, WasBad}
-use Rattle.ce_algorithms.specs.Text.{answer, bad_word, event_text, fault, node, reply}
+use Rattle.ce_events.specs.declared.event.Answer.{Answer}
+use Rattle.ce_events.specs.declared.event.Answer.TheVariants.{Null, One, Many, Node as NodeAnswer, Nodes, Texts, State, Truth, Raised}
+use Rattle.ce_events.specs.declared.event.Event.{Event}
+use Rattle.ce_events.specs.declared.event.Event.TheVariants.{Fine, Gave, Answered, Ignored, Threw, WasBad}
+use Rattle.ce_events.specs.Text.{answer, bad_word, event_text, fault, node, reply}
 use Rattle.event_reader.specs.IsEvent.{IsAnswer, IsFault, IsNumber}
 use Rattle.event_reader.specs.Parts.{fault_of}
 use Rattle.event_reader.specs.Reading.{event_of}

@@ -6,11 +6,11 @@ use Rattle.std.specs.Str.{IsUtf8}
 use Rattle.std.proofs.lemmas.List.{append-nil}
 use Rattle.rule_tokens.specs.declared.token.Token.{Token}
 use Rattle.rule_tokens.specs.Spaced.{AreClean, IsClean, as_line, spaced as spaced_tokens}
-use Rattle.ce_algorithms.specs.declared.event.Cause.{Cause}
-use Rattle.ce_algorithms.specs.declared.event.Cause.TheVariants.{Disconnected as NotConnected, Invalid, Dialog, Url, Scheme, Size, Boundary}
-use Rattle.ce_algorithms.specs.declared.event.Event.{Event}
-use Rattle.ce_algorithms.specs.declared.event.Event.TheVariants.{SubmitGet, SubmitPost, SubmitBlocked}
-use Rattle.ce_algorithms.specs.Text.{cause, event_text, node, submit}
+use Rattle.ce_events.specs.declared.event.Cause.{Cause}
+use Rattle.ce_events.specs.declared.event.Cause.TheVariants.{Disconnected as NotConnected, Invalid, Dialog, Url, Scheme, Size, Boundary}
+use Rattle.ce_events.specs.declared.event.Event.{Event}
+use Rattle.ce_events.specs.declared.event.Event.TheVariants.{SubmitGet, SubmitPost, SubmitBlocked}
+use Rattle.ce_events.specs.Text.{cause, event_text, node, submit}
 use Rattle.event_reader.specs.IsEvent.{IsCause, IsNumber}
 use Rattle.event_reader.specs.Reading.{event_of}
 use Rattle.event_reader.specs.Submissions.{cause_of, submit_by}

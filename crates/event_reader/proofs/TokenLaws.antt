@@ -7,7 +7,7 @@ use Rattle.std.proofs.lemmas.List.{append-nil}
 use Rattle.std.proofs.lemmas.List.Folds.{list_all-append}
 use Rattle.rule_tokens.specs.declared.token.Token.{Token}
 use Rattle.rule_tokens.specs.Spaced.{AreClean, IsClean, is_bare_byte, spaced as spaced_tokens, written}
-use Rattle.ce_algorithms.specs.Text.{node, node_or_null, spaced, spaced_nodes, text_or_null}
+use Rattle.ce_events.specs.Text.{node, node_or_null, spaced, spaced_nodes, text_or_null}
 use Rattle.event_reader.specs.IsEvent.{AreNumbers, AreTexts, IsNumber, IsNumberOrNone, IsTextOrNone}
 use Rattle.event_reader.specs.Parts.{node_in, node_or_none, nodes_of, text_or_none, texts_of}
 use Rattle.event_reader.proofs.NumberLaws.{number_back, number_bare, number_begins}

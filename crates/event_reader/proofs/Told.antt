@@ -2,8 +2,8 @@
 use Rattle.std.proofs.Common.{◌≡◌, List, Some}
 use Rattle.rule_tokens.specs.declared.token.Token.{Token}
 use Rattle.rule_tokens.specs.Spaced.{AreClean, IsLine, as_line}
-use Rattle.ce_algorithms.specs.declared.event.Event.{Event}
-use Rattle.ce_algorithms.specs.Text.{event_text}
+use Rattle.ce_events.specs.declared.event.Event.{Event}
+use Rattle.ce_events.specs.Text.{event_text}
 use Rattle.event_reader.specs.Reading.{event_of}
 
 -- the event's line is these tokens, which are read as an event with the same text

@@ -5,8 +5,8 @@ use Rattle.ce_base.specs.declared.custom_state.CustomState.{CustomState}
 use Rattle.ce_base.specs.declared.custom_state.CustomState.TheVariants.{Undefined, Failed, Uncustomized, Precustomized, Custom}
 use Rattle.rule_tokens.specs.Flags.{raised}
 use Rattle.rule_tokens.specs.declared.token.Token.{Token}
-use Rattle.ce_algorithms.specs.declared.event.Answer.{Answer}
-use Rattle.ce_algorithms.specs.declared.event.Answer.TheVariants.{Null, One, Many, Node as NodeAnswer, Nodes, Texts, State, Truth, Raised}
+use Rattle.ce_events.specs.declared.event.Answer.{Answer}
+use Rattle.ce_events.specs.declared.event.Answer.TheVariants.{Null, One, Many, Node as NodeAnswer, Nodes, Texts, State, Truth, Raised}
 use Rattle.event_reader.specs.Parts.{begins_node, node_in, nodes_of, texts_of}
 
 abbrev pub state_named : List ℕ → Option CustomState

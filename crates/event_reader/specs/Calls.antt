@@ -4,8 +4,8 @@ use Rattle.std.specs.Str.{bytes_eq}
 use Rattle.reaction_queue.specs.declared.reaction.Mode.{Mode}
 use Rattle.reaction_queue.specs.declared.reaction.Mode.TheVariants.{Restore, Autocomplete}
 use Rattle.rule_tokens.specs.declared.token.Token.{Token}
-use Rattle.ce_algorithms.specs.declared.event.Event.{Event}
-use Rattle.ce_algorithms.specs.declared.event.Event.TheVariants.{Connected, Disconnected, Adopted, Attribute, FormAssociated, FormDisabled, FormReset, FormStateRestore}
+use Rattle.ce_events.specs.declared.event.Event.{Event}
+use Rattle.ce_events.specs.declared.event.Event.TheVariants.{Connected, Disconnected, Adopted, Attribute, FormAssociated, FormDisabled, FormReset, FormStateRestore}
 use Rattle.event_reader.specs.Parts.{node_in, node_or_none, text_or_none}
 
 abbrev pub adopted_of : ℕ → List Token → Option Event

@@ -3,13 +3,13 @@ use Rattle.std.specs.Prelude.{◌≡◌, ◌<◌, ◌^◌, ℕ, List, [], ◌∷
 use Rattle.std.specs.Str.{IsUtf8}
 use Rattle.ce_base.specs.declared.fault.Fault.{Fault}
 use Rattle.ce_base.specs.declared.fault.Fault.TheVariants.{UserThrow}
-use Rattle.ce_algorithms.specs.declared.event.Answer.{Answer}
-use Rattle.ce_algorithms.specs.declared.event.Answer.TheVariants.{Null, One, Many, Node as NodeAnswer, Nodes, Texts, State, Truth, Raised}
-use Rattle.ce_algorithms.specs.declared.event.Cause.{Cause}
-use Rattle.ce_algorithms.specs.declared.event.Cause.TheVariants.{Invalid}
-use Rattle.ce_algorithms.specs.declared.event.Event.{Event}
-use Rattle.ce_algorithms.specs.declared.event.Event.TheVariants.{Construct, Connected, Disconnected, Adopted, Attribute, FormAssociated, FormDisabled, FormReset, FormStateRestore, Logged, Caught, Reported, Asked, SubmitGet, SubmitPost, SubmitBlocked, Fine, Gave, Answered, Ignored, Threw, WasBad, FuelLine, QueueOpened, Enqueued, DrainBegun, Started, Finished, Dropped, QueueClosed, UpgradeBegun, UpgradeDone, UpgradeThrew}
-use Rattle.ce_algorithms.specs.Text.{event_text}
+use Rattle.ce_events.specs.declared.event.Answer.{Answer}
+use Rattle.ce_events.specs.declared.event.Answer.TheVariants.{Null, One, Many, Node as NodeAnswer, Nodes, Texts, State, Truth, Raised}
+use Rattle.ce_events.specs.declared.event.Cause.{Cause}
+use Rattle.ce_events.specs.declared.event.Cause.TheVariants.{Invalid}
+use Rattle.ce_events.specs.declared.event.Event.{Event}
+use Rattle.ce_events.specs.declared.event.Event.TheVariants.{Construct, Connected, Disconnected, Adopted, Attribute, FormAssociated, FormDisabled, FormReset, FormStateRestore, Logged, Caught, Reported, Asked, SubmitGet, SubmitPost, SubmitBlocked, Fine, Gave, Answered, Ignored, Threw, WasBad, FuelLine, QueueOpened, Enqueued, DrainBegun, Started, Finished, Dropped, QueueClosed, UpgradeBegun, UpgradeDone, UpgradeThrew}
+use Rattle.ce_events.specs.Text.{event_text}
 
 abbrev pub IsNumber : ℕ → Type 0
 IsNumber n = n < 2 ^ 64

@@ -6,8 +6,8 @@ use Rattle.std.specs.Str.{bytes_eq, is_utf8}
 use Rattle.rule_tokens.specs.Tokens.{tokens_of}
 use Rattle.rule_tokens.specs.declared.refused.Bad.{Bad}
 use Rattle.rule_tokens.specs.declared.token.Token.{Token}
-use Rattle.ce_algorithms.specs.declared.event.Event.{Event}
-use Rattle.ce_algorithms.specs.declared.event.Event.TheVariants.{Construct, Logged, Caught, Reported, Asked, FuelLine}
+use Rattle.ce_events.specs.declared.event.Event.{Event}
+use Rattle.ce_events.specs.declared.event.Event.TheVariants.{Construct, Logged, Caught, Reported, Asked, FuelLine}
 use Rattle.event_reader.specs.Answers.{answer_of}
 use Rattle.event_reader.specs.Calls.{call_of}
 use Rattle.event_reader.specs.Parts.{begins_number, fault_of, number_in, texts_of}

@@ -3,10 +3,10 @@ use Rattle.std.specs.Prelude.{ℕ, codes, if◌then◌else◌, List, [], ◌∷�
 use Rattle.std.specs.Option.{option_map}
 use Rattle.std.specs.Str.{bytes_eq}
 use Rattle.rule_tokens.specs.declared.token.Token.{Token}
-use Rattle.ce_algorithms.specs.declared.event.Cause.{Cause}
-use Rattle.ce_algorithms.specs.declared.event.Cause.TheVariants.{Disconnected as NotConnected, Invalid, Dialog, Url, Scheme, Size, Boundary}
-use Rattle.ce_algorithms.specs.declared.event.Event.{Event}
-use Rattle.ce_algorithms.specs.declared.event.Event.TheVariants.{SubmitGet, SubmitPost, SubmitBlocked}
+use Rattle.ce_events.specs.declared.event.Cause.{Cause}
+use Rattle.ce_events.specs.declared.event.Cause.TheVariants.{Disconnected as NotConnected, Invalid, Dialog, Url, Scheme, Size, Boundary}
+use Rattle.ce_events.specs.declared.event.Event.{Event}
+use Rattle.ce_events.specs.declared.event.Event.TheVariants.{SubmitGet, SubmitPost, SubmitBlocked}
 use Rattle.event_reader.specs.Parts.{node_in, nodes_of}
 
 abbrev pub get_of : ℕ → List Token → Option Event

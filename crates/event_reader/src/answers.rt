@@ -6,8 +6,8 @@ ghost use Rattle.event_reader.specs.Read.{Reads};
 
 use crate::EventRefused;
 use crate::parts::{begins_node, node_in, nodes_of, text_of, texts_of};
-use ce_algorithms::Answer;
 use ce_base::{CustomState, NoMemory, Nodes};
+use ce_events::Answer;
 use rule_tokens::{Token, raised};
 use std::alloc::Global;
 

@@ -6,8 +6,8 @@ ghost use Rattle.event_reader.specs.Read.{Reads};
 
 use crate::EventRefused;
 use crate::parts::{node_in, node_or_none, text_of, text_or_none};
-use ce_algorithms::Event;
 use ce_base::NodeNo;
+use ce_events::Event;
 use reaction_queue::Mode;
 use rule_tokens::Token;
 use std::alloc::Global;

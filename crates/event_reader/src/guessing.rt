@@ -1,7 +1,7 @@
 // Reads a line as the event that it must be.
 ghost use Rattle.std.specs.Prelude.{◌≡◌, IfOk, option_copied};
-ghost use Rattle.ce_algorithms.specs.Text.{event_text};
-ghost use Rattle.ce_algorithms.specs.declared.event.Event.{Event};
+ghost use Rattle.ce_events.specs.Text.{event_text};
+ghost use Rattle.ce_events.specs.declared.event.Event.{Event};
 ghost use Rattle.event_reader.specs.Guessed.{IsGuessed};
 ghost use Rattle.event_reader.specs.IsEvent.{IsEvent};
 ghost use Rattle.event_reader.specs.Read.{Reads};
@@ -15,8 +15,8 @@ use crate::parts::{begins_number, fault_of, number_in, texts_of};
 use crate::replies::reply_of;
 use crate::submissions::submit_of;
 use crate::traces::trace_of;
-use ce_algorithms::Event;
 use ce_base::{NoMemory, Text};
+use ce_events::Event;
 use rule_tokens::{Token, text_in, tokens_of};
 use std::alloc::Global;
 

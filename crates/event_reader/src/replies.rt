@@ -7,7 +7,7 @@ ghost use Rattle.event_reader.specs.Replies.{answered_of, bad_named, is_reply_wo
 use crate::EventRefused;
 use crate::answers::answer_of;
 use crate::parts::fault_of;
-use ce_algorithms::{Answer, Event};
+use ce_events::{Answer, Event};
 use rule_tokens::{Bad, Token};
 use std::alloc::Global;
 

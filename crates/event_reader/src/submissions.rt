@@ -6,8 +6,8 @@ ghost use Rattle.event_reader.specs.Submissions.{cause_by, cause_of, get_of, pos
 
 use crate::EventRefused;
 use crate::parts::{node_in, nodes_of, text_of};
-use ce_algorithms::{Cause, Event};
 use ce_base::NodeNo;
+use ce_events::{Cause, Event};
 use rule_tokens::Token;
 use std::alloc::Global;
 

@@ -6,8 +6,8 @@ ghost use Rattle.event_reader.specs.Traces.{enqueued_of, trace_by, trace_of, wha
 
 use crate::EventRefused;
 use crate::parts::{node_in, number_in};
-use ce_algorithms::Event;
 use ce_base::{NodeNo, QueueNo, ReactionNo};
+use ce_events::Event;
 use rule_tokens::{CallName, CallOrUpgrade, Token};
 
 fn what_named(word: &str) -> Option<CallOrUpgrade>

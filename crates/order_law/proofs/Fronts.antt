@@ -1,6 +1,6 @@
 -- Fronts of lawful logs.
 use Rattle.std.specs.Prelude.{◌≡◌, Bool, true, false, ◌&&◌, List, [], ◌∷◌, ◌++◌, refl}
-use Rattle.ce_algorithms.specs.declared.event.Event.{Event}
+use Rattle.ce_events.specs.declared.event.Event.{Event}
 use Rattle.order_law.specs.Book.{Book, blank}
 use Rattle.order_law.specs.After.{after}
 use Rattle.order_law.specs.Law.{may_come, is_lawful, Lawful}

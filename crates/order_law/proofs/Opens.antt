@@ -7,8 +7,8 @@ use Rattle.rule_tokens.specs.declared.callback.CallName.{CallName}
 use Rattle.rule_tokens.specs.declared.callback.CallName.TheVariants as names
 use Rattle.rule_tokens.specs.declared.callback.CallOrUpgrade.{CallOrUpgrade}
 use Rattle.rule_tokens.specs.declared.callback.CallOrUpgrade.TheVariants.{Call, Upgrade}
-use Rattle.ce_algorithms.specs.declared.event.Event.{Event}
-use Rattle.ce_algorithms.specs.declared.event.Event.TheVariants.{Connected, Disconnected, Adopted, Attribute, FormAssociated, FormDisabled, FormReset, FormStateRestore, QueueOpened, DrainBegun, Started, Finished, QueueClosed, UpgradeBegun, UpgradeDone, UpgradeThrew}
+use Rattle.ce_events.specs.declared.event.Event.{Event}
+use Rattle.ce_events.specs.declared.event.Event.TheVariants.{Connected, Disconnected, Adopted, Attribute, FormAssociated, FormDisabled, FormReset, FormStateRestore, QueueOpened, DrainBegun, Started, Finished, QueueClosed, UpgradeBegun, UpgradeDone, UpgradeThrew}
 use Rattle.order_law.specs.Book.{Book, Entry, Bracket, Filling, Draining, Reacting, Upgrading}
 use Rattle.order_law.specs.Lines.{call_of}
 use Rattle.order_law.specs.Reads.{is_for, entry_of, around}

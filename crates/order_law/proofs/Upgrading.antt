@@ -5,8 +5,8 @@ use Rattle.std.proofs.lemmas.Bool.{eqb-true, eq-eqb}
 use Rattle.rule_tokens.specs.declared.callback.CallName.{CallName}
 use Rattle.rule_tokens.specs.declared.callback.CallOrUpgrade.{CallOrUpgrade}
 use Rattle.rule_tokens.specs.declared.callback.CallOrUpgrade.TheVariants.{Call}
-use Rattle.ce_algorithms.specs.declared.event.Event.{Event}
-use Rattle.ce_algorithms.specs.declared.event.Event.TheVariants.{Enqueued, Started, FuelLine, QueueOpened, QueueClosed, UpgradeBegun, UpgradeThrew}
+use Rattle.ce_events.specs.declared.event.Event.{Event}
+use Rattle.ce_events.specs.declared.event.Event.TheVariants.{Enqueued, Started, FuelLine, QueueOpened, QueueClosed, UpgradeBegun, UpgradeThrew}
 use Rattle.order_law.specs.Book.{Book, Entry, blank}
 use Rattle.order_law.specs.Lines.{is_reply}
 use Rattle.order_law.specs.Reads.{is_one_of, is_callback, entry_of, current}

@@ -1,7 +1,7 @@
 -- Walking over a lawful log from its first event on.
 use Rattle.std.proofs.Common.{◌≡◌, true, List, [], ◌∷◌, ◌++◌, ⊎_elim, inl, inr}
 use Rattle.std.specs.Prelude.{◌⊎◌}
-use Rattle.ce_algorithms.specs.declared.event.Event.{Event}
+use Rattle.ce_events.specs.declared.event.Event.{Event}
 use Rattle.order_law.specs.Book.{Book, blank}
 use Rattle.order_law.specs.Clauses.{counts_up, runs_once, runs_in_order, drops_by_throw, closes_empty, nests, upgrades_once, replies_at_rest, fuel_is_last}
 use Rattle.order_law.specs.After.{after}

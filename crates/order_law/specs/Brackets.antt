@@ -2,8 +2,8 @@
 use Rattle.std.specs.Prelude.{◌≡◌, ◌⊎◌, ℕ, Bool, true, false, not, is_some, List, [], ◌∷◌, ◌++◌, Some}
 use Rattle.rule_tokens.specs.declared.callback.CallOrUpgrade.{CallOrUpgrade}
 use Rattle.rule_tokens.specs.declared.callback.CallOrUpgrade.TheVariants.{Call, Upgrade}
-use Rattle.ce_algorithms.specs.declared.event.Event.{Event}
-use Rattle.ce_algorithms.specs.declared.event.Event.TheVariants.{QueueOpened, DrainBegun, Started, Finished, QueueClosed, UpgradeBegun, UpgradeDone, UpgradeThrew}
+use Rattle.ce_events.specs.declared.event.Event.{Event}
+use Rattle.ce_events.specs.declared.event.Event.TheVariants.{QueueOpened, DrainBegun, Started, Finished, QueueClosed, UpgradeBegun, UpgradeDone, UpgradeThrew}
 use Rattle.order_law.specs.Book.{Entry}
 use Rattle.order_law.specs.Lines.{call_of}
 use Rattle.order_law.specs.Words.{Says, enqueue_line}

@@ -1,6 +1,6 @@
 -- The law of order: what a log may say, without a word of the algorithms. The log is read once, from its first event on.
 use Rattle.std.specs.Prelude.{◌≡◌, Bool, true, ◌&&◌, List, [], ◌∷◌}
-use Rattle.ce_algorithms.specs.declared.event.Event.{Event}
+use Rattle.ce_events.specs.declared.event.Event.{Event}
 use Rattle.order_law.specs.Book.{Book, blank}
 use Rattle.order_law.specs.Clauses.{counts_up, runs_once, runs_in_order, drops_by_throw, closes_empty, nests, upgrades_once, replies_at_rest, fuel_is_last}
 use Rattle.order_law.specs.After.{after}

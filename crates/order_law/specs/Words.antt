@@ -1,7 +1,7 @@
 -- Words about places in a log, for laws that are told without the book.
 use Rattle.std.specs.Prelude.{◌≡◌, ◌⊎◌, ℕ, ◌+◌, ◌≤◌, Bool, true, false, if◌then◌else◌, List, [], ◌∷◌}
-use Rattle.ce_algorithms.specs.declared.event.Event.{Event}
-use Rattle.ce_algorithms.specs.declared.event.Event.TheVariants.{DrainBegun, Dropped, Enqueued, QueueOpened, Started}
+use Rattle.ce_events.specs.declared.event.Event.{Event}
+use Rattle.ce_events.specs.declared.event.Event.TheVariants.{DrainBegun, Dropped, Enqueued, QueueOpened, Started}
 use Rattle.order_law.specs.Book.{Entry}
 
 -- the log says this somewhere

@@ -4,8 +4,8 @@ ghost use Rattle.std.specs.Prelude.{◌≡◌, ◌⊎◌, ℕ, ◌+◌, ◌≤�
 ghost use Rattle.rule_tokens.specs.declared.callback.CallName.{CallName};
 ghost use Rattle.rule_tokens.specs.declared.callback.CallOrUpgrade.{CallOrUpgrade};
 ghost use Rattle.rule_tokens.specs.declared.callback.CallOrUpgrade.TheVariants.{Call};
-ghost use Rattle.ce_algorithms.specs.declared.event.Event.{Event};
-ghost use Rattle.ce_algorithms.specs.declared.event.Event.TheVariants.{QueueOpened, Enqueued, Started, Finished, Dropped, QueueClosed, UpgradeBegun, UpgradeThrew, FuelLine};
+ghost use Rattle.ce_events.specs.declared.event.Event.{Event};
+ghost use Rattle.ce_events.specs.declared.event.Event.TheVariants.{QueueOpened, Enqueued, Started, Finished, Dropped, QueueClosed, UpgradeBegun, UpgradeThrew, FuelLine};
 ghost use Rattle.order_law.specs.Book.{Entry};
 ghost use Rattle.order_law.specs.Law.{Lawful};
 ghost use Rattle.order_law.specs.Lines.{is_reply};

@@ -7,11 +7,11 @@ use Rattle.ce_base.specs.Faults.{Rose}
 use Rattle.ce_base.specs.Outside.{AppendsPart, IsPrefix}
 use Rattle.ce_base.specs.declared.stop.Stop.{Stop}
 use Rattle.ce_base.specs.declared.stop.Stop.TheVariants.{NoMemory as StopMemory, WriteFault as StopWrite}
-use Rattle.ce_algorithms.specs.declared.event.Event.{Event}
+use Rattle.ce_events.specs.declared.event.Event.{Event}
 use Rattle.ce_algorithms.specs.Lines.{whole_lines, last_line}
 use Rattle.ce_algorithms.specs.State.{State}
 use Rattle.ce_algorithms.specs.Steps.{Outcome, Goes, Throws, Spent, is_spent}
-use Rattle.ce_algorithms.specs.Text.{text}
+use Rattle.ce_events.specs.Text.{text}
 use Rattle.ce_algorithms.specs.Written.{behind_in}
 use Rattle.order_law.specs.Law.{Lawful}
 use Rattle.order_law.proofs.Model.Scripts.{session_lawful}

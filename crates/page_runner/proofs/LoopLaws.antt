@@ -7,7 +7,7 @@ use Rattle.rule_script.specs.Reading.{longest, reading}
 use Rattle.ce_algorithms.specs.Lines.{whole_lines, last_part}
 use Rattle.ce_algorithms.specs.Model.{model}
 use Rattle.ce_algorithms.specs.Session.{run_line, log_of}
-use Rattle.ce_algorithms.specs.Text.{text}
+use Rattle.ce_events.specs.Text.{text}
 use Rattle.ce_algorithms.specs.Written.{Did}
 use Rattle.ce_machine.specs.Ended.{outcome_of}
 use Rattle.ce_machine.specs.declared.end.End.{End}

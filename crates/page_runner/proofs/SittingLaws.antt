@@ -9,12 +9,12 @@ use Rattle.std.specs.List.{list_any}
 use Rattle.std.specs.declared.option.Option.{Option}
 use Rattle.ce_base.specs.Outside.{AppendsPart}
 use Rattle.rule_script.specs.Reading.{reading}
-use Rattle.ce_algorithms.specs.declared.event.Event.{Event}
+use Rattle.ce_events.specs.declared.event.Event.{Event}
 use Rattle.ce_algorithms.specs.Model.{model}
 use Rattle.ce_algorithms.specs.Session.{run_line, run_lines, log_of}
 use Rattle.ce_algorithms.specs.State.{State}
 use Rattle.ce_algorithms.specs.Steps.{Goes, Throws, Spent, then_do}
-use Rattle.ce_algorithms.specs.Text.{text}
+use Rattle.ce_events.specs.Text.{text}
 use Rattle.ce_algorithms.specs.Written.{behind, behind_in}
 use Rattle.ce_machine.specs.Ended.{outcome_of}
 use Rattle.ce_machine.specs.declared.end.End.{End}

@@ -7,7 +7,7 @@ use Rattle.ce_algorithms.specs.Lines.{lines_of}
 use Rattle.ce_algorithms.specs.Session.{start, log_of}
 use Rattle.ce_algorithms.specs.State.{State}
 use Rattle.ce_algorithms.specs.Steps.{Step, Outcome, Goes, Throws, Spent, then_do, is_spent}
-use Rattle.ce_algorithms.specs.Text.{text}
+use Rattle.ce_events.specs.Text.{text}
 use Rattle.page_runner.specs.Script.{has_bad, session}
 use Rattle.page_runner.specs.Table.{limit, counted, lines_that_count, spends_all, transcript, Call, ReadsAll, WritesAll, Row, IsAsSaid, RunMeets, RunsWhole, script_status}
 use Rattle.page_runner.specs.declared.status.Status.{Status}

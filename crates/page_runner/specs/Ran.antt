@@ -2,10 +2,10 @@
 use Rattle.std.specs.Prelude.{◌≡◌, ◌≢◌, ℕ, ◌+◌, false, ◌||◌, List, [], length, All}
 use Rattle.std.specs.Io.KnownBytes.{Appends}
 use Rattle.std.specs.declared.option.Option.{Option}
-use Rattle.ce_algorithms.specs.declared.event.Event.{Event}
+use Rattle.ce_events.specs.declared.event.Event.{Event}
 use Rattle.ce_algorithms.specs.Lines.{last_part}
 use Rattle.ce_algorithms.specs.Session.{start, log_of}
-use Rattle.ce_algorithms.specs.Text.{text}
+use Rattle.ce_events.specs.Text.{text}
 use Rattle.ce_algorithms.specs.Written.{behind_in}
 use Rattle.ce_machine.specs.declared.end.End.{End}
 use Rattle.ce_machine.specs.declared.end.End.TheVariants.{Replied}

@@ -8,11 +8,11 @@ use Rattle.ce_base.specs.declared.stop.Stop.{Stop}
 use Rattle.ce_base.specs.declared.stop.Stop.TheVariants.{NoMemory as StopMemory, WriteFault as StopWrite}
 use Rattle.ce_base.specs.declared.outside.Got.{Got}
 use Rattle.ce_base.specs.declared.outside.Got.TheVariants.{Bytes, End as GotEnd, Failed}
-use Rattle.ce_algorithms.specs.declared.event.Event.{Event}
+use Rattle.ce_events.specs.declared.event.Event.{Event}
 use Rattle.ce_algorithms.specs.Lines.{whole_lines, lines_of}
 use Rattle.ce_algorithms.specs.Steps.{is_spent}
 use Rattle.ce_algorithms.specs.Session.{log_of}
-use Rattle.ce_algorithms.specs.Text.{text}
+use Rattle.ce_events.specs.Text.{text}
 use Rattle.order_law.specs.Law.{Lawful}
 use Rattle.ce_machine.specs.declared.end.End.{End}
 use Rattle.ce_machine.specs.declared.end.End.TheVariants.{Replied, FuelSpent}

@@ -7,7 +7,7 @@ ghost use Rattle.rule_script.specs.Built.{is_built};
 ghost use Rattle.rule_script.specs.Reading.{reading};
 ghost use Rattle.ce_algorithms.specs.Model.{model};
 ghost use Rattle.ce_algorithms.specs.Session.{run_line, log_of};
-ghost use Rattle.ce_algorithms.specs.Text.{text};
+ghost use Rattle.ce_events.specs.Text.{text};
 ghost use Rattle.ce_algorithms.specs.Written.{Did};
 ghost use Rattle.ce_machine.specs.Ended.{outcome_of};
 ghost use Rattle.page_runner.specs.Ran.{fresh};

@@ -60,6 +60,13 @@ impl Vals {
         self.items.as_slice()
     }
 
+    /// The values themselves.
+    pub fn into_items(self) -> Vec<Val>
+        ensures { result.items ≡ self }
+    {
+        self.items
+    }
+
     /// A second list with the same values.
     pub fn copy(&self, alloc: Global) -> Result<Vals, NoMemory>
         ensures { IfOk result (λ v. v ≡ self.now) }

@@ -76,8 +76,9 @@ fn quoted_text(alloc: Global, text: &str) -> Result<Text, NoMemory>
 {
     let mut out = String::new(alloc);
     push_quoted(alloc, &mut out, text)?;
-    let s = out.as_str();
-    Text::of(alloc, s)
+    // The bytes of a `String` are UTF-8: reading it as a `str` says so.
+    let _text = out.as_str();
+    Ok(Text::from(out))
 }
 
 /// The text in quotes. `NoMemory` comes only where memory was refused.

@@ -50,7 +50,7 @@ fn text_of(alloc: Global, chars: &[char]) -> Result<Text, NoMemory>
     for c in chars {
         s.push(*c)?;
     }
-    Text::of(alloc, s.as_str())
+    Ok(Text::from(s))
 }
 
 fn token_of(alloc: Global, raw: &Raw) -> Result<Token, LineRefused>

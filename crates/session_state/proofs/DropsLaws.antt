@@ -4,7 +4,7 @@ use Rattle.std.specs.Prelude.{MatchOption, IfNone}
 use Rattle.reaction_queue.specs.declared.reaction.Reaction.{Reaction}
 use Rattle.reaction_queue.specs.Changes.{DropsFirst}
 use Rattle.reaction_queue.specs.Queues.{ahead, waiting_at, with_list, with_waiting}
-use Rattle.ce_algorithms.specs.declared.event.Event.TheVariants.{Dropped}
+use Rattle.ce_events.specs.declared.event.Event.TheVariants.{Dropped}
 use Rattle.ce_algorithms.specs.Page.{Page, with_queues}
 use Rattle.ce_algorithms.specs.State.{State, log, logged}
 use Rattle.ce_algorithms.specs.Steps.{Outcome, Goes, for_each}

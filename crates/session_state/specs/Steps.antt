@@ -6,7 +6,7 @@ use Rattle.reaction_queue.specs.declared.reaction.Reaction.{Reaction}
 use Rattle.reaction_queue.specs.declared.reaction.Reaction.TheVariants.{Upgrade, Connected, Disconnected, Adopted, Attribute, FormAssociated, FormDisabled, FormReset, FormStateRestore}
 use Rattle.reaction_queue.specs.Queues.{waiting_at, with_waiting}
 use Rattle.ce_registry.specs.declared.definition.Definition.{Definition}
-use Rattle.ce_algorithms.specs.declared.event.Event.TheVariants.{FuelLine}
+use Rattle.ce_events.specs.declared.event.Event.TheVariants.{FuelLine}
 use Rattle.ce_algorithms.specs.Drain.{with_backup}
 use Rattle.ce_algorithms.specs.Page.{Page, with_queues}
 use Rattle.ce_algorithms.specs.Parts.{change_facts, with_has}

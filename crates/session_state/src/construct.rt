@@ -1,13 +1,12 @@
 // Constructing classes, and defining them.
 ghost use Rattle.std.specs.Prelude.{◌≡◌, ◌≤◌, ◌<◌, length, IfOk, IfSome, OnOk};
-ghost use Rattle.std.specs.Str.{str_to_ascii_lowercase};
 ghost use Rattle.rule_tokens.specs.declared.callback.CallName.TheVariants as calls;
 ghost use Rattle.node_trees.specs.Nodes.{IsNode, size};
 ghost use Rattle.ce_registry.specs.declared.definition.Definition.{Definition as IsDefinition};
 ghost use Rattle.ce_registry.specs.ClassFacts.{has_call};
 ghost use Rattle.ce_registry.specs.Registry.{by_class, is_value_of, may_define};
 ghost use Rattle.construction.specs.Stacks.{stack_of};
-ghost use Rattle.ce_algorithms.specs.declared.event.Event.TheVariants.{Construct};
+ghost use Rattle.ce_events.specs.declared.event.Event.TheVariants.{Construct};
 ghost use Rattle.ce_algorithms.specs.Construction.{base_call, base_entry, make_custom};
 ghost use Rattle.ce_algorithms.specs.Define.{define_name};
 ghost use Rattle.ce_algorithms.specs.Page.{definition_at};
@@ -19,8 +18,8 @@ ghost use Rattle.session_state.specs.Steps.{with_frozen};
 
 use crate::State;
 use crate::state::is_out_of_fuel;
-use ce_algorithms::Event;
 use ce_base::{ClassNo, CustomState, DefNo, Fault, Fuel, NoMemory, NodeNo, Text};
+use ce_events::Event;
 use ce_page::{Page, PageStop};
 use ce_registry::{ClassFacts, Definition};
 use construction::Base;
@@ -230,14 +229,6 @@ fn make_custom(
     page.set_definition(alloc, n, Some(d))?;
     page.set_state(n, CustomState::Custom);
     Ok(n)
-}
-
-/// A name in ASCII lowercase (Infra Standard, section "Strings"). NoMemory: memory was refused.
-pub fn lowercased(alloc: Global, name: &str) -> Result<Text, NoMemory>
-    ensures { IfOk result (λ t. t ≡ str_to_ascii_lowercase name.now) }
-{
-    let lower = name.to_ascii_lowercase(alloc)?;
-    Text::of(alloc, lower.as_str())
 }
 
 /// A text that may be absent, copied. NoMemory: memory was refused.

@@ -3,12 +3,12 @@ ghost use Rattle.std.specs.Prelude.{◌≡◌, ◌≤◌, OnOk, OnErr, IsErrOf};
 ghost use Rattle.std.specs.Io.KnownBytes.{Appends};
 ghost use Rattle.ce_base.specs.Faults.{Rose};
 ghost use Rattle.ce_base.specs.Outside.{AppendsPart};
-ghost use Rattle.ce_algorithms.specs.Text.{text};
+ghost use Rattle.ce_events.specs.Text.{text};
 ghost use Rattle.session_state.specs.Steps.{forgotten};
 
 use crate::State;
-use ce_algorithms::Event;
 use ce_base::{Sink, Stop};
+use ce_events::Event;
 use ce_lines::write_out;
 use std::alloc::Global;
 

@@ -5,15 +5,14 @@
 
 mod callbacks;
 mod construct;
+mod deeds;
 mod flush;
 mod making;
 mod parts;
-mod primitives;
 mod queues;
-mod shadow;
 mod state;
 mod upgrade;
 mod variables;
 
-pub use construct::{copy_of, lowercased};
+pub use construct::copy_of;
 pub use state::State;

@@ -3,7 +3,7 @@ ghost use Rattle.std.specs.Prelude.{◌≡◌, ◌≤◌, IfOk};
 ghost use Rattle.node_trees.specs.Kinds.{IsElement};
 ghost use Rattle.node_trees.specs.Nodes.{IsNode, size};
 ghost use Rattle.ce_algorithms.specs.CreateLater.{make_in_state};
-ghost use Rattle.ce_algorithms.specs.Making.{make_document, make_text};
+ghost use Rattle.ce_algorithms.specs.Making.{make_document};
 ghost use Rattle.ce_algorithms.specs.State.{on_page};
 ghost use Rattle.ce_page.specs.Ends.{Ends, work};
 ghost use Rattle.ce_page.specs.Numbers.{GrowsWithin};
@@ -23,25 +23,6 @@ impl State {
         ensures grows { size self.old.page.forest ≤ size self.new.page.forest }
     {
         let outcome = make_document(alloc, &mut self.page, &mut self.fuel);
-        self.after_call(is_out_of_fuel(&outcome))?;
-        outcome
-    }
-
-    /// Makes a text node (DOM Standard, section "Interface Document", `createTextNode`). It refuses nothing.
-    /// FuelSpent, NoMemory: see `State`.
-    pub fn make_text(
-        &mut self,
-        alloc: Global,
-        chars: Text,
-        document: NodeNo,
-    ) -> Result<NodeNo, PageStop>
-        ensures step { Ends (λ n. n) result self.new (on_page (make_text chars document) self.old) }
-        ensures made { IfOk result (IsNode self.new.page.forest) }
-        ensures grows { size self.old.page.forest ≤ size self.new.page.forest }
-    {
-        let outcome = self
-            .page
-            .create_text(alloc, chars, document, &mut self.fuel);
         self.after_call(is_out_of_fuel(&outcome))?;
         outcome
     }

@@ -8,8 +8,8 @@ ghost use Rattle.ce_algorithms.specs.Steps.{Goes};
 ghost use Rattle.session_state.specs.Steps.{TakesBackup, TakesReaction};
 
 use crate::State;
-use ce_algorithms::Event;
 use ce_base::{NoMemory, NodeNo, QueueNo, ReactionNo};
+use ce_events::Event;
 use reaction_queue::{ElementQueue, Reaction};
 use std::alloc::Global;
 

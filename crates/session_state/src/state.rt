@@ -9,8 +9,9 @@ ghost use Rattle.ce_page.specs.Sound.{IsSoundPage};
 ghost use Rattle.session_state.specs.Steps.{after_call, is_out_of_fuel};
 
 use crate::variables::Variables;
-use ce_algorithms::{Event, Note, Settings};
+use ce_algorithms::{Note, Settings};
 use ce_base::{ClassNo, Fuel, NoMemory, NodeNo, Text};
+use ce_events::Event;
 use ce_page::{Page, PageStop};
 use ce_registry::Registry;
 use class_table::Classes;
@@ -74,6 +75,13 @@ impl State {
             variables: Variables::make(alloc),
             log: Vec::new(alloc),
         })
+    }
+
+    /// The page.
+    pub fn page(&self) -> &Page
+        ensures { result.now ≡ self.now.page }
+    {
+        &self.page
     }
 
     /// The page's nodes. Node 1 is the page's document.

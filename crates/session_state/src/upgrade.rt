@@ -17,11 +17,11 @@ ghost use Rattle.ce_page.specs.Numbers.{GrowsWithin};
 ghost use Rattle.session_state.specs.Steps.{DropsReaction};
 
 use crate::State;
-use crate::shadow::disables_shadow;
 use crate::state::is_out_of_fuel;
-use ce_algorithms::Event;
 use ce_base::{CustomState, DefNo, Fuel, NoMemory, NodeNo, ReactionNo, Text};
+use ce_events::Event;
 use ce_page::{Page, PageStop};
+use page_calls::disables_shadow;
 use reaction_queue::Reaction;
 use std::alloc::Global;
 

@@ -9,8 +9,8 @@ use Rattle.rule_tokens.specs.declared.callback.CallOrUpgrade.TheVariants.{Call, 
 use Rattle.reaction_queue.specs.declared.reaction.Reaction.{Reaction}
 use Rattle.reaction_queue.specs.Queues.{Queues, Open, waiting_at, enqueued, counted, with_reaction, appended_to, number_of, current_number as current_of}
 use Rattle.reaction_queue.specs.Reactions.{what_of}
-use Rattle.ce_algorithms.specs.declared.event.Event.{Event}
-use Rattle.ce_algorithms.specs.declared.event.Event.TheVariants.{Enqueued}
+use Rattle.ce_events.specs.declared.event.Event.{Event}
+use Rattle.ce_events.specs.declared.event.Event.TheVariants.{Enqueued}
 use Rattle.ce_algorithms.specs.Page.{Page, definition_of, with_queues}
 use Rattle.order_law.specs.Book.{Entry, Book, blank}
 use Rattle.order_law.specs.Reads.{current, is_one_of, is_callback}

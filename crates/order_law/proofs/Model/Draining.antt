@@ -12,7 +12,7 @@ use Rattle.reaction_queue.specs.declared.reaction.Reaction.TheVariants.{Upgrade,
 use Rattle.reaction_queue.specs.Queues.{waiting_at, with_waiting, pushed_queue, popped_queue, current_elements}
 use Rattle.reaction_queue.specs.Reactions.{what_of}
 use Rattle.ce_registry.specs.declared.definition.Definition.{Definition}
-use Rattle.ce_algorithms.specs.declared.event.Event.TheVariants.{Started, Finished, Reported, QueueOpened, QueueClosed, DrainBegun}
+use Rattle.ce_events.specs.declared.event.Event.TheVariants.{Started, Finished, Reported, QueueOpened, QueueClosed, DrainBegun}
 use Rattle.ce_algorithms.specs.Steps.{Step, Outcome, Goes, Throws, Spent, then_do, ◌>>=◌, ◌>>◌, give, done, when, throw, read, catch_in, finally_in}
 use Rattle.ce_algorithms.specs.Page.{definition_of, with_queues}
 use Rattle.ce_algorithms.specs.State.{State, log, logged, change_page, class_of}

@@ -4,8 +4,8 @@ use Rattle.std.specs.Prelude.{◌==◌, ◌||◌, ◌&&◌, not}
 use Rattle.std.proofs.lemmas.Bool.{eqb-true, eqb-false, eq-eqb}
 use Rattle.rule_tokens.specs.declared.callback.CallOrUpgrade.{CallOrUpgrade}
 use Rattle.reaction_queue.specs.Queues.{Open, waiting_at}
-use Rattle.ce_algorithms.specs.declared.event.Event.{Event}
-use Rattle.ce_algorithms.specs.declared.event.Event.TheVariants.{DrainBegun, QueueClosed, FuelLine}
+use Rattle.ce_events.specs.declared.event.Event.{Event}
+use Rattle.ce_events.specs.declared.event.Event.TheVariants.{DrainBegun, QueueClosed, FuelLine}
 use Rattle.ce_algorithms.specs.Page.{Page, with_queues}
 use Rattle.ce_algorithms.specs.Drain.{with_backup}
 use Rattle.order_law.specs.Book.{Entry, Draining, blank}

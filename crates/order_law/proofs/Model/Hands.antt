@@ -1,7 +1,7 @@
 -- Nodes in hand: they stay nodes, whatever is done. So steps know of them that they are, and forget them in the end.
 use Rattle.std.proofs.Common.{◌≡◌, ℕ, List, [], ◌∷◌, length, inl, inr, subst, arith, refl}
 use Rattle.std.specs.Prelude.{◌⊎◌}
-use Rattle.ce_algorithms.specs.declared.event.Event.{Event}
+use Rattle.ce_events.specs.declared.event.Event.{Event}
 use Rattle.ce_algorithms.specs.Page.{Page, Element}
 use Rattle.ce_algorithms.specs.State.{State}
 use Rattle.order_law.proofs.Model.Sound.{IsRow, All}

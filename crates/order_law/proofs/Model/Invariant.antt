@@ -8,7 +8,7 @@ use Rattle.reaction_queue.specs.Queues.{Queues, Open, waiting_at}
 use Rattle.reaction_queue.specs.Reactions.{what_of}
 use Rattle.ce_registry.specs.declared.definition.Definition.{Definition}
 use Rattle.ce_registry.specs.ClassFacts.{has_call}
-use Rattle.ce_algorithms.specs.declared.event.Event.{Event}
+use Rattle.ce_events.specs.declared.event.Event.{Event}
 use Rattle.ce_algorithms.specs.Steps.{Outcome, Goes, Throws, Spent}
 use Rattle.ce_algorithms.specs.Page.{Page, Element, element_of, state_of, definition_of}
 use Rattle.ce_algorithms.specs.State.{State}

@@ -9,9 +9,9 @@ use Rattle.rule_tokens.specs.declared.callback.CallOrUpgrade.TheVariants.{Call, 
 use Rattle.reaction_queue.specs.declared.reaction.Reaction.{Reaction}
 use Rattle.reaction_queue.specs.declared.reaction.Reaction.TheVariants.{Upgrade, Connected, Disconnected, Adopted, Attribute, FormAssociated, FormDisabled, FormReset, FormStateRestore}
 use Rattle.reaction_queue.specs.Reactions.{what_of}
-use Rattle.ce_algorithms.specs.declared.event.Event.{Event}
-use Rattle.ce_algorithms.specs.declared.event.Event.TheVariants.{Construct, Caught, Reported, Asked, Connected as ConnectedLine, Disconnected as DisconnectedLine, Adopted as AdoptedLine, Attribute as AttributeLine, FormAssociated as FormAssociatedLine, FormDisabled as FormDisabledLine, FormReset as FormResetLine, FormStateRestore as FormStateRestoreLine}
-use Rattle.ce_algorithms.specs.declared.event.Answer.{Answer}
+use Rattle.ce_events.specs.declared.event.Event.{Event}
+use Rattle.ce_events.specs.declared.event.Event.TheVariants.{Construct, Caught, Reported, Asked, Connected as ConnectedLine, Disconnected as DisconnectedLine, Adopted as AdoptedLine, Attribute as AttributeLine, FormAssociated as FormAssociatedLine, FormDisabled as FormDisabledLine, FormReset as FormResetLine, FormStateRestore as FormStateRestoreLine}
+use Rattle.ce_events.specs.declared.event.Answer.{Answer}
 use Rattle.ce_algorithms.specs.Page.{Page}
 use Rattle.order_law.specs.Book.{Entry, Reacting, Book, blank}
 use Rattle.order_law.specs.Reads.{is_for}

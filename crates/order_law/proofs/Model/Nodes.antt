@@ -15,7 +15,7 @@ use Rattle.reaction_queue.specs.declared.reaction.Reaction.TheVariants.{Upgrade}
 use Rattle.ce_registry.specs.declared.definition.Definition.{Definition}
 use Rattle.ce_registry.specs.Registry.{by_class, is_value_of}
 use Rattle.construction.specs.Stacks.{stack_of, with_stack}
-use Rattle.ce_algorithms.specs.declared.event.Event.{Event}
+use Rattle.ce_events.specs.declared.event.Event.{Event}
 use Rattle.ce_algorithms.specs.Steps.{Outcome, Goes, Throws, Spent, then_do, ◌>>=◌, ◌>>◌, give, throw_if, throw_where, found}
 use Rattle.ce_algorithms.specs.Page.{Page, Work, Element, element_of, or_uncustomized, uncustomized, with_element, with_state, with_definition, definition_at}
 use Rattle.ce_algorithms.specs.Page as page

@@ -8,6 +8,7 @@ use Rattle.ce_base.specs.declared.fault.Fault.{Fault}
 use Rattle.ce_base.specs.declared.fault.Fault.TheVariants.{TypeError, NotSupportedError, InvalidCharacterError}
 use Rattle.element_names.specs.Names.{local_name}
 use Rattle.rule_tokens.specs.declared.operand.Operand.{Operand}
+use Rattle.rule_lines.specs.declared.line.Cmd.{Cmd}
 use Rattle.rule_lines.specs.declared.op.Op.{Op}
 use Rattle.rule_lines.specs.declared.op.Op.TheVariants as ops
 use Rattle.ce_registry.specs.declared.definition.Definition.{Definition}
@@ -15,9 +16,9 @@ use Rattle.ce_registry.specs.Registry.{is_autonomous}
 use Rattle.ce_algorithms.specs.declared.deed.Deed.{Deed}
 use Rattle.ce_algorithms.specs.declared.deed.Deed.TheVariants as deeds
 use Rattle.ce_algorithms.specs.declared.deed.PageDeed.{PageDeed}
-use Rattle.ce_algorithms.specs.declared.event.Event.TheVariants.{Reported}
-use Rattle.ce_algorithms.specs.declared.event.Given.{Given}
-use Rattle.ce_algorithms.specs.declared.event.Given.TheVariants.{Nothing, Node, Answers, Ignored}
+use Rattle.ce_events.specs.declared.event.Event.TheVariants.{Reported}
+use Rattle.ce_algorithms.specs.declared.given.Given.{Given}
+use Rattle.ce_algorithms.specs.declared.given.Given.TheVariants.{Nothing, Node, Answers, Ignored}
 use Rattle.ce_algorithms.specs.declared.fit.Fit.TheVariants.{ElementOrText}
 use Rattle.ce_algorithms.specs.Steps.{Step, Outcome, Goes, Throws, Spent, then_do, ◌>>=◌, ◌>>◌, give, catch, catch_in}
 use Rattle.ce_algorithms.specs.Page.{Work, element_of, definition_at}
@@ -32,8 +33,8 @@ use Rattle.ce_algorithms.specs.Create.{is_no_element, is_unfit, fitting, create_
 use Rattle.ce_algorithms.specs.Upgrade.{upgrade}
 use Rattle.ce_algorithms.specs.Construct.{construct}
 use Rattle.ce_algorithms.specs.Drain.{reacting}
-use Rattle.ce_algorithms.specs.Deeds.{resolve, variable, is_reacting_on_page}
-use Rattle.ce_algorithms.specs.Perform.{create_named, define_element, gives_nothing, gives_node, page_steps, perform_deed, keep, kept, operate}
+use Rattle.ce_algorithms.specs.Deeds.{resolve, resolve_user, variable, is_reacting_on_page}
+use Rattle.ce_algorithms.specs.Perform.{create_named, define_element, gives_nothing, gives_node, page_steps, perform_deed, keep, kept, operate, act_as_user}
 use Rattle.order_law.specs.Law.{Lawful}
 use Rattle.order_law.proofs.Model.Sound.{IsRow, All}
 use Rattle.order_law.proofs.Model.Invariant.{Hold, InSteps, InHand, Known, nodes_of, HoldsIn, After}
@@ -70,24 +71,14 @@ found_node rows (Ok n) k row next = next n row.0
 found_node rows (Err f) k row next = tt
 
 resolved : (rows : ℕ) (v : View) (op : Op) → ((operand : Operand) → FoundRows one rows (node v operand)) → FoundRows deed_nodes rows (resolve v op)
-resolved rows v (ops.Create var local is within) row = found_any rows (document_or_page v within) _ (λ d. tt)
-resolved rows v (ops.New var name) row = found_any rows (class v.classes name) _ (λ k. tt)
-resolved rows v (ops.MakeText var chars within) row = found_any rows (document_or_page v within) _ (λ d. tt)
-resolved rows v (ops.Shadow var host) row = found_any rows (element v host) _ (λ n. tt)
 resolved rows v (ops.Append parent child) row = found_node rows (node v parent) _ (row parent) (λ p at_p. found_node rows (node v child) _ (row child) (λ n at_n. (at_p, (at_n, tt))))
 resolved rows v (ops.Before parent child before) row =
     found_node rows (node v parent) _ (row parent) (λ p at_p. found_node rows (node v child) _ (row child) (λ n at_n. found_any rows (node v before) _ (λ b. (at_p, (at_n, tt)))))
-resolved rows v (ops.Remove parent child) row = found_any rows (node v parent) _ (λ p. found_any rows (node v child) _ (λ n. tt))
-resolved rows v (ops.Detach child) row = found_any rows (node_that ElementOrText v child) _ (λ n. tt)
-resolved rows v (ops.SetAttr at name value) row = found_any rows (element v at) _ (λ n. tt)
-resolved rows v (ops.DelAttr at name) row = found_any rows (element v at) _ (λ n. tt)
-resolved rows v (ops.Clone var at deep) row = found_any rows (node v at) _ (λ n. tt)
-resolved rows v (ops.Adopt within at) row = found_any rows (document v within) _ (λ d. found_any rows (node v at) _ (λ n. tt))
-resolved rows v (ops.Define name class_name base) row = found_any rows (class v.classes class_name) _ (λ k. tt)
-resolved rows v (ops.Upgrade at) row = found_any rows (node v at) _ (λ n. tt)
-resolved rows v (ops.Ask word at name) row = found_any rows (node_that (question word name).asked_of v at) _ (λ n. tt)
 resolved rows v (ops.Let var at) row = found_node rows (node v at) _ (row at) (λ n at_n. (at_n, tt))
-resolved rows v op row = tt
+resolved rows v op row = search found_any depth 8
+
+resolved_user : (rows : ℕ) (v : View) (c : Cmd) → FoundRows deed_nodes rows (resolve_user v c)
+resolved_user rows v c = tt
 
 -- variables
 
@@ -222,3 +213,7 @@ module _ (again : Again) (keeps : KeepsLaw again) where
   pub operate_gives : (this : Option ℕ) (op : Op) (h : List Hold) → All (λ n. IsHeld n h) (maybe this) → Gives given_nodes h (operate again this op)
   operate_gives this op h held = gives_bind {nodes = deed_nodes} (gives_look this (λ v. resolve v op) (λ s k. resolved (length s.page.elements) (view this s) op (λ operand. view_row h this operand s held k)))
       (λ deed. kept_gives (variable op) (deed_gives deed (with_hands (deed_nodes deed) h) (all_taken (deed_nodes deed) h)))
+
+  pub act_as_user_gives : (c : Cmd) (h : List Hold) → Gives given_nodes h (act_as_user again c)
+  act_as_user_gives c h = gives_bind {nodes = deed_nodes} (gives_look None (λ v. resolve_user v c) (λ s k. resolved_user (length s.page.elements) (view None s) c))
+      (λ deed. deed_gives deed (with_hands (deed_nodes deed) h) (all_taken (deed_nodes deed) h))

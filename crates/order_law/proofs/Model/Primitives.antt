@@ -11,13 +11,14 @@ use Rattle.node_trees.specs.Spots.{kind_at, parent_at, document_at, attribute_at
 use Rattle.node_trees.specs.Insertion.{may_insert}
 use Rattle.order_law.proofs.Model.Weights.{without_cut}
 use Rattle.ce_base.specs.declared.fault.Fault.{Fault}
-use Rattle.ce_algorithms.specs.declared.event.Event.{Event}
+use Rattle.ce_events.specs.declared.event.Event.{Event}
 use Rattle.ce_algorithms.specs.Steps.{Outcome, Goes, Throws, Spent, then_do, ◌>>=◌, ◌>>◌, where_is, for_each, throw_any}
 use Rattle.ce_algorithms.specs.Page.{Page, Work, with_forest, is_custom, definition_of}
 use Rattle.ce_algorithms.specs.Page as page
 use Rattle.ce_algorithms.specs.State.{event_of}
 use Rattle.ce_algorithms.specs.Enqueue.{enqueue_found, enqueue_upgrade, try_upgrade, lookup_for}
-use Rattle.ce_algorithms.specs.FormChanges.{FormChange, form_changes, is_form_associated, tell_owner, tell_disabled, tell_form_change, tell_at_turn, tell_others}
+use Rattle.form_controls.specs.declared.change.Change.{Change}
+use Rattle.ce_algorithms.specs.FormChanges.{form_changes, is_form_associated, tell_owner, tell_disabled, tell_form_change, tell_at_turn, tell_others}
 use Rattle.ce_algorithms.specs.Mutation.{is_connected, is_connected_parent, removed, remove, move_to, adopt, connected_now, inserted, put_in, reference_child, insert, pre_insert}
 use Rattle.ce_algorithms.specs.Attributes.{handle_attribute_change, set_attribute, remove_there, remove_attribute}
 use Rattle.order_law.proofs.Model.Forests.{alike_cut, alike_graft, alike_facts, outside_allowed, outside_facts}
@@ -62,18 +63,18 @@ disabled_change_at : {q : Trees → Type 0} {h : List Hold} {l : List Event} (n 
 disabled_change_at n None = at_done
 disabled_change_at n (Some disabled) = callback_at n (FormDisabled disabled)
 
-form_change_at : {q : Trees → Type 0} {h : List Hold} {l : List Event} (c : FormChange) → KeepsAt q h l (tell_form_change c)
+form_change_at : {q : Trees → Type 0} {h : List Hold} {l : List Event} (c : Change) → KeepsAt q h l (tell_form_change c)
 form_change_at c = at_where (λ w. is_custom w.page c.node && is_form_associated (definition_of w.page c.node)) (at_seq (owner_change_at c.node c.owner) (disabled_change_at c.node c.disabled))
 
-turn_at : {q : Trees → Type 0} {h : List Hold} {l : List Event} (changes : List FormChange) (n : ℕ) → KeepsAt q h l (tell_at_turn changes n)
-turn_at changes n = at_each (filter (λ (c : FormChange). c.node == n) changes) form_change_at
+turn_at : {q : Trees → Type 0} {h : List Hold} {l : List Event} (changes : List Change) (n : ℕ) → KeepsAt q h l (tell_at_turn changes n)
+turn_at changes n = at_each (filter (λ (c : Change). c.node == n) changes) form_change_at
 
-others_at : {q : Trees → Type 0} {h : List Hold} {l : List Event} (changes : List FormChange) (walk : List ℕ) → KeepsAt q h l (tell_others changes walk)
-others_at changes walk = at_each (filter (λ (c : FormChange). not (is_among c.node walk)) changes) form_change_at
+others_at : {q : Trees → Type 0} {h : List Hold} {l : List Event} (changes : List Change) (walk : List ℕ) → KeepsAt q h l (tell_others changes walk)
+others_at changes walk = at_each (filter (λ (c : Change). not (is_among c.node walk)) changes) form_change_at
 
 -- removal and adoption keep what is known of the forest, where a node's removal and another document keep it
 
-removed_at : {q : Trees → Type 0} {h : List Hold} {l : List Event} (changes : List FormChange) (was : Bool) (n : ℕ) → KeepsAt q h l (removed changes was n)
+removed_at : {q : Trees → Type 0} {h : List Hold} {l : List Event} (changes : List Change) (was : Bool) (n : ℕ) → KeepsAt q h l (removed changes was n)
 removed_at changes was n = at_seq (turn_at changes n) (at_where (λ w. was && is_custom w.page n) (callback_at n Disconnected))
 
 pub remove_at : {q : Trees → Type 0} {h : List Hold} {l : List Event} (node : ℕ) → ((f : Trees) → IsApart f → q f → q (cut f node)) →
@@ -99,7 +100,7 @@ connected_at : {q : Trees → Type 0} {h : List Hold} {l : List Event} (n : ℕ)
 connected_at n true = callback_at n Connected
 connected_at n false = try_element_at n
 
-inserted_at : {q : Trees → Type 0} {h : List Hold} {l : List Event} (changes : List FormChange) (n : ℕ) → KeepsAt q h l (inserted changes n)
+inserted_at : {q : Trees → Type 0} {h : List Hold} {l : List Event} (changes : List Change) (n : ℕ) → KeepsAt q h l (inserted changes n)
 inserted_at changes n = at_seq (turn_at changes n) (at_bind (at_read (λ p. is_connected p n)) (λ now_connected. at_bind (at_read (λ p. is_custom p n)) (λ custom. at_when now_connected (connected_at n custom))))
 
 -- the node is one, and the parent stands outside of its tree

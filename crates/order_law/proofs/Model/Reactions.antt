@@ -8,8 +8,8 @@ use Rattle.rule_tokens.specs.declared.callback.CallOrUpgrade.TheVariants.{Call, 
 use Rattle.reaction_queue.specs.declared.reaction.Reaction.{Reaction}
 use Rattle.reaction_queue.specs.Queues.{Open, waiting_at, with_waiting, pushed_queue, popped_queue, current_elements, elements_of, others_of}
 use Rattle.reaction_queue.specs.Reactions.{what_of}
-use Rattle.ce_algorithms.specs.declared.event.Event.{Event}
-use Rattle.ce_algorithms.specs.declared.event.Event.TheVariants.{QueueOpened, DrainBegun, Started, Finished}
+use Rattle.ce_events.specs.declared.event.Event.{Event}
+use Rattle.ce_events.specs.declared.event.Event.TheVariants.{QueueOpened, DrainBegun, Started, Finished}
 use Rattle.ce_algorithms.specs.Page.{Page, definition_of, with_queues}
 use Rattle.order_law.specs.Book.{Entry, Filling, Draining, Reacting, Book, blank}
 use Rattle.order_law.specs.Reads.{without, is_one_of, is_callback}

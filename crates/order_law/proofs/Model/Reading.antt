@@ -3,8 +3,8 @@ use Rattle.std.proofs.Common.{◌≡◌, ℕ, ◌<◌, Bool, true, false, List, 
 use Rattle.std.specs.Prelude.{◌==◌, ◌&&◌, not, if◌then◌else◌}
 use Rattle.std.proofs.lemmas.Bool.{and_parts, eqb-true, eq-eqb}
 use Rattle.rule_tokens.specs.declared.callback.CallOrUpgrade.{CallOrUpgrade}
-use Rattle.ce_algorithms.specs.declared.event.Event.{Event}
-use Rattle.ce_algorithms.specs.declared.event.Event.TheVariants.{Dropped, UpgradeThrew}
+use Rattle.ce_events.specs.declared.event.Event.{Event}
+use Rattle.ce_events.specs.declared.event.Event.TheVariants.{Dropped, UpgradeThrew}
 use Rattle.order_law.specs.Book.{Entry, Bracket, Upgrading, Book}
 use Rattle.order_law.specs.Reads.{entry_of, without, none_of_element, is_first}
 use Rattle.order_law.specs.Clauses.{counts_up, starts_once, calls_once, runs_in_order, drops_in_upgrade, closes_empty, ends_innermost, begins_upgrade, spares_thrown, replies_at_rest, fuel_is_last, goes_on, loser, leads, is_in_upgrade}

@@ -8,7 +8,7 @@ use Rattle.ce_base.specs.declared.fault.Fault.TheVariants.{TypeError, NotSupport
 use Rattle.rule_tokens.specs.declared.refused.Bad.{Bad}
 use Rattle.rule_lines.specs.Acts.{Part, On, Has, Observe, Associate, DisableShadow, DisableInternals, Said, Blank, Command, Declares}
 use Rattle.rule_lines.specs.Acts.{Class as NewClass}
-use Rattle.ce_algorithms.specs.declared.event.Event.TheVariants.{WasBad}
+use Rattle.ce_events.specs.declared.event.Event.TheVariants.{WasBad}
 use Rattle.ce_algorithms.specs.Steps.{Step, Outcome, Goes, Throws, Spent, then_do, ◌>>=◌, ◌>>◌, attempt_in, found, throw_where, throw_if, give, change}
 use Rattle.ce_algorithms.specs.State.{State, Class, change_class, class_of, class_named, new_class}
 use Rattle.ce_algorithms.specs.Model.{model}

@@ -5,10 +5,10 @@ use Rattle.ce_base.specs.declared.fault.Fault.{Fault}
 use Rattle.rule_tokens.specs.declared.refused.Bad.{Bad}
 use Rattle.rule_lines.specs.declared.line.Cmd.{Cmd}
 use Rattle.rule_lines.specs.declared.line.Cmd.TheVariants as commands
-use Rattle.ce_algorithms.specs.declared.event.Event.{Event}
-use Rattle.ce_algorithms.specs.declared.event.Event.TheVariants.{Fine, Gave, Answered, Ignored as IgnoredLine, Threw, WasBad}
-use Rattle.ce_algorithms.specs.declared.event.Given.{Given}
-use Rattle.ce_algorithms.specs.declared.event.Given.TheVariants.{Nothing, Node, Answers, Ignored}
+use Rattle.ce_events.specs.declared.event.Event.{Event}
+use Rattle.ce_events.specs.declared.event.Event.TheVariants.{Fine, Gave, Answered, Ignored as IgnoredLine, Threw, WasBad}
+use Rattle.ce_algorithms.specs.declared.given.Given.{Given}
+use Rattle.ce_algorithms.specs.declared.given.Given.TheVariants.{Nothing, Node, Answers, Ignored}
 use Rattle.ce_algorithms.specs.Steps.{Outcome, Goes, Throws, Spent, then_do, ◌>>=◌, ◌>>◌, give, attempt, attempt_in}
 use Rattle.ce_algorithms.specs.State.{State, log, logged, spend_from}
 use Rattle.ce_algorithms.specs.Calls.{Again}
@@ -29,7 +29,7 @@ use Rattle.order_law.proofs.Model.Nodes.{document_gives}
 use Rattle.order_law.proofs.Model.PageDeeds.{node_given}
 use Rattle.order_law.proofs.Model.Draining.{KeepsLaw, AfterBackup, AfterRest, drain_after, backup_after, checkpoint_after}
 use Rattle.order_law.proofs.Model.Bodies.{body_keeps, construct_for_keeps}
-use Rattle.order_law.proofs.Model.Operations.{operate_gives, kept_gives}
+use Rattle.order_law.proofs.Model.Operations.{operate_gives, act_as_user_gives, kept_gives}
 
 -- replies
 
@@ -139,7 +139,7 @@ performed_then line (Spent s) k = k
 performs : (c : Cmd) → Keeps [] (perform model c)
 performs (commands.Both op) = gives_keeps (operate_gives model model_keeps None op [] tt)
 performs (commands.Doc var) = gives_keeps (kept_gives (Some var) (gives_page (λ vs l. node_given document_gives)))
-performs c = record { at = λ s o. o }
+performs c = gives_keeps (act_as_user_gives model model_keeps c [])
 
 pub command_ends : (line : ℕ) (c : Cmd) (s : State) → Rests s → Ends (command model line c s)
 command_ends line c s r = go s.fuel

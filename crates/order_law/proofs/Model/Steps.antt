@@ -10,8 +10,8 @@ use Rattle.reaction_queue.specs.declared.reaction.Reaction.{Reaction}
 use Rattle.reaction_queue.specs.Queues.{Queues, enqueued, current_number as current_of, with_reaction, counted, appended_to, number_of}
 use Rattle.reaction_queue.specs.Reactions.{what_of}
 use Rattle.ce_registry.specs.declared.definition.Definition.{Definition}
-use Rattle.ce_algorithms.specs.declared.event.Event.{Event}
-use Rattle.ce_algorithms.specs.declared.event.Event.TheVariants.{Enqueued}
+use Rattle.ce_events.specs.declared.event.Event.{Event}
+use Rattle.ce_events.specs.declared.event.Event.TheVariants.{Enqueued}
 use Rattle.ce_algorithms.specs.Steps.{Step, Outcome, Goes, Throws, Spent, then_do, ◌>>=◌, ◌>>◌, give, done, throw, when, where_is, for_each, finally, finally_in}
 use Rattle.ce_algorithms.specs.Page.{Page, Work, Element, or_uncustomized, definition_of, with_queues, with_forest}
 use Rattle.ce_algorithms.specs.Page as page

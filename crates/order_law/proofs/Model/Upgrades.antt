@@ -9,8 +9,8 @@ use Rattle.rule_tokens.specs.declared.callback.CallOrUpgrade.{CallOrUpgrade}
 use Rattle.rule_tokens.specs.declared.callback.CallOrUpgrade.TheVariants.{Call, Upgrade as IsUpgrade}
 use Rattle.reaction_queue.specs.declared.reaction.Reaction.{Reaction}
 use Rattle.reaction_queue.specs.Queues.{Queues, waiting_at, with_waiting}
-use Rattle.ce_algorithms.specs.declared.event.Event.{Event}
-use Rattle.ce_algorithms.specs.declared.event.Event.TheVariants.{Dropped, UpgradeBegun, UpgradeDone, UpgradeThrew}
+use Rattle.ce_events.specs.declared.event.Event.{Event}
+use Rattle.ce_events.specs.declared.event.Event.TheVariants.{Dropped, UpgradeBegun, UpgradeDone, UpgradeThrew}
 use Rattle.ce_algorithms.specs.Steps.{Outcome, Goes, then_do, ◌>>◌, throw, for_each}
 use Rattle.ce_algorithms.specs.Page.{Page, Element, element_of, state_of, definition_of, with_element, with_state, with_definition, with_queues}
 use Rattle.ce_algorithms.specs.State.{State, log, logged}

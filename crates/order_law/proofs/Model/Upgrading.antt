@@ -4,8 +4,8 @@ use Rattle.std.specs.Prelude.{◌-◌}
 use Rattle.std.proofs.lemmas.List.{length-set}
 use Rattle.ce_base.specs.declared.custom_state.CustomState.TheVariants.{Failed, Custom}
 use Rattle.reaction_queue.specs.declared.reaction.Reaction.TheVariants.{Attribute, Connected, FormAssociated, FormDisabled}
-use Rattle.ce_algorithms.specs.declared.event.Event.{Event}
-use Rattle.ce_algorithms.specs.declared.event.Event.TheVariants.{UpgradeBegun, UpgradeDone}
+use Rattle.ce_events.specs.declared.event.Event.{Event}
+use Rattle.ce_events.specs.declared.event.Event.TheVariants.{UpgradeBegun, UpgradeDone}
 use Rattle.ce_algorithms.specs.Steps.{Outcome, Goes, Throws, Spent, then_do, ◌>>◌, when, catch_in, finally, for_each, where_is}
 use Rattle.ce_algorithms.specs.Page.{Work, Element, element_of, state_of, with_element, with_state, with_definition, definition_of}
 use Rattle.ce_algorithms.specs.FormChanges.{tell_form, tell_first_owner, form_owner, is_disabled, is_form_associated}

@@ -1,5 +1,5 @@
 use Rattle.std.proofs.Common.{◌≡◌, ◌++◌, drop}
-use Rattle.ce_algorithms.specs.Text.{spaced_nodes}
+use Rattle.ce_events.specs.Text.{spaced_nodes}
 use Rattle.ce_lines.proofs.lists.put_nodes_from.Given as goal
 
 abbrev pub invariant-loop-i : goal.invariant-loop-i

@@ -1,5 +1,5 @@
 use Rattle.std.proofs.Common.{◌≡◌, ◌++◌, drop}
-use Rattle.ce_algorithms.specs.Text.{spaced}
+use Rattle.ce_events.specs.Text.{spaced}
 use Rattle.ce_lines.proofs.lists.put_spaced.Given as goal
 
 abbrev pub invariant-loop-text : goal.invariant-loop-text

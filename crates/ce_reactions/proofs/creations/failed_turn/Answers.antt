@@ -2,7 +2,7 @@ use Rattle.std.proofs.Common.{ap}
 use Rattle.ce_algorithms.specs.Create.{create_failed}
 use Rattle.ce_algorithms.specs.Perform.{gives_node}
 use Rattle.ce_frames.specs.Turned.{ended}
-use Rattle.ce_operations.proofs.GivenLaws.{node_ends}
+use Rattle.page_calls.proofs.GivenLaws.{node_ends}
 use Rattle.ce_reactions.proofs.ConstructLaws.{node_there}
 use Rattle.ce_reactions.proofs.creations.failed_turn.Goals as goal
 

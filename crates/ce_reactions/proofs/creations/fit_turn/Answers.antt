@@ -1,6 +1,6 @@
 use Rattle.std.proofs.Common.{◌≡◌, ap, subst, sym, ◌∙◌}
 use Rattle.std.specs.Prelude.{IfOk}
-use Rattle.ce_algorithms.specs.declared.event.Given.{Given}
+use Rattle.ce_algorithms.specs.declared.given.Given.{Given}
 use Rattle.ce_frames.specs.Frames as waiting
 use Rattle.ce_frames.specs.Turned.{Turned, ended}
 use Rattle.ce_frames.specs.Turns.{turn_went}

@@ -1,6 +1,6 @@
 use Rattle.std.proofs.Common.{◌≡◌, ◌≤◌, take}
 use Rattle.std.specs.Io.KnownBytes.{Appends}
-use Rattle.ce_algorithms.specs.Text.{text}
+use Rattle.ce_events.specs.Text.{text}
 use Rattle.session_state.proofs.flush.write_log.Given as goal
 
 abbrev pub invariant-loop-e : goal.invariant-loop-e

@@ -26,19 +26,6 @@ pub enum Answer {
     Raised(Flags),
 }
 
-/// What an operation gives.
-#[derive(Debug, Drop)]
-pub enum Given {
-    /// It gives nothing.
-    Nothing,
-    /// It gives this node.
-    Node(NodeNo),
-    /// It answers what was asked.
-    Answers(Answer),
-    /// It was ignored, as a user's command on a disabled control is.
-    Ignored,
-}
-
 /// What blocks a submission (HTML Standard, section "Form submission").
 #[derive(Debug, Drop)]
 pub enum Cause {

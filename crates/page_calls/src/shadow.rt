@@ -1,39 +1,22 @@
-// Attaching a shadow root.
-ghost use Rattle.std.specs.Prelude.{◌≡◌, ◌≤◌, ℕ, option_copied, IfOk};
+// What attaching a shadow root tests first.
+ghost use Rattle.std.specs.Prelude.{◌≡◌, None, IfOk};
 ghost use Rattle.node_trees.specs.declared.kind.NodeKind.TheVariants.{Element as ElementKind};
-ghost use Rattle.node_trees.specs.Nodes.{IsNode, size};
+ghost use Rattle.node_trees.specs.Nodes.{IsNode};
 ghost use Rattle.node_trees.specs.Spots.{kind_at, shadow_at};
 ghost use Rattle.ce_algorithms.specs.Making.{make_shadow_root};
 ghost use Rattle.ce_algorithms.specs.Perform.{attach_shadow, disables_shadow, is_shadow_disabled};
-ghost use Rattle.ce_algorithms.specs.State.{on_page};
-ghost use Rattle.ce_page.specs.Ends.{Ends, work};
+ghost use Rattle.ce_page.specs.Ends.{Ends, Keeps, work};
 ghost use Rattle.ce_page.specs.Numbers.{GrowsWithin};
 
-use crate::State;
-use crate::state::is_out_of_fuel;
 use ce_base::{DefNo, Fault, Fuel, NodeNo};
 use ce_page::{Page, PageStop};
 use element_names::{is_custom_name, is_shadow_host};
 use std::alloc::Global;
 
-impl State {
-    /// Attaches a shadow root to an element (DOM Standard, section "Interface Element", "attach a shadow
-    /// root"). NotSupportedError: the local name is none of an element that may have a shadow tree, or the definition
-    /// disables shadow, or there is a shadow root already. FuelSpent, NoMemory: see `State`.
-    pub fn attach_shadow(&mut self, alloc: Global, n: NodeNo) -> Result<NodeNo, PageStop>
-        requires node { IsNode self.old.page.forest n }
-        requires element { kind_at self.old.page.forest n ≡ ElementKind }
-        ensures step { Ends (λ n. n) result self.new (on_page (attach_shadow n) self.old) }
-        ensures made { IfOk result (IsNode self.new.page.forest) }
-        ensures grows { size self.old.page.forest ≤ size self.new.page.forest }
-    {
-        let outcome = attach_shadow(alloc, &mut self.page, &mut self.fuel, n);
-        self.after_call(is_out_of_fuel(&outcome))?;
-        outcome
-    }
-}
-
-fn attach_shadow(
+/// Attaches a shadow root to an element (DOM Standard, section "Interface Element", "attach a shadow root").
+/// NotSupportedError: the local name is none of an element that may have a shadow tree, or the definition disables
+/// shadow, or there is a shadow root already.
+pub(crate) fn attach_shadow(
     alloc: Global,
     page: &mut Page,
     fuel: &mut Fuel,
@@ -43,6 +26,7 @@ fn attach_shadow(
     requires element { kind_at page.old.forest n ≡ ElementKind }
     ensures step { Ends (λ n. n) result (work page.new fuel.new) (attach_shadow n (work page.old fuel.old)) }
     ensures within { GrowsWithin page.old page.new fuel.old fuel.new }
+    ensures refused { Keeps result page.old page.new }
     ensures made { IfOk result (IsNode page.new.forest) }
 {
     if !is_shadow_host(page.tree().local(n)) {
@@ -68,8 +52,9 @@ fn is_shadow_disabled(page: &Page, n: NodeNo) -> bool
     false
 }
 
-/// Whether a definition disables shadow. None does not, and neither does a number that was not given.
-pub(crate) fn disables_shadow(page: &Page, d: Option<DefNo>) -> bool
+/// Whether a definition disables shadow (HTML Standard, section "Core concepts", "disable shadow"). None does not, and
+/// neither does a number that was not given.
+pub fn disables_shadow(page: &Page, d: Option<DefNo>) -> bool
     ensures { result ≡ disables_shadow page.now d }
 {
     match d {
@@ -93,6 +78,7 @@ fn make_shadow_root(
     requires free { shadow_at page.old.forest host ≡ None }
     ensures step { Ends (λ n. n) result (work page.new fuel.new) (make_shadow_root host (work page.old fuel.old)) }
     ensures within { GrowsWithin page.old page.new fuel.old fuel.new }
+    ensures refused { Keeps result page.old page.new }
     ensures made { IfOk result (IsNode page.new.forest) }
 {
     if !fuel.spend() {

@@ -6,15 +6,14 @@ ghost use Rattle.ce_algorithms.specs.Fits.{fits};
 
 use ce_algorithms::Fit;
 use ce_base::NodeNo;
-use ce_page::NodeKind;
-use session_state::State;
+use ce_page::{NodeKind, Page};
 
 /// Whether a node is what it has to be.
-pub fn fits(what: Fit, state: &State, n: NodeNo) -> bool
-    requires { IsNode state.now.page.forest n }
-    ensures { result ≡ fits what state.now.page n }
+pub fn fits(what: Fit, page: &Page, n: NodeNo) -> bool
+    requires { IsNode page.now.forest n }
+    ensures { result ≡ fits what page.now n }
 {
-    let kind = state.tree().kind(n);
+    let kind = page.tree().kind(n);
     match what {
         Fit::Any => true,
         Fit::Element => is_element(kind),

@@ -1,0 +1,8 @@
+//! What a session writes down: its events, and the text of each.
+//!
+//! The definitions stand in `specs/`. This crate's own types are what the model, the text and the code share.
+#![tactic(auto)]
+
+mod event;
+
+pub use event::{Answer, Cause, Event};

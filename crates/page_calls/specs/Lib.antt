@@ -1,0 +1,4 @@
+pub mod Asked
+pub mod Given
+pub mod Ready
+pub mod Resolved

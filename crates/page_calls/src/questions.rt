@@ -1,0 +1,90 @@
+// Questions about nodes.
+ghost use Rattle.std.specs.Prelude.{◌≡◌, ℕ, List, Option, option_copied, true, IfOk};
+ghost use Rattle.std.specs.Str.{str_to_ascii_lowercase};
+ghost use Rattle.node_trees.specs.Nodes.{IsNode};
+ghost use Rattle.node_trees.specs.Spots.{attribute_at, parent_at};
+ghost use Rattle.reaction_queue.specs.Queues.{or_empty};
+ghost use Rattle.rule_script.specs.Built.{is_built_word};
+ghost use Rattle.ce_algorithms.specs.Questions.{node_answer, question, text_answer};
+ghost use Rattle.page_calls.specs.Asked.{asked};
+ghost use Rattle.page_calls.specs.Resolved.{Resolves};
+
+use crate::fits::fits;
+use ce_algorithms::Fit;
+use ce_base::{Fault, NoMemory, NodeNo, Refused, Text};
+use ce_events::Answer;
+use ce_page::Page;
+use rule_lines::AskWord;
+use std::alloc::Global;
+
+/// What a question of a node answers; of an attribute by its name (DOM Standard, section "Interface Element"). TypeError
+/// exactly where the node is not one that the question can be asked of. NoMemory: memory was refused.
+pub fn ask(
+    alloc: Global,
+    page: &Page,
+    word: AskWord,
+    name: Option<&str>,
+    n: NodeNo,
+) -> Result<Answer, Refused>
+    requires node { IsNode page.now.forest n }
+    requires built { is_built_word word ≡ true }
+    ensures { Resolves result (asked word (option_copied name.entry) page.now n) }
+{
+    if !fits(asked_of(word), page, n) {
+        return Err(Refused::Fault(Fault::TypeError));
+    }
+    Ok(answer(alloc, page, word, name, n)?)
+}
+
+/// Of which nodes a question can be asked.
+pub fn asked_of(word: AskWord) -> Fit
+    ensures { (name : Option (List ℕ)) → result ≡ (question word name).asked_of }
+{
+    match word {
+        AskWord::Attr | AskWord::State => Fit::Element,
+        _ => Fit::Any,
+    }
+}
+
+/// What a question answers of a node that it can be asked of. NoMemory: memory was refused.
+pub fn answer(
+    alloc: Global,
+    page: &Page,
+    word: AskWord,
+    name: Option<&str>,
+    n: NodeNo,
+) -> Result<Answer, NoMemory>
+    requires node { IsNode page.now.forest n }
+    requires built { is_built_word word ≡ true }
+    ensures { IfOk result (λ a. a ≡ (question word (option_copied name.entry)).answer page.now n) }
+{
+    match word {
+        AskWord::Attr => attribute(alloc, page, name, n),
+        AskWord::Parent => Ok(parent(page, n)),
+        AskWord::Kids => Ok(Answer::Nodes(page.tree().children(alloc, n)?)),
+        AskWord::State => Ok(Answer::State(page.state(n))),
+        _ => unreachable!(),
+    }
+}
+
+// The value of an attribute by its name, which is lowercased.
+fn attribute(alloc: Global, page: &Page, name: Option<&str>, n: NodeNo) -> Result<Answer, NoMemory>
+    requires { IsNode page.now.forest n }
+    ensures { IfOk result (λ a. a ≡ text_answer (attribute_at page.now.forest n (str_to_ascii_lowercase (or_empty (option_copied name.entry))))) }
+{
+    let lower = name.unwrap_or("").to_ascii_lowercase(alloc)?;
+    match page.tree().attr(n, lower.as_str()) {
+        None => Ok(Answer::Null),
+        Some(value) => Ok(Answer::One(Text::of(alloc, value)?)),
+    }
+}
+
+fn parent(page: &Page, n: NodeNo) -> Answer
+    requires { IsNode page.now.forest n }
+    ensures { result ≡ node_answer (parent_at page.now.forest n) }
+{
+    match page.tree().parent(n) {
+        None => Answer::Null,
+        Some(parent) => Answer::Node(parent),
+    }
+}
