@@ -1,13 +1,12 @@
 // The arguments of a callback, as texts.
-ghost use Rattle.std.specs.Prelude.{◌≡◌, map, option_map, IfOk};
+ghost use Rattle.std.specs.Prelude.{◌≡◌, option_map, IfOk};
 ghost use Rattle.reaction_queue.specs.Queues.{or_empty};
 ghost use Rattle.ce_algorithms.specs.Values.{args_of, fixed_value, no_args, text_of};
 ghost use Rattle.ce_events.specs.Text as text;
 
 use crate::Memory;
-use ce_base::{NoMemory, NodeNo, Text, Texts};
+use ce_base::{NoMemory, NodeNo, Text};
 use reaction_queue::{Mode, Reaction};
-use rule_lines::Vals;
 use rule_tokens::Val;
 use std::alloc::Global;
 use std::marker::Model;
@@ -72,17 +71,6 @@ impl Args {
             Val::Second => self.second.copy(alloc),
             Val::Third => self.third.copy(alloc),
         }
-    }
-
-    /// The texts that the values name, by what the class remembers.
-    pub fn texts(&self, alloc: Global, memory: &Memory, vals: &Vals) -> Result<Texts, NoMemory>
-        ensures { IfOk result (λ ts. ts ≡ map (text_of memory.now self.now) vals.now) }
-    {
-        let mut texts = Texts::make(alloc);
-        for v in vals.as_slice() {
-            texts.push(alloc, self.text(alloc, memory, v)?)?;
-        }
-        Ok(texts)
     }
 
     /// The value as the text that it names.

@@ -1,5 +1,5 @@
 // A source and a sink in memory that fail at the calls whose numbers they are given.
-ghost use Rattle.std.specs.Prelude.{◌≡◌, ◌≢◌, ◌≤◌, ◌↔◌, ◌⊎◌, Some, [], false, true, length, IsTrue, MatchBool, Contains};
+ghost use Rattle.std.specs.Prelude.{◌≡◌, ◌≢◌, ◌≤◌, ◌<◌, ◌↔◌, ◌⊎◌, Some, [], false, true, length, IsTrue, MatchBool, Contains};
 ghost use Rattle.std.specs.Io.KnownBytes.{Consumes, Appends, IsAtEnd};
 ghost use Rattle.ce_base.specs.Faults.{Rose, next_count};
 ghost use Rattle.ce_base.specs.Outside.{bytes_got, IsWithin, gave_end, faults_got, bytes_put, TakesSome, faults_put};
@@ -106,6 +106,7 @@ impl Source for MemSource {
         ensures end { gave_end result (length buf.new) ≡ true → IsAtEnd (Some self.new.supply.left) }
         ensures later { self.old.failures ≤ self.new.failures }
         ensures cause { result ≡ Got.Failed → Rose self.old.failures self.new.failures }
+        ensures told { self.old.failures < self.new.failures → result ≡ Got.Failed }
         ensures number { self.new.calls ≡ next_count self.old.calls }
         ensures fails { (result ≡ Got.Failed) ↔ Contains self.old.fails self.new.calls }
         ensures count { self.new.failures ≡ faults_got result self.old.failures }
@@ -181,6 +182,7 @@ impl Sink for MemSink {
         ensures bytes { Appends (Some self.old.held) (Some self.new.held) (bytes_put result piece.now) }
         ensures later { self.old.failures ≤ self.new.failures }
         ensures cause { result ≡ Put.Failed → Rose self.old.failures self.new.failures }
+        ensures told { self.old.failures < self.new.failures → result ≡ Put.Failed }
         ensures number { self.new.calls ≡ next_count self.old.calls }
         ensures fails { (result ≡ Put.Failed) ↔ Contains self.old.fails self.new.calls }
         ensures count { self.new.failures ≡ faults_put result self.old.failures }

@@ -1,5 +1,5 @@
 // A sink over a sink, so that few and large writes reach the one below.
-ghost use Rattle.std.specs.Prelude.{◌≡◌, ◌≤◌, [], OnOk, IsErrOf};
+ghost use Rattle.std.specs.Prelude.{◌≡◌, ◌≤◌, ◌<◌, [], OnOk, IsErrOf};
 ghost use Rattle.std.specs.Io.KnownBytes.{Keeps};
 ghost use Rattle.ce_base.specs.Faults.{Rose};
 ghost use Rattle.ce_base.specs.Gathered.{behind, count_of};
@@ -31,6 +31,7 @@ impl<'a, 'b, K: Sink> Gathering<'a, 'b, K> {
         ensures none { OnOk result (self.new.pending.now ≡ []) }
         ensures later { K.failed self.old.sink.now ≤ K.failed self.new.sink.now }
         ensures cause { IsErrOf result Stop.WriteFault → Rose (K.failed self.old.sink.now) (K.failed self.new.sink.now) }
+        ensures told { K.failed self.old.sink.now < K.failed self.new.sink.now → IsErrOf result Stop.WriteFault }
         ensures home { self.new.sink.ghost_name ≡ self.old.sink.ghost_name }
         ensures below { count_of (K.held self.old.sink.now) ≤ count_of (K.held self.new.sink.now) }
     {

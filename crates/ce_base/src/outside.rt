@@ -1,5 +1,5 @@
 // A source of bytes and a sink for bytes, each with a count of its faults.
-ghost use Rattle.std.specs.Prelude.{◌≡◌, ◌≤◌, ℕ, List, Bool, true, length, take, OnOk, OnErr, IsErrOf};
+ghost use Rattle.std.specs.Prelude.{◌≡◌, ◌≤◌, ◌<◌, ℕ, List, Bool, true, length, take, OnOk, OnErr, IsErrOf};
 ghost use Rattle.std.specs.Io.KnownBytes.{Consumes, Appends, IsAtEnd};
 ghost use Rattle.std.specs.declared.option.Option.{Option};
 ghost use Rattle.ce_base.specs.Faults.{Rose};
@@ -41,7 +41,8 @@ pub trait Source {
         ensures ended { ended self.new ≡ gave_end result (length buf.new) }
         ensures end { gave_end result (length buf.new) ≡ true → IsAtEnd (left self.new) }
         ensures later { failed self.old ≤ failed self.new }
-        ensures cause { result ≡ Got.Failed → Rose (failed self.old) (failed self.new) };
+        ensures cause { result ≡ Got.Failed → Rose (failed self.old) (failed self.new) }
+        ensures told { failed self.old < failed self.new → result ≡ Got.Failed };
 }
 
 /// What a write did.
@@ -79,6 +80,7 @@ pub trait Sink {
         ensures bytes { Appends (held self.old) (held self.new) (bytes_put result piece.now) }
         ensures later { failed self.old ≤ failed self.new }
         ensures cause { result ≡ Put.Failed → Rose (failed self.old) (failed self.new) }
+        ensures told { failed self.old < failed self.new → result ≡ Put.Failed }
         ensures home { home self.new ≡ home self.old }
         ensures below { below self.old ≤ below self.new };
 }
@@ -90,6 +92,7 @@ pub fn write_all<K: Sink>(sink: &mut K, bytes: &[u8]) -> Result<(), Stop>
     ensures part { OnErr result (AppendsPart (K.held sink.old) (K.held sink.new) bytes.now) }
     ensures later { K.failed sink.old ≤ K.failed sink.new }
     ensures cause { IsErrOf result Stop.WriteFault → Rose (K.failed sink.old) (K.failed sink.new) }
+    ensures told { K.failed sink.old < K.failed sink.new → IsErrOf result Stop.WriteFault }
     ensures home { K.home sink.new ≡ K.home sink.old }
     ensures below { K.below sink.old ≤ K.below sink.new }
 {
@@ -104,6 +107,7 @@ pub(crate) fn write_on<K: Sink>(sink: &mut K, bytes: &[u8]) -> (usize, Result<()
     ensures all { OnOk result.1 (result.0 ≡ length bytes.now) }
     ensures later { K.failed sink.old ≤ K.failed sink.new }
     ensures cause { IsErrOf result.1 Stop.WriteFault → Rose (K.failed sink.old) (K.failed sink.new) }
+    ensures told { K.failed sink.old < K.failed sink.new → IsErrOf result.1 Stop.WriteFault }
     ensures home { K.home sink.new ≡ K.home sink.old }
     ensures below { K.below sink.old ≤ K.below sink.new }
 {

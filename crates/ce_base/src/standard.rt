@@ -1,5 +1,5 @@
 // A source over a reader of std, and a sink over a writer of std: the trusted edge.
-ghost use Rattle.std.specs.Prelude.{◌≡◌, ◌≢◌, ◌≤◌, None, false, true, length};
+ghost use Rattle.std.specs.Prelude.{◌≡◌, ◌≢◌, ◌≤◌, ◌<◌, None, false, true, length};
 ghost use Rattle.std.specs.Io.KnownBytes.{Consumes, Appends, IsAtEnd};
 ghost use Rattle.ce_base.specs.Faults.{Rose};
 ghost use Rattle.ce_base.specs.Outside.{bytes_got, IsWithin, gave_end, faults_got, bytes_put, TakesSome, faults_put};
@@ -56,6 +56,7 @@ impl<R: Read> Source for StdSource<R> {
         ensures end { gave_end result (length buf.new) ≡ true → IsAtEnd None }
         ensures later { self.old.faults ≤ self.new.faults }
         ensures cause { result ≡ Got.Failed → Rose self.old.faults self.new.faults }
+        ensures told { self.old.faults < self.new.faults → result ≡ Got.Failed }
         ensures count { self.new.faults ≡ faults_got result self.old.faults }
     {
         match self.inner.read(buf) {
@@ -111,6 +112,7 @@ impl<W: Write> Sink for StdSink<W> {
         ensures bytes { Appends None None (bytes_put result piece.now) }
         ensures later { self.old ≤ self.new }
         ensures cause { result ≡ Put.Failed → Rose self.old self.new }
+        ensures told { self.old < self.new → result ≡ Put.Failed }
         ensures count { self.new ≡ faults_put result self.old }
         ensures memory { result ≢ Put.NoMemory }
     {

@@ -1,5 +1,5 @@
 // A source and a sink in memory that never fail.
-ghost use Rattle.std.specs.Prelude.{◌≡◌, ◌≤◌, ◌⊎◌, Some, [], false, true, length};
+ghost use Rattle.std.specs.Prelude.{◌≡◌, ◌≤◌, ◌<◌, ◌⊎◌, Some, [], false, true, length};
 ghost use Rattle.std.specs.Io.KnownBytes.{Consumes, Appends, IsAtEnd};
 ghost use Rattle.ce_base.specs.Faults.{Rose};
 ghost use Rattle.ce_base.specs.Outside.{bytes_got, IsWithin, gave_end, bytes_put, TakesSome};
@@ -62,6 +62,7 @@ impl Source for SureSource {
         ensures end { gave_end result (length buf.new) ≡ true → IsAtEnd (Some self.new.left) }
         ensures later { 0 ≤ 0 }
         ensures cause { result ≡ Got.Failed → Rose 0 0 }
+        ensures told { 0 < 0 → result ≡ Got.Failed }
         ensures exact { result ≡ sure_got self.old (length buf.old) }
         ensures cut { self.new.cut ≡ self.old.cut }
     {
@@ -124,6 +125,7 @@ impl Sink for SureSink {
         ensures bytes { Appends (Some self.old) (Some self.new) (bytes_put result piece.now) }
         ensures later { 0 ≤ 0 }
         ensures cause { result ≡ Put.Failed → Rose 0 0 }
+        ensures told { 0 < 0 → result ≡ Put.Failed }
         ensures whole { (result ≡ Put.Took (length piece.now)) ⊎ (result ≡ Put.NoMemory) }
     {
         match self.content.extend_from_slice(piece) {

@@ -1,5 +1,5 @@
 // Writes events out.
-ghost use Rattle.std.specs.Prelude.{◌≡◌, ◌≤◌, ◌++◌, ◌∷◌, [], IfOk, OnErr, OnOk, IsErrOf};
+ghost use Rattle.std.specs.Prelude.{◌≡◌, ◌≤◌, ◌<◌, ◌++◌, ◌∷◌, [], IfOk, OnErr, OnOk, IsErrOf};
 ghost use Rattle.std.specs.Io.KnownBytes.{Appends};
 ghost use Rattle.ce_base.specs.Faults.{Rose};
 ghost use Rattle.ce_base.specs.Outside.{AppendsPart};
@@ -29,6 +29,7 @@ pub fn write_out<K: Sink>(alloc: Global, sink: &mut K, trace: bool, e: &Event) -
     ensures part { OnErr result (AppendsPart (K.held sink.old) (K.held sink.new) (shown trace e.now)) }
     ensures later { K.failed sink.old ≤ K.failed sink.new }
     ensures cause { IsErrOf result Stop.WriteFault → Rose (K.failed sink.old) (K.failed sink.new) }
+    ensures told { K.failed sink.old < K.failed sink.new → IsErrOf result Stop.WriteFault }
     ensures home { K.home sink.new ≡ K.home sink.old }
     ensures below { K.below sink.old ≤ K.below sink.new }
 {

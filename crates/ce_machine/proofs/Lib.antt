@@ -6,3 +6,4 @@ pub mod OperateLaws
 pub mod PlacedLaws
 pub mod LoopLaws
 pub mod CommandLaws
+pub mod RestedLaws

@@ -1,5 +1,5 @@
 // The loop: the frames are finished, the topmost first. What a command logs is written out here alone.
-ghost use Rattle.std.specs.Prelude.{◌≡◌, ◌≤◌, [], IfOk, OnOk, OnErr, IsErrOf};
+ghost use Rattle.std.specs.Prelude.{◌≡◌, ◌≤◌, ◌<◌, [], IfOk, OnOk, OnErr, IsErrOf};
 ghost use Rattle.ce_base.specs.Faults.{Rose};
 ghost use Rattle.ce_base.specs.Outside.{AppendsPart};
 ghost use Rattle.ce_algorithms.specs.Session.{log_of};
@@ -36,6 +36,7 @@ pub(crate) fn run<K: Sink>(
     ensures part { OnErr result (AppendsPart (K.held sink.old) (K.held sink.new) (text trace (log_of (over stack.old (came_in end (session stack.old state.old)))))) }
     ensures later { K.failed sink.old ≤ K.failed sink.new }
     ensures cause { IsErrOf result Stop.WriteFault → Rose (K.failed sink.old) (K.failed sink.new) }
+    ensures told { K.failed sink.old < K.failed sink.new → IsErrOf result Stop.WriteFault }
     ensures home { K.home sink.new ≡ K.home sink.old }
     ensures below { K.below sink.old ≤ K.below sink.new }
 {

@@ -1,5 +1,5 @@
 // The machine: parsed lines of a script, one after another.
-ghost use Rattle.std.specs.Prelude.{◌≡◌, ◌≤◌, [], Err, Ok, true, IfOk, IfErr, OnErr, OnOk, IsErrOf};
+ghost use Rattle.std.specs.Prelude.{◌≡◌, ◌≤◌, ◌<◌, [], Err, Ok, true, IfOk, IfErr, OnErr, OnOk, IsErrOf};
 ghost use Rattle.ce_base.specs.Faults.{Rose};
 ghost use Rattle.ce_base.specs.Outside.{AppendsPart};
 ghost use Rattle.rule_lines.specs.Acts.{part_of};
@@ -11,6 +11,7 @@ ghost use Rattle.ce_events.specs.Text.{text};
 ghost use Rattle.ce_algorithms.specs.Written.{Did};
 ghost use Rattle.frame_stack.specs.Sessions.{session};
 ghost use Rattle.ce_machine.specs.Ended.{IsAtRest, outcome_of};
+ghost use Rattle.ce_machine.specs.Rested.{AreAtHome};
 
 use crate::End;
 use crate::command::run_command;
@@ -39,15 +40,15 @@ impl Model for Machine {
     ghost use Rattle.std.specs.Coded.{codes};
     ghost use Rattle.rule_lines.specs.ActCode.{act_code};
     ghost use Rattle.node_trees.specs.TreesCode.{trees_code};
-    ghost use Rattle.ce_algorithms.specs.State.{State as IsState};
     ghost use Rattle.frame_stack.specs.Sessions.{session};
     ghost use Rattle.ce_machine.specs.Ended.{IsAtRest};
+    ghost use Rattle.ce_machine.specs.Rested.{Rested};
 
-    ghost Value = { IsState };
+    ghost Value = { Rested };
 
     ghost coded = { Prim.hlevel (codes, act_code, trees_code) };
 
-    ghost view = { λ m. session m.stack.value m.state.value };
+    ghost view = { λ m. record { session = session m.stack.value m.state.value; stack = m.stack.value } };
 
     ghost invariant = { λ m. IsAtRest m.stack.value m.state.value };
 }
@@ -55,12 +56,13 @@ impl Model for Machine {
 impl Machine {
     /// The machine before the first line, with so much fuel. NoMemory: memory was refused.
     pub fn make(alloc: Global, fuel: u32) -> Result<Machine, NoMemory>
-        ensures { IfOk result (λ m. m ≡ start (record { fuel = fuel })) }
+        ensures session { IfOk result (λ m. m.session ≡ start (record { fuel = fuel })) }
+        ensures at_home { IfOk result AreAtHome }
     {
         let state = State::make(alloc, Settings { fuel })?;
         let state = Box::new(alloc, state)?;
         let stack = Box::new(alloc, Stack::make(alloc))?;
-        Ok(Machine { state, stack })
+        Ok(rested(state, stack))
     }
 
     /// Takes a part of a class, and writes the reply where it is refused. WriteFault, NoMemory: see `Machine`.
@@ -73,11 +75,13 @@ impl Machine {
         sink: &mut K,
     ) -> Result<Machine, Stop>
         requires { is_built_part (part_of p) ≡ true }
-        ensures ran { IfOk result (λ m. Did trace (K.held sink.old) (K.held sink.new) (class_part line (part_of p) self) (Goes tt m)) }
-        ensures empty { IfOk result (λ m. m.log ≡ []) }
-        ensures part { OnErr result (AppendsPart (K.held sink.old) (K.held sink.new) (text trace (log_of (class_part line (part_of p) self)))) }
+        ensures ran { IfOk result (λ m. Did trace (K.held sink.old) (K.held sink.new) (class_part line (part_of p) self.session) (Goes tt m.session)) }
+        ensures empty { IfOk result (λ m. m.session.log ≡ []) }
+        ensures at_home { IfOk result AreAtHome }
+        ensures part { OnErr result (AppendsPart (K.held sink.old) (K.held sink.new) (text trace (log_of (class_part line (part_of p) self.session)))) }
         ensures later { K.failed sink.old ≤ K.failed sink.new }
         ensures cause { IsErrOf result Stop.WriteFault → Rose (K.failed sink.old) (K.failed sink.new) }
+        ensures told { K.failed sink.old < K.failed sink.new → IsErrOf result Stop.WriteFault }
         ensures home { K.home sink.new ≡ K.home sink.old }
         ensures below { K.below sink.old ≤ K.below sink.new }
     {
@@ -86,7 +90,7 @@ impl Machine {
         let mut stack = stack;
         match write_part(&mut *state, alloc, &mut *stack, line, p, trace, sink) {
             Err(stop) => Err(stop),
-            Ok(()) => Ok(Machine { state, stack }),
+            Ok(()) => Ok(rested(state, stack)),
         }
     }
 
@@ -99,11 +103,13 @@ impl Machine {
         trace: bool,
         sink: &mut K,
     ) -> Result<Machine, Stop>
-        ensures ran { IfOk result (λ m. Did trace (K.held sink.old) (K.held sink.new) (run_line model line (Err bad) self) (Goes tt m)) }
-        ensures empty { IfOk result (λ m. m.log ≡ []) }
-        ensures part { OnErr result (AppendsPart (K.held sink.old) (K.held sink.new) (text trace (log_of (run_line model line (Err bad) self)))) }
+        ensures ran { IfOk result (λ m. Did trace (K.held sink.old) (K.held sink.new) (run_line model line (Err bad) self.session) (Goes tt m.session)) }
+        ensures empty { IfOk result (λ m. m.session.log ≡ []) }
+        ensures at_home { IfOk result AreAtHome }
+        ensures part { OnErr result (AppendsPart (K.held sink.old) (K.held sink.new) (text trace (log_of (run_line model line (Err bad) self.session)))) }
         ensures later { K.failed sink.old ≤ K.failed sink.new }
         ensures cause { IsErrOf result Stop.WriteFault → Rose (K.failed sink.old) (K.failed sink.new) }
+        ensures told { K.failed sink.old < K.failed sink.new → IsErrOf result Stop.WriteFault }
         ensures home { K.home sink.new ≡ K.home sink.old }
         ensures below { K.below sink.old ≤ K.below sink.new }
     {
@@ -111,7 +117,7 @@ impl Machine {
         let mut state = state;
         match write_refused(&mut *state, alloc, &*stack, line, bad, trace, sink) {
             Err(stop) => Err(stop),
-            Ok(()) => Ok(Machine { state, stack }),
+            Ok(()) => Ok(rested(state, stack)),
         }
     }
 
@@ -127,11 +133,16 @@ impl Machine {
         sink: &mut K,
     ) -> Result<(Machine, End), Stop>
         requires { is_built_command c ≡ true }
-        ensures ran { IfOk result (λ r. Did trace (K.held sink.old) (K.held sink.new) (command model line c self) (outcome_of r.1 r.0)) }
-        ensures empty { IfOk result (λ r. r.0.log ≡ []) }
-        ensures part { OnErr result (AppendsPart (K.held sink.old) (K.held sink.new) (text trace (log_of (command model line c self)))) }
+        ensures ran { IfOk result (λ r. Did trace (K.held sink.old) (K.held sink.new) (command model line c self.session) (outcome_of r.1 r.0.session)) }
+        ensures empty { IfOk result (λ r. r.0.session.log ≡ []) }
+
+        // At each reply every behaviour is at home, in one place, with the counter and the text of the model.
+        ensures at_home { IfOk result (λ r. AreAtHome r.0) }
+
+        ensures part { OnErr result (AppendsPart (K.held sink.old) (K.held sink.new) (text trace (log_of (command model line c self.session)))) }
         ensures later { K.failed sink.old ≤ K.failed sink.new }
         ensures cause { IsErrOf result Stop.WriteFault → Rose (K.failed sink.old) (K.failed sink.new) }
+        ensures told { K.failed sink.old < K.failed sink.new → IsErrOf result Stop.WriteFault }
         ensures home { K.home sink.new ≡ K.home sink.old }
         ensures below { K.below sink.old ≤ K.below sink.new }
     {
@@ -143,6 +154,17 @@ impl Machine {
     }
 }
 
+// The machine behind a line, where nothing stopped it: all behaviours are at home.
+fn rested(state: Box<State>, stack: Box<Stack>) -> Machine
+    requires { IsAtRest stack.value state.value }
+    ensures session { result.session ≡ session stack.value state.value }
+    ensures at_home { AreAtHome result }
+{
+    // Each behaviour is in one place: the clause of `is_empty` says so.
+    let _empty = stack.is_empty();
+    Machine { state, stack }
+}
+
 // The machine behind a command, where nothing stopped it.
 fn with_end(
     state: Box<State>,
@@ -150,11 +172,12 @@ fn with_end(
     ran: Result<End, Stop>,
 ) -> Result<(Machine, End), Stop>
     requires { OnOk ran (IsAtRest stack.value state.value) }
-    ensures went { IfOk result (λ r. (ran ≡ Ok r.1) × (r.0 ≡ session stack.value state.value)) }
+    ensures went { IfOk result (λ r. (ran ≡ Ok r.1) × (r.0.session ≡ session stack.value state.value)) }
+    ensures at_home { IfOk result (λ r. AreAtHome r.0) }
     ensures stopped { IfErr result (λ stop. ran ≡ Err stop) }
 {
     match ran {
         Err(stop) => Err(stop),
-        Ok(end) => Ok((Machine { state, stack }, end)),
+        Ok(end) => Ok((rested(state, stack), end)),
     }
 }

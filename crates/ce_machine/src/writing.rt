@@ -1,5 +1,5 @@
 // One line of a script on the state, with all that it logs written out.
-ghost use Rattle.std.specs.Prelude.{◌≡◌, ◌≤◌, [], Err, true, OnOk, OnErr, IsErrOf};
+ghost use Rattle.std.specs.Prelude.{◌≡◌, ◌≤◌, ◌<◌, [], Err, true, OnOk, OnErr, IsErrOf};
 ghost use Rattle.ce_base.specs.Faults.{Rose};
 ghost use Rattle.ce_base.specs.Outside.{AppendsPart};
 ghost use Rattle.rule_lines.specs.Acts.{part_of};
@@ -40,6 +40,7 @@ pub(crate) fn write_part<K: Sink>(
     ensures part { OnErr result (AppendsPart (K.held sink.old) (K.held sink.new) (text trace (log_of (class_part line (part_of p) (session stack.old state.old))))) }
     ensures later { K.failed sink.old ≤ K.failed sink.new }
     ensures cause { IsErrOf result Stop.WriteFault → Rose (K.failed sink.old) (K.failed sink.new) }
+    ensures told { K.failed sink.old < K.failed sink.new → IsErrOf result Stop.WriteFault }
     ensures home { K.home sink.new ≡ K.home sink.old }
     ensures below { K.below sink.old ≤ K.below sink.new }
 {
@@ -64,6 +65,7 @@ pub(crate) fn write_refused<K: Sink>(
     ensures part { OnErr result (AppendsPart (K.held sink.old) (K.held sink.new) (text trace (log_of (run_line model line (Err bad) (session stack.now state.old))))) }
     ensures later { K.failed sink.old ≤ K.failed sink.new }
     ensures cause { IsErrOf result Stop.WriteFault → Rose (K.failed sink.old) (K.failed sink.new) }
+    ensures told { K.failed sink.old < K.failed sink.new → IsErrOf result Stop.WriteFault }
     ensures home { K.home sink.new ≡ K.home sink.old }
     ensures below { K.below sink.old ≤ K.below sink.new }
 {

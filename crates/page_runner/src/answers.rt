@@ -27,6 +27,7 @@ pub(crate) fn take_piece<K: Sink>(
     ensures part { OnErr result (AppendsPart (K.held sink.old) (K.held sink.new) (answers session (whole_lines (feed.old ++ piece.now)))) }
     ensures later { K.failed sink.old ≤ K.failed sink.new }
     ensures cause { IsErrOf result Stop.WriteFault → Rose (K.failed sink.old) (K.failed sink.new) }
+    ensures told { K.failed sink.old < K.failed sink.new → IsErrOf result Stop.WriteFault }
 {
     if let Err(NoMemory) = feed.piece(alloc, piece) {
         drop(session);
@@ -51,6 +52,7 @@ pub(crate) fn finish<K: Sink>(
     ensures part { OnErr result (AppendsPart (K.held sink.old) (K.held sink.new) (answers session (last_line feed))) }
     ensures later { K.failed sink.old ≤ K.failed sink.new }
     ensures cause { IsErrOf result Stop.WriteFault → Rose (K.failed sink.old) (K.failed sink.new) }
+    ensures told { K.failed sink.old < K.failed sink.new → IsErrOf result Stop.WriteFault }
 {
     match feed.rest() {
         None => Ok((session, End::Replied)),
@@ -78,6 +80,7 @@ fn answer_lines<K: Sink>(
     ensures part { OnErr result (AppendsPart (K.held out.old.sink.now) (K.held out.new.sink.now) (answers session (whole_lines feed.old))) }
     ensures later { K.failed out.old.sink.now ≤ K.failed out.new.sink.now }
     ensures cause { IsErrOf result Stop.WriteFault → Rose (K.failed out.old.sink.now) (K.failed out.new.sink.now) }
+    ensures told { K.failed out.old.sink.now < K.failed out.new.sink.now → IsErrOf result Stop.WriteFault }
     ensures home { out.new.sink.ghost_name ≡ out.old.sink.ghost_name }
 {
     let ran = run_lines(alloc, session, feed, out)?;
@@ -102,6 +105,7 @@ fn answer_line<K: Sink>(
     ensures part { OnErr result (AppendsPart (K.held out.old.sink.now) (K.held out.new.sink.now) (answers session (line.now ∷ []))) }
     ensures later { K.failed out.old.sink.now ≤ K.failed out.new.sink.now }
     ensures cause { IsErrOf result Stop.WriteFault → Rose (K.failed out.old.sink.now) (K.failed out.new.sink.now) }
+    ensures told { K.failed out.old.sink.now < K.failed out.new.sink.now → IsErrOf result Stop.WriteFault }
     ensures home { out.new.sink.ghost_name ≡ out.old.sink.ghost_name }
 {
     let ran = session.line(alloc, line, out)?;

@@ -16,6 +16,7 @@ pub(crate) fn ask<S: Source>(source: &mut S, buf: &mut [u8]) -> Got
     ensures end { is_end result ≡ true → IsAtEnd (S.left source.new) }
     ensures later { S.failed source.old ≤ S.failed source.new }
     ensures cause { result ≡ Got.Failed → Rose (S.failed source.old) (S.failed source.new) }
+    ensures told { S.failed source.old < S.failed source.new → result ≡ Got.Failed }
 {
     match source.read(buf) {
         Got::Bytes(0) | Got::End => Got::End,

@@ -26,6 +26,7 @@ pub(crate) fn run_lines<K: Sink>(
     ensures part { OnErr result (AppendsPart (K.held sink.old) (K.held sink.new) (answers session (whole_lines feed.old))) }
     ensures later { K.failed sink.old ≤ K.failed sink.new }
     ensures cause { IsErrOf result Stop.WriteFault → Rose (K.failed sink.old) (K.failed sink.new) }
+    ensures told { K.failed sink.old < K.failed sink.new → IsErrOf result Stop.WriteFault }
     ensures home { K.home sink.new ≡ K.home sink.old }
     ensures below { K.below sink.old ≤ K.below sink.new }
 {

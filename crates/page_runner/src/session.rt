@@ -39,7 +39,7 @@ impl Model for Session {
 
     ghost coded = { Prim.hlevel (codes, act_code, trees_code) };
 
-    ghost view = { λ s. record { state = s.machine; line = s.line; bad = s.bad; trace = s.trace } };
+    ghost view = { λ s. record { state = s.machine.session; line = s.line; bad = s.bad; trace = s.trace } };
 }
 
 impl Session {
@@ -90,6 +90,7 @@ impl Session {
         ensures part { OnErr result (AppendsPart (K.held sink.old) (K.held sink.new) (text self.trace (log_of (run_line model (self.line + 1) (reading bytes.now) self.state)))) }
         ensures later { K.failed sink.old ≤ K.failed sink.new }
         ensures cause { IsErrOf result Stop.WriteFault → Rose (K.failed sink.old) (K.failed sink.new) }
+        ensures told { K.failed sink.old < K.failed sink.new → IsErrOf result Stop.WriteFault }
         ensures home { K.home sink.new ≡ K.home sink.old }
         ensures below { K.below sink.old ≤ K.below sink.new }
     {
@@ -145,11 +146,12 @@ fn run_said<K: Sink>(
     sink: &mut K,
 ) -> Result<(Machine, End), Stop>
     requires { is_built (line_of said) ≡ true }
-    ensures ran { IfOk result (λ r. Did trace (K.held sink.old) (K.held sink.new) (run_line model line (Ok (line_of said)) machine) (outcome_of r.1 r.0)) }
-    ensures empty { IfOk result (λ r. r.0.log ≡ []) }
-    ensures part { OnErr result (AppendsPart (K.held sink.old) (K.held sink.new) (text trace (log_of (run_line model line (Ok (line_of said)) machine)))) }
+    ensures ran { IfOk result (λ r. Did trace (K.held sink.old) (K.held sink.new) (run_line model line (Ok (line_of said)) machine.session) (outcome_of r.1 r.0.session)) }
+    ensures empty { IfOk result (λ r. r.0.session.log ≡ []) }
+    ensures part { OnErr result (AppendsPart (K.held sink.old) (K.held sink.new) (text trace (log_of (run_line model line (Ok (line_of said)) machine.session)))) }
     ensures later { K.failed sink.old ≤ K.failed sink.new }
     ensures cause { IsErrOf result Stop.WriteFault → Rose (K.failed sink.old) (K.failed sink.new) }
+    ensures told { K.failed sink.old < K.failed sink.new → IsErrOf result Stop.WriteFault }
     ensures home { K.home sink.new ≡ K.home sink.old }
     ensures below { K.below sink.old ≤ K.below sink.new }
 {

@@ -1,5 +1,5 @@
 // A whole run, from the words and the source to the sink and a status.
-ghost use Rattle.std.specs.Prelude.{◌≡◌, ◌≤◌, ◌↔◌, length, map, string_bytes, Some, IfOk, vec_len, List, ℕ};
+ghost use Rattle.std.specs.Prelude.{◌≡◌, ◌≤◌, ◌<◌, ◌↔◌, length, map, string_bytes, Some, IfOk, vec_len, List, ℕ};
 ghost use Rattle.ce_base.specs.Faults.{Rose};
 ghost use Rattle.page_runner.specs.Table.{RunMeets, RunsWhole, limit, piece, status_of};
 ghost use Rattle.page_runner.specs.Words.{meaning};
@@ -42,6 +42,10 @@ pub fn run<S: Source, K: Sink>(
         (S.ended source.new) (S.failed source.old) (S.failed source.new) (K.failed sink.old) (K.failed sink.new) }
     ensures later { (S.failed source.old ≤ S.failed source.new) × (K.failed sink.old ≤ K.failed sink.new) }
 
+    // A fault that was counted is the status: a read that failed is not tried again, nor a failed write told as want of memory.
+    ensures read_fault { S.failed source.old < S.failed source.new → result ≡ Status.ReadFault }
+    ensures write_fault { K.failed sink.old < K.failed sink.new → result ≡ Status.WriteFault }
+
     // A script that ends within the limit is run whole, unless a count of faults rises or memory is refused.
     ensures complete { (set : Options) (script : List ℕ)
         → meaning (map (λ w. string_bytes w) words.now.items) ≡ Meaning.Script set → S.left source.old ≡ Some script → length script ≤ limit
@@ -64,6 +68,8 @@ fn run_script<S: Source, K: Sink>(
     ensures table { RunMeets (Meaning.Script options) (status_of result) (S.left source.old) (S.left source.new) (K.held sink.old) (K.held sink.new)
         (S.ended source.new) (S.failed source.old) (S.failed source.new) (K.failed sink.old) (K.failed sink.new) }
     ensures later { (S.failed source.old ≤ S.failed source.new) × (K.failed sink.old ≤ K.failed sink.new) }
+    ensures read_fault { S.failed source.old < S.failed source.new → status_of result ≡ Status.ReadFault }
+    ensures write_fault { K.failed sink.old < K.failed sink.new → status_of result ≡ Status.WriteFault }
 {
     let mut buffer = make_buffer(alloc)?;
     run_pieces(alloc, options, &mut buffer, source, sink)
@@ -87,6 +93,8 @@ fn run_pieces<S: Source, K: Sink>(
     ensures table { RunMeets (Meaning.Script options) (status_of result) (S.left source.old) (S.left source.new) (K.held sink.old) (K.held sink.new)
         (S.ended source.new) (S.failed source.old) (S.failed source.new) (K.failed sink.old) (K.failed sink.new) }
     ensures later { (S.failed source.old ≤ S.failed source.new) × (K.failed sink.old ≤ K.failed sink.new) }
+    ensures read_fault { S.failed source.old < S.failed source.new → status_of result ≡ Status.ReadFault }
+    ensures write_fault { K.failed sink.old < K.failed sink.new → status_of result ≡ Status.WriteFault }
 {
     let mut feed = Feed::make(alloc);
     let mut session = Session::make(alloc, options)?;

@@ -1,5 +1,5 @@
 // What was logged is written out.
-ghost use Rattle.std.specs.Prelude.{◌≡◌, ◌≤◌, OnOk, OnErr, IsErrOf};
+ghost use Rattle.std.specs.Prelude.{◌≡◌, ◌≤◌, ◌<◌, OnOk, OnErr, IsErrOf};
 ghost use Rattle.std.specs.Io.KnownBytes.{Appends};
 ghost use Rattle.ce_base.specs.Faults.{Rose};
 ghost use Rattle.ce_base.specs.Outside.{AppendsPart};
@@ -21,6 +21,7 @@ impl State {
         ensures part { OnErr result (AppendsPart (K.held sink.old) (K.held sink.new) (text trace self.old.log)) }
         ensures later { K.failed sink.old ≤ K.failed sink.new }
         ensures cause { IsErrOf result Stop.WriteFault → Rose (K.failed sink.old) (K.failed sink.new) }
+        ensures told { K.failed sink.old < K.failed sink.new → IsErrOf result Stop.WriteFault }
         ensures home { K.home sink.new ≡ K.home sink.old }
         ensures below { K.below sink.old ≤ K.below sink.new }
     {
@@ -36,6 +37,7 @@ fn write_log<K: Sink>(alloc: Global, trace: bool, log: &[Event], sink: &mut K) -
     ensures part { OnErr result (AppendsPart (K.held sink.old) (K.held sink.new) (text trace log.now)) }
     ensures later { K.failed sink.old ≤ K.failed sink.new }
     ensures cause { IsErrOf result Stop.WriteFault → Rose (K.failed sink.old) (K.failed sink.new) }
+    ensures told { K.failed sink.old < K.failed sink.new → IsErrOf result Stop.WriteFault }
     ensures home { K.home sink.new ≡ K.home sink.old }
     ensures below { K.below sink.old ≤ K.below sink.new }
 {

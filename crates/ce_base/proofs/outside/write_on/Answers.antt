@@ -1,4 +1,4 @@
-use Rattle.std.proofs.Common.{◌≤◌, ◌-◌, length, arith, ◌∙◌}
+use Rattle.std.proofs.Common.{◌<◌, ◌≤◌, ◌-◌, length, arith, ◌∙◌}
 use Rattle.std.proofs.lemmas.List.{take_rest, length-drop}
 use Rattle.ce_base.proofs.Written.{wrote_more}
 use Rattle.ce_base.proofs.outside.write_on.Goals as goal
@@ -10,6 +10,10 @@ loop-count-preserved g c =
       count = omega (arith, more);
       written = wrote_more (g.K.Sink.held c.args.sink.now) (g.K.Sink.held c.loop-count.sink) (g.K.Sink.held c.write.new.self) c.args.bytes.now c.loop-count.count c.in-Took.more c.loop-count.invariant.written (rw take_rest at c.in-Took.ensures.bytes);
       later = omega arith;
+      told =
+          let none : g.K.Sink.failed c.loop-count.sink < g.K.Sink.failed c.write.new.self → ⊥ =
+          λ h. let failed = c.write.ensures.told h in let took = c.in-Took.is in cc in
+          let kept = c.loop-count.invariant.told in omega (arith, none, kept);
       home = c.write.ensures.home ∙ c.loop-count.invariant.home;
       below = omega arith;
     }

@@ -1,5 +1,6 @@
 use Rattle.std.proofs.Common.{sym, ◌∙◌, arith}
 use Rattle.std.proofs.lemmas.Result.{err_from_is_err_and}
+use Rattle.ce_base.proofs.Counts.{unrisen}
 use Rattle.ce_algorithms.proofs.Writing.{did_front}
 use Rattle.frame_stack.specs.Sessions.{session}
 use Rattle.frame_stack.specs.Stacked.{frames_of}
@@ -27,6 +28,7 @@ loop-state-preserved g c = record {
   paired = c.in_ok-now.ensures.paired;
   placed = c.in_ok-now.ensures.placed;
   later = omega arith;
+  told = let same = unrisen _ _ _ _ c.in_ok-flush.ensures.told in let kept = c.loop-state.invariant.told in omega (arith, same, kept);
   home = c.in_ok-flush.ensures.home ∙ c.loop-state.invariant.home;
   below = omega arith;
 }

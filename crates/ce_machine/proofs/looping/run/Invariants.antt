@@ -13,6 +13,7 @@ invariant-loop-state g l = record {
   paired : ArePaired l.stack l.state;
   placed : ArePlaced l.state.page.forest (frames_of l.stack) (end_of l.now);
   later : g.K.Sink.failed l.initial.sink ≤ g.K.Sink.failed l.sink;
+  told : g.K.Sink.failed l.sink ≤ g.K.Sink.failed l.initial.sink;
   home : g.K.Sink.home l.sink ≡ g.K.Sink.home l.initial.sink;
   below : g.K.Sink.below l.initial.sink ≤ g.K.Sink.below l.sink;
 }

@@ -1,5 +1,6 @@
 use Rattle.std.proofs.Common.{refl, sym, arith, ◌∙◌}
 use Rattle.std.proofs.lemmas.Result.{err_from_is_err_and}
+use Rattle.ce_base.proofs.Counts.{unrisen}
 use Rattle.page_runner.proofs.LoopLaws.{runs_blank, runs_nothing, runs_line, runs_part, runs_stop, runs_spent, runs_all, runs_drained}
 use Rattle.page_runner.proofs.lines.run_lines.Goals as goal
 
@@ -9,6 +10,7 @@ lines-init g c = record {
   home = refl;
   below = omega arith;
   later = omega arith;
+  told = omega arith;
 }
 
 pub returns-in-Err-clause-part : goal.returns-in-Err-clause-part
@@ -36,6 +38,7 @@ lines-preserved g c =
       home = c.in_ok-next.ensures.home ∙ c.lines.invariant.home;
       below = omega arith;
       later = omega arith;
+      told = let same = unrisen _ _ _ _ c.in_ok-next.ensures.told in let kept = c.lines.invariant.told in omega (arith, same, kept);
     }
 
 pub lines-preserved-then-says_nothing : goal.lines-preserved-then-says_nothing
@@ -46,6 +49,7 @@ lines-preserved-then-says_nothing g c =
       home = c.lines.invariant.home;
       below = c.lines.invariant.below;
       later = c.lines.invariant.later;
+      told = c.lines.invariant.told;
     }
 
 pub returns-in-Ok-None-clause-ran : goal.returns-in-Ok-None-clause-ran

@@ -8,6 +8,7 @@ invariant-lines g l = record {
   home : g.K.Sink.home l.sink ≡ g.K.Sink.home l.initial.sink;
   below : g.K.Sink.below l.initial.sink ≤ g.K.Sink.below l.sink;
   later : g.K.Sink.failed l.initial.sink ≤ g.K.Sink.failed l.sink;
+  told : g.K.Sink.failed l.sink ≤ g.K.Sink.failed l.initial.sink;
 }
 
 abbrev pub decreases-lines : goal.decreases-lines

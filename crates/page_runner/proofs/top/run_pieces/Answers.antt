@@ -1,5 +1,6 @@
 use Rattle.std.proofs.Common.{◌≡◌, ◌≤◌, ◌-◌, ◌∙◌, ap, take, length, length-take-le, arith, Err, refl}
 use Rattle.std.proofs.lemmas.Result.{err_from_is_err_and}
+use Rattle.ce_base.proofs.Counts.{no_bytes_where_it_rose, unrisen}
 use Rattle.page_runner.specs.Table.{limit, piece}
 use Rattle.page_runner.proofs.PieceLaws.{streamed_first, streamed_piece, within_limit}
 use Rattle.page_runner.proofs.ExitLaws.{meets_read_fault, meets_end, meets_end_stop, meets_stop, meets_fuel, meets_too_long, rose_since}
@@ -10,6 +11,8 @@ pieces-init g c = record {
   streamed = streamed_first _ _ _ _ _ c.in_ok-session.ensures c.make-feed.ensures;
   source_later = omega arith;
   sink_later = omega arith;
+  source_told = omega arith;
+  sink_told = omega arith;
 }
 
 pub returns-in-Failed-clause-table : goal.returns-in-Failed-clause-table
@@ -62,4 +65,6 @@ pieces-preserved g c =
           (rw c.in_default.is at c.in_ok-next-in-Bytes.ensures.ran) (c.in_ok-next-in-Bytes.ensures.drained c.in_default.is) c.in_ok-next-in-Bytes.ensures.number;
       source_later = omega arith;
       sink_later = omega arith;
+      source_told = let same = no_bytes_where_it_rose _ _ _ c.in-Bytes.ensures.told in let kept = c.pieces.invariant.source_told in omega (arith, same, kept);
+      sink_told = let same = unrisen _ _ _ _ c.in_ok-next-in-Bytes.ensures.told in let kept = c.pieces.invariant.sink_told in omega (arith, same, kept);
     }
