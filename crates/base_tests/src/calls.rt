@@ -14,7 +14,7 @@ use std::process::Abort;
 use std::test::Fail;
 
 // The node of this number.
-fn node(rt: &impl Abort, tree: &Tree, n: u64) -> NodeNo
+pub(crate) fn node(rt: &impl Abort, tree: &Tree, n: u64) -> NodeNo
     ensures { IsNode tree.now result }
 {
     assert!(rt; n >= 1 && n <= tree.count());

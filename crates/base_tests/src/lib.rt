@@ -1,5 +1,6 @@
 //! Tests of the crates below the page: `base` and `names` are those of ce_base and element_names, `kinds` has what
-//! elements are for forms, and `calls` the calls that no program makes. `rows` has what they share.
+//! elements are for forms, `owners` has form owners beside a tree, and `calls` the calls that no program makes. `rows` has
+//! what they share.
 #![tactic(auto)]
 
 #[cfg(test)]
@@ -10,5 +11,7 @@ mod calls;
 mod kinds;
 #[cfg(test)]
 mod names;
+#[cfg(test)]
+mod owners;
 #[cfg(test)]
 mod rows;

@@ -9,8 +9,8 @@ use Rattle.node_trees.specs.Nodes.{times, IsNode, IsTidy}
 use Rattle.node_trees.specs.Insertion.{may_insert, is_child_or_none, has_element_child}
 use Rattle.node_trees.specs.Paths.{is_among}
 use Rattle.node_trees.specs.Spots.{kind_at, parent_at, children_at, next_sibling_at, next_among, after}
-use Rattle.node_arena.proofs.Sums.{tidy-apart}
-use Rattle.node_arena.proofs.AtNode.{node_stands}
+use Rattle.tree_laws.proofs.Sums.{tidy-apart}
+use Rattle.tree_laws.proofs.AtNode.{node_stands}
 use Rattle.node_arena.proofs.Lists.{lacking, any-same, any-lacking}
 use Rattle.node_arena.proofs.InPath.{path-inside}
 use Rattle.node_arena.proofs.CutReads.{parent_at-cut, kind_at-cut, path-cut-outside, children_at-cut-outside}

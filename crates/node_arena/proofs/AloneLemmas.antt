@@ -8,12 +8,12 @@ use Rattle.node_trees.specs.Orders.{order, order_of}
 use Rattle.node_trees.specs.Paths.{path, under, is_among}
 use Rattle.node_trees.specs.Nodes.{size, times, IsNode, IsTidy}
 use Rattle.node_trees.specs.Links.{IsAlone}
-use Rattle.node_arena.proofs.Changed.{path-with}
-use Rattle.node_arena.proofs.ChangedReads.{parent_at-with}
+use Rattle.tree_laws.proofs.Changed.{path-with}
+use Rattle.tree_laws.proofs.ChangedReads.{parent_at-with}
 use Rattle.node_arena.proofs.NewReads.{spot-new-here}
 use Rattle.node_arena.proofs.OrderLemmas.{order_step}
-use Rattle.node_arena.proofs.AtNode.{parent_at-is}
-use Rattle.node_arena.proofs.Pieces.{path-absent, path-here}
+use Rattle.tree_laws.proofs.AtNode.{parent_at-is}
+use Rattle.tree_laws.proofs.Pieces.{path-absent, path-here}
 use Rattle.node_arena.proofs.CutSpots.{path-join-right}
 use Rattle.node_arena.proofs.Sizes.{new-absent, size-with_node}
 use Rattle.node_trees.proofs.Absent.{is_among-append}

@@ -10,12 +10,12 @@ use Rattle.node_trees.specs.Links.{KeepsApart}
 use Rattle.node_arena.specs.Numbers.{insert_number}
 use Rattle.node_arena.specs.Rows.{row_at, IsForest, Grafted}
 use Rattle.node_arena.proofs.Above.{IsAbove, nothing, a_parent, a_host, row_above, parent-above}
-use Rattle.node_arena.proofs.AtNode.{node_stands, node_spot, parent_at-is, host_at-is, spot_at-is}
-use Rattle.node_arena.proofs.Changed.{path-with}
-use Rattle.node_arena.proofs.ChangedReads.{kind_at-with}
+use Rattle.tree_laws.proofs.AtNode.{node_stands, node_spot, parent_at-is, host_at-is, spot_at-is}
+use Rattle.tree_laws.proofs.Changed.{path-with}
+use Rattle.tree_laws.proofs.ChangedReads.{kind_at-with}
 use Rattle.node_arena.proofs.ConnectedBelow.{same_first}
 use Rattle.node_arena.proofs.ForestLemmas.{stands_at, row_is}
-use Rattle.node_arena.proofs.Pieces.{path-absent, path-long}
+use Rattle.tree_laws.proofs.Pieces.{path-absent, path-long}
 use Rattle.node_arena.proofs.Sizes.{size-with_node}
 use Rattle.node_arena.proofs.SpotLemmas.{spot_at-new}
 use Rattle.node_arena.proofs.UpLemmas.{first_of-append}

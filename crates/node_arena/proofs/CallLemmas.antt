@@ -17,7 +17,7 @@ use Rattle.node_arena.proofs.NewReads.{spot-new-here}
 use Rattle.node_arena.proofs.MakeLemmas.{row_loose}
 use Rattle.node_arena.proofs.Above.{parent-above}
 use Rattle.node_arena.proofs.AllowedCut.{parent-outside}
-use Rattle.node_arena.proofs.AtNode.{node_spot}
+use Rattle.tree_laws.proofs.AtNode.{node_spot}
 use Rattle.node_arena.proofs.CutReads.{in-tree}
 use Rattle.node_arena.proofs.Sizes.{new-absent}
 use Rattle.node_arena.proofs.Surplus.{KeepsKind}

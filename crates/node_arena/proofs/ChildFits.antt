@@ -6,9 +6,9 @@ use Rattle.node_trees.specs.Facts.{Facts, is_shadow_root}
 use Rattle.node_trees.specs.Trees.{Trees, none, tree}
 use Rattle.node_trees.specs.Nodes.{times, Place, AtTop, InShadow, AsChild, fits, unless, misfits, IsNode, IsTidy}
 use Rattle.node_trees.specs.Spots.{Spot, spot_of, spot_in, kind_at, parent_at}
-use Rattle.node_arena.proofs.Sums.{tidy-apart, apart-shadow, apart-children, apart-rest, here, in_shadow, in_children, in_rest, stands_where}
-use Rattle.node_arena.proofs.Pieces.{spot-here, spot-shadow, spot-children, spot-rest}
-use Rattle.node_arena.proofs.AtNode.{node_stands, node_spot, parent_at-is, facts_at-is}
+use Rattle.tree_laws.proofs.Sums.{tidy-apart, apart-shadow, apart-children, apart-rest, here, in_shadow, in_children, in_rest, stands_where}
+use Rattle.tree_laws.proofs.Pieces.{spot-here, spot-shadow, spot-children, spot-rest}
+use Rattle.tree_laws.proofs.AtNode.{node_stands, node_spot, parent_at-is, facts_at-is}
 use Rattle.node_trees.proofs.Weights.{IsApart}
 
 -- whether a node is a root of the list, a shadow tree's root or a child

@@ -8,7 +8,8 @@ use Rattle.node_trees.specs.Orders.{tree_order_of}
 use Rattle.node_trees.specs.Paths.{path, is_among}
 use Rattle.node_trees.specs.Spots.{parent_at, first_child_at, next_sibling_at, after}
 use Rattle.node_arena.proofs.Next.{or_else}
-use Rattle.node_arena.proofs.Following.{beyond_in, among-node, after-is, beyond-root, beyond-is, beyond-parent, among-parent, parent-there}
+use Rattle.tree_laws.proofs.InOrder.{member_is_node}
+use Rattle.node_arena.proofs.Following.{beyond_in, after-is, beyond-root, beyond-is, beyond-parent, among-parent, parent-there}
 use Rattle.node_arena.proofs.Above.{parent-above}
 
 -- What the loop keeps: `at` is in the tree, and what follows n is what is beyond `at`
@@ -48,7 +49,7 @@ module _ (f : Trees) (root n : ℕ) (tidy : IsTidy f) (is : IsNode f root) where
 
   module _ (at : ℕ) (c : Climbing f root n at) where
     pub climb-node : IsNode f at
-    climb-node = among-node f root tidy is at c.among
+    climb-node = member_is_node f root at tidy c.among
 
     -- at the root nothing follows
     pub climb-end : at ≡ root → None ≡ after n (tree_order_of f root)

@@ -9,9 +9,9 @@ use Rattle.node_trees.specs.Nodes.{times, IsNode, IsTidy}
 use Rattle.node_trees.specs.Orders.{order, order_of}
 use Rattle.node_trees.specs.Paths.{path, or_number, connected}
 use Rattle.node_trees.specs.Spots.{kind_at, first_of}
-use Rattle.node_arena.proofs.Sums.{tidy-apart, apart-rest, here, in_shadow, in_children, in_rest, stands_where, times-without}
-use Rattle.node_arena.proofs.Pieces.{tree_of-here, tree_of-shadow, tree_of-children, tree_of-rest, path-here, path-shadow, path-children, path-rest, path-long}
-use Rattle.node_arena.proofs.AtNode.{node_stands}
+use Rattle.tree_laws.proofs.Sums.{tidy-apart, apart-rest, here, in_shadow, in_children, in_rest, stands_where, times-without}
+use Rattle.tree_laws.proofs.Pieces.{tree_of-here, tree_of-shadow, tree_of-children, tree_of-rest, path-here, path-shadow, path-children, path-rest, path-long}
+use Rattle.tree_laws.proofs.AtNode.{node_stands}
 use Rattle.node_trees.proofs.Weights.{IsApart}
 
 -- each path to what is in the first tree of a list begins at its root

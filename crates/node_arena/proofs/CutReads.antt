@@ -7,11 +7,11 @@ use Rattle.node_trees.specs.Trees.{Trees, none, tree, tree_of, without, cut}
 use Rattle.node_trees.specs.Nodes.{times, IsNode, IsTidy}
 use Rattle.node_trees.specs.Paths.{path}
 use Rattle.node_trees.specs.Spots.{Spot, spot_in, spot, spot_at, or_no_spot, facts_at, kind_at, parent_at, children_at}
-use Rattle.node_arena.proofs.Sums.{tidy-apart, times-without}
-use Rattle.node_arena.proofs.Inside.{Found, found}
+use Rattle.tree_laws.proofs.Sums.{tidy-apart, times-without}
+use Rattle.tree_laws.proofs.Inside.{Found, found}
 use Rattle.node_arena.proofs.Lists.{lacking, spot_lacking}
 use Rattle.node_arena.proofs.CutSpots.{spot-place-in, spot-place-out, path-place-out, spot-without, path-without}
-use Rattle.node_arena.proofs.AtNode.{node_stands}
+use Rattle.tree_laws.proofs.AtNode.{node_stands}
 
 -- a spot among the roots of the forest
 abbrev pub spot_at_top : Option Spot → Option Spot

@@ -6,10 +6,10 @@ use Rattle.node_trees.specs.Trees.{Trees, none, tree, roots}
 use Rattle.node_trees.specs.Nodes.{times, IsNode, IsTidy}
 use Rattle.node_trees.specs.Paths.{is_among}
 use Rattle.node_trees.specs.Spots.{Spot, spot_of, spot_in, parent_at, children_at}
-use Rattle.node_arena.proofs.Sums.{tidy-apart, apart-shadow, apart-children, apart-rest, here, in_shadow, in_children, in_rest, stands_where}
-use Rattle.node_arena.proofs.Pieces.{spot-here, spot-shadow, spot-children, spot-rest}
+use Rattle.tree_laws.proofs.Sums.{tidy-apart, apart-shadow, apart-children, apart-rest, here, in_shadow, in_children, in_rest, stands_where}
+use Rattle.tree_laws.proofs.Pieces.{spot-here, spot-shadow, spot-children, spot-rest}
 use Rattle.node_arena.proofs.Onward.{AreApart, count}
-use Rattle.node_arena.proofs.AtNode.{node_stands, node_spot, parent_at-is, children_at-is}
+use Rattle.tree_laws.proofs.AtNode.{node_stands, node_spot, parent_at-is, children_at-is}
 use Rattle.node_trees.proofs.Weights.{IsApart}
 
 -- c stands in the list of trees, under this parent and this host

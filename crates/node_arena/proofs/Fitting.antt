@@ -6,8 +6,8 @@ use Rattle.node_trees.specs.Facts.{Facts, is_element, is_text}
 use Rattle.node_trees.specs.Trees.{Trees, none, tree, join, tree_of, without, place, before}
 use Rattle.node_trees.specs.Nodes.{weight, times, Place, InShadow, AsChild, fits, is_none, unless, misfits}
 use Rattle.node_trees.specs.Spots.{Spot, spot_of, spot_in}
-use Rattle.node_arena.proofs.Sums.{apart-shadow, apart-children, apart-rest, here, in_shadow, in_children, in_rest, stands_where}
-use Rattle.node_arena.proofs.Pieces.{spot-here, spot-shadow, spot-children, spot-rest, tree_of-here, tree_of-shadow, tree_of-children, tree_of-rest}
+use Rattle.tree_laws.proofs.Sums.{apart-shadow, apart-children, apart-rest, here, in_shadow, in_children, in_rest, stands_where}
+use Rattle.tree_laws.proofs.Pieces.{spot-here, spot-shadow, spot-children, spot-rest, tree_of-here, tree_of-shadow, tree_of-children, tree_of-rest}
 use Rattle.node_trees.proofs.Weights.{IsApart}
 
 -- ---- what is counted at one node

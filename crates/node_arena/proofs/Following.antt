@@ -1,15 +1,16 @@
 -- Tree order of one node's tree, walked by first child, next sibling and parent: no stack, and the walk stays inside that tree.
-use Rattle.std.proofs.Common.{◌≡◌, ◌≢◌, ℕ, true, ◌<◌, Option, Some, None, ap, sym, ◌∙◌, subst, arith}
+use Rattle.std.proofs.Common.{◌≡◌, ◌≢◌, ℕ, true, Option, Some, None, ap, sym, ◌∙◌, subst, arith}
 use Rattle.std.proofs.lemmas.Bool.Decides.{nat_tests}
 use Rattle.node_trees.specs.Trees.{Trees, tree_of}
-use Rattle.node_trees.specs.Nodes.{times, IsNode, IsTidy}
+use Rattle.node_trees.specs.Nodes.{IsNode, IsTidy}
 use Rattle.node_trees.specs.Orders.{tree_order, tree_order_of}
 use Rattle.node_trees.specs.Paths.{is_among}
 use Rattle.node_trees.specs.Spots.{spot_of, spot_in, parent_at, first_child_at, next_sibling_at, after}
-use Rattle.node_arena.proofs.Sums.{tidy-apart, times-without}
-use Rattle.node_arena.proofs.Inside.{Found, found, tree_apart}
-use Rattle.node_arena.proofs.Next.{or_else, beyond, order-inside, next_is, Below, climb_tree}
-use Rattle.node_arena.proofs.AtNode.{node_stands, parent_at-is, first_child_at-is, next_sibling_at-is}
+use Rattle.tree_laws.proofs.InOrder.{order-inside}
+use Rattle.tree_laws.proofs.Sums.{tidy-apart}
+use Rattle.tree_laws.proofs.Inside.{Found, found, tree_apart}
+use Rattle.node_arena.proofs.Next.{or_else, beyond, next_is, Below, climb_tree}
+use Rattle.tree_laws.proofs.AtNode.{node_stands, parent_at-is, first_child_at-is, next_sibling_at-is}
 use Rattle.node_trees.proofs.Weights.{IsApart}
 
 -- what the tree order of root's tree has after all that is below n
@@ -26,13 +27,6 @@ pub record Parented (f : Trees) (root n : ℕ) : Type 0 where
 module _ (f : Trees) (root : ℕ) (tidy : IsTidy f) (is : IsNode f root) where
   found_root : Found None None root f
   found_root = found None None root f (tidy-apart f tidy) (node_stands f root tidy is)
-
-  inside-stands : (n : ℕ) → 0 < times n (tree_of root f) → 0 < times n f
-  inside-stands n low = omega (arith, times-without n root f (tidy-apart f tidy root))
-
-  -- what is in the tree order is a node
-  pub among-node : (n : ℕ) → is_among n (tree_order_of f root) ≡ true → IsNode f n
-  among-node n among = tidy.only n (inside-stands n (order-inside n (tree_of root f) among))
 
   pub among-root : is_among root (tree_order_of f root) ≡ true
   among-root = let e = found_root.tree_is in rw e (grind (arith, nat_tests))

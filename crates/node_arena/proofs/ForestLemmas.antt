@@ -10,11 +10,11 @@ use Rattle.node_trees.specs.Nodes.{times, size, surplus_at, IsNode}
 use Rattle.node_arena.specs.Numbers.{remove_number}
 use Rattle.node_arena.specs.Rows.{row_at, Stands, IsForest, Grafted, Severed, Attached, Changed}
 use Rattle.node_arena.specs.OneForest.{node_of_row}
-use Rattle.node_arena.proofs.Sums.{tidy-apart, times-without}
-use Rattle.node_arena.proofs.AtNode.{parent_at-is, host_at-is}
+use Rattle.tree_laws.proofs.Sums.{tidy-apart, times-without}
+use Rattle.tree_laws.proofs.AtNode.{parent_at-is, host_at-is}
 use Rattle.node_arena.proofs.Above.{parent-above, parent-no_host}
 use Rattle.node_arena.proofs.AllowedCut.{parent-outside}
-use Rattle.node_arena.proofs.Changed.{size-with}
+use Rattle.tree_laws.proofs.Changed.{size-with}
 use Rattle.node_arena.proofs.Sizes.{size-with_node, size-with_shadow, size-cut, new-absent}
 use Rattle.node_arena.proofs.Surplus.{KeepsKind}
 use Rattle.node_arena.proofs.Tidy.{tidy-with, tidy-with_node, tidy-with_shadow}

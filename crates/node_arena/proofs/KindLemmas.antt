@@ -8,9 +8,9 @@ use Rattle.node_trees.specs.Nodes.{size, IsNode, IsTidy}
 use Rattle.node_trees.specs.Kinds.{KeepsKinds}
 use Rattle.node_arena.specs.Numbers.{insert_number}
 use Rattle.node_arena.specs.Rows.{row_at, IsForest, Grafted, Attached}
-use Rattle.node_arena.proofs.AtNode.{spot_at-is}
-use Rattle.node_arena.proofs.Changed.{size-with}
-use Rattle.node_arena.proofs.ChangedReads.{kind_at-with}
+use Rattle.tree_laws.proofs.AtNode.{spot_at-is}
+use Rattle.tree_laws.proofs.Changed.{size-with}
+use Rattle.tree_laws.proofs.ChangedReads.{kind_at-with}
 use Rattle.node_arena.proofs.CutReads.{kind_at-cut}
 use Rattle.node_arena.proofs.NewReads.{spot-new-here}
 use Rattle.node_arena.proofs.Sizes.{size-cut, size-with_node, new-absent}

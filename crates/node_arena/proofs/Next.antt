@@ -1,5 +1,5 @@
 -- The node that comes after another in tree order, by first child, next sibling and parent.
-use Rattle.std.proofs.Common.{◌≡◌, ◌≢◌, ℕ, true, false, ◌<◌, ◌==◌, if◌then◌else◌, List, [], ◌∷◌, ◌++◌, Option, Some, None, refl, ap, sym, ◌∙◌, arith}
+use Rattle.std.proofs.Common.{◌≡◌, ◌≢◌, ℕ, true, false, ◌==◌, if◌then◌else◌, List, [], ◌∷◌, ◌++◌, Option, Some, None, refl, ap, sym, ◌∙◌, arith}
 use Rattle.std.proofs.lemmas.Bool.Decides.{nat_tests}
 use Rattle.node_trees.specs.Facts.{Facts}
 use Rattle.node_trees.specs.Trees.{Trees, none, tree, roots}
@@ -8,8 +8,9 @@ use Rattle.node_trees.specs.Orders.{tree_order}
 use Rattle.node_trees.specs.Paths.{is_among}
 use Rattle.node_trees.specs.Spots.{Spot, spot_of, spot_in, first_of, after}
 pub use Rattle.node_arena.specs.Walks.{parent_or as or_else}
-use Rattle.node_arena.proofs.Sums.{apart-children, apart-rest, here, in_shadow, in_children, in_rest, stands_where}
-use Rattle.node_arena.proofs.Pieces.{spot-here, spot-children, spot-rest}
+use Rattle.tree_laws.proofs.InOrder.{order-inside}
+use Rattle.tree_laws.proofs.Sums.{apart-children, apart-rest, here, in_shadow, in_children, in_rest, stands_where}
+use Rattle.tree_laws.proofs.Pieces.{spot-here, spot-children, spot-rest}
 use Rattle.node_trees.proofs.Weights.{IsApart}
 use Rattle.node_trees.proofs.Absent.{is_among-append}
 
@@ -41,11 +42,6 @@ order-absent n (tree m x s k r) z =
 order-first : (f : Trees) → first_of (tree_order f) ≡ first_of (roots f)
 order-first none = refl
 order-first (tree m x s k r) = refl
-
-pub order-inside : (n : ℕ) (f : Trees) → is_among n (tree_order f) ≡ true → 0 < times n f
-order-inside n none h = cc
-order-inside n (tree m x s k r) h =
-    grind (arith, nat_tests, order-inside n k, order-inside n r, is_among-append n (tree_order k) (tree_order r))
 
 -- what comes in tree order after all that is below n
 abbrev pub beyond : ℕ → Trees → Option ℕ

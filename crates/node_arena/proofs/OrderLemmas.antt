@@ -7,10 +7,10 @@ use Rattle.node_trees.specs.Spots.{Spot, spot_of, spot}
 use Rattle.node_trees.specs.Orders.{order}
 use Rattle.node_trees.specs.Nodes.{times, IsNode, IsTidy}
 use Rattle.node_arena.specs.Walks.{AreNodes, orders}
-use Rattle.node_arena.proofs.Sums.{tidy-apart, apart-shadow, apart-children, apart-rest, times-without}
-use Rattle.node_arena.proofs.Pieces.{tree_of-shadow, tree_of-children, tree_of-rest}
-use Rattle.node_arena.proofs.Inside.{Found, found}
-use Rattle.node_arena.proofs.AtNode.{node_stands}
+use Rattle.tree_laws.proofs.Sums.{tidy-apart, apart-shadow, apart-children, apart-rest, times-without}
+use Rattle.tree_laws.proofs.Pieces.{tree_of-shadow, tree_of-children, tree_of-rest}
+use Rattle.tree_laws.proofs.Inside.{Found, found}
+use Rattle.tree_laws.proofs.AtNode.{node_stands}
 use Rattle.node_arena.proofs.OrderSteps.{IsPart, tree_of-inside}
 use Rattle.node_trees.proofs.Weights.{IsApart}
 

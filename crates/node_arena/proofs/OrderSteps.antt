@@ -3,8 +3,8 @@ use Rattle.std.proofs.Common.{◌≡◌, ℕ, ◌<◌, ◌∙◌, arith}
 use Rattle.std.proofs.lemmas.Bool.Decides.{nat_tests}
 use Rattle.node_trees.specs.Trees.{Trees, none, tree, tree_of}
 use Rattle.node_trees.specs.Nodes.{times}
-use Rattle.node_arena.proofs.Sums.{apart-shadow, apart-children, apart-rest, here, in_shadow, in_children, in_rest, stands_where, times-without}
-use Rattle.node_arena.proofs.Pieces.{tree_of-absent, tree_of-here, tree_of-shadow, tree_of-children, tree_of-rest}
+use Rattle.tree_laws.proofs.Sums.{apart-shadow, apart-children, apart-rest, here, in_shadow, in_children, in_rest, stands_where, times-without}
+use Rattle.tree_laws.proofs.Pieces.{tree_of-absent, tree_of-here, tree_of-shadow, tree_of-children, tree_of-rest}
 use Rattle.node_trees.proofs.Weights.{IsApart}
 
 -- a tree in the tree of n is that of the whole

@@ -5,9 +5,9 @@ use Rattle.node_trees.specs.Facts.{Facts}
 use Rattle.node_trees.specs.Trees.{Trees, none, tree}
 use Rattle.node_trees.specs.Spots.{spot_of, spot_in, spot}
 use Rattle.node_trees.specs.Nodes.{times, IsNode, IsTidy}
-use Rattle.node_arena.proofs.Sums.{tidy-apart, apart-children, apart-rest, times-without}
-use Rattle.node_arena.proofs.Pieces.{spot-here, spot-children, spot-rest}
-use Rattle.node_arena.proofs.Inside.{Found, tree_apart}
+use Rattle.tree_laws.proofs.Sums.{tidy-apart, apart-children, apart-rest, times-without}
+use Rattle.tree_laws.proofs.Pieces.{spot-here, spot-children, spot-rest}
+use Rattle.tree_laws.proofs.Inside.{Found, tree_apart}
 use Rattle.node_trees.proofs.Weights.{IsApart}
 
 -- these trees are a part of the forest, with this parent and this host above them

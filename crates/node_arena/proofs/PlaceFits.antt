@@ -3,9 +3,9 @@ use Rattle.std.proofs.Common.{◌≡◌, ℕ, true, ◌<◌, Option, Some, None,
 use Rattle.node_trees.specs.Trees.{Trees, none, tree}
 use Rattle.node_trees.specs.Nodes.{Place, AtTop, InShadow, AsChild, fits, misfits, times, IsNode, IsTidy}
 use Rattle.node_trees.specs.Spots.{Spot, spot_of, spot_in, spot, kind_at}
-use Rattle.node_arena.proofs.Sums.{tidy-apart, apart-shadow, apart-children, apart-rest, here, in_shadow, in_children, in_rest, stands_where}
-use Rattle.node_arena.proofs.Pieces.{spot-here, spot-shadow, spot-children, spot-rest}
-use Rattle.node_arena.proofs.AtNode.{node_stands, facts_at-is}
+use Rattle.tree_laws.proofs.Sums.{tidy-apart, apart-shadow, apart-children, apart-rest, here, in_shadow, in_children, in_rest, stands_where}
+use Rattle.tree_laws.proofs.Pieces.{spot-here, spot-shadow, spot-children, spot-rest}
+use Rattle.tree_laws.proofs.AtNode.{node_stands, facts_at-is}
 use Rattle.node_arena.proofs.ChildFits.{unless-true, child-no_root}
 use Rattle.node_trees.proofs.Weights.{IsApart}
 

@@ -8,9 +8,9 @@ use Rattle.node_trees.specs.Trees.{Trees, none, tree, roots, tree_of}
 use Rattle.node_trees.specs.Spots.{kind_at, children_at}
 use Rattle.node_trees.specs.Nodes.{AsChild, fits, is_none, unless, misfits, IsNode, IsTidy}
 use Rattle.node_trees.specs.Links.{below, AreRead}
-use Rattle.node_arena.proofs.Sums.{tidy-apart}
-use Rattle.node_arena.proofs.Inside.{Found, found}
-use Rattle.node_arena.proofs.AtNode.{node_stands, facts_at-is, children_at-is}
+use Rattle.tree_laws.proofs.Sums.{tidy-apart}
+use Rattle.tree_laws.proofs.Inside.{Found, found}
+use Rattle.tree_laws.proofs.AtNode.{node_stands, facts_at-is, children_at-is}
 use Rattle.node_arena.proofs.ChildFits.{unless-true}
 use Rattle.node_arena.proofs.Fitting.{misfits-tree_of}
 use Rattle.node_arena.proofs.PartsBelow.{IsPart, part_here, part_children, part_rest, children_part}

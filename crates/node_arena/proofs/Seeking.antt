@@ -9,10 +9,11 @@ use Rattle.node_trees.specs.Nodes.{IsNode, IsTidy}
 use Rattle.node_trees.specs.Orders.{tree_order_of}
 use Rattle.node_trees.specs.Paths.{is_among}
 use Rattle.node_trees.specs.Spots.{facts_at, after}
-use Rattle.node_arena.proofs.Sums.{tidy-apart}
-use Rattle.node_arena.proofs.Inside.{found, tree_apart}
-use Rattle.node_arena.proofs.AtNode.{node_stands}
-use Rattle.node_arena.proofs.Following.{among-node, among-root}
+use Rattle.tree_laws.proofs.Sums.{tidy-apart}
+use Rattle.tree_laws.proofs.Inside.{found, tree_apart}
+use Rattle.tree_laws.proofs.AtNode.{node_stands}
+use Rattle.tree_laws.proofs.InOrder.{member_is_node}
+use Rattle.node_arena.proofs.Following.{among-root}
 use Rattle.node_arena.proofs.Onward.{AreApart, onward, order-apart, after-among, find-here, find-last, find-step, onward-less}
 
 -- the first in the list whose ID this is
@@ -32,7 +33,7 @@ module _ (f : Trees) (root : ℕ) (id : List ℕ) (tidy : IsTidy f) (is : IsNode
   pub tree_order-apart : AreApart (tree_order_of f root)
   tree_order-apart = order-apart (tree_of root f) (tree_apart root f (tidy-apart f tidy))
 
-  onward-root : onward root (tree_order_of f root) ≡ tree_order_of f root
+  pub onward-root : onward root (tree_order_of f root) ≡ tree_order_of f root
   onward-root =
       let it = found None None root f (tidy-apart f tidy) (node_stands f root tidy is) in
       let e = it.tree_is in
@@ -43,7 +44,7 @@ module _ (f : Trees) (root : ℕ) (id : List ℕ) (tidy : IsTidy f) (is : IsNode
 
   module _ (at : ℕ) (s : Seeking f root id at) where
     pub seek-node : IsNode f at
-    seek-node = among-node f root tidy is at s.among
+    seek-node = member_is_node f root at tidy s.among
 
     pub seek-here : has_id id (facts_at f at) ≡ true → Some at ≡ first_with_id f root id
     seek-here h = sym (s.is ∙ find-here (λ m. has_id id (facts_at f m)) at (tree_order_of f root) s.among h)

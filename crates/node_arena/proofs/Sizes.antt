@@ -5,7 +5,7 @@ use Rattle.std.proofs.lemmas.Bool.{cases_lt}
 use Rattle.node_trees.specs.Facts.{Facts}
 use Rattle.node_trees.specs.Trees.{Trees, tree_of, without, cut, graft, with_node, single, with_shadow}
 use Rattle.node_trees.specs.Nodes.{weight, times, size, IsNode, IsTidy}
-use Rattle.node_arena.proofs.Sums.{tidy-apart, times-without}
+use Rattle.tree_laws.proofs.Sums.{tidy-apart, times-without}
 use Rattle.node_trees.proofs.Weights.{weight-join, weight-without, weight-place, weight-put, weight-shadow}
 
 module _ (w : ℕ → Facts → ℕ) where

@@ -7,8 +7,8 @@ use Rattle.node_trees.specs.Spots.{Spot, spot_in, spot, spot_at, or_spot, or_no_
 use Rattle.node_trees.specs.Nodes.{times, IsNode, IsTidy}
 use Rattle.node_trees.specs.Links.{KeepsSpots}
 use Rattle.node_arena.specs.Rows.{IsForest, Grafted}
-use Rattle.node_arena.proofs.AtNode.{node_spot}
-use Rattle.node_arena.proofs.Changed.{spot-with-other}
+use Rattle.tree_laws.proofs.AtNode.{node_spot}
+use Rattle.tree_laws.proofs.Changed.{spot-with-other}
 use Rattle.node_arena.proofs.CutSpots.{spot-join}
 use Rattle.node_arena.proofs.ForestLemmas.{stands_at, row_is}
 use Rattle.node_trees.proofs.Absent.{spot-absent}

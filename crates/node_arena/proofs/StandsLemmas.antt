@@ -8,9 +8,9 @@ use Rattle.node_trees.specs.Spots.{Spot, spot_of, spot_in}
 use Rattle.node_trees.specs.Nodes.{times}
 use Rattle.node_arena.specs.Numbers.{remove_number, insert_number}
 use Rattle.node_arena.specs.Rows.{row_at, Stands, Attached, Changed}
-use Rattle.node_arena.proofs.Pieces.{spot-here, spot-shadow, spot-children, spot-rest, tree_of-shadow, tree_of-children, tree_of-rest}
-use Rattle.node_arena.proofs.Inside.{Found, found}
-use Rattle.node_arena.proofs.Changed.{roots-with}
+use Rattle.tree_laws.proofs.Pieces.{spot-here, spot-shadow, spot-children, spot-rest, tree_of-shadow, tree_of-children, tree_of-rest}
+use Rattle.tree_laws.proofs.Inside.{Found, found}
+use Rattle.tree_laws.proofs.Changed.{roots-with}
 use Rattle.node_arena.proofs.PutSpots.{roots-before, roots-put}
 use Rattle.node_arena.proofs.Lists.{roots-without}
 use Rattle.node_arena.proofs.ShadowReads.{roots-shadow}

@@ -7,8 +7,8 @@ use Rattle.node_trees.specs.Facts.{Facts, is_element, is_text}
 use Rattle.node_trees.specs.Trees.{Trees, none, tree, with_facts}
 use Rattle.node_trees.specs.Nodes.{weight, surplus_at, surplus, HasOwnParts, IsNode, IsTidy}
 use Rattle.node_trees.specs.Spots.{facts_at, kind_at}
-use Rattle.node_arena.proofs.Sums.{tidy-apart}
-use Rattle.node_arena.proofs.AtNode.{node_stands, node_spot, facts_at-is}
+use Rattle.tree_laws.proofs.Sums.{tidy-apart}
+use Rattle.tree_laws.proofs.AtNode.{node_stands, node_spot, facts_at-is}
 use Rattle.node_arena.proofs.Fitting.{only_at, only-there}
 
 -- ---- sums over the facts alone

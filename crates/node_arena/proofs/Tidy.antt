@@ -6,11 +6,11 @@ use Rattle.node_trees.specs.Facts.{Facts, is_element, is_text, is_shadow_root}
 use Rattle.node_trees.specs.Trees.{Trees, single, tree_of, without, place, cut, graft, with_node, with_shadow, with_facts}
 use Rattle.node_trees.specs.Nodes.{times, size, Rises, Place, AtTop, AsChild, fits, unless, misfits, surplus_at, surplus, IsNode, IsTidy}
 use Rattle.node_trees.specs.Spots.{kind_at}
-use Rattle.node_arena.proofs.Sums.{tidy-apart, one_at}
-use Rattle.node_arena.proofs.Inside.{found}
-use Rattle.node_arena.proofs.AtNode.{node_stands, node_spot, facts_at-is}
+use Rattle.tree_laws.proofs.Sums.{tidy-apart, one_at}
+use Rattle.tree_laws.proofs.Inside.{found}
+use Rattle.tree_laws.proofs.AtNode.{node_stands, node_spot, facts_at-is}
 use Rattle.node_arena.proofs.CutReads.{in-tree, not-left}
-use Rattle.node_arena.proofs.Changed.{roots-with, size-with, times-with}
+use Rattle.tree_laws.proofs.Changed.{roots-with, size-with, times-with}
 use Rattle.node_arena.proofs.PutSpots.{roots-put}
 use Rattle.node_arena.proofs.ShadowReads.{roots-shadow}
 use Rattle.node_arena.proofs.Sizes.{weight-cut, weight-graft, weight-with_node, weight-with_shadow, size-cut, size-graft, size-with_node, size-with_shadow, new-absent}

@@ -8,7 +8,7 @@ use Rattle.node_trees.specs.Spots.{first_of}
 use Rattle.node_trees.specs.Paths.{path, is_among, has_parent}
 use Rattle.node_arena.specs.Walks.{IsUp}
 use Rattle.node_trees.specs.Nodes.{IsTidy}
-use Rattle.node_arena.proofs.Pieces.{path-long}
+use Rattle.tree_laws.proofs.Pieces.{path-long}
 use Rattle.node_arena.proofs.Roots.{is_among-push}
 
 -- a node is on its own path

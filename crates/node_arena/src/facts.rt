@@ -4,7 +4,7 @@ ghost use Rattle.node_trees.specs.declared.kind.NodeKind.TheVariants.{Element};
 ghost use Rattle.node_trees.specs.Facts.{is_element, value_in, with_value, without_value};
 ghost use Rattle.node_trees.specs.Trees.{with_attribute, without_attribute, with_document};
 ghost use Rattle.node_trees.specs.Spots.{parent_at, Spot, facts_at, kind_at, attribute_at};
-ghost use Rattle.node_trees.specs.Nodes.{size, IsNode};
+ghost use Rattle.node_trees.specs.Nodes.{size, IsNode, IsTidy};
 ghost use Rattle.node_trees.specs.Kinds.{KeepsKinds};
 ghost use Rattle.node_trees.specs.Links.{IsAlone, KeepsApart, KeepsSpots};
 ghost use Rattle.node_trees.specs.Insertion.{may_insert};
@@ -91,6 +91,8 @@ impl Tree {
     ) -> Result<Option<Text>, NoMemory>
         requires node { IsNode self.old node }
         requires element { kind_at self.old node ≡ Element }
+        ensures tidy { IsTidy self.old }
+        ensures still_tidy { IsTidy self.new }
         ensures set { OnOk result (self.new ≡ with_attribute node name value self.old) }
         ensures was { IfOk result (λ old. old ≡ attribute_at self.old node name) }
         ensures size { size self.new ≡ size self.old }
@@ -108,6 +110,8 @@ impl Tree {
     pub fn del_attr(&mut self, node: NodeNo, name: &str) -> Option<Text>
         requires node { IsNode self.old node }
         requires element { kind_at self.old node ≡ Element }
+        ensures tidy { IsTidy self.old }
+        ensures still_tidy { IsTidy self.new }
         ensures left { self.new ≡ without_attribute node name.now self.old }
         ensures was { result ≡ attribute_at self.old node name.now }
         ensures size { size self.new ≡ size self.old }

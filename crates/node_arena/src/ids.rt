@@ -49,7 +49,7 @@ impl Tree {
 
     /// What follows a node in the tree order of `root`: its first child, or else the next sibling of the
     /// nearest of it and what is above it that has one, below `root`.
-    fn next_in_tree(&self, at: NodeNo, root: NodeNo) -> Option<NodeNo>
+    pub(crate) fn next_in_tree(&self, at: NodeNo, root: NodeNo) -> Option<NodeNo>
         requires tidy { IsTidy self.now }
         requires root { IsNode self.now root }
         requires inside { is_among at (tree_order_of self.now root) ≡ true }

@@ -4,7 +4,7 @@ ghost use Rattle.std.specs.Result.{result_err};
 ghost use Rattle.node_trees.specs.Trees.{graft};
 ghost use Rattle.node_trees.specs.Spots.{parent_at};
 ghost use Rattle.node_trees.specs.Insertion.{may_insert, has_element_child};
-ghost use Rattle.node_trees.specs.Nodes.{size, IsNode, IsNodeOrNone};
+ghost use Rattle.node_trees.specs.Nodes.{size, IsNode, IsNodeOrNone, IsTidy};
 ghost use Rattle.node_trees.specs.Kinds.{KeepsKinds};
 ghost use Rattle.node_trees.specs.Links.{KeepsApart, KeepsSpots};
 ghost use Rattle.node_trees.specs.Paths.{connected};
@@ -105,6 +105,8 @@ impl Tree {
         requires before { IsNodeOrNone self.old before }
         requires may { may_insert self.old parent node before ≡ None }
         requires free { parent_at self.old node ≡ None }
+        ensures tidy { IsTidy self.old }
+        ensures still_tidy { IsTidy self.new }
         ensures ok { OnOk result (self.new ≡ graft self.old parent node before) }
         ensures size { size self.new ≡ size self.old }
         ensures kinds { KeepsKinds self.old self.new }

@@ -1,6 +1,6 @@
-// The shadow-including order.
+// Tree order and the shadow-including order.
 ghost use Rattle.std.specs.Prelude.{◌≡◌, ◌++◌, reverse, OnOk, IfOk, All};
-ghost use Rattle.node_trees.specs.Orders.{order_of};
+ghost use Rattle.node_trees.specs.Orders.{order_of, tree_order_of};
 ghost use Rattle.node_trees.specs.Paths.{connected};
 ghost use Rattle.node_trees.specs.Nodes.{IsNode};
 ghost use Rattle.node_arena.specs.NodeRows.{row};
@@ -34,6 +34,23 @@ fn push_links(stack: &mut Vec<NodeNo>, node: &Node) -> Result<(), NoMemory>
 }
 
 impl Tree {
+    /// The node and all below it in its own tree, in tree order (DOM Standard, section "Trees", "tree order").
+    pub fn tree_order(&self, alloc: Global, root: NodeNo) -> Result<Nodes, NoMemory>
+        requires { IsNode self.now root }
+        ensures { IfOk result (λ ns. ns ≡ tree_order_of self.now root) }
+    {
+        let _count = self.count();
+        let mut out = Nodes::make(alloc);
+        let mut at = root;
+        loop {
+            out.push(alloc, at)?;
+            match self.next_in_tree(at, root) {
+                Some(next) => at = next,
+                None => return Ok(out),
+            }
+        }
+    }
+
     /// The node and all below it in shadow-including tree order (DOM Standard, section "Interface ShadowRoot",
     /// "shadow-including tree order"): a node, then its shadow tree, then its children, each in this order.
     /// They are all connected, or none is.

@@ -3,7 +3,7 @@ ghost use Rattle.std.specs.Prelude.{◌≡◌, ◌≢◌, ◌<◌, ◌≤◌, �
 ghost use Rattle.node_trees.specs.Trees.{cut};
 ghost use Rattle.node_trees.specs.Spots.{next_sibling_at, parent_at};
 ghost use Rattle.node_trees.specs.Insertion.{may_insert};
-ghost use Rattle.node_trees.specs.Nodes.{size, IsNode};
+ghost use Rattle.node_trees.specs.Nodes.{size, IsNode, IsTidy};
 ghost use Rattle.node_trees.specs.Kinds.{KeepsKinds};
 ghost use Rattle.node_arena.specs.NodeRows.{rows};
 ghost use Rattle.node_arena.specs.Rows.{Severed};
@@ -32,6 +32,8 @@ impl Tree {
     pub fn remove(&mut self, node: NodeNo)
         requires node { IsNode self.old node }
         requires placed { IsSome (parent_at self.old node) }
+        ensures tidy { IsTidy self.old }
+        ensures still_tidy { IsTidy self.new }
         ensures cut { self.new ≡ cut self.old node }
         ensures size { size self.new ≡ size self.old }
         ensures kinds { KeepsKinds self.old self.new }

@@ -41,3 +41,9 @@ returns-clause-kinds c = kinds-with c.args.node (λ x. record x { attributes = w
 
 pub returns-clause-others : goal.returns-clause-others
 returns-clause-others c = spots-with c.args.node (λ x. record x { attributes = without_value c.args.name.now x.attributes }) _ _ (returns-clause-left c)
+
+pub returns-clause-tidy : goal.returns-clause-tidy
+returns-clause-tidy c = (seen_fact _ _ _ c.self.view_is).tidy
+
+pub returns-clause-still_tidy : goal.returns-clause-still_tidy
+returns-clause-still_tidy c = (seen_fact _ _ _ refl).tidy

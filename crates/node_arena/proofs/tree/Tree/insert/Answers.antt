@@ -56,3 +56,9 @@ pub returns-clause-apart : goal.returns-clause-apart
 returns-clause-apart c =
     on_ok_weaker c.link.result (λ g apart. apart-grafted _ _ _ _ _ _ _ (seen_fact _ _ _ c.self.view_is) (seen_fact _ _ _ refl)
     (regrafted c.deref_mut.ensures.value (written _ _ _ _ c.deref_mut.ensures.value c.self.inside.nodes.ok.0 c.link.auto.nodes) g) c.requires.parent apart) c.link.ensures.ok
+
+pub returns-clause-tidy : goal.returns-clause-tidy
+returns-clause-tidy c = (seen_fact _ _ _ c.self.view_is).tidy
+
+pub returns-clause-still_tidy : goal.returns-clause-still_tidy
+returns-clause-still_tidy c = (seen_fact _ _ _ refl).tidy

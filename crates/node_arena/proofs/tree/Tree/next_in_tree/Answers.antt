@@ -1,10 +1,10 @@
 use Rattle.std.proofs.Common.{sym, ◌∙◌}
 use Rattle.node_arena.proofs.Climbing.{climb-child, climb-start, climb-node, climb-end, climb-sibling, climb-on, climb-less, climb-parent, test-apart, test-same}
-use Rattle.node_arena.proofs.Following.{among-node}
+use Rattle.tree_laws.proofs.InOrder.{member_is_node}
 use Rattle.node_arena.proofs.tree.Tree.next_in_tree.Goals as goal
 
 pub first_child-child-requires : goal.first_child-child-requires
-first_child-child-requires c = among-node _ _ c.requires.tidy c.requires.root _ c.requires.inside
+first_child-child-requires c = member_is_node _ _ _ c.requires.tidy c.requires.inside
 
 pub returns-then-is_some : goal.returns-then-is_some
 returns-then-is_some c = climb-child _ _ _ c.requires.tidy c.requires.root _ c.requires.inside c.first_child-child.ensures.child (sym c.is_some.ensures ∙ c.if-is_some.true)

@@ -1,4 +1,4 @@
-use Rattle.std.proofs.Common.{◌∙◌, arith}
+use Rattle.std.proofs.Common.{◌∙◌, arith, refl}
 use Rattle.node_arena.specs.Seen.{seen_fact, seen_is, seen_size}
 use Rattle.node_arena.proofs.CallLemmas.{size_written, written, removed, parent_is}
 use Rattle.node_arena.proofs.ReadLemmas.{in_range}
@@ -50,3 +50,9 @@ returns-in-Some-clause-free c = rw (returns-in-Some-clause-cut c) (parent_at-cut
 
 pub returns-in-Some-clause-kinds : goal.returns-in-Some-clause-kinds
 returns-in-Some-clause-kinds c = kinds-cut _ _ _ (seen_fact _ _ _ c.self.view_is).tidy c.requires.node (returns-in-Some-clause-cut c)
+
+pub returns-in-Some-clause-tidy : goal.returns-in-Some-clause-tidy
+returns-in-Some-clause-tidy c = (seen_fact _ _ _ c.self.view_is).tidy
+
+pub returns-in-Some-clause-still_tidy : goal.returns-in-Some-clause-still_tidy
+returns-in-Some-clause-still_tidy c = (seen_fact _ _ _ refl).tidy

@@ -59,3 +59,9 @@ returns-clause-alone c =
 pub returns-clause-apart : goal.returns-clause-apart
 returns-clause-apart c =
     by_result c.set_attribute.result (apart-with c.args.node (λ x. record x { attributes = with_value c.args.name c.args.value x.attributes }) _ _ (λ x. refl)) (apart-same _ _) (returns-clause-set c) (returns-clause-err c)
+
+pub returns-clause-tidy : goal.returns-clause-tidy
+returns-clause-tidy c = (seen_fact _ _ _ c.self.view_is).tidy
+
+pub returns-clause-still_tidy : goal.returns-clause-still_tidy
+returns-clause-still_tidy c = (seen_fact _ _ _ refl).tidy

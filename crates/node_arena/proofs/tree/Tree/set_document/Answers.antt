@@ -4,7 +4,7 @@ use Rattle.node_arena.proofs.CallLemmas.{size_written, written, altered}
 use Rattle.node_arena.proofs.ReadLemmas.{in_range}
 use Rattle.node_arena.proofs.Surplus.{keeps-document}
 use Rattle.node_arena.proofs.Allowed.{may_insert-with_document}
-use Rattle.node_arena.proofs.ChangedReads.{parent_at-with}
+use Rattle.tree_laws.proofs.ChangedReads.{parent_at-with}
 use Rattle.node_arena.proofs.KindLemmas.{kinds-with}
 use Rattle.node_arena.proofs.SpotLemmas.{spots-with}
 use Rattle.node_arena.proofs.ApartLemmas.{apart-with}

@@ -3,8 +3,8 @@ use Rattle.std.proofs.Common.{◌≡◌, ℕ, ◌<◌, Some, None, ap, arith}
 use Rattle.node_trees.specs.Trees.{Trees}
 use Rattle.node_trees.specs.Nodes.{times, IsNode, IsTidy}
 use Rattle.node_trees.specs.Spots.{Spot, spot_of, spot, spot_at, facts_at, parent_at, host_at, children_at, first_of, first_child_at, next_sibling_at, after, or_no_spot}
-use Rattle.node_arena.proofs.Sums.{tidy-apart}
-use Rattle.node_arena.proofs.Inside.{found}
+use Rattle.tree_laws.proofs.Sums.{tidy-apart}
+use Rattle.tree_laws.proofs.Inside.{found}
 
 pub node_stands : (f : Trees) (n : ℕ) → IsTidy f → IsNode f n → 0 < times n f
 node_stands f n tidy node = omega (arith, tidy.once n node)

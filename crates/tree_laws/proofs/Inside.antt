@@ -5,8 +5,8 @@ use Rattle.node_trees.specs.Facts.{Facts}
 use Rattle.node_trees.specs.Trees.{Trees, none, tree, tree_of}
 use Rattle.node_trees.specs.Nodes.{times}
 use Rattle.node_trees.specs.Spots.{spot_of, spot_in}
-use Rattle.node_arena.proofs.Sums.{apart-shadow, apart-children, apart-rest, here, in_shadow, in_children, in_rest, stands_where, times-without}
-use Rattle.node_arena.proofs.Pieces.{spot-here, spot-shadow, spot-children, spot-rest, tree_of-here, tree_of-shadow, tree_of-children, tree_of-rest}
+use Rattle.tree_laws.proofs.Sums.{apart-shadow, apart-children, apart-rest, here, in_shadow, in_children, in_rest, stands_where, times-without}
+use Rattle.tree_laws.proofs.Pieces.{spot-here, spot-shadow, spot-children, spot-rest, tree_of-here, tree_of-shadow, tree_of-children, tree_of-rest}
 use Rattle.node_trees.proofs.Weights.{IsApart}
 use Rattle.node_trees.proofs.Absent.{spot-absent}
 

@@ -5,7 +5,7 @@ use Rattle.node_trees.specs.Facts.{Facts}
 use Rattle.node_trees.specs.declared.kind.NodeKind.{NodeKind}
 use Rattle.node_trees.specs.Trees.{Trees, with_facts}
 use Rattle.node_trees.specs.Spots.{Spot, spot, spot_at, or_no_spot, kind_at, parent_at, children_at}
-use Rattle.node_arena.proofs.Changed.{changed, spot-with-other, spot-with-here}
+use Rattle.tree_laws.proofs.Changed.{changed, spot-with-other, spot-with-here}
 
 changed-keeps : (A : Type 0) (g : Spot → A) (c : Facts → Facts) → ((s : Spot) → g (record s { facts = c s.facts }) ≡ g s) → (o : Option Spot) → g (or_no_spot (changed c o)) ≡ g (or_no_spot o)
 changed-keeps A g c keeps None = refl

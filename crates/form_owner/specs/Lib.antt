@@ -1,0 +1,5 @@
+pub mod OwnerRows
+pub mod Touches
+pub mod Stands
+pub mod Reading
+pub mod Writing

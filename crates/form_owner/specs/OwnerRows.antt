@@ -1,0 +1,23 @@
+-- What the table keeps: a row for each node, that of node 1 first. Past its end a table is blank.
+use Rattle.std.specs.Prelude.{ℕ, Bool, false, ◌-◌, List, [], Option, None}
+use Rattle.form_controls.specs.Rows.{row_at}
+
+pub record OwnerRow : Type 0 where
+  pub owner : Option ℕ  -- the form owner
+  pub disabled : Bool  -- it is disabled
+  pub associated : Bool  -- it is a form-associated custom element
+  pub controls : List ℕ  -- the controls of a form, in tree order
+
+pub record OwnerRows : Type 0 where
+  pub rows : List OwnerRow
+
+abbrev pub blank_row : OwnerRow
+blank_row = record { owner = None; disabled = false; associated = false; controls = [] }
+
+-- the row at a place, from 0
+abbrev pub row_in : List OwnerRow → ℕ → OwnerRow
+row_in rows i = row_at blank_row rows i
+
+-- the row of a node
+abbrev pub row_of : List OwnerRow → ℕ → OwnerRow
+row_of rows n = row_in rows (n - 1)

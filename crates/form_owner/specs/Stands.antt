@@ -1,0 +1,28 @@
+-- The table stands for the trees, and for who of their elements is a form-associated custom element.
+use Rattle.std.specs.Prelude.{◌≡◌, ◌+◌, ◌≤◌, ℕ, true, List, length}
+use Rattle.node_trees.specs.Trees.{Trees}
+use Rattle.node_trees.specs.Nodes.{IsNode, size}
+use Rattle.form_controls.specs.Owners.{Forms, form_owner, is_associated, controls_of}
+use Rattle.form_controls.specs.Disabled.{is_disabled}
+use Rattle.form_owner.specs.declared.touch.Touch.{Touch}
+use Rattle.form_owner.specs.OwnerRows.{OwnerRow, OwnerRows, row_in}
+use Rattle.form_owner.specs.Touches.{IsTouched}
+
+-- the rows say who is a form-associated custom element, and those are nodes
+pub record KnowsAssociated (rows : List OwnerRow) (f : Forms) : Type 0 where
+  pub flags : (i : ℕ) → (row_in rows i).associated ≡ is_associated f (i + 1)
+  pub nodes : (n : ℕ) → is_associated f n ≡ true → IsNode f.forest n
+
+-- each row says of its node what the definitions say, and a number that is none of a node has no row
+pub record Stands (table : OwnerRows) (f : Forms) : Type 0 where
+  pub within : length table.rows ≤ size f.forest
+  pub associated : KnowsAssociated table.rows f
+  pub owner : (i : ℕ) → (row_in table.rows i).owner ≡ form_owner f (i + 1)
+  pub disabled : (i : ℕ) → (row_in table.rows i).disabled ≡ is_disabled f (i + 1)
+  pub controls : (i : ℕ) → (row_in table.rows i).controls ≡ controls_of f (i + 1)
+
+-- the table stood for trees that this touch made what they are now
+pub record StoodBefore (table : OwnerRows) (touch : Touch) (now : Trees) : Type 0 where
+  pub before : Forms
+  pub stands : Stands table before
+  pub touched : IsTouched touch before.forest now

@@ -1,0 +1,22 @@
+//! Form owners and disabled states, kept beside the tree, so that what is asked of them walks no tree (HTML Standard,
+//! sections "Association of controls and forms", "Enabling and disabling form controls: the disabled attribute").
+#![tactic(auto)]
+
+mod changes;
+mod controls;
+mod disabled;
+mod laws;
+mod owner;
+mod reading;
+mod row;
+mod settle;
+mod table;
+mod touch;
+
+pub use changes::Changes;
+pub use form_controls::Change;
+pub use laws::{
+    a_node_document_changes_nothing, making_a_node_changes_nothing, only_members_count,
+};
+pub use table::OwnerTable;
+pub use touch::Touch;

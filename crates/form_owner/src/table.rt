@@ -1,0 +1,63 @@
+// The table.
+ghost use Rattle.std.specs.Prelude.{◌≡◌, []};
+ghost use Rattle.node_trees.specs.declared.kind.NodeKind.TheVariants.{Document};
+ghost use Rattle.node_trees.specs.Facts.{blank};
+ghost use Rattle.node_trees.specs.Nodes.{IsNode};
+ghost use Rattle.node_trees.specs.Trees.{single};
+ghost use Rattle.form_controls.specs.Disabled.{is_disabled};
+ghost use Rattle.form_controls.specs.Owners.{Forms, controls_of, form_owner};
+ghost use Rattle.form_owner.specs.Stands.{Stands};
+
+use crate::row::{Row, controls_in, disabled_in, owner_in};
+use ce_base::NodeNo;
+use std::alloc::Global;
+use std::marker::Model;
+
+/// The form owner and the disabled state of each node, and the controls of each form. A contract sees a row for each
+/// node, that of node 1 first.
+#[derive(Drop)]
+pub struct OwnerTable {
+    pub(crate) rows: Vec<Row>,
+}
+
+impl Model for OwnerTable {
+    ghost use Rattle.form_owner.specs.OwnerRows.{OwnerRows};
+
+    ghost Value = { OwnerRows };
+
+    ghost view = { λ t. record { rows = t.rows.items } };
+}
+
+impl OwnerTable {
+    /// The table of a document alone.
+    pub fn make(alloc: Global) -> OwnerTable
+        ensures stands { Stands result (record { forest = single 1 (blank Document 1); associated = [] }) }
+    {
+        OwnerTable {
+            rows: Vec::new(alloc),
+        }
+    }
+
+    /// The form owner of a node (HTML Standard, section "Association of controls and forms", "form owner"). None exactly
+    /// where it has none.
+    pub fn owner(&self, n: NodeNo) -> Option<NodeNo>
+        ensures { (f : Forms) → Stands self.now f → IsNode f.forest n → result ≡ form_owner f n }
+    {
+        owner_in(&self.rows, n)
+    }
+
+    /// Whether a node is disabled (HTML Standard, section "Enabling and disabling form controls: the disabled attribute").
+    pub fn disabled(&self, n: NodeNo) -> bool
+        ensures { (f : Forms) → Stands self.now f → IsNode f.forest n → result ≡ is_disabled f n }
+    {
+        disabled_in(&self.rows, n)
+    }
+
+    /// The controls of a form, in tree order: the listed elements whose form owner it is (HTML Standard, section "The form
+    /// element"). Another node has none.
+    pub fn controls(&self, form: NodeNo) -> &[NodeNo]
+        ensures { (f : Forms) → Stands self.now f → IsNode f.forest form → result.now ≡ controls_of f form }
+    {
+        controls_in(&self.rows, form)
+    }
+}

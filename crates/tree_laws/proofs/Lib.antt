@@ -1,0 +1,11 @@
+pub mod Sums
+pub mod Pieces
+pub mod Inside
+pub mod AtNode
+pub mod InOrder
+pub mod Rooted
+pub mod Alike
+pub mod NewNode
+pub mod Changed
+pub mod ChangedReads
+pub mod OtherFacts

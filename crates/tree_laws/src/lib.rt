@@ -1,0 +1,7 @@
+//! Laws on node trees, about the definitions of node_trees alone: what is read at a node by the part of the trees that it
+//! stands in, and what is a node. They stand in `proofs/`, where the proofs of the layers above cite them.
+#![tactic(auto)]
+
+mod laws;
+
+pub use laws::{making_a_node_changes_no_other, what_is_read_is_a_node};
