@@ -1,5 +1,5 @@
 // A session: the lines of a script, one after another.
-ghost use Rattle.std.specs.Prelude.{◌≡◌, ◌+◌, ◌<◌, ◌≤◌, ◌^◌, ◌||◌, [], Ok, true, IfOk, OnErr, IsErrOf};
+ghost use Rattle.std.specs.Prelude.{◌≡◌, ◌+◌, ◌<◌, ◌≤◌, ◌^◌, ◌||◌, [], Ok, Err, true, IfOk, IfErr, OnErr, IsErrOf};
 ghost use Rattle.ce_base.specs.Faults.{Rose};
 ghost use Rattle.ce_base.specs.Outside.{AppendsPart};
 ghost use Rattle.rule_lines.specs.Acts.{line_of};
@@ -136,6 +136,17 @@ impl Session {
     }
 }
 
+// A part of a class is replied to by nothing.
+fn replied(done: Result<Machine, Stop>) -> Result<(Machine, End), Stop>
+    ensures done { IfOk done (λ m. result ≡ Ok (m, End.Replied)) }
+    ensures stopped { IfErr done (λ stop. result ≡ Err stop) }
+{
+    match done {
+        Ok(machine) => Ok((machine, End::Replied)),
+        Err(stop) => Err(stop),
+    }
+}
+
 // Runs what a line says.
 fn run_said<K: Sink>(
     machine: Machine,
@@ -158,9 +169,6 @@ fn run_said<K: Sink>(
     match said {
         Line::Blank => Ok((machine, End::Replied)),
         Line::Command(c) => machine.command(alloc, line, c, trace, sink),
-        Line::Part(p) => match machine.part(alloc, line, p, trace, sink) {
-            Ok(machine) => Ok((machine, End::Replied)),
-            Err(stop) => Err(stop),
-        },
+        Line::Part(p) => replied(machine.part(alloc, line, p, trace, sink)),
     }
 }

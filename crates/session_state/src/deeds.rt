@@ -1,5 +1,5 @@
 // Deeds on the page, as steps of a session.
-ghost use Rattle.std.specs.Prelude.{◌≤◌, IfOk};
+ghost use Rattle.std.specs.Prelude.{◌≡◌, ◌≤◌, IfOk, OnOk, OnErr, IsErrOf};
 ghost use Rattle.node_trees.specs.Nodes.{size};
 ghost use Rattle.ce_algorithms.specs.Perform.{page_steps};
 ghost use Rattle.ce_algorithms.specs.State.{on_page};
@@ -10,6 +10,7 @@ ghost use Rattle.page_calls.specs.Ready.{IsReadyOnPage};
 use crate::State;
 use crate::state::is_out_of_fuel;
 use ce_algorithms::{Given, PageDeed};
+use ce_base::NoMemory;
 use ce_page::PageStop;
 use page_calls::run;
 use std::alloc::Global;
@@ -24,7 +25,21 @@ impl State {
         ensures grows { size self.old.page.forest ≤ size self.new.page.forest }
     {
         let outcome = run(alloc, &mut self.page, &mut self.fuel, what);
-        self.after_call(is_out_of_fuel(&outcome))?;
-        outcome
+        let logged = self.after_call(is_out_of_fuel(&outcome));
+        once_logged(logged, outcome)
+    }
+}
+
+/// What a deed gives, where what the page has noted was logged.
+fn once_logged(
+    logged: Result<(), NoMemory>,
+    outcome: Result<Given, PageStop>,
+) -> Result<Given, PageStop>
+    ensures given { OnOk logged (result ≡ outcome) }
+    ensures refused { OnErr logged (IsErrOf result PageStop.NoMemory) }
+{
+    match logged {
+        Ok(()) => outcome,
+        Err(NoMemory) => Err(PageStop::NoMemory),
     }
 }
