@@ -82,6 +82,14 @@ refusal() {
         }' "$1"
 }
 
+# Gives the copy of a crate its text back.
+put_back() {
+    for part in src specs proofs; do
+        rm -rf "${room:?}/crates/$1/$part"
+        [ ! -d "crates/$1/$part" ] || cp -a "crates/$1/$part" "$room/crates/$1/" || exit 1
+    done
+}
+
 # Tries the edits of a crate.
 try_crate() {
     crate=$room/crates/$1
@@ -93,10 +101,6 @@ try_crate() {
         return
     fi
     for edit in crates/"$1"/wrong/*.edit; do
-        for part in src specs proofs; do
-            rm -rf "${crate:?}/$part"
-            [ ! -d "crates/$1/$part" ] || cp -a "crates/$1/$part" "$crate/" || exit 1
-        done
         name="$1/$(basename "$edit" .edit)"
         if ! why=$(put_in "$edit" "$crate"); then
             echo "$name: NOT TRIED: $why"
@@ -114,6 +118,7 @@ try_crate() {
                 failed=$((failed + 1))
             fi
         fi
+        put_back "$1"
     done
     rm -rf "$crate/out/incremental"
 }
