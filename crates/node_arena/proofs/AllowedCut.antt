@@ -1,18 +1,15 @@
 -- An allowed insertion stays allowed when the node was taken out first.
-use Rattle.std.proofs.Common.{◌≡◌, ◌≢◌, ℕ, true, false, Option, Some, None, refl, ap, sym, ◌∙◌, arith, inl, inr}
+use Rattle.std.proofs.Common.{◌≡◌, ◌≢◌, ℕ, true, false, Option, Some, None, refl, ap, sym, ◌∙◌, arith}
 use Rattle.std.specs.List.{list_any}
 use Rattle.std.proofs.lemmas.Bool.Decides.{nat_tests}
-use Rattle.std.proofs.lemmas.Bool.{cases_lt}
 use Rattle.node_trees.specs.Facts.{is_element}
 use Rattle.node_trees.specs.Trees.{Trees, tree_of, cut, is_number}
 use Rattle.node_trees.specs.Nodes.{times, IsNode, IsTidy}
 use Rattle.node_trees.specs.Insertion.{may_insert, is_child_or_none, has_element_child}
 use Rattle.node_trees.specs.Paths.{is_among}
 use Rattle.node_trees.specs.Spots.{kind_at, parent_at, children_at, next_sibling_at, next_among, after}
-use Rattle.tree_laws.proofs.Sums.{tidy-apart}
-use Rattle.tree_laws.proofs.AtNode.{node_stands}
+use Rattle.tree_laws.proofs.Walked.{stands-outside}
 use Rattle.node_arena.proofs.Lists.{lacking, any-same, any-lacking}
-use Rattle.node_arena.proofs.InPath.{path-inside}
 use Rattle.node_arena.proofs.CutReads.{parent_at-cut, kind_at-cut, path-cut-outside, children_at-cut-outside}
 use Rattle.node_arena.proofs.Family.{child-parent, children_at-apart}
 use Rattle.node_arena.proofs.Onward.{after-among, after-other}
@@ -21,10 +18,7 @@ use Rattle.node_arena.proofs.Allowed.{not_inside, is_sibling, may_insert-still}
 module _ (f : Trees) (p n : ℕ) (b : Option ℕ) (tidy : IsTidy f) (node : IsNode f n) (may : may_insert f p n b ≡ None) where
   -- the parent is not in the node's tree
   pub parent-outside : times p (tree_of n f) ≡ 0
-  parent-outside = elim (cases_lt 0 (times p (tree_of n f))) [
-    | inl low ↦ absurd (let on = path-inside n p f (tidy-apart f tidy) (node_stands f n tidy node) low in let off = not_inside f p n b may in cc)
-    | inr out ↦ omega arith
-  ]
+  parent-outside = stands-outside f n p tidy (not_inside f p n b may)
 
   no-more : has_element_child f p ≡ false → has_element_child (cut f n) p ≡ false
   no-more h =

@@ -10,7 +10,7 @@ use Rattle.node_trees.specs.Spots.{kind_at, parent_at}
 use Rattle.node_arena.proofs.Allowed.{no_text, not_top}
 use Rattle.node_arena.proofs.AllowedCut.{parent-outside}
 use Rattle.node_arena.proofs.ChildFits.{child-fits, child-no_root}
-use Rattle.node_arena.proofs.Sizes.{size-graft}
+use Rattle.tree_laws.proofs.Sizes.{size-graft}
 use Rattle.node_arena.proofs.Tidy.{tidy-cut, tidy-graft}
 
 fits-child : (k : NodeKind) → (is_document k || is_shadow_root k) ≡ false → fits AsChild k ≡ true

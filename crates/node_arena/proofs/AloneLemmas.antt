@@ -1,5 +1,5 @@
 -- A node that stands alone.
-use Rattle.std.proofs.Common.{◌≡◌, ◌≢◌, ℕ, ◌+◌, false, List, [], ◌∷◌, ◌++◌, Some, None, refl, ap, ◌∙◌, subst, sym, arith, append_assoc}
+use Rattle.std.proofs.Common.{◌≡◌, ◌≢◌, ℕ, ◌+◌, false, List, [], ◌∷◌, ◌++◌, Some, None, refl, ap, ◌∙◌, subst, sym, arith}
 use Rattle.std.proofs.lemmas.Bool.Decides.{nat_tests}
 use Rattle.node_trees.specs.Facts.{Facts}
 use Rattle.node_trees.specs.Trees.{Trees, none, tree, join, single, tree_of, with_node, with_facts}
@@ -14,8 +14,9 @@ use Rattle.node_arena.proofs.NewReads.{spot-new-here}
 use Rattle.node_arena.proofs.OrderLemmas.{order_step}
 use Rattle.tree_laws.proofs.AtNode.{parent_at-is}
 use Rattle.tree_laws.proofs.Pieces.{path-absent, path-here}
+use Rattle.tree_laws.proofs.Walked.{order-join}
 use Rattle.node_arena.proofs.CutSpots.{path-join-right}
-use Rattle.node_arena.proofs.Sizes.{new-absent, size-with_node}
+use Rattle.tree_laws.proofs.Sizes.{new-absent, size-with_node}
 use Rattle.node_trees.proofs.Absent.{is_among-append}
 
 -- a number that no node has is on no path
@@ -62,10 +63,6 @@ module _ (f g : Trees) (x : Facts) (n : ℕ) (tidy : IsTidy f) (tidy_after : IsT
   }
 
 -- a change of a node's facts
-
-order-join : (f g : Trees) → order (join f g) ≡ order f ++ order g
-order-join none g = refl
-order-join (tree m x s k r) g = ap (λ xs. m ∷ xs) (rw (order-join r g, append_assoc (order s) (order k ++ order r) (order g), append_assoc (order k) (order r) (order g)) refl)
 
 module _ (n : ℕ) (c : Facts → Facts) where
   order-with : (f : Trees) → order (with_facts n c f) ≡ order f

@@ -16,7 +16,7 @@ use Rattle.tree_laws.proofs.ChangedReads.{kind_at-with}
 use Rattle.node_arena.proofs.ConnectedBelow.{same_first}
 use Rattle.node_arena.proofs.ForestLemmas.{stands_at, row_is}
 use Rattle.tree_laws.proofs.Pieces.{path-absent, path-long}
-use Rattle.node_arena.proofs.Sizes.{size-with_node}
+use Rattle.tree_laws.proofs.Sizes.{size-with_node}
 use Rattle.node_arena.proofs.SpotLemmas.{spot_at-new}
 use Rattle.node_arena.proofs.UpLemmas.{first_of-append}
 use Rattle.node_trees.proofs.Absent.{spot-absent}

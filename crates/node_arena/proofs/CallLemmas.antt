@@ -19,7 +19,7 @@ use Rattle.node_arena.proofs.Above.{parent-above}
 use Rattle.node_arena.proofs.AllowedCut.{parent-outside}
 use Rattle.tree_laws.proofs.AtNode.{node_spot}
 use Rattle.node_arena.proofs.CutReads.{in-tree}
-use Rattle.node_arena.proofs.Sizes.{new-absent}
+use Rattle.tree_laws.proofs.Sizes.{new-absent}
 use Rattle.node_arena.proofs.Surplus.{KeepsKind}
 use Rattle.node_arena.proofs.ForestLemmas.{graft_forest, cut_forest, change_forest, push_forest, attach_forest, stands_at}
 

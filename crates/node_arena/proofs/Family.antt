@@ -8,7 +8,7 @@ use Rattle.node_trees.specs.Paths.{is_among}
 use Rattle.node_trees.specs.Spots.{Spot, spot_of, spot_in, parent_at, children_at}
 use Rattle.tree_laws.proofs.Sums.{tidy-apart, apart-shadow, apart-children, apart-rest, here, in_shadow, in_children, in_rest, stands_where}
 use Rattle.tree_laws.proofs.Pieces.{spot-here, spot-shadow, spot-children, spot-rest}
-use Rattle.node_arena.proofs.Onward.{AreApart, count}
+use Rattle.tree_laws.proofs.Counts.{AreApart, count}
 use Rattle.tree_laws.proofs.AtNode.{node_stands, node_spot, parent_at-is, children_at-is}
 use Rattle.node_trees.proofs.Weights.{IsApart}
 

@@ -15,7 +15,7 @@ use Rattle.tree_laws.proofs.AtNode.{parent_at-is, host_at-is}
 use Rattle.node_arena.proofs.Above.{parent-above, parent-no_host}
 use Rattle.node_arena.proofs.AllowedCut.{parent-outside}
 use Rattle.tree_laws.proofs.Changed.{size-with}
-use Rattle.node_arena.proofs.Sizes.{size-with_node, size-with_shadow, size-cut, new-absent}
+use Rattle.tree_laws.proofs.Sizes.{size-with_node, size-with_shadow, size-cut, new-absent}
 use Rattle.node_arena.proofs.Surplus.{KeepsKind}
 use Rattle.node_arena.proofs.Tidy.{tidy-with, tidy-with_node, tidy-with_shadow}
 use Rattle.node_arena.proofs.PlaceFits.{free-host}

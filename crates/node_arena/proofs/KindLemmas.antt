@@ -13,7 +13,7 @@ use Rattle.tree_laws.proofs.Changed.{size-with}
 use Rattle.tree_laws.proofs.ChangedReads.{kind_at-with}
 use Rattle.node_arena.proofs.CutReads.{kind_at-cut}
 use Rattle.node_arena.proofs.NewReads.{spot-new-here}
-use Rattle.node_arena.proofs.Sizes.{size-cut, size-with_node, new-absent}
+use Rattle.tree_laws.proofs.Sizes.{size-cut, size-with_node, new-absent}
 use Rattle.node_arena.proofs.ForestLemmas.{stands_at, row_is}
 use Rattle.node_arena.proofs.SpotLemmas.{spot_at-new}
 

@@ -11,12 +11,10 @@ pub mod Family
 pub mod Lists
 pub mod Allowed
 pub mod CutSpots
-pub mod InPath
 pub mod CutReads
 pub mod AllowedCut
 pub mod PutSpots
 pub mod ConnectedBelow
-pub mod Sizes
 pub mod NewReads
 pub mod ShadowReads
 pub mod Rising

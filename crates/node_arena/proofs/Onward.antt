@@ -1,5 +1,5 @@
 -- A search along a list, by what follows each number.
-use Rattle.std.proofs.Common.{◌≡◌, ◌≢◌, ℕ, Bool, true, false, ◌+◌, ◌<◌, ◌≤◌, ◌==◌, if◌then◌else◌, List, [], ◌∷◌, ◌++◌, Some, None, ap, arith, inl, inr, length}
+use Rattle.std.proofs.Common.{◌≡◌, ◌≢◌, ℕ, Bool, true, false, ◌<◌, ◌≤◌, ◌==◌, if◌then◌else◌, List, [], ◌∷◌, Some, None, ap, arith, inl, inr, length}
 use Rattle.std.specs.List.{find}
 use Rattle.std.proofs.lemmas.Bool.Decides.{nat_tests}
 use Rattle.std.proofs.lemmas.Bool.{cases_eq}
@@ -9,24 +9,12 @@ use Rattle.node_trees.specs.Orders.{tree_order}
 use Rattle.node_trees.specs.Paths.{is_among}
 use Rattle.node_trees.specs.Spots.{after}
 use Rattle.node_trees.proofs.Weights.{IsApart}
+use Rattle.tree_laws.proofs.Counts.{count, AreApart, count-append, count-among}
 
 -- the list from n on
 abbrev pub onward : ℕ → List ℕ → List ℕ
 onward n [] = []
 onward n (m ∷ ms) = if m == n then m ∷ ms else onward n ms
-
--- how often a number stands in a list
-abbrev pub count : ℕ → List ℕ → ℕ
-count n [] = 0
-count n (m ∷ ms) = (if m == n then 1 else 0) + count n ms
-
--- no number stands twice
-abbrev pub AreApart : List ℕ → Type 0
-AreApart ms = (i : ℕ) → count i ms ≤ 1
-
-pub count-append : (n : ℕ) (xs ys : List ℕ) → count n (xs ++ ys) ≡ count n xs + count n ys
-count-append n [] ys = omega arith
-count-append n (x ∷ xs) ys = omega (arith, count-append n xs ys)
 
 pub count-order : (n : ℕ) (f : Trees) → count n (tree_order f) ≤ times n f
 count-order n none = omega arith
@@ -34,10 +22,6 @@ count-order n (tree m x s k r) = omega (arith, count-order n k, count-order n r,
 
 pub order-apart : (f : Trees) → IsApart f → AreApart (tree_order f)
 order-apart f apart i = omega (arith, apart i, count-order i f)
-
-pub count-among : (n : ℕ) (ms : List ℕ) → is_among n ms ≡ true → 0 < count n ms
-count-among n [] h = cc
-count-among n (m ∷ ms) h = grind (arith, nat_tests, count-among n ms)
 
 pub after-among : (n d : ℕ) (ms : List ℕ) → after n ms ≡ Some d → is_among d ms ≡ true
 after-among n d [] h = cc

@@ -14,7 +14,8 @@ use Rattle.tree_laws.proofs.Inside.{found, tree_apart}
 use Rattle.tree_laws.proofs.AtNode.{node_stands}
 use Rattle.tree_laws.proofs.InOrder.{member_is_node}
 use Rattle.node_arena.proofs.Following.{among-root}
-use Rattle.node_arena.proofs.Onward.{AreApart, onward, order-apart, after-among, find-here, find-last, find-step, onward-less}
+use Rattle.tree_laws.proofs.Counts.{AreApart}
+use Rattle.node_arena.proofs.Onward.{onward, order-apart, after-among, find-here, find-last, find-step, onward-less}
 
 -- the first in the list whose ID this is
 abbrev pub first_in : Trees → List ℕ → List ℕ → Option ℕ

@@ -13,7 +13,7 @@ use Rattle.node_arena.proofs.CutReads.{in-tree, not-left}
 use Rattle.tree_laws.proofs.Changed.{roots-with, size-with, times-with}
 use Rattle.node_arena.proofs.PutSpots.{roots-put}
 use Rattle.node_arena.proofs.ShadowReads.{roots-shadow}
-use Rattle.node_arena.proofs.Sizes.{weight-cut, weight-graft, weight-with_node, weight-with_shadow, size-cut, size-graft, size-with_node, size-with_shadow, new-absent}
+use Rattle.tree_laws.proofs.Sizes.{weight-cut, weight-graft, weight-with_node, weight-with_shadow, size-cut, size-graft, size-with_node, size-with_shadow, new-absent}
 use Rattle.node_arena.proofs.Rising.{rises-same, rises-without, rises-place, rises-new}
 use Rattle.node_arena.proofs.Fitting.{only_at, only-there, misfits-join, misfits-place, misfits-without, misfits-tree_of}
 use Rattle.node_arena.proofs.Surplus.{KeepsKind, surplus-with}

@@ -20,6 +20,10 @@ among_here f i n (Some q) up e = rw up.1 (rw is_among-push (grind (arith, nat_te
 pub among_above : (f : Trees) (i n q : ℕ) → IsUp f n (Some q) → eqb n i ≡ false → is_among i (path n f) ≡ is_among i (path q f)
 among_above f i n q up ne = rw up.1 (rw is_among-push (grind (arith, nat_tests)))
 
+-- another is not on it where nothing is above
+pub among_none : (f : Trees) (i n : ℕ) → IsUp f n None → eqb n i ≡ false → is_among i (path n f) ≡ false
+among_none f i n up ne = rw up (grind (arith, nat_tests))
+
 -- the first of a path
 pub first_of-append : (xs ys : List ℕ) → 0 < length xs → first_of (xs ++ ys) ≡ first_of xs
 first_of-append [] ys pos = absurd (omega arith)

@@ -2,6 +2,7 @@
 ghost use Rattle.std.specs.Prelude.{◌≡◌};
 ghost use Rattle.node_trees.specs.Paths.{path, is_among, root_at, connected};
 ghost use Rattle.node_trees.specs.Nodes.{IsNode, IsTidy};
+ghost use Rattle.node_trees.specs.Orders.{order_of};
 ghost use Rattle.node_arena.specs.Walks.{IsUp};
 
 use crate::Tree;
@@ -24,9 +25,11 @@ impl Tree {
 
     /// Whether `node` is `from`, or an ancestor of it, where a host is an ancestor of what its shadow tree
     /// has (DOM Standard, section "Interface DocumentFragment", "host-including inclusive ancestor").
-    pub(crate) fn is_inside(&self, node: NodeNo, from: NodeNo) -> bool
+    /// Equally, whether `from` is one of the shadow-including inclusive descendants of `node`.
+    pub fn is_inside(&self, node: NodeNo, from: NodeNo) -> bool
         requires { IsNode self.now from }
-        ensures { result ≡ is_among node (path from self.now) }
+        ensures above { result ≡ is_among node (path from self.now) }
+        ensures walked { result ≡ is_among from (order_of self.now node) }
     {
         let mut at = from;
         loop {

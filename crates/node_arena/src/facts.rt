@@ -124,6 +124,7 @@ impl Tree {
     /// Sets the node document of this node alone (DOM Standard, section "Interface Node", "node document").
     pub fn set_document(&mut self, node: NodeNo, document: NodeNo)
         requires { IsNode self.old node }
+        ensures tidy { IsTidy self.old }
         ensures document { self.new ≡ with_document node document self.old }
         ensures size { size self.new ≡ size self.old }
         ensures kinds { KeepsKinds self.old self.new }

@@ -4,7 +4,7 @@ ghost use Rattle.node_trees.specs.declared.kind.NodeKind.TheVariants.{Document, 
 ghost use Rattle.node_trees.specs.Facts.{blank, new_element, new_text, is_shadow_root};
 ghost use Rattle.node_trees.specs.Trees.{single, with_node, with_shadow};
 ghost use Rattle.node_trees.specs.Spots.{spot_at, kind_at, document_at, parent_at, shadow_at};
-ghost use Rattle.node_trees.specs.Nodes.{size, surplus_at, IsNode};
+ghost use Rattle.node_trees.specs.Nodes.{size, surplus_at, IsNode, IsTidy};
 ghost use Rattle.node_trees.specs.Kinds.{IsElement, KeepsKinds};
 ghost use Rattle.node_trees.specs.Links.{IsAlone, KeepsApart};
 ghost use Rattle.node_arena.specs.NodeRows.{facts_of, rows, IsLoose, IsRootOf};
@@ -47,6 +47,7 @@ impl Tree {
         requires loose { IsLoose node }
         requires kind { is_shadow_root node.kind ≡ false }
         requires parts { surplus_at (facts_of node) ≡ 0 }
+        ensures tidy { IsTidy self.old }
         ensures number { IfOk result (λ n. n ≡ size self.old + 1) }
         ensures size { OnOk result (size self.new ≡ size self.old + 1) }
         ensures kinds { KeepsKinds self.old self.new }
@@ -65,6 +66,7 @@ impl Tree {
     /// Makes a document (DOM Standard, section "Interface Document"). Its number is the next one, and it is
     /// its own node document.
     pub fn make_document(&mut self, alloc: Global) -> Result<NodeNo, NoMemory>
+        ensures tidy { IsTidy self.old }
         ensures number { IfOk result (λ n. n ≡ size self.old + 1) }
         ensures size { OnOk result (size self.new ≡ size self.old + 1) }
         ensures kinds { KeepsKinds self.old self.new }
@@ -88,6 +90,7 @@ impl Tree {
         is_value: Option<Text>,
         document: NodeNo,
     ) -> Result<NodeNo, NoMemory>
+        ensures tidy { IsTidy self.old }
         ensures number { IfOk result (λ n. n ≡ size self.old + 1) }
         ensures size { OnOk result (size self.new ≡ size self.old + 1) }
         ensures kinds { KeepsKinds self.old self.new }
@@ -113,6 +116,7 @@ impl Tree {
         chars: Text,
         document: NodeNo,
     ) -> Result<NodeNo, NoMemory>
+        ensures tidy { IsTidy self.old }
         ensures number { IfOk result (λ n. n ≡ size self.old + 1) }
         ensures size { OnOk result (size self.new ≡ size self.old + 1) }
         ensures kinds { KeepsKinds self.old self.new }
@@ -135,6 +139,7 @@ impl Tree {
         requires node { IsNode self.old host }
         requires element { kind_at self.old host ≡ Element }
         requires bare { shadow_at self.old host ≡ None }
+        ensures tidy { IsTidy self.old }
         ensures number { IfOk result (λ n. n ≡ size self.old + 1) }
         ensures size { OnOk result (size self.new ≡ size self.old + 1) }
         ensures kinds { KeepsKinds self.old self.new }

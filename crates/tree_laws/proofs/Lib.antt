@@ -1,9 +1,12 @@
 pub mod Sums
+pub mod Sizes
 pub mod Pieces
 pub mod Inside
 pub mod AtNode
 pub mod InOrder
+pub mod Counts
 pub mod Rooted
+pub mod Walked
 pub mod Alike
 pub mod NewNode
 pub mod Changed

@@ -64,3 +64,9 @@ returns-clause-apart c =
     let a = seen_fact _ _ _ c.self.view_is in
     let b = pushed _ _ _ _ a c.requires.loose c.requires.kind c.requires.parts c.in_ok-push.ensures.items in
     apart-new _ _ _ _ a.tidy (rw (returns-clause-ok c) b.tidy) (returns-clause-ok c)
+
+pub returns-clause-tidy : goal.returns-clause-tidy
+returns-clause-tidy c = (seen_fact _ _ _ c.self.view_is).tidy
+
+pub returns-in_err-push-clause-tidy : goal.returns-in_err-push-clause-tidy
+returns-in_err-push-clause-tidy c = (seen_fact _ _ _ c.self.view_is).tidy

@@ -40,3 +40,6 @@ returns-clause-err c = on_err_weaker c.attach.result (λ g. seen_is _ _ _ (rw g 
 pub returns-clause-kinds : goal.returns-clause-kinds
 returns-clause-kinds c =
     by_result c.attach.result (λ g. kinds-attached _ _ _ _ _ _ _ (seen_fact _ _ _ c.self.view_is) (seen_fact _ _ _ refl) (ap (λ v. v + 1) (sym (length-map c.self.inside.nodes.items row))) g) (kinds-same _ _) c.attach.ensures.ok (returns-clause-err c)
+
+pub returns-clause-tidy : goal.returns-clause-tidy
+returns-clause-tidy c = (seen_fact _ _ _ c.self.view_is).tidy

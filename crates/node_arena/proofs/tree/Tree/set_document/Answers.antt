@@ -46,3 +46,6 @@ returns-clause-others c = spots-with c.args.node (λ x. record x { document = c.
 
 pub returns-clause-apart : goal.returns-clause-apart
 returns-clause-apart c = apart-with c.args.node (λ x. record x { document = c.args.document }) _ _ (λ x. refl) (returns-clause-document c)
+
+pub returns-clause-tidy : goal.returns-clause-tidy
+returns-clause-tidy c = (seen_fact _ _ _ c.self.view_is).tidy
