@@ -1,0 +1,10 @@
+//! The law of telling: where a node is removed or put in, or an attribute changes, each custom form-associated element is
+//! told of the change of its form owner and of its disabled state, once, the owner first, and no element is told of any
+//! other. The definitions stand in `specs/`.
+#![tactic(auto)]
+
+mod laws;
+
+pub use laws::{
+    a_removal_tells_exactly, an_attribute_that_changes_tells_exactly, an_insertion_tells_exactly,
+};
