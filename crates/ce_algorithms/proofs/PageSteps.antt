@@ -14,7 +14,7 @@ use Rattle.ce_algorithms.specs.Page.{Page, Work, Element, spend, spend_from, rea
 use Rattle.ce_algorithms.specs.Making.{with_new, make_node, make_element, make_text, make_shadow_root}
 use Rattle.ce_algorithms.specs.Enqueue.{noted, enqueue, enqueue_callback, enqueue_upgrade, enqueue_found, try_upgrade}
 use Rattle.form_controls.specs.declared.change.Change.{Change}
-use Rattle.ce_algorithms.specs.FormChanges.{tell_owner, tell_disabled, tell, tell_form_change, tell_at_turn, tell_others, tell_form}
+use Rattle.ce_algorithms.specs.FormChanges.{tell_owner, tell_disabled, tell, tell_form_change, tell_at_turn, tell_others, tell_first_owner, tell_form}
 use Rattle.ce_algorithms.specs.Mutation.{removed, remove, adopted, move_to, adopt, connected_now, inserted, put_in, insert, pre_insert}
 use Rattle.ce_algorithms.specs.Attributes.{handle_attribute_change, set_attribute, remove_there, remove_attribute}
 use Rattle.ce_algorithms.specs.Define.{with_defined, upgrade_candidates, define_name}
@@ -188,8 +188,12 @@ module _ (R : Work → Work → Type 0) (c : Closed R) where
   pub keeps_tell_others : (xs : List Change) (walk : List ℕ) → Keeps R (tell_others xs walk)
   keeps_tell_others xs walk = keeps_each _ keeps_tell_form_change
 
+  pub keeps_tell_first_owner : (n : ℕ) (o : Option ℕ) → Keeps R (tell_first_owner n o)
+  keeps_tell_first_owner n None = keeps_done
+  keeps_tell_first_owner n (Some form) = keeps_enqueue_callback n (FormAssociated (Some form))
+
   pub keeps_tell_form : (n : ℕ) → Keeps R (tell_form n)
-  keeps_tell_form n = search (page_steps) depth 12
+  keeps_tell_form n = search (page_steps, keeps_tell_first_owner, keeps_enqueue_callback) depth 12
 
   -- removal, adoption, insertion
 

@@ -2,6 +2,7 @@ pub mod Steps
 pub mod Page
 pub mod Making
 pub mod Enqueue
+pub mod Forms
 pub mod FormChanges
 pub mod Mutation
 pub mod Attributes

@@ -24,6 +24,7 @@ pub record Page : Type 0 where
   pub stacks : List (List (Option ℕ))  -- the construction stacks of the definitions
   pub queues : Queues
   pub notes : List Note  -- the enqueues that were made and not told yet, the oldest first
+  pub settled : Bool  -- what is kept of form owners and disabled states stands for the forest; no step changes this
 
 -- a page, and the fuel that is left
 pub record Work : Type 0 where
@@ -63,6 +64,7 @@ blank_page = record {
   stacks = [];
   queues = no_queues;
   notes = [];
+  settled = true;
 }
 
 -- reads of one element

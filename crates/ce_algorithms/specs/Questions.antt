@@ -11,6 +11,7 @@ use Rattle.ce_algorithms.specs.declared.fit.Fit.{Fit}
 use Rattle.ce_algorithms.specs.declared.fit.Fit.TheVariants as fit
 use Rattle.ce_algorithms.specs.Unbuilt.{unbuilt_answer}
 use Rattle.ce_algorithms.specs.Page.{Page, state_of}
+use Rattle.ce_algorithms.specs.Forms.{form_owner, controls_of, is_disabled}
 
 pub record Question : Type 0 where
   pub asked_of : Fit  -- the node that it can be asked of
@@ -33,4 +34,7 @@ question words.Attr name = asked_of fit.Element (λ p n. text_answer (attribute_
 question words.Parent name = asked_of fit.Any (λ p n. node_answer (parent_at p.forest n))
 question words.Kids name = asked_of fit.Any (λ p n. answers.Nodes (children_at p.forest n))
 question words.State name = asked_of fit.Element (λ p n. answers.State (state_of p n))
+question words.Owner name = asked_of fit.Listed (λ p n. node_answer (form_owner p n))
+question words.Controls name = asked_of fit.Form (λ p n. answers.Nodes (controls_of p n))
+question words.Disabled name = asked_of fit.SubmittableOrOption (λ p n. answers.Truth (is_disabled p n))
 question word name = asked_of fit.Any (λ p n. unbuilt_answer)

@@ -3,6 +3,8 @@ pub mod Scripts
 pub mod Logs
 pub mod Corners
 pub mod CornerLogs
+pub mod Forms
+pub mod FormLogs
 use Rattle.std.specs.Prelude.{ℕ, not, List, filter, Result}
 use Rattle.rule_lines.specs.Acts.{Said}
 use Rattle.rule_tokens.specs.declared.refused.Bad.{Bad}

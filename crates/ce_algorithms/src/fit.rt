@@ -11,4 +11,10 @@ pub enum Fit {
     Document,
     /// An element or a text node.
     ElementOrText,
+    /// A `form` element.
+    Form,
+    /// A listed element (HTML Standard, section "Categories").
+    Listed,
+    /// A submittable element (HTML Standard, section "Categories"), or an `option` element: what can be disabled.
+    SubmittableOrOption,
 }

@@ -7,6 +7,8 @@ ghost use Rattle.ce_algorithms.specs.Calls.{Call};
 ghost use Rattle.ce_events.specs.declared.event.Event.{Event};
 ghost use Rattle.ce_algorithms.specs.Worked.CornerLogs as corner_logs;
 ghost use Rattle.ce_algorithms.specs.Worked.Corners as corners;
+ghost use Rattle.ce_algorithms.specs.Worked.FormLogs as form_logs;
+ghost use Rattle.ce_algorithms.specs.Worked.Forms as forms;
 ghost use Rattle.ce_algorithms.specs.Worked.Logs as logs;
 ghost use Rattle.ce_algorithms.specs.Model.{level, model};
 ghost use Rattle.ce_algorithms.specs.Steps.{is_spent};
@@ -122,4 +124,12 @@ pub fn worked_corners()
     ensures clones { seen 1000 corners.clones ≡ corner_logs.clones }
     ensures second_super { seen 1000 corners.second_super ≡ corner_logs.second_super }
     ensures arguments { seen 1000 corners.arguments ≡ corner_logs.arguments }
+{}
+
+/// The model computes: form owners, disabled states, and whom their changes tell.
+#[tactic(auto, using(crate::proofs::Rows::owner_logs, crate::proofs::Rows::disabled_logs, crate::proofs::Rows::owner_disabled_logs))]
+pub fn worked_owners()
+    ensures owner { seen 1000 forms.owner ≡ form_logs.owner }
+    ensures disabled { seen 1000 forms.disabled ≡ form_logs.disabled }
+    ensures both { seen 1000 forms.owner_disabled ≡ form_logs.owner_disabled }
 {}

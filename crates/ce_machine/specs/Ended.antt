@@ -2,6 +2,7 @@
 use Rattle.std.specs.Prelude.{◌≡◌, []}
 use Rattle.ce_algorithms.specs.Steps.{Outcome, Goes, Spent}
 use Rattle.ce_algorithms.specs.State.{State}
+use Rattle.ce_page.specs.Settled.{IsSettled}
 use Rattle.frame_stack.specs.Sessions.{ArePaired}
 use Rattle.frame_stack.specs.Stacked.{Stacked}
 use Rattle.ce_machine.specs.declared.end.End.{End}
@@ -26,8 +27,10 @@ end_for (Went given) = Replied
 end_for (Threw f) = Replied
 end_for Over = FuelSpent
 
--- between two lines: all was written out, no frame lies there, and each class has its behaviour
+-- between two lines: all was written out, no frame lies there, each class has its behaviour, and what is kept of form owners
+-- and disabled states stands for the page
 pub record IsAtRest (stack : Stacked) (s : State) : Type 0 where
   pub log : s.log ≡ []
   pub frames : stack.frames ≡ []
   pub paired : ArePaired stack s
+  pub settled : IsSettled s.page

@@ -9,6 +9,7 @@ ghost use Rattle.ce_algorithms.specs.Session.{command, class_part, log_of};
 ghost use Rattle.ce_algorithms.specs.Steps.{Goes};
 ghost use Rattle.ce_events.specs.Text.{text};
 ghost use Rattle.ce_algorithms.specs.Written.{Did};
+ghost use Rattle.ce_page.specs.Settled.{IsSettled};
 ghost use Rattle.frame_stack.specs.Sessions.{ArePaired, session};
 ghost use Rattle.ce_machine.specs.Ended.{IsNoFault, end_for, outcome_of};
 
@@ -37,6 +38,7 @@ pub(crate) fn reply_to_part(
     ensures taken { OnOk result (Goes tt (session stack.new state.new) ≡ class_part line (part_of p) (session stack.old state.old)) }
     ensures rest { OnOk result (stack.new.frames ≡ []) }
     ensures paired { OnOk result (ArePaired stack.new state.new) }
+    ensures page { state.new.page ≡ state.old.page }
 {
     match state.part(alloc, stack, p) {
         Ok(()) => Ok(()),
@@ -67,6 +69,7 @@ pub(crate) fn run_command<K: Sink>(
     ensures empty { OnOk result (state.new.log ≡ []) }
     ensures rest { OnOk result (stack.new.frames ≡ []) }
     ensures paired { OnOk result (ArePaired stack.new state.new) }
+    ensures settled { OnOk result (IsSettled state.new.page) }
     ensures part { OnErr result (AppendsPart (K.held sink.old) (K.held sink.new) (text trace (log_of (command model line c (session stack.old state.old))))) }
     ensures later { K.failed sink.old ≤ K.failed sink.new }
     ensures cause { IsErrOf result Stop.WriteFault → Rose (K.failed sink.old) (K.failed sink.new) }

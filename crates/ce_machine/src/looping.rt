@@ -5,6 +5,7 @@ ghost use Rattle.ce_base.specs.Outside.{AppendsPart};
 ghost use Rattle.ce_algorithms.specs.Session.{log_of};
 ghost use Rattle.ce_events.specs.Text.{text};
 ghost use Rattle.ce_algorithms.specs.Written.{Did};
+ghost use Rattle.ce_page.specs.Settled.{IsSettled};
 ghost use Rattle.frame_stack.specs.Sessions.{ArePaired, session};
 ghost use Rattle.frame_stack.specs.Stacked.{frames_of};
 ghost use Rattle.ce_reactions.specs.Placed.{ArePlaced};
@@ -18,7 +19,8 @@ use frame_stack::Stack;
 use session_state::State;
 use std::alloc::Global;
 
-/// Finishes the frames, the topmost first, and writes out what they log.
+/// Finishes the frames, the topmost first, and writes out what they log. NoMemory comes too where memory was refused
+/// before, and what is kept of form owners does not stand for the page.
 pub(crate) fn run<K: Sink>(
     state: &mut State,
     alloc: Global,
@@ -33,6 +35,7 @@ pub(crate) fn run<K: Sink>(
     ensures empty { OnOk result (state.new.log ≡ []) }
     ensures rest { OnOk result (stack.new.frames ≡ []) }
     ensures paired { OnOk result (ArePaired stack.new state.new) }
+    ensures settled { OnOk result (IsSettled state.new.page) }
     ensures part { OnErr result (AppendsPart (K.held sink.old) (K.held sink.new) (text trace (log_of (over stack.old (came_in end (session stack.old state.old)))))) }
     ensures later { K.failed sink.old ≤ K.failed sink.new }
     ensures cause { IsErrOf result Stop.WriteFault → Rose (K.failed sink.old) (K.failed sink.new) }
@@ -44,6 +47,9 @@ pub(crate) fn run<K: Sink>(
     while !stack.is_empty() {
         state.flush(alloc, trace, sink)?;
         now = turn(state, alloc, stack, now)?;
+    }
+    if !state.page().is_settled() {
+        return Err(Stop::NoMemory);
     }
     state.flush(alloc, trace, sink)?;
     Ok(now)

@@ -3,4 +3,9 @@ pub mod ElementLemmas
 pub mod LooseLemmas
 pub mod RowLemmas
 pub mod WaitLemmas
+pub mod AssociatedLemmas
+pub mod WholeLemmas
+pub mod SettleLemmas
 pub mod TodoLemmas
+pub mod StepLemmas
+pub mod TellLemmas

@@ -31,6 +31,10 @@ above {forest = forest} n h x = let low = x.node.low in subst (IsElement forest)
 pub row_element : (p : Page) (n d : ℕ) → HasRows p.elements p.forest → (element_of p n).definition ≡ Some d → IsElement p.forest n
 row_element p n d h is = at_node n h (h.defined (n - 1) d is)
 
+pub row_is : (p : Page) (n : ℕ) (d : Option ℕ) → HasRows p.elements p.forest → (element_of p n).definition ≡ d → IfSome d (λ x. IsElement p.forest n)
+row_is p n None h is = tt
+row_is p n (Some d) h is = row_element p n d h is
+
 pub if_any : {A : Type 0} {X : Type 0} (o : Option A) → X → IfSome o (λ _. X)
 if_any None x = tt
 if_any (Some a) x = x
@@ -68,7 +72,7 @@ given_here {forest = forest} n i (Some d) h is x = subst (λ k. IsElement forest
 
 -- a row put behind the others
 
-definition_in-new : (elements : List Element) (i : ℕ) → definition_in (elements ++ uncustomized ∷ []) i ≡ definition_in elements i
+pub definition_in-new : (elements : List Element) (i : ℕ) → definition_in (elements ++ uncustomized ∷ []) i ≡ definition_in elements i
 definition_in-new [] zero = refl
 definition_in-new [] (suc i) = refl
 definition_in-new (e ∷ elements) zero = refl
@@ -94,17 +98,25 @@ sound_new {elements} {waiting} {stacks} f g k more h = record { rows = rows; wai
 
 -- a row given anew
 
-definition_in-here : (elements : List Element) (i d : ℕ) (e : Element) → definition_in (slice_set elements i e) i ≡ Some d → e.definition ≡ Some d
+pub definition_in-here : (elements : List Element) (i d : ℕ) (e : Element) → definition_in (slice_set elements i e) i ≡ Some d → e.definition ≡ Some d
 definition_in-here [] i d e is = let f : None ≡ Some d = is in absurd cc
 definition_in-here (x ∷ elements) zero d e is = is
 definition_in-here (x ∷ elements) (suc i) d e is = definition_in-here elements i d e is
 
-definition_in-other : (elements : List Element) (i j : ℕ) (e : Element) → i ≢ j → definition_in (slice_set elements i e) j ≡ definition_in elements j
+pub definition_in-other : (elements : List Element) (i j : ℕ) (e : Element) → i ≢ j → definition_in (slice_set elements i e) j ≡ definition_in elements j
 definition_in-other [] i j e apart = refl
 definition_in-other (x ∷ elements) zero zero e apart = absurd (apart refl)
 definition_in-other (x ∷ elements) zero (suc j) e apart = refl
 definition_in-other (x ∷ elements) (suc i) zero e apart = refl
 definition_in-other (x ∷ elements) (suc i) (suc j) e apart = definition_in-other elements i j e (λ k. apart (ap suc k))
+
+-- it has the definition that stood there
+pub definition_in-set : (elements : List Element) (i : ℕ) (e : Element) → definition_in elements i ≡ e.definition → (j : ℕ) → definition_in (slice_set elements i e) j ≡ definition_in elements j
+definition_in-set [] i e same j = refl
+definition_in-set (x ∷ elements) zero e same zero = sym same
+definition_in-set (x ∷ elements) zero e same (suc j) = refl
+definition_in-set (x ∷ elements) (suc i) e same zero = refl
+definition_in-set (x ∷ elements) (suc i) e same (suc j) = definition_in-set elements i e same j
 
 -- its definition, where it has one, is an element's
 pub sound_set : {elements : List Element} {waiting : List (List (ℕ × Reaction))} {stacks : List (List (Option ℕ))} {forest : Trees} (i : ℕ) (e : Element)
@@ -129,3 +141,10 @@ sound_set {elements} {waiting} {stacks} {forest} i e here h = record {
         if_some : (o : Option ℕ) → o ≡ Some d → IfSome o (λ d. IsElement forest (i + 1)) → IsElement forest (i + 1)
         if_some None f x = absurd cc
         if_some (Some k) f x = x
+
+-- the row of n given the definition that it has
+
+pub same_row : (elements : List Element) (i : ℕ) (d : Option ℕ) → definition_in elements i ≡ d → slice_set elements i (record (or_uncustomized (slice_get elements i)) { definition = d }) ≡ elements
+same_row [] i d is = refl
+same_row (e ∷ elements) zero d is = ap (λ x. record e { definition = x } ∷ elements) (sym is)
+same_row (e ∷ elements) (suc i) d is = ap (λ es. e ∷ es) (same_row elements i d is)

@@ -6,3 +6,6 @@ pub mod Sound
 pub mod Numbers
 pub mod Loose
 pub mod Copies
+pub mod Settled
+pub mod Telling
+pub mod Adding

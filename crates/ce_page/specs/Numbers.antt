@@ -31,3 +31,4 @@ pub record OnlyEnqueues (old new : Page) : Type 0 where
   pub forest : new.forest ≡ old.forest
   pub elements : new.elements ≡ old.elements
   pub definitions : new.definitions ≡ old.definitions
+  pub settled : new.settled ≡ old.settled

@@ -11,6 +11,7 @@ ghost use Rattle.ce_page.specs.Ends.{Does, NeverRefuses, work};
 ghost use Rattle.ce_page.specs.Numbers.{StaysWithin, OnlyEnqueues};
 ghost use Rattle.ce_page.specs.Copies.{OnlyMoves};
 ghost use Rattle.ce_page.specs.Loose.{IsLoosed, SamePlaces, move_one};
+ghost use Rattle.ce_page.specs.Settled.{KeepsSettled};
 
 use crate::walk::node_at;
 use crate::{Page, PageStop};
@@ -36,6 +37,7 @@ impl Page {
         ensures within { StaysWithin self.old self.new fuel.old fuel.new }
         ensures loose { OnOk result (IsLoosed self.old.forest self.new.forest node) }
         ensures moves { parent_at self.old.forest node ≡ None → OnlyMoves (order_of self.old.forest node) self.old.forest self.new.forest }
+        ensures settled { OnOk result (KeepsSettled self.old self.new) }
         ensures refused { NeverRefuses result }
     {
         let old = self.tree.document(node);
@@ -55,6 +57,7 @@ impl Page {
         ensures within { StaysWithin self.old self.new fuel.old fuel.new }
         ensures loose { OnOk result (IsLoosed self.old.forest self.new.forest node) }
         ensures still { parent_at self.old.forest node ≡ None → self.new ≡ self.old }
+        ensures settled { OnOk result (KeepsSettled self.old self.new) }
         ensures refused { NeverRefuses result }
     {
         if self.tree.parent(node).is_none() {
@@ -79,6 +82,7 @@ impl Page {
         ensures within { StaysWithin self.old self.new fuel.old fuel.new }
         ensures places { OnOk result (SamePlaces self.old.forest self.new.forest) }
         ensures moves { OnlyMoves (order_of self.old.forest node) self.old.forest self.new.forest }
+        ensures settled { OnOk result (KeepsSettled self.old self.new) }
         ensures refused { NeverRefuses result }
     {
         let walk = self.tree.shadow_order(alloc, node)?;
@@ -94,6 +98,7 @@ impl Page {
         ensures within { StaysWithin self.old self.new 0 0 }
         ensures places { SamePlaces self.old.forest self.new.forest }
         ensures moves { OnlyMoves walk.now self.old.forest self.new.forest }
+        ensures settled { KeepsSettled self.old self.new }
     {
         for i in 0..walk.len() {
             let n = node_at(walk, i);
@@ -108,6 +113,7 @@ impl Page {
         ensures within { StaysWithin self.old self.new 0 0 }
         ensures places { SamePlaces self.old.forest self.new.forest }
         ensures moves { OnlyMoves (n ∷ []) self.old.forest self.new.forest }
+        ensures settled { KeepsSettled self.old self.new }
     {
         self.tree.set_document(n, document);
     }

@@ -1,19 +1,25 @@
 // Insertion.
-ghost use Rattle.std.specs.Prelude.{◌≡◌, ◌+◌, ◌<◌, ◌^◌, [], None, false, All, OnOk};
-ghost use Rattle.node_trees.specs.Spots.{parent_at};
+ghost use Rattle.std.specs.Prelude.{◌≡◌, ◌+◌, ◌<◌, ◌^◌, None, false, All, OnOk};
+ghost use Rattle.node_trees.specs.Spots.{document_at, parent_at};
 ghost use Rattle.node_trees.specs.Paths.{connected};
 ghost use Rattle.node_trees.specs.Insertion.{may_insert};
 ghost use Rattle.node_trees.specs.Nodes.{IsNode, IsNodeOrNone};
+ghost use Rattle.node_trees.specs.Orders.{order_of};
 ghost use Rattle.node_trees.specs.Kinds.{KeepsKinds};
 ghost use Rattle.node_trees.specs.Links.{KeepsApart, KeepsSpots};
-ghost use Rattle.ce_algorithms.specs.Steps.{for_each};
-ghost use Rattle.ce_algorithms.specs.Mutation.{inserted, pre_insert, put_in, reference_child};
+ghost use Rattle.form_owner.specs.Told.{AreOfNodes, AreRising};
+ghost use Rattle.ce_algorithms.specs.Page.{Work, is_custom};
+ghost use Rattle.ce_algorithms.specs.Steps.{Goes, for_each, when};
+ghost use Rattle.ce_algorithms.specs.Mutation.{adopt, connected_now, inserted, pre_insert, put_in, reference_child};
 ghost use Rattle.ce_page.specs.Ends.{Does, Keeps, NeverRefuses, work};
 ghost use Rattle.ce_page.specs.Numbers.{StaysWithin, OnlyEnqueues};
+ghost use Rattle.ce_page.specs.Settled.{KeepsSettled};
+ghost use Rattle.ce_page.specs.Telling.{Tells, told};
 
 use crate::walk::node_at;
 use crate::{NodeKind, Page, PageStop};
 use ce_base::{Fuel, NodeNo, Nodes};
+use form_owner::Changes;
 use reaction_queue::Reaction;
 use std::alloc::Global;
 
@@ -21,8 +27,10 @@ impl Page {
     /// Inserts a node among the children of a parent, before one of them or at the end (DOM Standard,
     /// section "Mutation algorithms", "pre-insert"). It is refused with the fault that `Tree::may_insert`
     /// gives, and then nothing has changed. Else the node is adopted into the parent's document and put
-    /// in, and then each node of its shadow-including order that is connected has its turn: a custom
-    /// element is told that it was connected, and another element is tried to upgrade.
+    /// in, and then each node of its shadow-including order has its turn: a custom form-associated element
+    /// is told of what has changed of its form owner and its disabled state; where it is connected, a custom
+    /// element is told so, and another element is tried to upgrade. Last come the other custom
+    /// form-associated elements for which something has changed, in the order of their numbers.
     pub fn insert_node(
         &mut self,
         alloc: Global,
@@ -36,7 +44,11 @@ impl Page {
         requires before { IsNodeOrNone self.old.forest before }
         requires room { self.old.queues.reactions + fuel.old < 2 ^ 64 }
         ensures step { Does result (work self.new fuel.new) (pre_insert parent node before (work self.old fuel.old)) }
+
+        // What the insertion itself tells, from the page behind the adoption.
+        ensures told { (mid : Work) → Goes tt mid ≡ adopt (document_at self.old.forest parent) node (work self.old fuel.old) → Tells result mid.page self.new }
         ensures within { StaysWithin self.old self.new fuel.old fuel.new }
+        ensures settled { OnOk result (KeepsSettled self.old self.new) }
         ensures refused { Keeps result self.old self.new }
     {
         let child = self.reference_child(node, &before);
@@ -82,17 +94,19 @@ impl Page {
         requires free { parent_at self.old.forest node ≡ None }
         requires room { self.old.queues.reactions + fuel.old < 2 ^ 64 }
         ensures step { Does result (work self.new fuel.new) (put_in parent node before (work self.old fuel.old)) }
+        ensures told { Tells result self.old self.new }
         ensures within { StaysWithin self.old self.new fuel.old fuel.new }
+        ensures settled { OnOk result (KeepsSettled self.old self.new) }
         ensures refused { NeverRefuses result }
     {
-        self.tree.insert(alloc, parent, node, before)?;
+        let changes = self.graft(alloc, parent, node, before)?;
         let now_connected = self.tree.is_connected(node);
         let walk = self.tree.shadow_order(alloc, node)?;
-        self.tell_inserted(alloc, &walk, now_connected, fuel)?;
-        Ok(())
+        self.tell_insertion(alloc, node, &walk, &changes, now_connected, fuel)
     }
 
-    /// Puts a node that stands nowhere at the end of a parent that is not connected. So nobody is told.
+    /// Puts a node that stands nowhere at the end of a parent that is not connected. So nobody is told that it was
+    /// connected.
     pub(crate) fn put_apart(
         &mut self,
         alloc: Global,
@@ -114,10 +128,33 @@ impl Page {
         ensures apart { OnOk result (KeepsApart self.old.forest self.new.forest) }
         ensures refused { NeverRefuses result }
     {
-        self.tree.insert(alloc, parent, node, None)?;
+        let changes = self.graft(alloc, parent, node, None)?;
         let walk = self.tree.shadow_order(alloc, node)?;
-        self.tell_inserted(alloc, &walk, false, fuel)?;
-        Ok(())
+        self.tell_insertion(alloc, node, &walk, &changes, false, fuel)
+    }
+
+    /// Each node of an inserted tree has its turn, and then the others of whom something is said.
+    fn tell_insertion(
+        &mut self,
+        alloc: Global,
+        node: NodeNo,
+        walk: &Nodes,
+        changes: &Changes,
+        now_connected: bool,
+        fuel: &mut Fuel,
+    ) -> Result<(), PageStop>
+        requires node { IsNode self.old.forest node }
+        requires nodes { All (IsNode self.old.forest) walk.now }
+        requires connected { All (λ m. connected self.old.forest m ≡ now_connected) walk.now }
+        requires changes { AreOfNodes self.old.forest changes.now }
+        requires room { self.old.queues.reactions + fuel.old < 2 ^ 64 }
+        ensures step { Does result (work self.new fuel.new) (told (inserted changes.now) changes.now walk.now (order_of self.old.forest node) (work self.old fuel.old)) }
+        ensures within { StaysWithin self.old self.new fuel.old fuel.new }
+        ensures rest { OnlyEnqueues self.old self.new }
+        ensures refused { NeverRefuses result }
+    {
+        self.tell_inserted(alloc, walk, changes, now_connected, fuel)?;
+        self.tell_outside(alloc, changes, node, fuel)
     }
 
     /// Each node of an inserted tree has its turn. All of them are connected, or none is.
@@ -125,20 +162,22 @@ impl Page {
         &mut self,
         alloc: Global,
         walk: &Nodes,
+        changes: &Changes,
         now_connected: bool,
         fuel: &mut Fuel,
     ) -> Result<(), PageStop>
         requires nodes { All (IsNode self.old.forest) walk.now }
         requires connected { All (λ m. connected self.old.forest m ≡ now_connected) walk.now }
+        requires rising { AreRising changes.now }
         requires room { self.old.queues.reactions + fuel.old < 2 ^ 64 }
-        ensures step { Does result (work self.new fuel.new) (for_each walk.now (inserted []) (work self.old fuel.old)) }
+        ensures step { Does result (work self.new fuel.new) (for_each walk.now (inserted changes.now) (work self.old fuel.old)) }
         ensures within { StaysWithin self.old self.new fuel.old fuel.new }
         ensures rest { OnlyEnqueues self.old self.new }
         ensures refused { NeverRefuses result }
     {
         for i in 0..walk.len() {
             let n = node_at(walk, i);
-            self.inserted(alloc, n, now_connected, fuel)?;
+            self.inserted(alloc, n, changes, now_connected, fuel)?;
         }
         Ok(())
     }
@@ -148,13 +187,34 @@ impl Page {
         &mut self,
         alloc: Global,
         n: NodeNo,
+        changes: &Changes,
         now_connected: bool,
         fuel: &mut Fuel,
     ) -> Result<(), PageStop>
         requires node { IsNode self.old.forest n }
         requires connected { connected self.old.forest n ≡ now_connected }
+        requires rising { AreRising changes.now }
         requires room { self.old.queues.reactions + fuel.old < 2 ^ 64 }
-        ensures step { Does result (work self.new fuel.new) (inserted [] n (work self.old fuel.old)) }
+        ensures step { Does result (work self.new fuel.new) (inserted changes.now n (work self.old fuel.old)) }
+        ensures within { StaysWithin self.old self.new fuel.old fuel.new }
+        ensures rest { OnlyEnqueues self.old self.new }
+        ensures refused { NeverRefuses result }
+    {
+        self.tell_at_turn(alloc, changes, n, fuel)?;
+        self.connected_now(alloc, n, now_connected, fuel)
+    }
+
+    /// What a node that is connected now has to hear besides.
+    fn connected_now(
+        &mut self,
+        alloc: Global,
+        n: NodeNo,
+        now_connected: bool,
+        fuel: &mut Fuel,
+    ) -> Result<(), PageStop>
+        requires node { IsNode self.old.forest n }
+        requires room { self.old.queues.reactions + fuel.old < 2 ^ 64 }
+        ensures step { Does result (work self.new fuel.new) (when now_connected (connected_now n (is_custom self.old n)) (work self.old fuel.old)) }
         ensures within { StaysWithin self.old self.new fuel.old fuel.new }
         ensures rest { OnlyEnqueues self.old self.new }
         ensures refused { NeverRefuses result }

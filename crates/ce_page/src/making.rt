@@ -10,6 +10,7 @@ ghost use Rattle.ce_algorithms.specs.Page.{with_state, with_definition};
 ghost use Rattle.ce_algorithms.specs.Making.{next_number, with_new};
 ghost use Rattle.ce_page.specs.Numbers.{SameNumbers};
 ghost use Rattle.ce_page.specs.Copies.{IsFresh};
+ghost use Rattle.ce_page.specs.Settled.{KeepsSettled};
 
 use crate::Page;
 use crate::element::Element;
@@ -101,11 +102,12 @@ impl Page {
         }
     }
 
-    /// Sets or clears the custom element definition of an element (DOM Standard, section "Interface Element"),
-    /// and tells nobody.
+    /// Sets or clears the custom element definition of an element (DOM Standard, section "Interface Element"). The
+    /// form owners are settled, since the element may be a form-associated custom element from now on, or none any
+    /// more; nobody is told.
     pub fn set_definition(
         &mut self,
-        _alloc: Global,
+        alloc: Global,
         n: NodeNo,
         d: Option<DefNo>,
     ) -> Result<(), NoMemory>
@@ -113,11 +115,24 @@ impl Page {
         ensures page { OnOk result (self.new ≡ with_definition n d self.old) }
         ensures forest { self.new.forest ≡ self.old.forest }
         ensures numbers { SameNumbers self.old self.new }
+        ensures settled { OnOk result (KeepsSettled self.old self.new) }
     {
-        if let Some(i) = self.row_of(n) {
-            let e = &mut self.elements[i];
-            e.set_definition(d);
+        match d {
+            None => self.clear_definition(alloc, n),
+            Some(d) => self.redefine(alloc, n, Some(d)),
         }
-        Ok(())
+    }
+
+    /// Clears the definition of a node, if it has one.
+    fn clear_definition(&mut self, alloc: Global, n: NodeNo) -> Result<(), NoMemory>
+        ensures page { OnOk result (self.new ≡ with_definition n None self.old) }
+        ensures forest { self.new.forest ≡ self.old.forest }
+        ensures numbers { SameNumbers self.old self.new }
+        ensures settled { OnOk result (KeepsSettled self.old self.new) }
+    {
+        match self.definition(n) {
+            None => Ok(()),
+            Some(_) => self.redefine(alloc, n, None),
+        }
     }
 }

@@ -8,6 +8,7 @@ use ce_algorithms::Note;
 use ce_base::{NoMemory, NodeNo};
 use ce_registry::Registry;
 use construction::Stacks;
+use form_owner::OwnerTable;
 use node_arena::Tree;
 use reaction_queue::Queues;
 use std::alloc::Global;
@@ -15,7 +16,7 @@ use std::collections::VecDeque;
 use std::marker::Model;
 
 /// A page: its nodes, what each is as a custom element, its definitions and their construction stacks, what
-/// waits, and the enqueues that were not told yet.
+/// waits, the enqueues that were not told yet, and its form owners and disabled states.
 #[derive(Drop)]
 pub struct Page {
     pub(crate) tree: Tree,
@@ -24,11 +25,13 @@ pub struct Page {
     pub(crate) stacks: Stacks,
     pub(crate) queues: Queues,
     pub(crate) notes: VecDeque<Note>,
+    pub(crate) owners: OwnerTable,
+    pub(crate) settled: bool,
 }
 
 impl Model for Page {
     ghost use Rattle.ce_algorithms.specs.Page.{Page as PageState};
-    ghost use Rattle.ce_page.specs.Sound.{IsSound};
+    ghost use Rattle.ce_page.specs.Settled.{IsWhole};
     ghost use Rattle.std.specs.Coded.{codes};
     ghost use Rattle.node_trees.specs.TreesCode.{trees_code};
 
@@ -43,9 +46,10 @@ impl Model for Page {
       stacks = p.stacks;
       queues = p.queues;
       notes = p.notes.items;
+      settled = p.settled;
     } };
 
-    ghost invariant = { λ p. IsSound p.elements.items p.queues.waiting p.stacks p.tree };
+    ghost invariant = { λ p. IsWhole p.elements.items p.registry p.queues.waiting p.stacks p.tree p.owners p.settled };
 }
 
 impl Page {
@@ -63,6 +67,8 @@ impl Page {
             stacks: Stacks::make(alloc),
             queues: Queues::make(alloc),
             notes: VecDeque::new(alloc),
+            owners: OwnerTable::make(alloc),
+            settled: true,
         })
     }
 

@@ -1,23 +1,33 @@
 // Removal.
-ghost use Rattle.std.specs.Prelude.{◌≡◌, ◌+◌, ◌<◌, ◌^◌, [], IsSome, OnOk};
+ghost use Rattle.std.specs.Prelude.{◌≡◌, ◌+◌, ◌<◌, ◌^◌, ◌&&◌, IsSome, OnOk};
 ghost use Rattle.node_trees.specs.Spots.{parent_at};
 ghost use Rattle.node_trees.specs.Nodes.{IsNode};
-ghost use Rattle.ce_algorithms.specs.Steps.{for_each};
+ghost use Rattle.node_trees.specs.Orders.{order_of};
+ghost use Rattle.form_owner.specs.Told.{AreOfNodes, AreRising};
+ghost use Rattle.reaction_queue.specs.declared.reaction.Reaction.TheVariants.{Disconnected};
+ghost use Rattle.ce_algorithms.specs.Enqueue.{enqueue_callback};
+ghost use Rattle.ce_algorithms.specs.Page.{is_custom};
+ghost use Rattle.ce_algorithms.specs.Steps.{for_each, where_is};
 ghost use Rattle.ce_algorithms.specs.Mutation.{is_connected_parent, removed, remove};
 ghost use Rattle.ce_page.specs.Ends.{Does, NeverRefuses, work};
 ghost use Rattle.ce_page.specs.Numbers.{StaysWithin, OnlyEnqueues};
 ghost use Rattle.ce_page.specs.Loose.{IsLoosed};
+ghost use Rattle.ce_page.specs.Settled.{KeepsSettled};
+ghost use Rattle.ce_page.specs.Telling.{Tells, told};
 
 use crate::walk::node_at;
 use crate::{Page, PageStop};
 use ce_base::{Fuel, NodeNo, Nodes};
+use form_owner::Changes;
 use reaction_queue::Reaction;
 use std::alloc::Global;
 
 impl Page {
     /// Takes a node that has a parent, with all below it, out of its parent's children (DOM Standard, section
-    /// "Mutation algorithms", "remove"). Then for each node of its shadow-including order: a custom element
-    /// is told that it was disconnected, where the parent was connected.
+    /// "Mutation algorithms", "remove"). Then for each node of its shadow-including order: a custom
+    /// form-associated element is told of what has changed of its form owner and its disabled state, and a
+    /// custom element that it was disconnected, where the parent was connected. Last come the other custom
+    /// form-associated elements for which something has changed, in the order of their numbers.
     pub fn remove_node(
         &mut self,
         alloc: Global,
@@ -28,15 +38,16 @@ impl Page {
         requires placed { IsSome (parent_at self.old.forest node) }
         requires room { self.old.queues.reactions + fuel.old < 2 ^ 64 }
         ensures step { Does result (work self.new fuel.new) (remove node (work self.old fuel.old)) }
+        ensures told { Tells result self.old self.new }
         ensures within { StaysWithin self.old self.new fuel.old fuel.new }
         ensures loose { OnOk result (IsLoosed self.old.forest self.new.forest node) }
+        ensures settled { OnOk result (KeepsSettled self.old self.new) }
         ensures refused { NeverRefuses result }
     {
         let was_connected = self.has_connected_parent(node);
-        self.tree.remove(node);
+        let changes = self.cut(alloc, node)?;
         let walk = self.tree.shadow_order(alloc, node)?;
-        self.tell_removed(alloc, &walk, was_connected, fuel)?;
-        Ok(())
+        self.tell_removal(alloc, node, &walk, &changes, was_connected, fuel)
     }
 
     /// Whether a node's parent is connected.
@@ -50,23 +61,47 @@ impl Page {
         }
     }
 
+    /// Each node of a removed tree has its turn, and then the others of whom something is said.
+    fn tell_removal(
+        &mut self,
+        alloc: Global,
+        node: NodeNo,
+        walk: &Nodes,
+        changes: &Changes,
+        was_connected: bool,
+        fuel: &mut Fuel,
+    ) -> Result<(), PageStop>
+        requires node { IsNode self.old.forest node }
+        requires changes { AreOfNodes self.old.forest changes.now }
+        requires room { self.old.queues.reactions + fuel.old < 2 ^ 64 }
+        ensures step { Does result (work self.new fuel.new) (told (removed changes.now was_connected) changes.now walk.now (order_of self.old.forest node) (work self.old fuel.old)) }
+        ensures within { StaysWithin self.old self.new fuel.old fuel.new }
+        ensures rest { OnlyEnqueues self.old self.new }
+        ensures refused { NeverRefuses result }
+    {
+        self.tell_removed(alloc, walk, changes, was_connected, fuel)?;
+        self.tell_outside(alloc, changes, node, fuel)
+    }
+
     /// Each node of a removed tree has its turn.
     fn tell_removed(
         &mut self,
         alloc: Global,
         walk: &Nodes,
+        changes: &Changes,
         was_connected: bool,
         fuel: &mut Fuel,
     ) -> Result<(), PageStop>
-        requires { self.old.queues.reactions + fuel.old < 2 ^ 64 }
-        ensures step { Does result (work self.new fuel.new) (for_each walk.now (removed [] was_connected) (work self.old fuel.old)) }
+        requires rising { AreRising changes.now }
+        requires room { self.old.queues.reactions + fuel.old < 2 ^ 64 }
+        ensures step { Does result (work self.new fuel.new) (for_each walk.now (removed changes.now was_connected) (work self.old fuel.old)) }
         ensures within { StaysWithin self.old self.new fuel.old fuel.new }
         ensures rest { OnlyEnqueues self.old self.new }
         ensures refused { NeverRefuses result }
     {
         for i in 0..walk.len() {
             let n = node_at(walk, i);
-            self.removed(alloc, n, was_connected, fuel)?;
+            self.removed(alloc, n, changes, was_connected, fuel)?;
         }
         Ok(())
     }
@@ -76,11 +111,31 @@ impl Page {
         &mut self,
         alloc: Global,
         n: NodeNo,
+        changes: &Changes,
+        was_connected: bool,
+        fuel: &mut Fuel,
+    ) -> Result<(), PageStop>
+        requires rising { AreRising changes.now }
+        requires room { self.old.queues.reactions + fuel.old < 2 ^ 64 }
+        ensures step { Does result (work self.new fuel.new) (removed changes.now was_connected n (work self.old fuel.old)) }
+        ensures within { StaysWithin self.old self.new fuel.old fuel.new }
+        ensures rest { OnlyEnqueues self.old self.new }
+        ensures refused { NeverRefuses result }
+    {
+        self.tell_at_turn(alloc, changes, n, fuel)?;
+        self.disconnected(alloc, n, was_connected, fuel)
+    }
+
+    /// What a node that was connected has to hear besides.
+    fn disconnected(
+        &mut self,
+        alloc: Global,
+        n: NodeNo,
         was_connected: bool,
         fuel: &mut Fuel,
     ) -> Result<(), PageStop>
         requires { self.old.queues.reactions + fuel.old < 2 ^ 64 }
-        ensures step { Does result (work self.new fuel.new) (removed [] was_connected n (work self.old fuel.old)) }
+        ensures step { Does result (work self.new fuel.new) (where_is (λ w. was_connected && is_custom w.page n) (enqueue_callback n Disconnected) (work self.old fuel.old)) }
         ensures within { StaysWithin self.old self.new fuel.old fuel.new }
         ensures rest { OnlyEnqueues self.old self.new }
         ensures refused { NeverRefuses result }

@@ -161,7 +161,7 @@ pub fn upgraded_turn(
     state.pop_construction(d)?;
     match constructed {
         Ok(()) => {
-            let done = gives_nothing(state.upgrade_ends(n));
+            let done = gives_nothing(state.upgrade_ends(alloc, n));
             let now = came_from(done)?;
             Ok(now)
         }

@@ -1,6 +1,6 @@
 // A class, as the lines of a script made it.
 ghost use Rattle.std.specs.Prelude.{◌≡◌, ◌++◌, true, OnOk};
-ghost use Rattle.ce_algorithms.specs.Parts.{change_facts, with_has, with_observed, without_internals, without_shadow};
+ghost use Rattle.ce_algorithms.specs.Parts.{associated, change_facts, with_has, with_observed, without_internals, without_shadow};
 ghost use Rattle.ce_algorithms.specs.State.{new_class};
 
 use ce_base::{NoMemory, Text, Texts};
@@ -84,6 +84,13 @@ impl Class {
         ensures name { self.new.name ≡ self.old.name }
     {
         push_all(alloc, &mut self.facts.observed, names)
+    }
+
+    /// The class is form-associated: its elements have form owners.
+    pub fn associate(&mut self)
+        ensures { self.new ≡ change_facts associated self.old }
+    {
+        self.facts.associated = true;
     }
 
     /// The class disables shadow: its elements get no shadow root.

@@ -1,6 +1,6 @@
 // The classes of a session.
 ghost use Rattle.std.specs.Prelude.{◌≡◌, ◌<◌, ◌++◌, ◌∷◌, [], None, Some, length, option_copied, slice_get, IfSome, OnOk};
-ghost use Rattle.ce_algorithms.specs.Parts.{change_facts, with_has, with_observed, without_internals, without_shadow};
+ghost use Rattle.ce_algorithms.specs.Parts.{associated, change_facts, with_has, with_observed, without_internals, without_shadow};
 ghost use Rattle.ce_algorithms.specs.State.{Class as IsClass, class_named, new_class};
 ghost use Rattle.class_table.specs.Classes.{changed, frozen_class};
 
@@ -109,6 +109,14 @@ impl Classes {
         ensures { OnOk result (self.new ≡ changed k (change_facts (with_observed names.now)) self.old) }
     {
         self.items[k.0 as usize].observe(alloc, names)
+    }
+
+    /// A class is form-associated.
+    pub fn associate(&mut self, k: ClassNo)
+        requires { k < length self.old }
+        ensures { self.new ≡ changed k (change_facts associated) self.old }
+    {
+        self.items[k.0 as usize].associate();
     }
 
     /// A class disables shadow.

@@ -21,7 +21,7 @@ use Rattle.ce_algorithms.specs.Page.{Page, Work, read_page, definition_at, with_
 use Rattle.ce_algorithms.specs.Making.{make_node, make_document}
 use Rattle.ce_algorithms.specs.Enqueue.{enqueue_callback, enqueue_found}
 use Rattle.form_controls.specs.declared.change.Change.{Change}
-use Rattle.ce_algorithms.specs.FormChanges.{tell_owner, tell_disabled, tell_form_change, tell_form}
+use Rattle.ce_algorithms.specs.FormChanges.{tell_owner, tell_disabled, tell_form_change, tell_first_owner, tell_form}
 use Rattle.ce_algorithms.specs.Mutation.{is_connected, remove, adopt, connected_now, inserted, pre_insert}
 use Rattle.ce_algorithms.specs.Attributes.{handle_attribute_change, remove_there}
 use Rattle.ce_algorithms.specs.Define.{define_name}
@@ -53,8 +53,12 @@ leaves_tell_disabled n (Some disabled) = leaves_callback n (FormDisabled disable
 leaves_form_change : (c : Change) → Leaves of_page (tell_form_change c)
 leaves_form_change c = search (leaves_steps, leaves_tell_owner, leaves_tell_disabled) depth 12
 
+leaves_tell_first_owner : (n : ℕ) (o : Option ℕ) → Leaves of_page (tell_first_owner n o)
+leaves_tell_first_owner n None = leaves_done
+leaves_tell_first_owner n (Some form) = leaves_callback n (FormAssociated (Some form))
+
 pub leaves_tell_form : (n : ℕ) → Leaves of_page (tell_form n)
-leaves_tell_form n = search leaves_steps depth 14
+leaves_tell_form n = search (leaves_steps, leaves_tell_first_owner, leaves_callback) depth 14
 
 leaves_remove : (n : ℕ) → Leaves of_page (remove n)
 leaves_remove n = search (leaves_steps, leaves_form_change, leaves_callback) depth 16

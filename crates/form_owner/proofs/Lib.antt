@@ -6,3 +6,4 @@ pub mod Settled
 pub mod Touched
 pub mod Staying
 pub mod Making
+pub mod Told

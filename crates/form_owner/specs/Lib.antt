@@ -3,3 +3,4 @@ pub mod Touches
 pub mod Stands
 pub mod Reading
 pub mod Writing
+pub mod Told

@@ -1,5 +1,7 @@
 // A list of changes.
-ghost use Rattle.std.specs.Prelude.{◌≡◌, ◌++◌, ◌∷◌, [], length, slice_get, OnOk};
+ghost use Rattle.std.specs.Prelude.{◌≡◌, ◌+◌, ◌<◌, ◌++◌, ◌∷◌, [], Some, drop, filter, length, slice_get, OnOk};
+ghost use Rattle.std.specs.Option.{option_to_list};
+ghost use Rattle.form_owner.specs.Told.{AreRising, if_of, is_of};
 
 use ce_base::{NoMemory, NodeNo};
 use form_controls::Change;
@@ -59,4 +61,33 @@ impl Changes {
     {
         self.items.get(i).copied()
     }
+
+    /// The change at a place, from 0.
+    pub fn at(&self, i: usize) -> &Change
+        requires { i < length self.now }
+        ensures here { slice_get self.now i ≡ Some result.now }
+        ensures rest { drop i self.now ≡ result.now ∷ drop (i + 1) self.now }
+    {
+        &self.items[i]
+    }
+
+    /// The change of a node. None exactly where nothing is said of it.
+    pub fn of(&self, n: NodeNo) -> Option<Change>
+        requires { AreRising self.now }
+        ensures { filter (is_of n) self.now ≡ option_to_list result }
+    {
+        let place = place_for(&self.items, n);
+        match self.items.get(place) {
+            None => None,
+            Some(c) => { if c.node == n { Some(*c) } else { None } }
+        }
+    }
+}
+
+/// Where a node's change stands among changes, if there is one.
+fn place_for(changes: &[Change], n: NodeNo) -> usize
+    requires { AreRising changes.now }
+    ensures { filter (is_of n) changes.now ≡ if_of n (slice_get changes.now result) }
+{
+    changes.partition_point(|c| c.node.0 < n.0)
 }

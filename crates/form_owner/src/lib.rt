@@ -18,5 +18,7 @@ pub use form_controls::Change;
 pub use laws::{
     a_node_document_changes_nothing, making_a_node_changes_nothing, only_members_count,
 };
+pub use owner::is_listed;
+pub use reading::is_a;
 pub use table::OwnerTable;
 pub use touch::Touch;

@@ -24,7 +24,7 @@ fn is_listed_native(element: Native) -> bool
 
 /// Whether a node is a listed element (HTML Standard, section "Categories"), given whether it is a form-associated custom
 /// element.
-pub(crate) fn is_listed(tree: &Tree, n: NodeNo, associated: bool) -> bool
+pub fn is_listed(tree: &Tree, n: NodeNo, associated: bool) -> bool
     requires { IsNode tree.now n }
     ensures { result ≡ listed_by tree.now n associated }
 {

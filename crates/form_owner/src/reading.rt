@@ -18,7 +18,8 @@ pub(crate) fn native_at(tree: &Tree, n: NodeNo) -> Native
     native(tree.local(n))
 }
 
-pub(crate) fn is_a(tree: &Tree, n: NodeNo, element: Native) -> bool
+/// Whether a node is this element.
+pub fn is_a(tree: &Tree, n: NodeNo, element: Native) -> bool
     requires { IsNode tree.now n }
     ensures { result ≡ is_a element tree.now n }
 {

@@ -7,6 +7,7 @@ ghost use Rattle.form_controls.specs.declared.change.Change.{Change};
 ghost use Rattle.form_owner.specs.OwnerRows.{row_in, row_of};
 ghost use Rattle.form_owner.specs.Reading.{change_read, changes_read};
 ghost use Rattle.form_owner.specs.Stands.{Stands, StoodBefore};
+ghost use Rattle.form_owner.specs.Told.{AreOfNodes};
 ghost use Rattle.form_owner.specs.Touches.{IsTouched, after_touch};
 ghost use Rattle.form_owner.specs.Writing.{AreRenewed, IsPlaced, Noted, Written, with_changes, with_told};
 
@@ -164,6 +165,7 @@ impl OwnerTable {
         requires stood { StoodBefore self.old touch tree.now }
         ensures stands { (before : Forms) → Stands self.old before → IsTouched touch before.forest tree.now → OnOk result (Stands self.new (after_touch touch before tree.now)) }
         ensures changes { (before : Forms) → Stands self.old before → IsTouched touch before.forest tree.now → IfOk result (λ cs. cs ≡ form_changes before (after_touch touch before tree.now)) }
+        ensures nodes { IfOk result (AreOfNodes tree.now) }
     {
         fill(alloc, &mut self.rows, tree.count())?;
         note(&mut self.rows, touch);

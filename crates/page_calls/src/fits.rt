@@ -3,10 +3,13 @@ ghost use Rattle.std.specs.Prelude.{◌≡◌};
 ghost use Rattle.node_trees.specs.Facts.{is_document, is_element, is_text};
 ghost use Rattle.node_trees.specs.Nodes.{IsNode};
 ghost use Rattle.ce_algorithms.specs.Fits.{fits};
+ghost use Rattle.ce_algorithms.specs.Forms.{is_listed, is_submittable};
 
 use ce_algorithms::Fit;
 use ce_base::NodeNo;
 use ce_page::{NodeKind, Page};
+use element_names::Native;
+use form_owner::is_a;
 
 /// Whether a node is what it has to be.
 pub fn fits(what: Fit, page: &Page, n: NodeNo) -> bool
@@ -19,7 +22,28 @@ pub fn fits(what: Fit, page: &Page, n: NodeNo) -> bool
         Fit::Element => is_element(kind),
         Fit::Document => is_document(kind),
         Fit::ElementOrText => is_element(kind) || is_text(kind),
+        Fit::Form => is_a(page.tree(), n, Native::Form),
+        Fit::Listed => is_listed(page, n),
+        Fit::SubmittableOrOption => {
+            is_submittable(page, n) || is_a(page.tree(), n, Native::OptionItem)
+        }
     }
+}
+
+/// Whether a node is a listed element (HTML Standard, section "Categories").
+fn is_listed(page: &Page, n: NodeNo) -> bool
+    requires { IsNode page.now.forest n }
+    ensures { result ≡ is_listed page.now n }
+{
+    form_owner::is_listed(page.tree(), n, page.is_form_associated(n))
+}
+
+/// Whether a node is a submittable element (HTML Standard, section "Categories").
+fn is_submittable(page: &Page, n: NodeNo) -> bool
+    requires { IsNode page.now.forest n }
+    ensures { result ≡ is_submittable page.now n }
+{
+    is_listed(page, n) && !is_a(page.tree(), n, Native::Fieldset)
 }
 
 fn is_element(kind: NodeKind) -> bool

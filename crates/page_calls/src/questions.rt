@@ -5,13 +5,14 @@ ghost use Rattle.node_trees.specs.Nodes.{IsNode};
 ghost use Rattle.node_trees.specs.Spots.{attribute_at, parent_at};
 ghost use Rattle.reaction_queue.specs.Queues.{or_empty};
 ghost use Rattle.rule_script.specs.Built.{is_built_word};
+ghost use Rattle.ce_algorithms.specs.Forms.{controls_of, form_owner, is_disabled};
 ghost use Rattle.ce_algorithms.specs.Questions.{node_answer, question, text_answer};
 ghost use Rattle.page_calls.specs.Asked.{asked};
 ghost use Rattle.page_calls.specs.Resolved.{Resolves};
 
 use crate::fits::fits;
 use ce_algorithms::Fit;
-use ce_base::{Fault, NoMemory, NodeNo, Refused, Text};
+use ce_base::{Fault, NoMemory, NodeNo, Nodes, Refused, Text};
 use ce_events::Answer;
 use ce_page::Page;
 use rule_lines::AskWord;
@@ -42,6 +43,9 @@ pub fn asked_of(word: AskWord) -> Fit
 {
     match word {
         AskWord::Attr | AskWord::State => Fit::Element,
+        AskWord::Owner => Fit::Listed,
+        AskWord::Controls => Fit::Form,
+        AskWord::Disabled => Fit::SubmittableOrOption,
         _ => Fit::Any,
     }
 }
@@ -63,6 +67,9 @@ pub fn answer(
         AskWord::Parent => Ok(parent(page, n)),
         AskWord::Kids => Ok(Answer::Nodes(page.tree().children(alloc, n)?)),
         AskWord::State => Ok(Answer::State(page.state(n))),
+        AskWord::Owner => owner(page, n),
+        AskWord::Controls => Ok(Answer::Nodes(controls(alloc, page, n)?)),
+        AskWord::Disabled => Ok(Answer::Truth(is_disabled(page, n)?)),
         _ => unreachable!(),
     }
 }
@@ -87,4 +94,50 @@ fn parent(page: &Page, n: NodeNo) -> Answer
         None => Answer::Null,
         Some(parent) => Answer::Node(parent),
     }
+}
+
+// The form owner. A page that is not settled has no answer.
+fn owner(page: &Page, n: NodeNo) -> Result<Answer, NoMemory>
+    requires { IsNode page.now.forest n }
+    ensures { IfOk result (λ a. a ≡ node_answer (form_owner page.now n)) }
+{
+    if !page.is_settled() {
+        return Err(NoMemory);
+    }
+    match page.owners().owner(n) {
+        None => Ok(Answer::Null),
+        Some(form) => Ok(Answer::Node(form)),
+    }
+}
+
+// The controls of a form. A page that is not settled has no answer.
+fn controls(alloc: Global, page: &Page, form: NodeNo) -> Result<Nodes, NoMemory>
+    requires { IsNode page.now.forest form }
+    ensures { IfOk result (λ ns. ns ≡ controls_of page.now form) }
+{
+    if !page.is_settled() {
+        return Err(NoMemory);
+    }
+    copied(alloc, page.owners().controls(form))
+}
+
+fn copied(alloc: Global, numbers: &[NodeNo]) -> Result<Nodes, NoMemory>
+    ensures { IfOk result (λ ns. ns ≡ numbers.now) }
+{
+    let mut nodes = Nodes::make(alloc);
+    for n in numbers {
+        nodes.push(alloc, *n)?;
+    }
+    Ok(nodes)
+}
+
+// Whether the node is disabled. A page that is not settled has no answer.
+fn is_disabled(page: &Page, n: NodeNo) -> Result<bool, NoMemory>
+    requires { IsNode page.now.forest n }
+    ensures { IfOk result (λ b. b ≡ is_disabled page.now n) }
+{
+    if !page.is_settled() {
+        return Err(NoMemory);
+    }
+    Ok(page.owners().disabled(n))
 }

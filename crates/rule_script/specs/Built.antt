@@ -11,12 +11,16 @@ use Rattle.rule_lines.specs.declared.op.Op.TheVariants as ops
 use Rattle.rule_lines.specs.Acts.{Act, Part, Said, Blank, Command, Declares}
 use Rattle.rule_lines.specs.Acts as acts
 
--- the attributes, the parent, the children and the custom element state of a node can be asked
+-- the attributes, the parent, the children and the custom element state of a node can be asked; the form owner and the
+-- disabled state of a control, and the controls of a form
 abbrev pub is_built_word : AskWord → Bool
 is_built_word words.Attr = true
 is_built_word words.Parent = true
 is_built_word words.Kids = true
 is_built_word words.State = true
+is_built_word words.Owner = true
+is_built_word words.Controls = true
+is_built_word words.Disabled = true
 is_built_word _ = false
 
 -- making, constructing and cloning nodes, inserting, removing and adopting them, attributes with any values, definitions,
@@ -53,24 +57,28 @@ is_built_act (acts.Try act) = is_built_act act
 is_built_act (acts.If equal left right act) = is_built_act act
 is_built_act _ = true
 
--- the constructor, and the callbacks that are told of an insertion, a removal, an adoption and an attribute
+-- the constructor, and the callbacks that are told of an insertion, a removal, an adoption, an attribute, a form owner and
+-- a disabled state
 abbrev pub is_built_call : CallName → Bool
 is_built_call calls.Constructor = true
 is_built_call calls.Connected = true
 is_built_call calls.Disconnected = true
 is_built_call calls.Adopted = true
 is_built_call calls.Attribute = true
+is_built_call calls.FormAssociated = true
+is_built_call calls.FormDisabled = true
 is_built_call _ = false
 
--- classes, these callbacks, the actions above in their bodies, observed names, and features that are disabled
+-- classes, these callbacks, the actions above in their bodies, observed names, classes that are form-associated, and
+-- features that are disabled
 abbrev pub is_built_part : Part → Bool
 is_built_part (acts.Class name) = true
 is_built_part (acts.On class call act) = is_built_call call && is_built_act act
 is_built_part (acts.Has class call) = is_built_call call
 is_built_part (acts.Observe class names) = true
+is_built_part (acts.Associate class) = true
 is_built_part (acts.DisableShadow class) = true
 is_built_part (acts.DisableInternals class) = true
-is_built_part _ = false
 
 -- all of the line is built
 abbrev pub is_built : Said → Bool

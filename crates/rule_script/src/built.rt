@@ -26,7 +26,13 @@ fn is_built_word(word: AskWord) -> bool
 {
     matches!(
         word,
-        AskWord::Attr | AskWord::Parent | AskWord::Kids | AskWord::State
+        AskWord::Attr
+            | AskWord::Parent
+            | AskWord::Kids
+            | AskWord::State
+            | AskWord::Owner
+            | AskWord::Controls
+            | AskWord::Disabled
     )
 }
 
@@ -40,6 +46,8 @@ fn is_built_call(call: CallName) -> bool
             | CallName::Disconnected
             | CallName::Adopted
             | CallName::Attribute
+            | CallName::FormAssociated
+            | CallName::FormDisabled
     )
 }
 
@@ -70,10 +78,10 @@ fn is_built_part(part: &ClassPart) -> bool
 {
     match part {
         ClassPart::Class(_) | ClassPart::Observe { .. } => true,
+        ClassPart::Associate(_) => true,
         ClassPart::DisableShadow(_) | ClassPart::DisableInternals(_) => true,
         ClassPart::On { call, action, .. } => is_built_call(*call) && is_built_action(action),
         ClassPart::Has { call, .. } => is_built_call(*call),
-        _ => false,
     }
 }
 

@@ -2,7 +2,7 @@
 ghost use Rattle.std.specs.Prelude.{◌≡◌, ◌<◌, [], true, length, IfOk};
 ghost use Rattle.rule_lines.specs.Acts.{act_of, part_of};
 ghost use Rattle.rule_script.specs.Built.{is_built_act, is_built_part};
-ghost use Rattle.ce_algorithms.specs.Parts.{add_class, change_facts, change_open, open_class, part, with_body, with_has, with_observed, without_internals, without_shadow};
+ghost use Rattle.ce_algorithms.specs.Parts.{add_class, associated, change_facts, change_open, open_class, part, with_body, with_has, with_observed, without_internals, without_shadow};
 ghost use Rattle.frame_stack.specs.Sessions.{ArePaired, session};
 ghost use Rattle.session_state.specs.Steps.{with_call_at};
 ghost use Rattle.session_state.specs.Taking.{Counts, Names, Rests, Takes};
@@ -28,6 +28,7 @@ impl State {
         ensures taken { Takes result (session stack.new self.new) (part (part_of p) (session stack.old self.old)) }
         ensures rest { Rests result (stack.new.frames ≡ []) }
         ensures paired { Rests result (ArePaired stack.new self.new) }
+        ensures page { self.new.page ≡ self.old.page }
     {
         match p {
             ClassPart::Class(name) => self.add_class(alloc, stack, name),
@@ -38,7 +39,7 @@ impl State {
             } => self.add_action(alloc, stack, &class, call, action),
             ClassPart::Has { class, call } => self.add_call(&class, call),
             ClassPart::Observe { class, names } => self.observe(alloc, &class, &names),
-            ClassPart::Associate(_) => unreachable!(),
+            ClassPart::Associate(class) => self.associate(&class),
             ClassPart::DisableShadow(class) => self.disable_shadow(&class),
             ClassPart::DisableInternals(class) => self.disable_internals(&class),
         }
@@ -53,6 +54,7 @@ impl State {
         ensures taken { Takes result (session stack.new self.new) (add_class name (session stack.old self.old)) }
         ensures rest { Rests result (stack.new.frames ≡ []) }
         ensures paired { Rests result (ArePaired stack.new self.new) }
+        ensures page { self.new.page ≡ self.old.page }
     {
         match self.new_class(alloc, name) {
             Err(refused) => Err(refused),
@@ -66,6 +68,7 @@ impl State {
     fn new_class(&mut self, alloc: Global, name: Text) -> Result<(), Refused>
         ensures taken { Takes result self.new (add_class name self.old) }
         ensures count { Counts result (length self.old.classes) (length self.new.classes) }
+        ensures page { self.new.page ≡ self.old.page }
     {
         if self.classes.named(name.as_str()).is_some() {
             return Err(Refused::Fault(Fault::NotSupportedError));
@@ -104,6 +107,7 @@ impl State {
         ensures taken { Takes result (session stack.new self.new) (change_open class.now (with_body call (act_of action)) (session stack.old self.old)) }
         ensures rest { Rests result (stack.new.frames ≡ []) }
         ensures paired { Rests result (ArePaired stack.new self.new) }
+        ensures page { self.new.page ≡ self.old.page }
     {
         match self.open_class(class.as_str()) {
             Err(f) => {
@@ -123,13 +127,15 @@ impl State {
     // The class has the callback.
     fn call_added(&mut self, k: ClassNo, call: CallName)
         requires { k < length self.old.classes }
-        ensures { self.new ≡ with_call_at k call self.old }
+        ensures class { self.new ≡ with_call_at k call self.old }
+        ensures page { self.new.page ≡ self.old.page }
     {
         self.classes.add_call(k, call);
     }
 
     fn add_call(&mut self, class: &Text, call: CallName) -> Result<(), Refused>
-        ensures { Takes result self.new (change_open class.now (change_facts (with_has call)) self.old) }
+        ensures taken { Takes result self.new (change_open class.now (change_facts (with_has call)) self.old) }
+        ensures page { self.new.page ≡ self.old.page }
     {
         let k = self.open_class(class.as_str())?;
         self.classes.add_call(k, call);
@@ -137,15 +143,26 @@ impl State {
     }
 
     fn observe(&mut self, alloc: Global, class: &Text, names: &Texts) -> Result<(), Refused>
-        ensures { Takes result self.new (change_open class.now (change_facts (with_observed names.now)) self.old) }
+        ensures taken { Takes result self.new (change_open class.now (change_facts (with_observed names.now)) self.old) }
+        ensures page { self.new.page ≡ self.old.page }
     {
         let k = self.open_class(class.as_str())?;
         self.classes.observe(alloc, k, names)?;
         Ok(())
     }
 
+    fn associate(&mut self, class: &Text) -> Result<(), Refused>
+        ensures taken { Takes result self.new (change_open class.now (change_facts associated) self.old) }
+        ensures page { self.new.page ≡ self.old.page }
+    {
+        let k = self.open_class(class.as_str())?;
+        self.classes.associate(k);
+        Ok(())
+    }
+
     fn disable_shadow(&mut self, class: &Text) -> Result<(), Refused>
-        ensures { Takes result self.new (change_open class.now (change_facts without_shadow) self.old) }
+        ensures taken { Takes result self.new (change_open class.now (change_facts without_shadow) self.old) }
+        ensures page { self.new.page ≡ self.old.page }
     {
         let k = self.open_class(class.as_str())?;
         self.classes.disable_shadow(k);
@@ -153,7 +170,8 @@ impl State {
     }
 
     fn disable_internals(&mut self, class: &Text) -> Result<(), Refused>
-        ensures { Takes result self.new (change_open class.now (change_facts without_internals) self.old) }
+        ensures taken { Takes result self.new (change_open class.now (change_facts without_internals) self.old) }
+        ensures page { self.new.page ≡ self.old.page }
     {
         let k = self.open_class(class.as_str())?;
         self.classes.disable_internals(k);

@@ -1,12 +1,14 @@
 // Upgrading an element.
-ghost use Rattle.std.specs.Prelude.{◌≡◌, ◌+◌, ◌<◌, ◌^◌, ◌∷◌, drop, length, IfOk, IfNone, IfSome, OnOk};
+ghost use Rattle.std.specs.Prelude.{◌≡◌, ◌+◌, ◌<◌, ◌^◌, ◌∷◌, true, drop, length, IfOk, IfNone, IfSome, OnOk};
 ghost use Rattle.ce_base.specs.declared.fault.Fault.{Fault};
 ghost use Rattle.node_trees.specs.Kinds.{IsElement};
 ghost use Rattle.node_trees.specs.Nodes.{IsNode};
 ghost use Rattle.node_trees.specs.Spots.{facts_at};
-ghost use Rattle.reaction_queue.specs.declared.reaction.Reaction.TheVariants.{Connected};
+ghost use Rattle.reaction_queue.specs.declared.reaction.Reaction.TheVariants.{Connected, FormDisabled};
 ghost use Rattle.ce_algorithms.specs.Construction.{pop_construction};
 ghost use Rattle.ce_algorithms.specs.Enqueue.{enqueue_callback};
+ghost use Rattle.ce_algorithms.specs.FormChanges.{tell_first, tell_first_owner, tell_form};
+ghost use Rattle.ce_algorithms.specs.Forms.{form_owner, is_disabled};
 ghost use Rattle.ce_algorithms.specs.Mutation.{is_connected};
 ghost use Rattle.ce_algorithms.specs.Page.{state_of, with_state};
 ghost use Rattle.ce_algorithms.specs.State.{change_page, on_page};
@@ -92,13 +94,15 @@ impl State {
     }
 
     /// An upgrade has gone well (HTML Standard, section "Upgrades", "upgrade an element"): a form-associated element
-    /// is told of its form owner and of being disabled, and the element is custom. No form owners are known yet, so
-    /// nothing is told, and FuelSpent does not come; it refuses nothing. NoMemory: see `State`.
-    pub fn upgrade_ends(&mut self, n: NodeNo) -> Result<(), PageStop>
+    /// is told of its form owner, where it has one, and that it is disabled, where it is; and the element is custom.
+    /// FuelSpent exactly where no fuel is left for what is enqueued; it refuses nothing. NoMemory: see `State`.
+    pub fn upgrade_ends(&mut self, alloc: Global, n: NodeNo) -> Result<(), PageStop>
         ensures step { Does result self.new (upgrade_ends n self.old) }
         ensures forest { self.new.page.forest ≡ self.old.page.forest }
     {
-        self.after_call(false)?;
+        let outcome = tell_form(alloc, &mut self.page, &mut self.fuel, n);
+        self.after_call(is_out_of_fuel(&outcome))?;
+        outcome?;
         self.page.set_state(n, CustomState::Custom);
         self.log(Event::UpgradeDone(n))?;
         Ok(())
@@ -198,6 +202,73 @@ fn tell_connected(
 {
     if page.tree().is_connected(n) {
         page.enqueue_call(alloc, n, Reaction::Connected, fuel)?;
+    }
+    Ok(())
+}
+
+// A form-associated element is told of its form owner, where it has one, and that it is disabled, where it is.
+fn tell_form(alloc: Global, page: &mut Page, fuel: &mut Fuel, n: NodeNo) -> Result<(), PageStop>
+    requires room { page.old.queues.reactions + fuel.old < 2 ^ 64 }
+    ensures step { Does result (work page.new fuel.new) (tell_form n (work page.old fuel.old)) }
+    ensures within { GrowsWithin page.old page.new fuel.old fuel.new }
+    ensures forest { page.new.forest ≡ page.old.forest }
+{
+    if !page.is_form_associated(n) {
+        return Ok(());
+    }
+    tell_first(alloc, page, fuel, n)
+}
+
+fn tell_first(alloc: Global, page: &mut Page, fuel: &mut Fuel, n: NodeNo) -> Result<(), PageStop>
+    requires node { IsNode page.old.forest n }
+    requires room { page.old.queues.reactions + fuel.old < 2 ^ 64 }
+    ensures step { Does result (work page.new fuel.new) (tell_first n (work page.old fuel.old)) }
+    ensures within { GrowsWithin page.old page.new fuel.old fuel.new }
+    ensures forest { page.new.forest ≡ page.old.forest }
+{
+    tell_first_owner(alloc, page, fuel, n)?;
+    tell_first_disabled(alloc, page, fuel, n)
+}
+
+// A page that is not settled lacks memory: its form owners are not known.
+fn tell_first_owner(
+    alloc: Global,
+    page: &mut Page,
+    fuel: &mut Fuel,
+    n: NodeNo,
+) -> Result<(), PageStop>
+    requires node { IsNode page.old.forest n }
+    requires room { page.old.queues.reactions + fuel.old < 2 ^ 64 }
+    ensures step { Does result (work page.new fuel.new) (tell_first_owner n (form_owner page.old n) (work page.old fuel.old)) }
+    ensures within { GrowsWithin page.old page.new fuel.old fuel.new }
+    ensures forest { page.new.forest ≡ page.old.forest }
+{
+    if !page.is_settled() {
+        return Err(PageStop::NoMemory);
+    }
+    match page.owners().owner(n) {
+        None => Ok(()),
+        Some(form) => page.enqueue_call(alloc, n, Reaction::FormAssociated(Some(form)), fuel),
+    }
+}
+
+fn tell_first_disabled(
+    alloc: Global,
+    page: &mut Page,
+    fuel: &mut Fuel,
+    n: NodeNo,
+) -> Result<(), PageStop>
+    requires node { IsNode page.old.forest n }
+    requires room { page.old.queues.reactions + fuel.old < 2 ^ 64 }
+    ensures step { Does result (work page.new fuel.new) (where_is (λ w. is_disabled w.page n) (enqueue_callback n (FormDisabled true)) (work page.old fuel.old)) }
+    ensures within { GrowsWithin page.old page.new fuel.old fuel.new }
+    ensures forest { page.new.forest ≡ page.old.forest }
+{
+    if !page.is_settled() {
+        return Err(PageStop::NoMemory);
+    }
+    if page.owners().disabled(n) {
+        page.enqueue_call(alloc, n, Reaction::FormDisabled(true), fuel)?;
     }
     Ok(())
 }

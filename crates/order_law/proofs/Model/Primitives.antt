@@ -13,12 +13,13 @@ use Rattle.order_law.proofs.Model.Weights.{without_cut}
 use Rattle.ce_base.specs.declared.fault.Fault.{Fault}
 use Rattle.ce_events.specs.declared.event.Event.{Event}
 use Rattle.ce_algorithms.specs.Steps.{Outcome, Goes, Throws, Spent, then_do, ◌>>=◌, ◌>>◌, where_is, for_each, throw_any}
-use Rattle.ce_algorithms.specs.Page.{Page, Work, with_forest, is_custom, definition_of}
+use Rattle.ce_algorithms.specs.Page.{Page, Work, with_forest, is_custom}
 use Rattle.ce_algorithms.specs.Page as page
 use Rattle.ce_algorithms.specs.State.{event_of}
 use Rattle.ce_algorithms.specs.Enqueue.{enqueue_found, enqueue_upgrade, try_upgrade, lookup_for}
 use Rattle.form_controls.specs.declared.change.Change.{Change}
-use Rattle.ce_algorithms.specs.FormChanges.{form_changes, is_form_associated, tell_owner, tell_disabled, tell_form_change, tell_at_turn, tell_others}
+use Rattle.ce_algorithms.specs.Forms.{is_custom_form_associated}
+use Rattle.ce_algorithms.specs.FormChanges.{form_changes, tell_owner, tell_disabled, tell_form_change, tell_at_turn, tell_others}
 use Rattle.ce_algorithms.specs.Mutation.{is_connected, is_connected_parent, removed, remove, move_to, adopt, connected_now, inserted, put_in, reference_child, insert, pre_insert}
 use Rattle.ce_algorithms.specs.Attributes.{handle_attribute_change, set_attribute, remove_there, remove_attribute}
 use Rattle.order_law.proofs.Model.Forests.{alike_cut, alike_graft, alike_facts, outside_allowed, outside_facts}
@@ -64,7 +65,7 @@ disabled_change_at n None = at_done
 disabled_change_at n (Some disabled) = callback_at n (FormDisabled disabled)
 
 form_change_at : {q : Trees → Type 0} {h : List Hold} {l : List Event} (c : Change) → KeepsAt q h l (tell_form_change c)
-form_change_at c = at_where (λ w. is_custom w.page c.node && is_form_associated (definition_of w.page c.node)) (at_seq (owner_change_at c.node c.owner) (disabled_change_at c.node c.disabled))
+form_change_at c = at_where (λ w. is_custom_form_associated w.page c.node) (at_seq (owner_change_at c.node c.owner) (disabled_change_at c.node c.disabled))
 
 turn_at : {q : Trees → Type 0} {h : List Hold} {l : List Event} (changes : List Change) (n : ℕ) → KeepsAt q h l (tell_at_turn changes n)
 turn_at changes n = at_each (filter (λ (c : Change). c.node == n) changes) form_change_at

@@ -8,7 +8,8 @@ use Rattle.ce_events.specs.declared.event.Event.{Event}
 use Rattle.ce_events.specs.declared.event.Event.TheVariants.{UpgradeBegun, UpgradeDone}
 use Rattle.ce_algorithms.specs.Steps.{Outcome, Goes, Throws, Spent, then_do, ◌>>◌, when, catch_in, finally, for_each, where_is}
 use Rattle.ce_algorithms.specs.Page.{Work, Element, element_of, state_of, with_element, with_state, with_definition, definition_of}
-use Rattle.ce_algorithms.specs.FormChanges.{tell_form, tell_first_owner, form_owner, is_disabled, is_form_associated}
+use Rattle.ce_algorithms.specs.Forms.{form_owner, is_disabled, is_form_associated}
+use Rattle.ce_algorithms.specs.FormChanges.{tell_form, tell_first_owner}
 use Rattle.ce_algorithms.specs.Mutation.{is_connected}
 use Rattle.ce_algorithms.specs.Enqueue.{enqueue_callback}
 use Rattle.construction.specs.Stacks.{pushed, popped}

@@ -1,4 +1,4 @@
-use Rattle.std.proofs.Common.{rules}
+use Rattle.std.proofs.Common.{rules, ◌∙◌}
 use Rattle.ce_page.proofs.CopyLemmas.{moves_next}
 use Rattle.ce_page.proofs.page.Page.move_nodes.Goals as goal
 
@@ -8,4 +8,5 @@ loop-i-preserved c = record {
   within = search rules;
   places = search rules;
   moves = moves_next c.args.walk.now c.loop-i.i c.node_at-n.result c.node_at-n.ensures.here c.loop-i.invariant.moves c.move_one.ensures.moves;
+  settled = c.move_one.ensures.settled ∙ c.loop-i.invariant.settled;
 }

@@ -4,6 +4,7 @@ use Rattle.ce_page.specs.Ends.{work}
 use Rattle.ce_page.specs.Numbers.{StaysWithin}
 use Rattle.ce_page.specs.Copies.{OnlyMoves}
 use Rattle.ce_page.specs.Loose.{SamePlaces, move_one}
+use Rattle.ce_page.specs.Settled.{KeepsSettled}
 use Rattle.ce_page.proofs.page.Page.move_nodes.Given as goal
 
 abbrev pub invariant-loop-i : goal.invariant-loop-i
@@ -12,4 +13,5 @@ invariant-loop-i l = record {
   within : StaysWithin l.initial.self l.self 0 0;
   places : SamePlaces l.initial.self.forest l.self.forest;
   moves : OnlyMoves l.walk l.initial.self.forest l.self.forest;
+  settled : KeepsSettled l.initial.self l.self;
 }

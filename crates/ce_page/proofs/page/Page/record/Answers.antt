@@ -9,16 +9,24 @@ pub invariant_of-self-in_err-push_back : goal.invariant_of-self-in_err-push_back
 invariant_of-self-in_err-push_back c =
     let element : IsElement c.self.inside.tree c.args.n = subst (λ (p : Page). IsElement p.forest c.args.n) (sym c.self.view_is) c.requires.element in
     record {
-      rows = c.self.invariant.rows;
-      waits = rw c.in_ok-number.ensures.queues (enqueued_waits c.self.inside.tree c.args.n c.args.r c.self.inside.queues (above c.args.n c.self.invariant.rows element) c.self.invariant.waits);
-      held = c.self.invariant.held;
+      sound = record {
+        rows = c.self.invariant.sound.rows;
+        waits = rw c.in_ok-number.ensures.queues (enqueued_waits c.self.inside.tree c.args.n c.args.r c.self.inside.queues (above c.args.n c.self.invariant.sound.rows element) c.self.invariant.sound.waits);
+        held = c.self.invariant.sound.held;
+      };
+      given = c.self.invariant.given;
+      owners = c.self.invariant.owners;
     }
 
 pub invariant_of-self-2 : goal.invariant_of-self-2
 invariant_of-self-2 c =
     let element : IsElement c.self.inside.tree c.args.n = subst (λ (p : Page). IsElement p.forest c.args.n) (sym c.self.view_is) c.requires.element in
     record {
-      rows = c.self.invariant.rows;
-      waits = rw c.in_ok-number.ensures.queues (enqueued_waits c.self.inside.tree c.args.n c.args.r c.self.inside.queues (above c.args.n c.self.invariant.rows element) c.self.invariant.waits);
-      held = c.self.invariant.held;
+      sound = record {
+        rows = c.self.invariant.sound.rows;
+        waits = rw c.in_ok-number.ensures.queues (enqueued_waits c.self.inside.tree c.args.n c.args.r c.self.inside.queues (above c.args.n c.self.invariant.sound.rows element) c.self.invariant.sound.waits);
+        held = c.self.invariant.sound.held;
+      };
+      given = c.self.invariant.given;
+      owners = c.self.invariant.owners;
     }

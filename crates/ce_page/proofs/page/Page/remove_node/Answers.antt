@@ -1,13 +1,22 @@
-use Rattle.ce_page.proofs.ElementLemmas.{sound_kept}
-use Rattle.ce_page.proofs.LooseLemmas.{loosed}
+use Rattle.std.proofs.Common.{ap, subst, sym, ◌∙◌}
+use Rattle.node_trees.specs.Orders.{order_of}
+use Rattle.node_trees.specs.Trees.{Trees}
+use Rattle.ce_algorithms.specs.Page.{Page}
+use Rattle.ce_page.specs.Ends.{work}
+use Rattle.ce_page.specs.Loose.{IsLoosed}
+use Rattle.ce_page.proofs.StepLemmas.{on_ok, remove_is}
+use Rattle.ce_page.proofs.TellLemmas.{removal_tells}
 use Rattle.ce_page.proofs.page.Page.remove_node.Goals as goal
 
-pub invariant_of-self : goal.invariant_of-self
-invariant_of-self c = sound_kept _ _ c.remove.ensures.kinds c.self.invariant
-
-pub invariant_of-self-2 : goal.invariant_of-self-2
-invariant_of-self-2 c = sound_kept _ _ c.remove.ensures.kinds c.self.invariant
+pub returns-clause-step : goal.returns-clause-step
+returns-clause-step c =
+    let order = c.in_ok-walk.ensures.order ∙ ap (λ (p : Page). order_of p.forest c.args.node) c.self.view_is in
+    let steps = remove_is c.args.self.now c.cut.new.self c.args.fuel.now c.in_ok-changes.changes c.in_ok-changes.ensures.changes c.args.node c.has_connected_parent-was_connected.result c.in_ok-walk.walk c.in_ok-changes.ensures.page order c.has_connected_parent-was_connected.ensures in
+    rw steps c.tell_removal.ensures.step
 
 pub returns-clause-loose : goal.returns-clause-loose
 returns-clause-loose c =
-    rw (c.tell_removed.ensures.rest.forest, ← c.self.view_is) (loosed c.self.inside.tree c.remove.new.self c.args.node c.remove.ensures.free c.remove.ensures.may c.remove.ensures.may_in_place)
+    on_ok c.tell_removal.result (subst (λ (f : Trees). IsLoosed c.args.self.now.forest f c.args.node) (sym c.tell_removal.ensures.rest.forest) c.in_ok-changes.ensures.loose)
+
+pub returns-clause-told : goal.returns-clause-told
+returns-clause-told c = removal_tells _ _ (work c.args.self.now c.args.fuel.now) c.args.node c.in_ok-changes.ensures.tidy (returns-clause-step c)

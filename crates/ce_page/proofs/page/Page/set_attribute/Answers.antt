@@ -1,12 +1,15 @@
-use Rattle.ce_page.proofs.CopyLemmas.{nothing_changes}
-use Rattle.ce_page.proofs.ElementLemmas.{sound_kept}
+use Rattle.std.proofs.Common.{subst, sym}
+use Rattle.ce_page.specs.Ends.{Does, work}
+use Rattle.ce_page.proofs.StepLemmas.{set_is}
+use Rattle.ce_page.proofs.TellLemmas.{setting_tells}
 use Rattle.ce_page.proofs.page.Page.set_attribute.Goals as goal
 
-pub invariant_of-self-2 : goal.invariant_of-self-2
-invariant_of-self-2 c = sound_kept _ _ c.set_attr.ensures.kinds c.self.invariant
+pub returns-clause-step : goal.returns-clause-step
+returns-clause-step c =
+    let page = rw (c.in_ok-kept.ensures, c.in_ok-new.ensures) at c.in_ok-old.ensures.page in
+    let was = rw c.in_ok-kept.ensures at c.in_ok-old.ensures.was in
+    let steps = set_is c.args.self.now c.put_attribute.new.self c.args.fuel.now c.in_ok-old.changes c.in_ok-old.ensures.changes c.args.n c.args.name c.args.value c.in_ok-old.old page was in
+    subst (Does c.handle_attribute_change.result (work c.handle_attribute_change.new.self c.handle_attribute_change.new.fuel)) (sym steps) c.handle_attribute_change.ensures.step
 
-pub returns-in_err-kept-clause-changes : goal.returns-in_err-kept-clause-changes
-returns-in_err-kept-clause-changes c = nothing_changes _ _
-
-pub returns-in_err-new-clause-changes : goal.returns-in_err-new-clause-changes
-returns-in_err-new-clause-changes c = nothing_changes _ _
+pub returns-clause-told : goal.returns-clause-told
+returns-clause-told c = setting_tells _ _ (work c.args.self.now c.args.fuel.now) c.args.n c.args.name c.args.value (returns-clause-step c)
