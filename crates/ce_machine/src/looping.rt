@@ -1,5 +1,6 @@
 // The loop: the frames are finished, the topmost first. What a command logs is written out here alone.
 ghost use Rattle.std.specs.Prelude.{◌≡◌, ◌≤◌, ◌<◌, [], IfOk, OnOk, OnErr, IsErrOf};
+ghost use Rattle.std.specs.Io.KnownBytes.{Appends};
 ghost use Rattle.ce_base.specs.Faults.{Rose};
 ghost use Rattle.ce_base.specs.Outside.{AppendsPart};
 ghost use Rattle.ce_algorithms.specs.Session.{log_of};
@@ -8,6 +9,7 @@ ghost use Rattle.ce_algorithms.specs.Written.{Did};
 ghost use Rattle.ce_page.specs.Settled.{IsSettled};
 ghost use Rattle.frame_stack.specs.Sessions.{ArePaired, session};
 ghost use Rattle.frame_stack.specs.Stacked.{frames_of};
+ghost use Rattle.session_state.specs.Steps.{forgotten};
 ghost use Rattle.ce_reactions.specs.Placed.{ArePlaced};
 ghost use Rattle.ce_machine.specs.Turns.{over};
 ghost use Rattle.ce_reactions.specs.Turns.{came_in, end_of};
@@ -48,9 +50,29 @@ pub(crate) fn run<K: Sink>(
         state.flush(alloc, trace, sink)?;
         now = turn(state, alloc, stack, now)?;
     }
+    flush_settled(state, alloc, trace, sink)?;
+    Ok(now)
+}
+
+// Writes out what was logged last. NoMemory comes too where the page is not settled.
+fn flush_settled<K: Sink>(
+    state: &mut State,
+    alloc: Global,
+    trace: bool,
+    sink: &mut K,
+) -> Result<(), Stop>
+    ensures written { OnOk result (Appends (K.held sink.old) (K.held sink.new) (text trace state.old.log)) }
+    ensures state { OnOk result (state.new ≡ forgotten state.old) }
+    ensures settled { OnOk result (IsSettled state.new.page) }
+    ensures part { OnErr result (AppendsPart (K.held sink.old) (K.held sink.new) (text trace state.old.log)) }
+    ensures later { K.failed sink.old ≤ K.failed sink.new }
+    ensures cause { IsErrOf result Stop.WriteFault → Rose (K.failed sink.old) (K.failed sink.new) }
+    ensures told { K.failed sink.old < K.failed sink.new → IsErrOf result Stop.WriteFault }
+    ensures home { K.home sink.new ≡ K.home sink.old }
+    ensures below { K.below sink.old ≤ K.below sink.new }
+{
     if !state.page().is_settled() {
         return Err(Stop::NoMemory);
     }
-    state.flush(alloc, trace, sink)?;
-    Ok(now)
+    state.flush(alloc, trace, sink)
 }

@@ -33,15 +33,15 @@ loop-state-preserved g c = record {
   below = omega arith;
 }
 
-pub returns-in_err-flush-2-clause-part : goal.returns-in_err-flush-2-clause-part
-returns-in_err-flush-2-clause-part g c =
-    let p = err_from_is_err_and c.from_residual-in_err-flush-2.result c.from_residual-in_err-flush-2.ensures.1 in
-    rw p.1 (flushed_part (g.K.Sink.held c.flush-2.new.sink) c.loop-state.stack c.loop-state.now c.loop-state.state c.loop-state.invariant.did c.in_err-flush-2.ensures.part)
+pub returns-in_err-flush_settled-clause-part : goal.returns-in_err-flush_settled-clause-part
+returns-in_err-flush_settled-clause-part g c =
+    let p = err_from_is_err_and c.from_residual-in_err-flush_settled.result c.from_residual-in_err-flush_settled.ensures.1 in
+    rw p.1 (flushed_part (g.K.Sink.held c.flush_settled.new.sink) c.loop-state.stack c.loop-state.now c.loop-state.state c.loop-state.invariant.did c.in_err-flush_settled.ensures.part)
 
 pub returns-clause-ran : goal.returns-clause-ran
 returns-clause-ran g c =
-    ended_did c.loop-state.stack (came_in c.loop-state.now (session c.loop-state.stack c.flush-2.new.self)) (no_frames (frames_of c.loop-state.stack) (sym c.is_empty.ensures.empty ∙ c.loop-state-test.false))
-    (flushed c.loop-state.stack c.loop-state.now c.loop-state.state c.flush-2.new.self c.loop-state.invariant.did c.in_ok-flush-2.ensures.written c.in_ok-flush-2.ensures.state)
+    ended_did c.loop-state.stack (came_in c.loop-state.now (session c.loop-state.stack c.flush_settled.new.state)) (no_frames (frames_of c.loop-state.stack) (sym c.is_empty.ensures.empty ∙ c.loop-state-test.false))
+    (flushed c.loop-state.stack c.loop-state.now c.loop-state.state c.flush_settled.new.state c.loop-state.invariant.did c.in_ok-flush_settled.ensures.written c.in_ok-flush_settled.ensures.state)
 
 pub returns-clause-rest : goal.returns-clause-rest
 returns-clause-rest g c = none_kept c.loop-state.stack (no_frames (frames_of c.loop-state.stack) (sym c.is_empty.ensures.empty ∙ c.loop-state-test.false))
