@@ -1,8 +1,10 @@
 -- Whom the primitives of a page tell, by the laws of telling.
-use Rattle.std.proofs.Common.{◌≡◌, ℕ, List, Option, None, Result, Ok, Err, subst, sym}
+use Rattle.std.proofs.Common.{◌≡◌, ℕ, false, List, Option, None, Some, Result, Ok, Err, refl, subst, sym}
+use Rattle.std.specs.Prelude.{is_some}
 use Rattle.node_trees.specs.Insertion.{may_insert}
 use Rattle.node_trees.specs.Nodes.{IsNode, IsTidy}
-use Rattle.ce_algorithms.specs.Attributes.{set_attribute, remove_attribute}
+use Rattle.node_trees.specs.Spots.{attribute_at}
+use Rattle.ce_algorithms.specs.Attributes.{set_attribute, remove_attribute, remove_there}
 use Rattle.ce_algorithms.specs.Mutation.{put_in, remove}
 use Rattle.ce_algorithms.specs.Page.{Page, Work}
 use Rattle.ce_algorithms.specs.Steps.{Outcome, Goes, Spent}
@@ -42,3 +44,20 @@ module _ (result : Result (Unit {0}) PageStop) (last w : Work) where
 -- the state to which a step has gone is one
 pub tells_from : (result : Result (Unit {0}) PageStop) (mid gone : Work) (new : Page) (o : Outcome Work (Unit {0})) → Goes tt gone ≡ o → Goes tt mid ≡ o → Tells result gone.page new → Tells result mid.page new
 tells_from result mid gone new o went goes = let same : gone ≡ mid = cc in subst (λ (w : Work). Tells result w.page new) same
+
+-- a step that was stopped has not gone
+pub tells_not : (result : Result (Unit {0}) PageStop) (stop : PageStop) (mid last : Work) (new : Page) (o : Outcome Work (Unit {0})) → result ≡ Err stop → Does {A = Unit {0}} (Err stop) last o → Goes tt mid ≡ o → Tells result mid.page new
+tells_not result stop mid last new o is does goes = subst (λ r. Tells r mid.page new) (sym is) (by_stop stop does)
+  where
+    by_stop : (s : PageStop) → Does {A = Unit {0}} (Err s) last o → Tells (Err s) mid.page new
+    by_stop (Refused f) d = tt
+    by_stop FuelSpent d = absurd cc
+    by_stop NoMemory d = tt
+
+-- taking an attribute away that is absent tells nobody
+pub nothing_taken : (n : ℕ) (name : List ℕ) (w : Work) → is_some (attribute_at w.page.forest n name) ≡ false → TellsExactly w.page w.page
+nothing_taken n name w absent = taking-exactly n name w w (by_value (attribute_at w.page.forest n name) absent)
+  where
+    by_value : (o : Option (List ℕ)) → is_some o ≡ false → remove_there n name o w ≡ Goes tt w
+    by_value None none = refl
+    by_value (Some value) none = absurd cc

@@ -1,7 +1,7 @@
 use Rattle.std.proofs.Common.{subst, sym, ◌∙◌}
 use Rattle.ce_page.specs.Ends.{Does, work}
 use Rattle.ce_page.proofs.StepLemmas.{taken_is}
-use Rattle.ce_page.proofs.TellLemmas.{taking_tells}
+use Rattle.ce_page.proofs.TellLemmas.{nothing_taken, taking_tells}
 use Rattle.ce_page.proofs.page.Page.remove_attribute.Goals as goal
 
 pub returns-clause-step : goal.returns-clause-step
@@ -12,3 +12,6 @@ returns-clause-step c =
 
 pub returns-clause-told : goal.returns-clause-told
 returns-clause-told c = taking_tells _ _ (work c.args.self.now c.args.fuel.now) c.args.n c.args.name.now (returns-clause-step c)
+
+pub returns-then-not-has_attribute-clause-told : goal.returns-then-not-has_attribute-clause-told
+returns-then-not-has_attribute-clause-told c = nothing_taken c.args.n c.args.name.now (work c.args.self.now c.args.fuel.now) (sym c.has_attribute.ensures ∙ c.if-not-has_attribute.true)
