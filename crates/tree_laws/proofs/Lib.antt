@@ -12,3 +12,4 @@ pub mod NewNode
 pub mod Changed
 pub mod ChangedReads
 pub mod OtherFacts
+pub mod Children
