@@ -1,0 +1,8 @@
+//! What native controls keep of what was set: values, checkedness, choices (HTML Standard, sections "A form control's
+//! value", "The input element", "The textarea element", "The select element", "The option element").
+#![tactic(auto)]
+
+mod setting;
+mod table;
+
+pub use table::ControlTable;

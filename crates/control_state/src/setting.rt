@@ -1,0 +1,72 @@
+// What is set.
+ghost use Rattle.std.specs.Prelude.{◌≡◌, ◌-◌, ◌<◌, Some, length, option_copied, slice_set, IfOk, OnOk};
+ghost use Rattle.form_controls.specs.Controls.{control_at, untouched};
+ghost use Rattle.form_controls.specs.Rows.{row_at};
+ghost use Rattle.control_state.specs.Filling.{IsFilled};
+
+use crate::table::place_of;
+use ce_base::{NoMemory, NodeNo, Text};
+use form_controls::Control;
+use std::alloc::Global;
+
+/// The row of a control on which nothing was set.
+fn blank(alloc: Global) -> Control
+    ensures { result ≡ untouched }
+{
+    Control {
+        value: None,
+        flag: None,
+        edited: false,
+        message: Text::from(String::new(alloc)),
+    }
+}
+
+/// Puts blank rows behind, until there is one at this place.
+pub(crate) fn fill(alloc: Global, rows: &mut Vec<Control>, place: usize) -> Result<(), NoMemory>
+    ensures long { OnOk result (place < length rows.new.items) }
+    ensures same { OnOk result (IsFilled untouched place rows.old.items rows.new.items) }
+{
+    while rows.len() <= place {
+        rows.push(blank(alloc))?;
+    }
+    Ok(())
+}
+
+/// A second text, where there is one.
+pub(crate) fn copy_of(alloc: Global, text: Option<&str>) -> Result<Option<Text>, NoMemory>
+    ensures { IfOk result (λ t. t ≡ option_copied text.entry) }
+{
+    match text {
+        None => Ok(None),
+        Some(text) => {
+            let copy = Text::of(alloc, text)?;
+            Ok(Some(copy))
+        }
+    }
+}
+
+pub(crate) fn write_value(rows: &mut [Control], n: NodeNo, v: Text, by_user: bool)
+    requires { n - 1 < length rows.old }
+    ensures { rows.new ≡ slice_set rows.old (n - 1) (record (control_at rows.old n) { value = Some v; edited = by_user }) }
+{
+    let row = &mut rows[place_of(n)];
+    row.value = Some(v);
+    row.edited = by_user;
+}
+
+pub(crate) fn write_flag(rows: &mut [Control], n: NodeNo, on: bool)
+    requires { n - 1 < length rows.old }
+    ensures { rows.new ≡ slice_set rows.old (n - 1) (record (control_at rows.old n) { flag = Some on }) }
+{
+    let row = &mut rows[place_of(n)];
+    row.flag = Some(on);
+}
+
+pub(crate) fn write_state(rows: &mut [Control], n: NodeNo, value: Option<Text>, flag: Option<bool>)
+    requires { n - 1 < length rows.old }
+    ensures { rows.new ≡ slice_set rows.old (n - 1) (record (control_at rows.old n) { value = value; flag = flag }) }
+{
+    let row = &mut rows[place_of(n)];
+    row.value = value;
+    row.flag = flag;
+}

@@ -1,0 +1,117 @@
+// The table.
+ghost use Rattle.std.specs.Prelude.{◌≡◌, ◌-◌, [], OnOk, option_copied};
+ghost use Rattle.form_controls.specs.Controls.{control_at, copy_state, is_edited, set_flag, set_value};
+
+use crate::setting::{copy_of, fill, write_flag, write_state, write_value};
+use ce_base::{NoMemory, NodeNo, Text};
+use form_controls::Control;
+use node_arena::Tree;
+use std::alloc::Global;
+use std::marker::Model;
+
+/// What controls and options keep of what was set. A contract sees a row for each node, that of node 1 first. Past its
+/// end nothing was set.
+#[derive(Drop)]
+pub struct ControlTable {
+    pub(crate) rows: Vec<Control>,
+}
+
+impl Model for ControlTable {
+    ghost use Rattle.std.specs.Prelude.{List};
+    ghost use Rattle.form_controls.specs.declared.control.Control.{Control};
+
+    ghost Value = { List Control };
+
+    ghost view = { λ t. t.rows.items };
+}
+
+/// The place of a node's row.
+pub(crate) fn place_of(n: NodeNo) -> usize
+    ensures { result ≡ n - 1 }
+{
+    n.0.saturating_sub(1) as usize
+}
+
+impl ControlTable {
+    /// The table where nothing was set.
+    pub fn make(alloc: Global) -> ControlTable
+        ensures { result ≡ [] }
+    {
+        ControlTable {
+            rows: Vec::new(alloc),
+        }
+    }
+
+    /// The user set the control's value last.
+    pub fn edited(&self, n: NodeNo) -> bool
+        ensures { result ≡ is_edited self.now n }
+    {
+        match self.rows.get(place_of(n)) {
+            None => false,
+            Some(row) => row.edited,
+        }
+    }
+
+    /// The raw value, where one was set.
+    pub(crate) fn raw(&self, n: NodeNo) -> Option<&str>
+        ensures { option_copied result ≡ (control_at self.now n).value }
+    {
+        match self.rows.get(place_of(n)) {
+            None => None,
+            Some(row) => match &row.value {
+                None => None,
+                Some(text) => Some(text.as_str()),
+            },
+        }
+    }
+
+    /// The checkedness or the selectedness, where it was set.
+    pub(crate) fn flag(&self, n: NodeNo) -> Option<bool>
+        ensures { result ≡ (control_at self.now n).flag }
+    {
+        match self.rows.get(place_of(n)) {
+            None => None,
+            Some(row) => row.flag,
+        }
+    }
+
+    /// Sets the raw value, by the user or by a script (HTML Standard, section "A form control's value").
+    /// `NoMemory` comes only where memory was refused, and then the table is only dropped.
+    pub fn set_value(
+        &mut self,
+        alloc: Global,
+        _tree: &Tree,
+        n: NodeNo,
+        v: Text,
+        by_user: bool,
+    ) -> Result<(), NoMemory>
+        ensures { OnOk result (self.new ≡ set_value self.old n v by_user) }
+    {
+        fill(alloc, &mut self.rows, place_of(n))?;
+        write_value(&mut self.rows, n, v, by_user);
+        Ok(())
+    }
+
+    /// Sets the checkedness of an input, or the selectedness of an option (HTML Standard, sections "The input element",
+    /// "The option element"). `NoMemory` comes only where memory was refused, and then the table is only dropped.
+    pub fn set_flag(&mut self, alloc: Global, n: NodeNo, on: bool) -> Result<(), NoMemory>
+        ensures { OnOk result (self.new ≡ set_flag self.old n on) }
+    {
+        fill(alloc, &mut self.rows, place_of(n))?;
+        write_flag(&mut self.rows, n, on);
+        Ok(())
+    }
+
+    /// Hands the raw value and the checkedness of a control on to another one, with their dirty flags (HTML Standard,
+    /// section "The input element", "cloning steps"). `NoMemory` comes only where memory was refused, and then the table
+    /// is only dropped.
+    pub fn copy_state(&mut self, alloc: Global, from: NodeNo, to: NodeNo) -> Result<(), NoMemory>
+        ensures { OnOk result (self.new ≡ copy_state self.old from to) }
+    {
+        let value = copy_of(alloc, self.raw(from))?;
+        let flag = self.flag(from);
+        fill(alloc, &mut self.rows, place_of(to))?;
+        write_state(&mut self.rows, to, value, flag);
+        Ok(())
+    }
+}
