@@ -11,8 +11,8 @@ use Rattle.node_trees.specs.Spots.{kind_at, parent_at, children_at, next_sibling
 use Rattle.tree_laws.proofs.Walked.{stands-outside}
 use Rattle.node_arena.proofs.Lists.{lacking, any-same, any-lacking}
 use Rattle.node_arena.proofs.CutReads.{parent_at-cut, kind_at-cut, path-cut-outside, children_at-cut-outside}
-use Rattle.node_arena.proofs.Family.{child-parent, children_at-apart}
-use Rattle.node_arena.proofs.Onward.{after-among, after-other}
+use Rattle.tree_laws.proofs.Children.{child-parent, children_at-apart, after-among}
+use Rattle.node_arena.proofs.Onward.{after-other}
 use Rattle.node_arena.proofs.Allowed.{not_inside, is_sibling, may_insert-still}
 
 module _ (f : Trees) (p n : ℕ) (b : Option ℕ) (tidy : IsTidy f) (node : IsNode f n) (may : may_insert f p n b ≡ None) where

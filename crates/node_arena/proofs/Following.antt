@@ -28,9 +28,6 @@ module _ (f : Trees) (root : ℕ) (tidy : IsTidy f) (is : IsNode f root) where
   found_root : Found None None root f
   found_root = found None None root f (tidy-apart f tidy) (node_stands f root tidy is)
 
-  pub among-root : is_among root (tree_order_of f root) ≡ true
-  among-root = let e = found_root.tree_is in rw e (grind (arith, nat_tests))
-
   -- first its first child; where it has none, what is beyond it
   pub after-is : (n : ℕ) → is_among n (tree_order_of f root) ≡ true → after n (tree_order_of f root) ≡ or_else (first_child_at f n) (beyond_in f root n)
   after-is n among =

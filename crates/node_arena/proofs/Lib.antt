@@ -7,7 +7,6 @@ pub mod Roots
 pub mod Climbing
 pub mod Seeking
 pub mod Listing
-pub mod Family
 pub mod Lists
 pub mod Allowed
 pub mod CutSpots

@@ -1,32 +1,17 @@
 -- A search along a list, by what follows each number.
-use Rattle.std.proofs.Common.{◌≡◌, ◌≢◌, ℕ, Bool, true, false, ◌<◌, ◌≤◌, ◌==◌, if◌then◌else◌, List, [], ◌∷◌, Some, None, ap, arith, inl, inr, length}
+use Rattle.std.proofs.Common.{◌≡◌, ◌≢◌, ℕ, Bool, true, false, ◌<◌, ◌==◌, if◌then◌else◌, List, [], ◌∷◌, Some, None, ap, arith, inl, inr, length}
 use Rattle.std.specs.List.{find}
 use Rattle.std.proofs.lemmas.Bool.Decides.{nat_tests}
 use Rattle.std.proofs.lemmas.Bool.{cases_eq}
-use Rattle.node_trees.specs.Trees.{Trees, none, tree}
-use Rattle.node_trees.specs.Nodes.{times}
-use Rattle.node_trees.specs.Orders.{tree_order}
 use Rattle.node_trees.specs.Paths.{is_among}
 use Rattle.node_trees.specs.Spots.{after}
-use Rattle.node_trees.proofs.Weights.{IsApart}
-use Rattle.tree_laws.proofs.Counts.{count, AreApart, count-append, count-among}
+use Rattle.tree_laws.proofs.Counts.{count, AreApart, count-among}
+use Rattle.tree_laws.proofs.Children.{after-among}
 
 -- the list from n on
 abbrev pub onward : ℕ → List ℕ → List ℕ
 onward n [] = []
 onward n (m ∷ ms) = if m == n then m ∷ ms else onward n ms
-
-pub count-order : (n : ℕ) (f : Trees) → count n (tree_order f) ≤ times n f
-count-order n none = omega arith
-count-order n (tree m x s k r) = omega (arith, count-order n k, count-order n r, count-append n (tree_order k) (tree_order r))
-
-pub order-apart : (f : Trees) → IsApart f → AreApart (tree_order f)
-order-apart f apart i = omega (arith, apart i, count-order i f)
-
-pub after-among : (n d : ℕ) (ms : List ℕ) → after n ms ≡ Some d → is_among d ms ≡ true
-after-among n d [] h = cc
-after-among n d (m ∷ []) h = grind (arith, nat_tests)
-after-among n d (m ∷ j ∷ ms) h = grind (arith, nat_tests, after-among n d (j ∷ ms))
 
 -- the list from n on is n, and then the list from what follows n
 pub onward-last : (n : ℕ) (ms : List ℕ) → is_among n ms ≡ true → after n ms ≡ None → onward n ms ≡ n ∷ []

@@ -4,18 +4,14 @@ use Rattle.std.specs.List.{find}
 use Rattle.std.proofs.lemmas.Bool.Decides.{nat_tests}
 use Rattle.std.proofs.Common.{arith}
 use Rattle.node_trees.specs.Ids.{has_id, first_with_id}
-use Rattle.node_trees.specs.Trees.{Trees, tree_of}
+use Rattle.node_trees.specs.Trees.{Trees}
 use Rattle.node_trees.specs.Nodes.{IsNode, IsTidy}
 use Rattle.node_trees.specs.Orders.{tree_order_of}
 use Rattle.node_trees.specs.Paths.{is_among}
 use Rattle.node_trees.specs.Spots.{facts_at, after}
-use Rattle.tree_laws.proofs.Sums.{tidy-apart}
-use Rattle.tree_laws.proofs.Inside.{found, tree_apart}
-use Rattle.tree_laws.proofs.AtNode.{node_stands}
 use Rattle.tree_laws.proofs.InOrder.{member_is_node}
-use Rattle.node_arena.proofs.Following.{among-root}
-use Rattle.tree_laws.proofs.Counts.{AreApart}
-use Rattle.node_arena.proofs.Onward.{onward, order-apart, after-among, find-here, find-last, find-step, onward-less}
+use Rattle.tree_laws.proofs.Children.{order-begins, among-root, after-among, tree_order-apart}
+use Rattle.node_arena.proofs.Onward.{onward, find-here, find-last, find-step, onward-less}
 
 -- the first in the list whose ID this is
 abbrev pub first_in : Trees → List ℕ → List ℕ → Option ℕ
@@ -31,14 +27,8 @@ abbrev pub left_from : Trees → ℕ → ℕ → ℕ
 left_from f root at = length (onward at (tree_order_of f root))
 
 module _ (f : Trees) (root : ℕ) (id : List ℕ) (tidy : IsTidy f) (is : IsNode f root) where
-  pub tree_order-apart : AreApart (tree_order_of f root)
-  tree_order-apart = order-apart (tree_of root f) (tree_apart root f (tidy-apart f tidy))
-
   pub onward-root : onward root (tree_order_of f root) ≡ tree_order_of f root
-  onward-root =
-      let it = found None None root f (tidy-apart f tidy) (node_stands f root tidy is) in
-      let e = it.tree_is in
-      rw e (grind (arith, nat_tests))
+  onward-root = let it = order-begins f root tidy is in rw it.is (grind (arith, nat_tests))
 
   pub seek-start : Seeking f root id root
   seek-start = record { among = among-root f root tidy is; is = sym (ap (first_in f id) onward-root) }
@@ -56,8 +46,8 @@ module _ (f : Trees) (root : ℕ) (id : List ℕ) (tidy : IsTidy f) (is : IsNode
     pub seek-on : (d : ℕ) → has_id id (facts_at f at) ≡ false → Some d ≡ after at (tree_order_of f root) → Seeking f root id d
     seek-on d h e = record {
       among = after-among at d (tree_order_of f root) (sym e);
-      is = s.is ∙ find-step (λ m. has_id id (facts_at f m)) at d (tree_order_of f root) tree_order-apart h (sym e);
+      is = s.is ∙ find-step (λ m. has_id id (facts_at f m)) at d (tree_order_of f root) (tree_order-apart f root tidy) h (sym e);
     }
 
     pub seek-less : (d : ℕ) → Some d ≡ after at (tree_order_of f root) → left_from f root d < left_from f root at
-    seek-less d e = onward-less at d (tree_order_of f root) tree_order-apart (sym e)
+    seek-less d e = onward-less at d (tree_order_of f root) (tree_order-apart f root tidy) (sym e)

@@ -1,8 +1,6 @@
 // Elements by their ids.
-ghost use Rattle.std.specs.Prelude.{◌≡◌, true};
-ghost use Rattle.node_trees.specs.Spots.{after, facts_at};
-ghost use Rattle.node_trees.specs.Orders.{tree_order_of};
-ghost use Rattle.node_trees.specs.Paths.{is_among};
+ghost use Rattle.std.specs.Prelude.{◌≡◌};
+ghost use Rattle.node_trees.specs.Spots.{facts_at};
 ghost use Rattle.node_trees.specs.Ids.{first_with_id, has_id};
 ghost use Rattle.node_trees.specs.Nodes.{IsNode, IsNodeOrNone, IsTidy};
 
@@ -45,31 +43,5 @@ impl Tree {
             Some(value) => value == id,
             None => false,
         }
-    }
-
-    /// What follows a node in the tree order of `root`: its first child, or else the next sibling of the
-    /// nearest of it and what is above it that has one, below `root`.
-    pub(crate) fn next_in_tree(&self, at: NodeNo, root: NodeNo) -> Option<NodeNo>
-        requires tidy { IsTidy self.now }
-        requires root { IsNode self.now root }
-        requires inside { is_among at (tree_order_of self.now root) ≡ true }
-        ensures { result ≡ after at (tree_order_of self.now root) }
-    {
-        let child = self.first_child(at);
-        if child.is_some() {
-            return child;
-        }
-        let mut up = at;
-        while up != root {
-            let next = self.next_sibling(up);
-            if next.is_some() {
-                return next;
-            }
-            match self.parent(up) {
-                Some(parent) => up = parent,
-                None => return None,
-            }
-        }
-        None
     }
 }

@@ -1,8 +1,9 @@
 // Tree order and the shadow-including order.
-ghost use Rattle.std.specs.Prelude.{◌≡◌, ◌++◌, reverse, OnOk, IfOk, All};
+ghost use Rattle.std.specs.Prelude.{◌≡◌, ◌++◌, true, reverse, OnOk, IfOk, IfSome, All};
 ghost use Rattle.node_trees.specs.Orders.{order_of, tree_order_of};
-ghost use Rattle.node_trees.specs.Paths.{connected};
-ghost use Rattle.node_trees.specs.Nodes.{IsNode};
+ghost use Rattle.node_trees.specs.Paths.{connected, is_among};
+ghost use Rattle.node_trees.specs.Nodes.{IsNode, IsNodeOrNone};
+ghost use Rattle.node_trees.specs.Spots.{after};
 ghost use Rattle.node_arena.specs.NodeRows.{row};
 
 use crate::Tree;
@@ -34,6 +35,35 @@ fn push_links(stack: &mut Vec<NodeNo>, node: &Node) -> Result<(), NoMemory>
 }
 
 impl Tree {
+    /// What comes behind a node of the tree of `root` in that tree's order (DOM Standard, section "Trees", "tree order",
+    /// "following"): its first child, or else the next sibling of the nearest of it and what is above it that has one, below
+    /// `root`. None exactly behind the last. No memory is taken.
+    pub fn next_in_tree(&self, at: NodeNo, root: NodeNo) -> Option<NodeNo>
+        requires root { IsNode self.now root }
+        requires inside { is_among at (tree_order_of self.now root) ≡ true }
+        ensures next { result ≡ after at (tree_order_of self.now root) }
+        ensures node { IsNodeOrNone self.now result }
+        ensures inside { IfSome result (λ n. is_among n (tree_order_of self.now root) ≡ true) }
+    {
+        let _count = self.count();
+        let child = self.first_child(at);
+        if child.is_some() {
+            return child;
+        }
+        let mut up = at;
+        while up != root {
+            let next = self.next_sibling(up);
+            if next.is_some() {
+                return next;
+            }
+            match self.parent(up) {
+                Some(parent) => up = parent,
+                None => return None,
+            }
+        }
+        None
+    }
+
     /// The node and all below it in its own tree, in tree order (DOM Standard, section "Trees", "tree order").
     pub fn tree_order(&self, alloc: Global, root: NodeNo) -> Result<Nodes, NoMemory>
         requires { IsNode self.now root }

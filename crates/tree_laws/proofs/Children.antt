@@ -1,5 +1,6 @@
 -- Parents, children and siblings; and a tree order from its first node on.
 use Rattle.std.proofs.Common.{◌≡◌, ◌≢◌, ℕ, true, ◌<◌, ◌≤◌, List, [], ◌∷◌, ◌++◌, Option, Some, None, refl, ap, sym, ◌∙◌, subst, arith}
+use Rattle.std.specs.Option.{IfSome}
 use Rattle.std.proofs.lemmas.Bool.Decides.{nat_tests}
 use Rattle.node_trees.specs.Facts.{Facts}
 use Rattle.node_trees.specs.Trees.{Trees, none, tree, roots, tree_of}
@@ -176,12 +177,14 @@ module _ (f : Trees) (root : ℕ) (tidy : IsTidy f) where
   tree_order-apart = order-apart (tree_of root f) (tree_apart root f (tidy-apart f tidy))
 
   -- what follows in tree order is in it, and a node
-  pub next-is_node : (n : ℕ) → IsNodeOrNone f (after n (tree_order_of f root))
-  next-is_node n = by_next (after n (tree_order_of f root)) refl
-    where
-      by_next : (o : Option ℕ) → after n (tree_order_of f root) ≡ o → IsNodeOrNone f o
-      by_next None e = tt
-      by_next (Some d) e = member_is_node f root d tidy (after-among n d (tree_order_of f root) e)
+
+  pub next-inside : (n : ℕ) (o : Option ℕ) → o ≡ after n (tree_order_of f root) → IfSome o (λ d. is_among d (tree_order_of f root) ≡ true)
+  next-inside n None e = tt
+  next-inside n (Some d) e = after-among n d (tree_order_of f root) (sym e)
+
+  pub next-node : (n : ℕ) (o : Option ℕ) → o ≡ after n (tree_order_of f root) → IsNodeOrNone f o
+  next-node n None e = tt
+  next-node n (Some d) e = member_is_node f root d tidy (after-among n d (tree_order_of f root) (sym e))
 
 -- the first in the tree order of a node is the node
 pub record BeginsWith (root : ℕ) (order : List ℕ) : Type 0 where
@@ -192,3 +195,6 @@ pub order-begins : (f : Trees) (root : ℕ) → IsTidy f → IsNode f root → B
 order-begins f root tidy node =
     let it = found None None root f (tidy-apart f tidy) (node_stands f root tidy node) in
     record { rest = tree_order it.children ++ []; is = ap tree_order it.tree_is }
+
+pub among-root : (f : Trees) (root : ℕ) → IsTidy f → IsNode f root → is_among root (tree_order_of f root) ≡ true
+among-root f root tidy node = let it = order-begins f root tidy node in rw it.is (grind (arith, nat_tests))

@@ -14,15 +14,15 @@ pub next_in_tree-requires-clause-inside : goal.next_in_tree-requires-clause-insi
 next_in_tree-requires-clause-inside c = let s = c.loop-root.invariant.seeking c.has_id.ensures.tidy in s.among
 
 pub loop-root-smaller : goal.loop-root-smaller
-loop-root-smaller c = let tidy = c.has_id.ensures.tidy in seek-less _ _ _ tidy c.requires _ (c.loop-root.invariant.seeking tidy) _ c.in-Some.ensures
+loop-root-smaller c = let tidy = c.has_id.ensures.tidy in seek-less _ _ _ tidy c.requires _ (c.loop-root.invariant.seeking tidy) _ c.in-Some.ensures.next
 
 pub loop-root-preserved : goal.loop-root-preserved
 loop-root-preserved c =
     let tidy = c.has_id.ensures.tidy in
-    let on = seek-on _ _ _ tidy c.requires _ (c.loop-root.invariant.seeking tidy) _ (sym c.has_id.ensures.has ∙ c.if-has_id.false) c.in-Some.ensures in
+    let on = seek-on _ _ _ tidy c.requires _ (c.loop-root.invariant.seeking tidy) _ (sym c.has_id.ensures.has ∙ c.if-has_id.false) c.in-Some.ensures.next in
     record { node = seek-node _ _ _ tidy c.requires _ on; seeking = λ again. on }
 
 pub returns-in-None-clause-found : goal.returns-in-None-clause-found
 returns-in-None-clause-found c =
     let tidy = c.has_id.ensures.tidy in
-    seek-last _ _ _ tidy c.requires _ (c.loop-root.invariant.seeking tidy) (sym c.has_id.ensures.has ∙ c.if-has_id.false) c.in-None.ensures
+    seek-last _ _ _ tidy c.requires _ (c.loop-root.invariant.seeking tidy) (sym c.has_id.ensures.has ∙ c.if-has_id.false) c.in-None.ensures.next
