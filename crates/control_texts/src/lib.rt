@@ -1,0 +1,10 @@
+//! What is read of texts as form controls read them: newlines taken out or made one, white space collapsed, and the length
+//! in code units of UTF-16 (Infra Standard, section "Strings"). Lengths and emptiness take no memory.
+#![tactic(auto)]
+
+mod bytes;
+mod emptiness;
+mod lengths;
+
+pub use emptiness::{is_only_newlines, is_only_whitespace};
+pub use lengths::{units, units_without_newlines};
