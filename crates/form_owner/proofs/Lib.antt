@@ -7,3 +7,4 @@ pub mod Touched
 pub mod Staying
 pub mod Making
 pub mod Told
+pub mod Groups

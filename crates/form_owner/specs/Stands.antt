@@ -1,9 +1,11 @@
 -- The table stands for the trees, and for who of their elements is a form-associated custom element.
-use Rattle.std.specs.Prelude.{◌≡◌, ◌+◌, ◌≤◌, ℕ, true, List, length}
+use Rattle.std.specs.Prelude.{◌≡◌, ◌+◌, ◌≤◌, ℕ, true, List, length, Option, Some, None}
 use Rattle.node_trees.specs.Trees.{Trees}
 use Rattle.node_trees.specs.Nodes.{IsNode, size}
+use Rattle.node_trees.specs.Paths.{is_among}
 use Rattle.form_controls.specs.Owners.{Forms, form_owner, is_associated, controls_of}
 use Rattle.form_controls.specs.Disabled.{is_disabled}
+use Rattle.form_controls.specs.Checkedness.{group_of}
 use Rattle.form_owner.specs.declared.touch.Touch.{Touch}
 use Rattle.form_owner.specs.OwnerRows.{OwnerRow, OwnerRows, row_in}
 use Rattle.form_owner.specs.Touches.{IsTouched}
@@ -26,3 +28,18 @@ pub record StoodBefore (table : OwnerRows) (touch : Touch) (now : Trees) : Type 
   pub before : Forms
   pub stands : Stands table before
   pub touched : IsTouched touch before.forest now
+
+-- the table stands for these trees
+pub record StandsFor (table : OwnerRows) (now : Trees) : Type 0 where
+  pub forms : Forms
+  pub stands : Stands table forms
+  pub forest : forms.forest ≡ now
+
+-- n is a member of the group of a radio button, in trees for which the table stands
+pub record IsMember (table : OwnerRows) (now : Trees) (radio n : ℕ) : Type 0 where
+  pub for : StandsFor table now
+  pub among : is_among n (group_of for.forms radio) ≡ true
+
+abbrev pub IsMemberOrNone : OwnerRows → Trees → ℕ → Option ℕ → Type 0
+IsMemberOrNone table now radio None = Unit {0}
+IsMemberOrNone table now radio (Some n) = IsMember table now radio n

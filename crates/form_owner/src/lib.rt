@@ -5,6 +5,7 @@
 mod changes;
 mod controls;
 mod disabled;
+mod group;
 mod laws;
 mod owner;
 mod reading;
@@ -19,6 +20,6 @@ pub use laws::{
     a_node_document_changes_nothing, making_a_node_changes_nothing, only_members_count,
 };
 pub use owner::is_listed;
-pub use reading::is_a;
+pub use reading::{has_kind, is_a, is_text_control, is_tickable};
 pub use table::OwnerTable;
 pub use touch::Touch;
