@@ -8,3 +8,4 @@ pub mod Staying
 pub mod Making
 pub mod Told
 pub mod Groups
+pub mod GroupWalks

@@ -4,3 +4,4 @@ pub mod Stands
 pub mod Reading
 pub mod Writing
 pub mod Told
+pub mod Groups

@@ -1,17 +1,15 @@
 -- What is read of one node, given whether it is a form-associated custom element. With is_associated for that, these are
 -- the definitions of form_controls.
-use Rattle.std.specs.Prelude.{ℕ, Bool, not, ◌&&◌, ◌||◌, ◌==◌, if◌then◌else◌, nat_eq, List, [], ◌∷◌, bytes_eq, codes, map, filter, Option, None}
+use Rattle.std.specs.Prelude.{ℕ, Bool, not, ◌&&◌, ◌||◌, if◌then◌else◌, nat_eq, List, [], codes, map, filter, Option, None}
 use Rattle.std.specs.Bool.{beq}
 use Rattle.std.specs.Option.{option_eq}
 use Rattle.element_names.specs.declared.natives.Native.TheVariants.{Fieldset, Form, OptionItem}
-use Rattle.element_names.specs.declared.input_kinds.InputKind.TheVariants.{Radio}
 use Rattle.node_trees.specs.Trees.{Trees, is_number}
 use Rattle.node_trees.specs.Spots.{attribute_at}
 use Rattle.node_trees.specs.Paths.{root_at}
 use Rattle.node_trees.specs.Orders.{tree_order_of}
 use Rattle.form_controls.specs.declared.change.Change.{Change}
-use Rattle.form_controls.specs.Kinds.{native_at, is_a, has_kind, name_of}
-use Rattle.form_controls.specs.Texts.{is_empty}
+use Rattle.form_controls.specs.Kinds.{native_at, is_a}
 use Rattle.form_controls.specs.Owners.{is_listed_native, owner_by}
 use Rattle.form_controls.specs.Disabled.{has_disabled, is_in_disabled_fieldset, is_option_disabled}
 use Rattle.form_controls.specs.Changes.{where_new, is_change}
@@ -51,21 +49,3 @@ owned_in rows forest form = filter (is_owned_in rows form) (tree_order_of forest
 -- another node has none
 abbrev pub controls_in : List OwnerRow → Trees → ℕ → List ℕ
 controls_in rows forest n = if is_a Form forest n then owned_in rows forest n else []
-
--- the group of a radio button, by the owners in the rows
-
-abbrev pub is_grouped_in : List OwnerRow → Trees → ℕ → ℕ → Bool
-is_grouped_in rows forest radio n =
-    has_kind Radio forest n
-    && option_eq nat_eq (row_of rows n).owner (row_of rows radio).owner
-    && bytes_eq (name_of forest n) (name_of forest radio)
-
-abbrev pub group_in : List OwnerRow → Trees → ℕ → List ℕ
-group_in rows forest radio =
-    if is_empty (name_of forest radio) then radio ∷ []
-    else filter (is_grouped_in rows forest radio) (tree_order_of forest (root_at forest radio))
-
--- all that follows n in a list
-abbrev pub all_after : ℕ → List ℕ → List ℕ
-all_after n [] = []
-all_after n (m ∷ ms) = if m == n then ms else all_after n ms

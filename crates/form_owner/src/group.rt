@@ -7,7 +7,7 @@ ghost use Rattle.node_trees.specs.Paths.{is_among};
 ghost use Rattle.form_controls.specs.Checkedness.{next_after, next_in_group};
 ghost use Rattle.form_controls.specs.Kinds.{has_kind};
 ghost use Rattle.form_controls.specs.Owners.{Forms};
-ghost use Rattle.form_owner.specs.Reading.{all_after, group_in, is_grouped_in};
+ghost use Rattle.form_owner.specs.Groups.{all_after, group_in, is_grouped_in};
 ghost use Rattle.form_owner.specs.Stands.{IsMemberOrNone, Stands, StandsFor};
 
 use crate::OwnerTable;

@@ -17,7 +17,8 @@ mod touch;
 pub use changes::Changes;
 pub use form_controls::Change;
 pub use laws::{
-    a_node_document_changes_nothing, making_a_node_changes_nothing, only_members_count,
+    a_group_is_gone_through, a_node_document_changes_nothing, making_a_node_changes_nothing,
+    only_members_count,
 };
 pub use owner::is_listed;
 pub use reading::{has_kind, is_a, is_text_control, is_tickable};

@@ -2,7 +2,7 @@ use Rattle.std.proofs.Common.{sym, ◌∙◌, ap, cond, Some}
 use Rattle.std.specs.Prelude.{find}
 use Rattle.node_trees.specs.Orders.{tree_order_of}
 use Rattle.tree_laws.proofs.Children.{among-root, order-begins}
-use Rattle.form_owner.specs.Reading.{all_after, is_grouped_in}
+use Rattle.form_owner.specs.Groups.{all_after, is_grouped_in}
 use Rattle.form_owner.proofs.Groups.{find-first}
 use Rattle.form_owner.proofs.group.first_grouped.Goals as goal
 

@@ -1,7 +1,7 @@
 use Rattle.std.proofs.Common.{refl, sym, ◌∙◌}
 use Rattle.node_trees.specs.Orders.{tree_order_of}
 use Rattle.tree_laws.proofs.Children.{tree_order-apart}
-use Rattle.form_owner.specs.Reading.{is_grouped_in}
+use Rattle.form_owner.specs.Groups.{is_grouped_in}
 use Rattle.form_owner.proofs.Groups.{look-here, look-on, look-less, look-last}
 use Rattle.form_owner.proofs.group.grouped_behind.Goals as goal
 

@@ -1,6 +1,6 @@
 use Rattle.std.proofs.Common.{length}
 use Rattle.node_trees.specs.Orders.{tree_order_of}
-use Rattle.form_owner.specs.Reading.{all_after, is_grouped_in}
+use Rattle.form_owner.specs.Groups.{all_after, is_grouped_in}
 use Rattle.form_owner.proofs.Groups.{Looking}
 use Rattle.form_owner.proofs.group.grouped_behind.Given as goal
 
