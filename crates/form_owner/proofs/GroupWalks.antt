@@ -3,7 +3,9 @@
 use Rattle.std.proofs.Common.{◌≡◌, ℕ, ◌<◌, ◌≤◌, Bool, true, false, cond, List, [], ◌∷◌, ◌++◌, length, Option, Some, None, refl, sym, ap, ◌∙◌, subst, arith}
 use Rattle.std.specs.Prelude.{filter, ◌||◌}
 use Rattle.std.specs.List.{last_or, list_any}
+use Rattle.std.specs.Option.{IfSome}
 use Rattle.std.proofs.lemmas.Bool.Decides.{nat_tests}
+use Rattle.node_trees.specs.Trees.{Trees}
 use Rattle.node_trees.specs.Nodes.{IsTidy}
 use Rattle.node_trees.specs.Orders.{tree_order_of}
 use Rattle.node_trees.specs.Paths.{root_at}
@@ -14,7 +16,8 @@ use Rattle.form_controls.specs.Checkedness.{is_grouped_with, group_of, next_afte
 use Rattle.form_controls.specs.Kinds.{name_of}
 use Rattle.form_controls.specs.Owners.{Forms}
 use Rattle.form_controls.specs.Texts.{is_empty}
-use Rattle.form_owner.specs.Groups.{all_behind, members_behind}
+use Rattle.form_owner.specs.OwnerRows.{OwnerRow, OwnerRows}
+use Rattle.form_owner.specs.Groups.{is_grouped_in, group_in, all_after, all_behind, members_behind, left_behind}
 use Rattle.form_owner.proofs.Groups.{all_after-step, all_after-last}
 
 -- lists
@@ -40,12 +43,21 @@ behind-end group (Some n) e = all_after-last n group (sym e)
 -- a group
 
 -- no member stands twice in it
+
+apart : (p : ℕ → Bool) (f : Trees) (radio : ℕ) (alone : Bool) → IsTidy f → AreApart (cond alone (radio ∷ []) (filter p (tree_order_of f (root_at f radio))))
+apart p f radio true tidy i = grind (arith, nat_tests)
+apart p f radio false tidy i = omega (arith, count-filter p i (tree_order_of f (root_at f radio)), tree_order-apart f (root_at f radio) tidy i)
+
 pub group-apart : (f : Forms) (radio : ℕ) → IsTidy f.forest → AreApart (group_of f radio)
-group-apart f radio tidy i = by_name (is_empty (name_of f.forest radio))
-  where
-    by_name : (b : Bool) → count i (cond b (radio ∷ []) (filter (is_grouped_with f radio) (tree_order_of f.forest (root_at f.forest radio)))) ≤ 1
-    by_name true = grind (arith, nat_tests)
-    by_name false = omega (arith, count-filter (is_grouped_with f radio) i (tree_order_of f.forest (root_at f.forest radio)), tree_order-apart f.forest (root_at f.forest radio) tidy i)
+group-apart f radio tidy = apart (is_grouped_with f radio) f.forest radio (is_empty (name_of f.forest radio)) tidy
+
+-- by the rows of a table, fewer are left behind the next
+pub left-less : (table : OwnerRows) (rows : List OwnerRow) (now : Trees) (radio : ℕ) (behind result : Option ℕ) → rows ≡ table.rows → IsTidy now → result ≡ next_after (group_in rows now radio) behind →
+    IfSome result (λ n. left_behind table now radio (Some n) < left_behind table now radio behind)
+left-less table rows now radio behind None lent tidy e = tt
+left-less table rows now radio behind (Some n) lent tidy e =
+    let each = apart (is_grouped_in table.rows now radio) now radio (is_empty (name_of now radio)) tidy in
+    omega (arith, ap length (behind-step (group_in table.rows now radio) behind n each (e ∙ ap (λ v. next_after (group_in v now radio) behind) lent)))
 
 module _ (f : Forms) (radio : ℕ) where
   -- behind the last there is none

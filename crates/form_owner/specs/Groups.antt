@@ -1,5 +1,5 @@
 -- Radio button groups, a member at a time.
-use Rattle.std.specs.Prelude.{ℕ, Bool, ◌&&◌, ◌==◌, if◌then◌else◌, nat_eq, bytes_eq, List, [], ◌∷◌, filter, Option, Some, None}
+use Rattle.std.specs.Prelude.{ℕ, Bool, ◌&&◌, ◌==◌, if◌then◌else◌, nat_eq, bytes_eq, List, [], ◌∷◌, filter, length, Option, Some, None}
 use Rattle.std.specs.Option.{option_eq}
 use Rattle.element_names.specs.declared.input_kinds.InputKind.TheVariants.{Radio}
 use Rattle.node_trees.specs.Trees.{Trees}
@@ -9,7 +9,7 @@ use Rattle.form_controls.specs.Kinds.{has_kind, name_of}
 use Rattle.form_controls.specs.Texts.{is_empty}
 use Rattle.form_controls.specs.Owners.{Forms}
 use Rattle.form_controls.specs.Checkedness.{group_of}
-use Rattle.form_owner.specs.OwnerRows.{OwnerRow, row_of}
+use Rattle.form_owner.specs.OwnerRows.{OwnerRow, OwnerRows, row_of}
 
 -- the group of a radio button, by the owners in the rows
 
@@ -36,3 +36,7 @@ all_behind group (Some n) = all_after n group
 -- the members of a radio button's group that come behind this one; behind none all do
 abbrev pub members_behind : Forms → ℕ → Option ℕ → List ℕ
 members_behind f radio behind = all_behind (group_of f radio) behind
+
+-- how many members come behind this one, by the rows of a table that stands for the trees
+abbrev pub left_behind : OwnerRows → Trees → ℕ → Option ℕ → ℕ
+left_behind table now radio behind = length (all_behind (group_in table.rows now radio) behind)

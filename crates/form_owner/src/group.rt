@@ -1,5 +1,5 @@
 // Radio button groups.
-ghost use Rattle.std.specs.Prelude.{◌≡◌, true, ◌∷◌, [], find, IfSome};
+ghost use Rattle.std.specs.Prelude.{◌≡◌, ◌<◌, Some, true, ◌∷◌, [], find, IfSome};
 ghost use Rattle.element_names.specs.declared.input_kinds.InputKind.TheVariants.{Radio};
 ghost use Rattle.node_trees.specs.Nodes.{IsNode, IsNodeOrNone, IsTidy};
 ghost use Rattle.node_trees.specs.Orders.{tree_order_of};
@@ -7,7 +7,7 @@ ghost use Rattle.node_trees.specs.Paths.{is_among};
 ghost use Rattle.form_controls.specs.Checkedness.{next_after, next_in_group};
 ghost use Rattle.form_controls.specs.Kinds.{has_kind};
 ghost use Rattle.form_controls.specs.Owners.{Forms};
-ghost use Rattle.form_owner.specs.Groups.{all_after, group_in, is_grouped_in};
+ghost use Rattle.form_owner.specs.Groups.{all_after, group_in, is_grouped_in, left_behind};
 ghost use Rattle.form_owner.specs.Stands.{IsMemberOrNone, Stands, StandsFor};
 
 use crate::OwnerTable;
@@ -108,8 +108,10 @@ impl OwnerTable {
         requires member { IsMemberOrNone self.now tree.now radio behind }
         ensures next { (f : Forms) → f.forest ≡ tree.now → Stands self.now f → result ≡ next_in_group f radio behind }
 
-        // The caller can go on from it.
+        // The caller can go on from it, and comes to an end.
         ensures member { IsMemberOrNone self.now tree.now radio result }
+        ensures fewer { IfSome result (λ n. left_behind self.now tree.now radio (Some n) < left_behind self.now tree.now radio behind) }
+
         ensures node { IsNodeOrNone tree.now result }
         ensures radio { IfSome result (λ n. has_kind Radio tree.now n ≡ true) }
     {

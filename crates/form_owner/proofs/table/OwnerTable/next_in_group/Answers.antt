@@ -2,6 +2,7 @@ use Rattle.std.proofs.Common.{◌∙◌, ap}
 use Rattle.form_controls.specs.Checkedness.{next_after}
 use Rattle.form_owner.specs.OwnerRows.{OwnerRows}
 use Rattle.form_owner.proofs.Groups.{group-now, member-in, member-out, next-node, next-kind}
+use Rattle.form_owner.proofs.GroupWalks.{left-less}
 use Rattle.form_owner.proofs.table.OwnerTable.next_in_group.Goals as goal
 
 pub next_member-requires-clause-member : goal.next_member-requires-clause-member
@@ -19,3 +20,6 @@ returns-clause-node c = next-node c.args.self.now _ (c.deref.ensures.value ∙ a
 
 pub returns-clause-radio : goal.returns-clause-radio
 returns-clause-radio c = next-kind c.args.self.now _ (c.deref.ensures.value ∙ ap (λ (t : OwnerRows). t.rows) c.self.view_is) c.args.tree.now c.args.radio c.count-count.ensures.tidy c.requires.node c.args.behind _ c.next_member.ensures c.requires.radio
+
+pub returns-clause-fewer : goal.returns-clause-fewer
+returns-clause-fewer c = left-less c.args.self.now _ c.args.tree.now c.args.radio c.args.behind _ (c.deref.ensures.value ∙ ap (λ (t : OwnerRows). t.rows) c.self.view_is) c.count-count.ensures.tidy c.next_member.ensures
