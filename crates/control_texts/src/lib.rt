@@ -2,9 +2,11 @@
 //! in code units of UTF-16 (Infra Standard, section "Strings"). Lengths and emptiness take no memory.
 #![tactic(auto)]
 
+mod building;
 mod bytes;
 mod emptiness;
 mod lengths;
 
+pub use building::{collapsed, normalized, without_newlines};
 pub use emptiness::{is_only_newlines, is_only_whitespace};
 pub use lengths::{units, units_without_newlines};
