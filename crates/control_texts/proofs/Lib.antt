@@ -1,3 +1,5 @@
 pub mod Words
 pub mod Empty
 pub mod Characters
+pub mod Readings
+pub mod Counted
