@@ -1,6 +1,7 @@
 // Texts made of a text.
 ghost use Rattle.std.specs.Prelude.{◌≡◌, ◌++◌, ◌&&◌, IfOk, OnOk, string_bytes};
-ghost use Rattle.form_controls.specs.Texts.{collapsed as collapsed_text, normalized as normalized_text, without_newlines as text_without_newlines};
+ghost use Rattle.form_controls.specs.Texts.{collapsed as collapsed_text, normalized as normalized_text};
+ghost use Rattle.form_controls.specs.Texts.{without_newlines as text_without_newlines};
 ghost use Rattle.control_texts.specs.Reading.{collapsed_char, kept_char, normal_char};
 
 use ce_base::{NoMemory, Text};
