@@ -2,6 +2,8 @@
 //! value", "The input element", "The textarea element", "The select element", "The option element").
 #![tactic(auto)]
 
+mod reading;
+mod resetting;
 mod setting;
 mod table;
 
