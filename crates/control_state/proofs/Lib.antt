@@ -1,3 +1,5 @@
 pub mod Tables
 pub mod Left
 pub mod Walks
+pub mod Listing
+pub mod Chosen

@@ -2,9 +2,12 @@
 //! value", "The input element", "The textarea element", "The select element", "The option element").
 #![tactic(auto)]
 
+mod choosing;
+mod options;
 mod reading;
 mod resetting;
 mod setting;
 mod table;
 
+pub use options::{is_multiple, options_of, select_of};
 pub use table::ControlTable;
