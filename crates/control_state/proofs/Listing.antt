@@ -1,5 +1,5 @@
 -- Lists that are made of options, and what stands in them.
-use Rattle.std.proofs.Common.{◌≡◌, All, ℕ, ◌+◌, Bool, true, false, cond, List, [], ◌∷◌, ◌++◌, get_or, take, Option, Some, None, ap, sym, ◌∙◌, arith, append_assoc, append-nil}
+use Rattle.std.proofs.Common.{◌≡◌, All, ℕ, ◌+◌, Bool, true, false, cond, List, [], ◌∷◌, ◌++◌, get_or, take, Option, Some, None, ap, sym, subst, ◌∙◌, arith, append_assoc, append-nil}
 use Rattle.std.specs.Prelude.{filter, flat_map, find, fold, slice_get, if◌then◌else◌}
 use Rattle.std.specs.List.{last_or}
 use Rattle.std.specs.Option.{option_or, option_to_list}
@@ -9,7 +9,7 @@ use Rattle.std.proofs.lemmas.Option.{get_or_from_slice_get, slice_get_within}
 use Rattle.node_trees.specs.Paths.{is_among}
 use Rattle.node_trees.specs.Trees.{Trees}
 use Rattle.node_trees.specs.Nodes.{IsNode, IsTidy}
-use Rattle.node_trees.specs.Spots.{children_at}
+use Rattle.node_trees.specs.Spots.{children_at, first_of}
 use Rattle.element_names.specs.declared.natives.Native.TheVariants.{Optgroup, OptionItem}
 use Rattle.form_controls.specs.Kinds.{is_a}
 use Rattle.form_controls.specs.declared.control.Control.{Control}
@@ -89,9 +89,16 @@ module _ (f : Trees) (tidy : IsTidy f) where
   one-nodes controls select node =
       all-one (IsNode f) f (selected_of controls f select) (options_of f select) (All-filter _ (IsNode f) (options_of f select) (options-nodes select node)) (options-nodes select node)
 
-  pub chosen-nodes : (controls : List Control) (select : ℕ) → IsNode f select → All (IsNode f) (chosen controls f select)
+  chosen-nodes : (controls : List Control) (select : ℕ) → IsNode f select → All (IsNode f) (chosen controls f select)
   chosen-nodes controls select node = by_test (is_multiple f select)
     where
       by_test : (b : Bool) → All (IsNode f) (cond b (selected_of controls f select) (option_to_list (chosen_one f (selected_of controls f select) (options_of f select))))
       by_test true = All-filter _ (IsNode f) (options_of f select) (options-nodes select node)
       by_test false = one-nodes controls select node
+
+  pub first-node : (controls : List Control) (select option : ℕ) → IsNode f select → Some option ≡ first_of (chosen controls f select) → IsNode f option
+  first-node controls select option node e = by_list (chosen controls f select) (chosen-nodes controls select node) e
+    where
+      by_list : (xs : List ℕ) → All (IsNode f) xs → Some option ≡ first_of xs → IsNode f option
+      by_list [] all is = absurd cc
+      by_list (x ∷ xs) all is = let same : x ≡ option = cc in subst (IsNode f) same (All-head (IsNode f) x xs all)

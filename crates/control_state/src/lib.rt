@@ -3,11 +3,14 @@
 #![tactic(auto)]
 
 mod choosing;
+mod lengths;
 mod options;
 mod reading;
 mod resetting;
 mod setting;
+mod source;
 mod table;
+mod values;
 
 pub use options::{is_multiple, options_of, select_of};
 pub use table::ControlTable;

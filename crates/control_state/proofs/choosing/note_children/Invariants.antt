@@ -3,11 +3,13 @@ use Rattle.std.specs.Prelude.{if◌then◌else◌}
 use Rattle.element_names.specs.declared.natives.Native.TheVariants.{OptionItem}
 use Rattle.form_controls.specs.Kinds.{is_a}
 use Rattle.control_state.specs.Choosing.{noted}
-use Rattle.control_state.proofs.Walks.{Walks, left_at}
+use Rattle.node_trees.specs.Spots.{children_at}
+use Rattle.control_state.proofs.Left.{left_from}
+use Rattle.control_state.proofs.Walks.{Walks}
 use Rattle.control_state.proofs.choosing.note_children.Given as goal
 
 abbrev pub invariant-loop-next : goal.invariant-loop-next
-invariant-loop-next l = Walks l.tree l.fn.group (λ v n. if is_a OptionItem l.tree n then noted l.controls l.tree v n else v) l.initial.found l.found l.next
+invariant-loop-next l = Walks l.tree (children_at l.tree l.fn.group) (λ v n. if is_a OptionItem l.tree n then noted l.controls l.tree v n else v) l.initial.found l.found l.next
 
 abbrev pub decreases-loop-next : goal.decreases-loop-next
-decreases-loop-next l = length (left_at l.tree l.fn.group l.next)
+decreases-loop-next l = length (left_from l.next (children_at l.tree l.fn.group))

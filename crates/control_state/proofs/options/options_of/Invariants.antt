@@ -1,10 +1,12 @@
 use Rattle.std.proofs.Common.{length, ◌++◌}
 use Rattle.form_controls.specs.Options.{options_at}
-use Rattle.control_state.proofs.Walks.{Walks, left_at}
+use Rattle.node_trees.specs.Spots.{children_at}
+use Rattle.control_state.proofs.Left.{left_from}
+use Rattle.control_state.proofs.Walks.{Walks}
 use Rattle.control_state.proofs.options.options_of.Given as goal
 
 abbrev pub invariant-loop-next : goal.invariant-loop-next
-invariant-loop-next l = Walks l.tree l.fn.select (λ ns n. ns ++ options_at l.tree n) l.initial.list l.list l.next
+invariant-loop-next l = Walks l.tree (children_at l.tree l.fn.select) (λ ns n. ns ++ options_at l.tree n) l.initial.list l.list l.next
 
 abbrev pub decreases-loop-next : goal.decreases-loop-next
-decreases-loop-next l = length (left_at l.tree l.fn.select l.next)
+decreases-loop-next l = length (left_from l.next (children_at l.tree l.fn.select))

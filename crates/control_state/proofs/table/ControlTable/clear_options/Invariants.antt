@@ -1,11 +1,13 @@
 use Rattle.std.proofs.Common.{length}
 use Rattle.form_controls.specs.Options.{options_at}
 use Rattle.form_controls.specs.Resetting.{clear_all}
-use Rattle.control_state.proofs.Walks.{Walks, left_at}
+use Rattle.node_trees.specs.Spots.{children_at}
+use Rattle.control_state.proofs.Left.{left_from}
+use Rattle.control_state.proofs.Walks.{Walks}
 use Rattle.control_state.proofs.table.ControlTable.clear_options.Given as goal
 
 abbrev pub invariant-loop-next : goal.invariant-loop-next
-invariant-loop-next l = Walks l.tree l.fn.select (λ rows n. clear_all rows (options_at l.tree n)) l.initial.self l.self l.next
+invariant-loop-next l = Walks l.tree (children_at l.tree l.fn.select) (λ rows n. clear_all rows (options_at l.tree n)) l.initial.self l.self l.next
 
 abbrev pub decreases-loop-next : goal.decreases-loop-next
-decreases-loop-next l = length (left_at l.tree l.fn.select l.next)
+decreases-loop-next l = length (left_from l.next (children_at l.tree l.fn.select))
