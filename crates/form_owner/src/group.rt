@@ -5,8 +5,9 @@ ghost use Rattle.node_trees.specs.Nodes.{IsNode, IsNodeOrNone, IsTidy};
 ghost use Rattle.node_trees.specs.Orders.{tree_order_of};
 ghost use Rattle.node_trees.specs.Paths.{is_among};
 ghost use Rattle.form_controls.specs.Checkedness.{next_after, next_in_group};
-ghost use Rattle.form_controls.specs.Kinds.{has_kind};
+ghost use Rattle.form_controls.specs.Kinds.{has_kind, name_of};
 ghost use Rattle.form_controls.specs.Owners.{Forms};
+ghost use Rattle.form_controls.specs.Texts.{is_empty};
 ghost use Rattle.form_owner.specs.Groups.{all_after, group_in, is_grouped_in, left_behind};
 ghost use Rattle.form_owner.specs.Stands.{IsMemberOrNone, Stands, StandsFor};
 
@@ -65,6 +66,14 @@ fn first_grouped(rows: &[Row], tree: &Tree, radio: NodeNo, root: NodeNo) -> Opti
     grouped_behind(rows, tree, radio, root, root)
 }
 
+/// Whether a radio button has no name, so that it is alone in its group.
+fn is_nameless(tree: &Tree, radio: NodeNo) -> bool
+    requires { IsNode tree.now radio }
+    ensures { result ≡ is_empty (name_of tree.now radio) }
+{
+    name_of(tree, radio).is_empty()
+}
+
 /// The member behind this one of the group of a radio button that is alone in it, or the first.
 fn next_alone(radio: NodeNo, behind: Option<NodeNo>) -> Option<NodeNo>
     ensures { result ≡ next_after (radio ∷ []) behind }
@@ -82,7 +91,7 @@ fn next_member(rows: &[Row], tree: &Tree, radio: NodeNo, behind: Option<NodeNo>)
     requires member { IfSome behind (λ n. is_among n (group_in rows.now tree.now radio) ≡ true) }
     ensures { result ≡ next_after (group_in rows.now tree.now radio) behind }
 {
-    if name_of(tree, radio).is_empty() {
+    if is_nameless(tree, radio) {
         return next_alone(radio, behind);
     }
     let root = tree.root(radio);
