@@ -8,9 +8,9 @@ ghost use Rattle.control_state.specs.Choosing.{noted, noted_all, nothing_found};
 
 use crate::ControlTable;
 use crate::options::{is_multiple, options_of};
-use crate::reading::{is_a, is_option_disabled};
 use ce_base::{NoMemory, NodeNo, Nodes};
 use element_names::Native;
+use form_kinds::{is_a, is_option_disabled};
 use node_arena::Tree;
 use std::alloc::Global;
 

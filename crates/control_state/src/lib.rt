@@ -3,9 +3,9 @@
 #![tactic(auto)]
 
 mod choosing;
+mod flags;
 mod lengths;
 mod options;
-mod reading;
 mod resetting;
 mod setting;
 mod source;

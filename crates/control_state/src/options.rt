@@ -3,9 +3,9 @@ ghost use Rattle.std.specs.Prelude.{◌≡◌, ◌++◌, All, IfOk, OnOk};
 ghost use Rattle.node_trees.specs.Nodes.{IsNode, IsNodeOrNone};
 ghost use Rattle.form_controls.specs.Options.{is_multiple, option_children, options_at, options_of, select_of, where_select};
 
-use crate::reading::{has_attribute, is_a};
 use ce_base::{NoMemory, NodeNo, Nodes};
 use element_names::Native;
+use form_kinds::{has_attribute, is_a};
 use node_arena::Tree;
 use std::alloc::Global;
 

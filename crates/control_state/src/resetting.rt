@@ -6,10 +6,10 @@ ghost use Rattle.form_controls.specs.Options.{option_children, options_at, optio
 ghost use Rattle.form_controls.specs.Resetting.{clear_all, reset};
 
 use crate::ControlTable;
-use crate::reading::{is_a, native_at};
 use crate::table::place_of;
 use ce_base::NodeNo;
 use element_names::Native;
+use form_kinds::{is_a, native_at};
 use node_arena::Tree;
 
 impl ControlTable {

@@ -10,9 +10,9 @@ ghost use Rattle.form_controls.specs.Values.{child_text, first_value, input_valu
 ghost use Rattle.control_state.specs.Sources.{value_from, IsOfNode};
 
 use crate::ControlTable;
-use crate::reading::native_at;
 use ce_base::NodeNo;
 use element_names::{InputKind, Native, input_kind};
+use form_kinds::native_at;
 use node_arena::Tree;
 
 /// Where a value comes from, and how it is read.

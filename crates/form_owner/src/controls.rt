@@ -5,10 +5,10 @@ ghost use Rattle.form_owner.specs.OwnerRows.{row_in};
 ghost use Rattle.form_owner.specs.Reading.{controls_in, is_owned_in, owned_in};
 ghost use Rattle.form_owner.specs.Writing.{Written, AreListed};
 
-use crate::reading::is_a;
 use crate::row::{Row, owner_in};
 use ce_base::{NoMemory, NodeNo, Nodes};
 use element_names::Native;
+use form_kinds::is_a;
 use node_arena::Tree;
 use std::alloc::Global;
 

@@ -2,14 +2,15 @@
 ghost use Rattle.std.specs.Prelude.{◌≡◌, All, find, IfOk};
 ghost use Rattle.element_names.specs.declared.natives.Native.TheVariants.{Legend};
 ghost use Rattle.node_trees.specs.Nodes.{IsNode, IsTidy};
-ghost use Rattle.form_controls.specs.Disabled.{disables, first_legend, is_in_disabled_fieldset, is_option_disabled};
+ghost use Rattle.form_controls.specs.Disabled.{disables, first_legend, is_in_disabled_fieldset};
 ghost use Rattle.form_controls.specs.Kinds.{is_a};
 ghost use Rattle.form_owner.specs.Reading.{disabled_with};
 
 use crate::owner::is_listed;
-use crate::reading::{has_disabled, is_a, is_below, node_at};
+use crate::reading::{is_below, node_at};
 use ce_base::{NoMemory, NodeNo, Nodes};
 use element_names::Native;
+use form_kinds::{has_disabled, is_a, is_option_disabled};
 use node_arena::Tree;
 use std::alloc::Global;
 
@@ -65,20 +66,6 @@ fn is_in_disabled_fieldset(alloc: Global, tree: &Tree, n: NodeNo) -> Result<bool
         at = parent;
     }
     Ok(false)
-}
-
-/// Whether an option is disabled (HTML Standard, section "The option element", "disabled").
-fn is_option_disabled(tree: &Tree, n: NodeNo) -> bool
-    requires { IsNode tree.now n }
-    ensures { result ≡ is_option_disabled tree.now n }
-{
-    if has_disabled(tree, n) {
-        return true;
-    }
-    match tree.parent(n) {
-        None => false,
-        Some(parent) => is_a(tree, parent, Native::Optgroup) && has_disabled(tree, parent),
-    }
 }
 
 /// Whether a node is disabled, given whether it is a form-associated custom element.

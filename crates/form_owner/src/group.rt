@@ -12,10 +12,10 @@ ghost use Rattle.form_owner.specs.Groups.{all_after, group_in, is_grouped_in, le
 ghost use Rattle.form_owner.specs.Stands.{IsMemberOrNone, Stands, StandsFor};
 
 use crate::OwnerTable;
-use crate::reading::{has_kind, name_of};
 use crate::row::{Row, owner_in};
 use ce_base::NodeNo;
 use element_names::InputKind;
+use form_kinds::{has_kind, name_of};
 use node_arena::Tree;
 
 /// Whether a node is a radio button with the form owner and the name of another one.

@@ -21,6 +21,5 @@ pub use laws::{
     only_members_count,
 };
 pub use owner::is_listed;
-pub use reading::{has_kind, is_a, is_text_control, is_tickable};
 pub use table::OwnerTable;
 pub use touch::Touch;

@@ -4,9 +4,9 @@ ghost use Rattle.node_trees.specs.Nodes.{IsNode, IsTidy};
 ghost use Rattle.form_controls.specs.Owners.{is_listed_native, named_form, nearest_form};
 ghost use Rattle.form_owner.specs.Reading.{listed_by, owner_with};
 
-use crate::reading::{is_a, native_at};
 use ce_base::NodeNo;
 use element_names::Native;
+use form_kinds::{is_a, native_at};
 use node_arena::Tree;
 
 fn is_listed_native(element: Native) -> bool
