@@ -71,6 +71,7 @@ lower = record {
   defined = λ d w. omega arith;
   node = λ f w. omega arith;
   stacks = λ f w. omega arith;
+  controls = λ cs w. omega arith;
   spent = λ k w e. omega (arith, e);
   enqueued = enqueued_lower;
 }

@@ -10,18 +10,22 @@ use Rattle.reaction_queue.specs.Queues.{enqueued}
 use Rattle.ce_registry.specs.declared.class_facts.ClassFacts.{ClassFacts}
 use Rattle.ce_registry.specs.declared.definition.Definition.{Definition}
 use Rattle.ce_algorithms.specs.Steps.{Step, Outcome, Goes, Throws, Spent, then_do, ◌>>=◌, ◌>>◌, give, done, throw, when, throw_if, throw_any, found, find_or, where_is, throw_where, refuse, for_each, read}
-use Rattle.ce_algorithms.specs.Page.{Page, Work, Element, spend, spend_from, read_page, change_page, with_forest, with_queues, with_element, with_state, with_definition}
+use Rattle.ce_algorithms.specs.Page.{Page, Work, Element, spend, spend_from, read_page, change_page, with_controls, with_forest, with_queues, with_element, with_state, with_definition}
 use Rattle.ce_algorithms.specs.Making.{with_new, make_node, make_element, make_text, make_shadow_root}
 use Rattle.ce_algorithms.specs.Enqueue.{noted, enqueue, enqueue_callback, enqueue_upgrade, enqueue_found, try_upgrade}
 use Rattle.form_controls.specs.declared.change.Change.{Change}
+use Rattle.form_controls.specs.declared.control.Control.{Control}
 use Rattle.ce_algorithms.specs.FormChanges.{tell_owner, tell_disabled, tell, tell_form_change, tell_at_turn, tell_others, tell_first_owner, tell_form}
 use Rattle.ce_algorithms.specs.Mutation.{removed, remove, adopted, move_to, adopt, connected_now, inserted, put_in, insert, pre_insert}
 use Rattle.ce_algorithms.specs.Attributes.{handle_attribute_change, set_attribute, remove_there, remove_attribute}
 use Rattle.ce_algorithms.specs.Define.{with_defined, upgrade_candidates, define_name}
 use Rattle.ce_algorithms.specs.CreateLater.{make_in_state, make_later, create_later}
+use Rattle.ce_algorithms.specs.Controls.{set_value, set_checked, set_chosen, ignored_or, unless_ignored, control_steps, copy_control}
 use Rattle.ce_algorithms.specs.Clone.{copy_attribute, copy_node, copy_below}
 use Rattle.ce_algorithms.specs.Construction.{with_stacks, pop_construction, make_custom, base_entry, base_call}
 use Rattle.ce_algorithms.specs.Upgrade.{enqueue_attribute, begin_upgrade}
+use Rattle.ce_algorithms.specs.declared.deed.ControlDeed.{ControlDeed}
+use Rattle.ce_algorithms.specs.declared.deed.ControlDeed.TheVariants.{Edit, Tick, Choose}
 use Rattle.ce_algorithms.specs.declared.deed.PageDeed.{PageDeed}
 use Rattle.ce_algorithms.specs.declared.deed.PageDeed.TheVariants as page_deeds
 use Rattle.ce_algorithms.specs.Perform as perform
@@ -47,6 +51,7 @@ pub record Closed (R : Work → Work → Type 0) : Type 0 where
   pub defined : (d : Definition) (w : Work) → R w (on (with_defined d) w)
   pub node : (f : Trees) (w : Work) → R w (on (with_new f) w)
   pub stacks : (f : List (List (Option ℕ)) → List (List (Option ℕ))) (w : Work) → R w (on (with_stacks f) w)
+  pub controls : (cs : List Control) (w : Work) → R w (on (with_controls (λ _. cs)) w)
   pub spent : (k : ℕ) (w : Work) → w.fuel ≡ suc k → R w (record w { fuel = k })
   pub enqueued : (n : ℕ) (r : Reaction) (k : ℕ) (w : Work) → w.fuel ≡ suc k → R w (record { page = noted n r (with_queues (enqueued n r) w.page); fuel = k })
 
@@ -280,14 +285,40 @@ module _ (R : Work → Work → Type 0) (c : Closed R) where
   pub keeps_copy_attribute : (n : ℕ) (a : List ℕ × List ℕ) → Keeps R (copy_attribute n a)
   keeps_copy_attribute n a = search (page_steps, keeps_set_attribute) depth 12
 
+  pub keeps_copy_control : (from to : ℕ) → Keeps R (copy_control from to)
+  keeps_copy_control from to = record { at = λ w. c.controls _ w }
+
   pub keeps_copy_node : (m : ℕ) (x : Facts) (b : Bool) → Keeps R (copy_node m x b)
-  keeps_copy_node m x true = search (page_steps, keeps_create_later, keeps_copy_attribute) depth 14
+  keeps_copy_node m x true = search (page_steps, keeps_create_later, keeps_copy_attribute, keeps_copy_control) depth 14
   keeps_copy_node m x false = keeps_make_text _ _
 
   pub keeps_copy_below : (parent : ℕ) (ts : Trees) → Keeps R (copy_below parent ts)
   keeps_copy_below parent none = keeps_done
   keeps_copy_below parent (tree m x shadow children rest) =
       keeps_bind (keeps_copy_node m x (is_element x.kind)) (λ n. keeps_seq (keeps_pre_insert parent n None) (keeps_seq (keeps_copy_below n children) (keeps_copy_below parent rest)))
+
+  -- controls
+
+  keeps_set_value : (n : ℕ) (text : List ℕ) (by_user : Bool) → Keeps R (set_value n text by_user)
+  keeps_set_value n text by_user = record { at = λ w. c.controls _ w }
+
+  keeps_set_checked : (n : ℕ) (on : Bool) → Keeps R (set_checked n on)
+  keeps_set_checked n on = record { at = λ w. c.controls _ w }
+
+  keeps_set_chosen : (option : ℕ) (on : Bool) → Keeps R (set_chosen option on)
+  keeps_set_chosen option on = record { at = λ w. c.controls _ w }
+
+  keeps_ignored_or : {f : Step Work (Unit {0})} (ignored : Bool) → Keeps R f → Keeps R (ignored_or ignored f)
+  keeps_ignored_or true h = keeps_give _
+  keeps_ignored_or false h = keeps_seq h (keeps_give _)
+
+  keeps_unless_ignored : {f : Step Work (Unit {0})} (by_user : Bool) (test : Page → Bool) → Keeps R f → Keeps R (unless_ignored by_user test f)
+  keeps_unless_ignored by_user test h = keeps_bind (keeps_read_page _) (λ ignored. keeps_ignored_or ignored h)
+
+  pub keeps_control_steps : (what : ControlDeed) → Keeps R (control_steps what)
+  keeps_control_steps (Edit n text by_user) = keeps_unless_ignored by_user _ (keeps_set_value n text by_user)
+  keeps_control_steps (Tick n on by_user) = keeps_unless_ignored by_user _ (keeps_set_checked n on)
+  keeps_control_steps (Choose option on by_user) = keeps_unless_ignored by_user _ (keeps_set_chosen option on)
 
   -- construction
 

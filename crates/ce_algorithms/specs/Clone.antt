@@ -9,6 +9,7 @@ use Rattle.ce_algorithms.specs.Steps.{Step, ◌>>=◌, ◌>>◌, give, done, whe
 use Rattle.ce_algorithms.specs.Page.{Work, spend, read_page}
 use Rattle.ce_algorithms.specs.Making.{make_text}
 use Rattle.ce_algorithms.specs.Attributes.{set_attribute}
+use Rattle.ce_algorithms.specs.Controls.{copy_control}
 use Rattle.ce_algorithms.specs.CreateLater.{create_later}
 use Rattle.ce_algorithms.specs.Mutation.{pre_insert}
 
@@ -18,11 +19,7 @@ copy_attribute n a = do
   spend
   set_attribute n a.0 a.1
 
--- what an input or a textarea keeps of its control state. There are no controls yet
-abbrev pub copy_control : ℕ → ℕ → Step Work (Unit {0})
-copy_control from to = done
-
--- "clone a single node": an element is created in its document, not synchronously, with its attributes; a text is made
+-- "clone a single node": an element is created in its document, not synchronously, with its attributes and what its control keeps; a text is made
 abbrev pub copy_node : ℕ → Facts → Bool → Step Work ℕ
 copy_node from x true = do
   n ← create_later x.local x.is_value x.document

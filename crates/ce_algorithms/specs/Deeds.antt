@@ -2,14 +2,16 @@
 use Rattle.std.specs.Prelude.{ℕ, Bool, true, false, List, Option, Some, None, Result, Ok}
 use Rattle.ce_base.specs.declared.fault.Fault.{Fault}
 use Rattle.rule_lines.specs.declared.line.Cmd.{Cmd}
+use Rattle.rule_lines.specs.declared.line.Cmd.TheVariants as commands
 use Rattle.rule_lines.specs.declared.op.Op.{Op}
 use Rattle.rule_lines.specs.declared.op.Op.TheVariants as ops
 use Rattle.ce_algorithms.specs.declared.deed.Deed.{Deed}
 use Rattle.ce_algorithms.specs.declared.deed.Deed.TheVariants as deeds
-use Rattle.ce_algorithms.specs.declared.deed.Deed.TheVariants.{OnPage}
+use Rattle.ce_algorithms.specs.declared.deed.ControlDeed.TheVariants as control_deeds
+use Rattle.ce_algorithms.specs.declared.deed.Deed.TheVariants.{OnPage, OnControls}
 use Rattle.ce_algorithms.specs.declared.deed.PageDeed.{PageDeed}
 use Rattle.ce_algorithms.specs.declared.deed.PageDeed.TheVariants as page_deeds
-use Rattle.ce_algorithms.specs.declared.fit.Fit.TheVariants.{ElementOrText}
+use Rattle.ce_algorithms.specs.declared.fit.Fit.TheVariants.{AnOption, ElementOrText, TextControl, Tickable}
 use Rattle.ce_algorithms.specs.Unbuilt.{unbuilt_deed}
 use Rattle.ce_algorithms.specs.State.{View}
 use Rattle.ce_algorithms.specs.Operands.{◌>>=◌, node, node_that, element, document, document_or_page, class}
@@ -71,10 +73,28 @@ resolve v (ops.Ask word operand name) = do
 resolve v (ops.Let var operand) = do
   n ← node v operand
   Ok (deeds.Let var n)
+resolve v (ops.Value operand text) = do
+  n ← node_that TextControl v operand
+  Ok (OnControls (control_deeds.Edit n (fixed_text text) false))
+resolve v (ops.Check operand on) = do
+  n ← node_that Tickable v operand
+  Ok (OnControls (control_deeds.Tick n on false))
+resolve v (ops.Choose operand on) = do
+  n ← node_that AnOption v operand
+  Ok (OnControls (control_deeds.Choose n on false))
 resolve v op = Ok unbuilt_deed
 
--- the same of what the user does, where nothing is `this`. Nothing of that is built yet
+-- the same of what the user does, where nothing is `this`
 abbrev pub resolve_user : View → Cmd → Result Deed Fault
+resolve_user v (commands.UserEdit operand text) = do
+  n ← node_that TextControl v operand
+  Ok (OnControls (control_deeds.Edit n text true))
+resolve_user v (commands.UserCheck operand on) = do
+  n ← node_that Tickable v operand
+  Ok (OnControls (control_deeds.Tick n on true))
+resolve_user v (commands.UserChoose operand on) = do
+  n ← node_that AnOption v operand
+  Ok (OnControls (control_deeds.Choose n on true))
 resolve_user v c = Ok unbuilt_deed
 
 -- which deeds push an element queue ([CEReactions]; HTML Standard, section "Custom element reactions")
@@ -96,6 +116,7 @@ is_reacting (deeds.Create local is document) = true
 is_reacting (deeds.New class) = false
 is_reacting (deeds.Define name class base) = true
 is_reacting (OnPage what) = is_reacting_on_page what
+is_reacting (OnControls what) = false
 is_reacting (deeds.Ask word n name) = false
 is_reacting (deeds.Let var n) = false
 

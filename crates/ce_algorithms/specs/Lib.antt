@@ -8,6 +8,7 @@ pub mod Mutation
 pub mod Attributes
 pub mod Define
 pub mod CreateLater
+pub mod Controls
 pub mod Clone
 pub mod Construction
 pub mod State

@@ -9,6 +9,7 @@ use Rattle.node_trees.specs.Trees.{Trees, single}
 use Rattle.reaction_queue.specs.Queues.{Queues, no_queues}
 use Rattle.ce_registry.specs.declared.definition.Definition.{Definition}
 use Rattle.ce_registry.specs.ClassFacts.{no_facts}
+use Rattle.form_controls.specs.declared.control.Control.{Control}
 use Rattle.ce_algorithms.specs.declared.note.Note.{Note}
 use Rattle.ce_algorithms.specs.Steps.{Step, Goes, Spent}
 
@@ -24,6 +25,7 @@ pub record Page : Type 0 where
   pub stacks : List (List (Option ℕ))  -- the construction stacks of the definitions
   pub queues : Queues
   pub notes : List Note  -- the enqueues that were made and not told yet, the oldest first
+  pub controls : List Control  -- what the control of each node keeps, that of node 1 first; past the end nothing was set
   pub settled : Bool  -- what is kept of form owners and disabled states stands for the forest; no step changes this
 
 -- a page, and the fuel that is left
@@ -51,6 +53,9 @@ with_forest f p = record p { forest = f p.forest }
 abbrev pub with_queues : (Queues → Queues) → Page → Page
 with_queues f p = record p { queues = f p.queues }
 
+abbrev pub with_controls : (List Control → List Control) → Page → Page
+with_controls f p = record p { controls = f p.controls }
+
 -- a node that is no custom element
 abbrev pub uncustomized : Element
 uncustomized = record { state = Uncustomized; definition = None }
@@ -64,6 +69,7 @@ blank_page = record {
   stacks = [];
   queues = no_queues;
   notes = [];
+  controls = [];
   settled = true;
 }
 

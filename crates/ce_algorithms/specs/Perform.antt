@@ -12,7 +12,7 @@ use Rattle.rule_lines.specs.declared.line.Cmd.{Cmd}
 use Rattle.rule_lines.specs.declared.op.Op.{Op}
 use Rattle.ce_algorithms.specs.declared.deed.Deed.{Deed}
 use Rattle.ce_algorithms.specs.declared.deed.Deed.TheVariants as deeds
-use Rattle.ce_algorithms.specs.declared.deed.Deed.TheVariants.{OnPage}
+use Rattle.ce_algorithms.specs.declared.deed.Deed.TheVariants.{OnPage, OnControls}
 use Rattle.ce_algorithms.specs.declared.deed.PageDeed.{PageDeed}
 use Rattle.ce_algorithms.specs.declared.deed.PageDeed.TheVariants as page_deeds
 use Rattle.ce_algorithms.specs.declared.given.Given.{Given}
@@ -26,6 +26,7 @@ use Rattle.ce_algorithms.specs.Mutation.{pre_insert, remove, adopt}
 use Rattle.ce_algorithms.specs.Attributes.{set_attribute, remove_attribute}
 use Rattle.ce_algorithms.specs.Define.{define_name}
 use Rattle.ce_algorithms.specs.Clone.{clone}
+use Rattle.ce_algorithms.specs.Controls.{control_steps}
 use Rattle.ce_algorithms.specs.State.{State, look, on_page, set_variable, class_of, change_class}
 use Rattle.ce_algorithms.specs.Calls.{Again}
 use Rattle.ce_algorithms.specs.Questions.{question}
@@ -123,6 +124,7 @@ steps again (deeds.Create local is document) = gives_node (create_named again lo
 steps again (deeds.New class) = gives_node (construct again class)
 steps again (deeds.Define name class base) = gives_nothing (define_element name class base)
 steps again (OnPage what) = on_page (page_steps what)
+steps again (OnControls what) = on_page (control_steps what)
 steps again (deeds.Ask word n name) = read (λ (s : State). Answers ((question word name).answer s.page n))
 steps again (deeds.Let var n) = gives_nothing (set_variable var n)
 

@@ -1,5 +1,5 @@
 -- Questions: of which nodes each can be asked, and what it answers.
-use Rattle.std.specs.Prelude.{ℕ, List, Option, Some, None}
+use Rattle.std.specs.Prelude.{ℕ, if◌then◌else◌, List, Option, Some, None}
 use Rattle.std.specs.Str.{str_to_ascii_lowercase}
 use Rattle.node_trees.specs.Spots.{parent_at, children_at, attribute_at}
 use Rattle.rule_lines.specs.declared.ask_word.AskWord.{AskWord}
@@ -11,7 +11,10 @@ use Rattle.ce_algorithms.specs.declared.fit.Fit.{Fit}
 use Rattle.ce_algorithms.specs.declared.fit.Fit.TheVariants as fit
 use Rattle.ce_algorithms.specs.Unbuilt.{unbuilt_answer}
 use Rattle.ce_algorithms.specs.Page.{Page, state_of}
-use Rattle.ce_algorithms.specs.Forms.{form_owner, controls_of, is_disabled}
+use Rattle.form_controls.specs.Checkedness.{is_checked}
+use Rattle.form_controls.specs.Owners.{is_associated}
+use Rattle.form_controls.specs.Values.{value}
+use Rattle.ce_algorithms.specs.Forms.{forms_of, form_owner, controls_of, is_disabled}
 
 pub record Question : Type 0 where
   pub asked_of : Fit  -- the node that it can be asked of
@@ -25,6 +28,10 @@ abbrev pub node_answer : Option ℕ → Answer
 node_answer None = answers.Null
 node_answer (Some n) = answers.Node n
 
+-- a form-associated custom element has no value, as it has no internals yet
+abbrev pub value_answer : Page → ℕ → Answer
+value_answer p n = if is_associated (forms_of p) n then answers.Null else answers.One (value p.controls p.forest n)
+
 abbrev asked_of : Fit → (Page → ℕ → Answer) → Question
 asked_of what answer = record { asked_of = what; answer = answer }
 
@@ -37,4 +44,6 @@ question words.State name = asked_of fit.Element (λ p n. answers.State (state_o
 question words.Owner name = asked_of fit.Listed (λ p n. node_answer (form_owner p n))
 question words.Controls name = asked_of fit.Form (λ p n. answers.Nodes (controls_of p n))
 question words.Disabled name = asked_of fit.SubmittableOrOption (λ p n. answers.Truth (is_disabled p n))
+question words.Value name = asked_of fit.Submittable value_answer
+question words.Checked name = asked_of fit.Tickable (λ p n. answers.Truth (is_checked (forms_of p) p.controls n))
 question word name = asked_of fit.Any (λ p n. unbuilt_answer)

@@ -69,6 +69,29 @@ impl PageDeed {
     }
 }
 
+/// What is set on a control, by a script or by the user. It pushes no element queue.
+#[derive(Drop)]
+pub enum ControlDeed {
+    /// Sets the raw value of a text control (HTML Standard, section "A form control's value").
+    Edit {
+        node: NodeNo,
+        text: Text,
+        by_user: bool,
+    },
+    /// Sets the checkedness of a checkbox or a radio button (section "The input element", `checked`).
+    Tick {
+        node: NodeNo,
+        on: bool,
+        by_user: bool,
+    },
+    /// Sets the selectedness of an option (section "The option element", `selected`).
+    Choose {
+        node: NodeNo,
+        on: bool,
+        by_user: bool,
+    },
+}
+
 /// What an operation comes to: nodes by their numbers, classes by theirs, and texts.
 #[derive(Drop)]
 pub enum Deed {
@@ -90,6 +113,8 @@ pub enum Deed {
     },
     /// Does something on the page alone.
     OnPage(PageDeed),
+    /// Sets something on a control.
+    OnControls(ControlDeed),
     /// Asks something of a node; of an attribute by its name.
     Ask {
         word: AskWord,
@@ -111,7 +136,7 @@ impl Deed {
         match self {
             Deed::Create { .. } | Deed::Define { .. } => true,
             Deed::OnPage(what) => what.is_reacting(),
-            Deed::New { .. } | Deed::Ask { .. } | Deed::Let { .. } => false,
+            Deed::New { .. } | Deed::OnControls(_) | Deed::Ask { .. } | Deed::Let { .. } => false,
         }
     }
 }

@@ -15,6 +15,14 @@ pub enum Fit {
     Form,
     /// A listed element (HTML Standard, section "Categories").
     Listed,
-    /// A submittable element (HTML Standard, section "Categories"), or an `option` element: what can be disabled.
+    /// A submittable element (section "Categories").
+    Submittable,
+    /// A submittable element, or an `option` element: what can be disabled.
     SubmittableOrOption,
+    /// A text input or a `textarea` element: what has a text that is edited.
+    TextControl,
+    /// A checkbox or a radio button: what has a checkedness.
+    Tickable,
+    /// An `option` element.
+    AnOption,
 }

@@ -3,6 +3,7 @@ use Rattle.std.proofs.Common.{◌≡◌, ℕ, zero, suc, Bool, true, false, List
 use Rattle.std.specs.Prelude.{ok_or}
 use Rattle.ce_base.specs.declared.fault.Fault.{Fault}
 use Rattle.ce_base.specs.declared.fault.Fault.TheVariants.{TypeError}
+use Rattle.rule_lines.specs.declared.line.Cmd.{Cmd}
 use Rattle.rule_lines.specs.declared.op.Op.{Op}
 use Rattle.rule_lines.specs.declared.op.Op.TheVariants as ops
 use Rattle.ce_registry.specs.declared.class_facts.ClassFacts.{ClassFacts}
@@ -14,9 +15,10 @@ use Rattle.ce_algorithms.specs.Page.{Page, Work}
 use Rattle.ce_algorithms.specs.State.{State, Class, view, log, spend, spend_from, read_page, change_page, on_page, with_outcome, work_of, set_variable, change_class, class_of}
 use Rattle.ce_algorithms.specs.Define.{define_name}
 use Rattle.ce_algorithms.specs.Calls.{Again}
-use Rattle.ce_algorithms.specs.Deeds.{resolve, IsStill}
+use Rattle.ce_algorithms.specs.Deeds.{resolve, resolve_user, IsStill}
 use Rattle.ce_algorithms.specs.Operands.{◌>>=◌ as then_resolve}
 use Rattle.ce_algorithms.specs.Drain.{open_queue, pop_queue}
+use Rattle.ce_algorithms.specs.Controls.{control_steps}
 use Rattle.ce_algorithms.specs.Perform.{define_element, gives_nothing, page_steps, steps}
 use Rattle.ce_frames.specs.Places.{Behaviour}
 use Rattle.ce_frames.specs.Whole.{joined_class, whole, whole_in, state_in, IsBlind}
@@ -177,6 +179,9 @@ resolve_blind this (ops.Define name class_name base) bs s =
     ap (λ k. then_resolve (ok_or k TypeError) (λ k. Ok (deeds.Define name k base))) (named_joined s.classes bs class_name)
 resolve_blind this op bs s = refl
 
+pub resolve_user_blind : (c : Cmd) (bs : List Behaviour) (s : State) → resolve_user (view None (whole bs s)) c ≡ resolve_user (view None s) c
+resolve_user_blind c bs s = refl
+
 blind_gives : {f : Step State (Unit {0})} → IsBlind f → IsBlind (gives_nothing f)
 blind_gives h = blind_seq h (blind_give _)
 
@@ -200,5 +205,6 @@ still_blind again (deeds.Create local is document) still = absurd still
 still_blind again (deeds.New class) still = absurd still
 still_blind again (deeds.Define name class base) still = blind_gives (define_blind name class base)
 still_blind again (deeds.OnPage what) still = blind_on_page (page_steps what)
+still_blind again (deeds.OnControls what) still = blind_on_page (control_steps what)
 still_blind again (deeds.Ask word n name) still = blind_read _ (λ bs s. refl)
 still_blind again (deeds.Let var n) still = blind_gives (blind_set_variable var n)

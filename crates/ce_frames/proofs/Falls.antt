@@ -48,6 +48,7 @@ sinks = record {
   defined = λ d w. omega arith;
   node = λ f w. omega arith;
   stacks = λ f w. omega arith;
+  controls = λ cs w. omega arith;
   spent = λ k w is. omega (arith, is);
   enqueued = enqueued_sinks;
 }

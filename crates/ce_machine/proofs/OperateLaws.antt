@@ -4,16 +4,17 @@ use Rattle.std.specs.Prelude.{Result, Ok, Err, IfOk, if◌then◌else◌}
 use Rattle.ce_base.specs.declared.fault.Fault.{Fault}
 use Rattle.ce_base.specs.declared.fault.Refused.{Refused as RefusedWith}
 use Rattle.ce_base.specs.declared.fault.Refused.TheVariants.{Fault as IsFault}
+use Rattle.rule_lines.specs.declared.line.Cmd.{Cmd}
 use Rattle.rule_lines.specs.declared.op.Op.{Op}
 use Rattle.node_trees.specs.Nodes.{size}
 use Rattle.node_trees.specs.Trees.{Trees}
 use Rattle.reaction_queue.specs.Queues.{popped_queue, current_elements}
 use Rattle.ce_algorithms.specs.declared.deed.Deed.{Deed}
 use Rattle.ce_algorithms.specs.declared.deed.Deed.TheVariants as deeds
-use Rattle.ce_algorithms.specs.declared.deed.Deed.TheVariants.{OnPage}
+use Rattle.ce_algorithms.specs.declared.deed.Deed.TheVariants.{OnPage, OnControls}
 use Rattle.ce_events.specs.declared.event.Event.TheVariants.{DrainBegun}
 use Rattle.ce_algorithms.specs.declared.given.Given.{Given}
-use Rattle.ce_algorithms.specs.Deeds.{is_reacting, resolve, IsStill}
+use Rattle.ce_algorithms.specs.Deeds.{is_reacting, resolve, resolve_user, IsStill}
 use Rattle.ce_algorithms.specs.Drain.{open_queue}
 use Rattle.ce_algorithms.specs.Making.{make_document}
 use Rattle.ce_algorithms.specs.Model.{model}
@@ -27,7 +28,7 @@ use Rattle.ce_frames.specs.Frames.{Frame}
 use Rattle.ce_frames.specs.ConstructTurns.{construct_turn}
 use Rattle.ce_frames.specs.OperateTurns.{create_named_turn, deed_turn, named_turn, next_turn, pop_turn, resolved_turn, steps_turn}
 use Rattle.ce_frames.specs.Turned.{Turn, ended, turn_after, below, hand_down}
-use Rattle.ce_frames.proofs.BlindSteps.{resolve_blind}
+use Rattle.ce_frames.proofs.BlindSteps.{resolve_blind, resolve_user_blind}
 use Rattle.ce_frames.proofs.BlindTurns.{blind_below, blind_page, deed_turn_blind}
 use Rattle.ce_page.specs.Ends.{Ends}
 use Rattle.ce_page.specs.declared.stop.PageStop.{PageStop}
@@ -83,6 +84,7 @@ deed_is (deeds.Create local is document) s h = absurd h
 deed_is (deeds.New class) s h = absurd h
 deed_is (deeds.Define name class base) s h = refl
 deed_is (OnPage what) s h = refl
+deed_is (OnControls what) s h = refl
 deed_is (deeds.Ask word n name) s h = refl
 deed_is (deeds.Let var n) s h = refl
 
@@ -166,6 +168,9 @@ refused_placed this find var f s r is h = subst (StaysPlaced s.page.forest) (ref
 -- operands read no behaviour
 pub resolved_whole : (this : Option ℕ) (op : Op) (old : Stacked) (s : State) (r : Result Deed RefusedWith) → Resolves r (resolve (view this s) op) → Resolves r (resolve (view this (session old s)) op)
 resolved_whole this op old s r h = subst (λ (x : Result Deed Fault). Resolves r x) (sym (resolve_blind this op (behaviours_of old) s)) h
+
+pub resolved_user_whole : (c : Cmd) (old : Stacked) (s : State) (r : Result Deed RefusedWith) → Resolves r (resolve_user (view None s) c) → Resolves r (resolve_user (view None (session old s)) c)
+resolved_user_whole c old s r h = subst (λ (x : Result Deed Fault). Resolves r x) (sym (resolve_user_blind c (behaviours_of old) s)) h
 
 -- commands
 

@@ -10,7 +10,7 @@ ghost use Rattle.ce_algorithms.specs.State.{View, on_page, view};
 ghost use Rattle.ce_base.specs.declared.fault.Fault.{Fault as IsFault};
 ghost use Rattle.page_calls.specs.Resolved.{Resolves};
 ghost use Rattle.ce_frames.specs.Loop.{command_turn, perform_turn};
-ghost use Rattle.ce_frames.specs.OperateTurns.{deed_turn, named_turn, operate_turn, resolved_turn};
+ghost use Rattle.ce_frames.specs.OperateTurns.{deed_turn, named_turn, operate_turn, resolved_turn, user_turn};
 ghost use Rattle.ce_frames.specs.Turned.{hand_down};
 ghost use Rattle.ce_page.specs.Ends.{Ends};
 ghost use Rattle.frame_stack.specs.Sessions.{ArePaired, session};
@@ -20,12 +20,13 @@ ghost use Rattle.ce_machine.specs.Turns.{naming};
 ghost use Rattle.ce_reactions.specs.Turns.{Turns};
 ghost use Rattle.page_calls.specs.Given.{IsThere};
 ghost use Rattle.ce_reactions.specs.Placed.{Lasts, StaysPlaced};
+ghost use Rattle.ce_operations.specs.OnControls.{IsByUser};
 ghost use Rattle.ce_operations.specs.Ready.{IsReady};
 
 use crate::react::deed_turn;
 use ce_algorithms::{Deed, Given};
 use ce_base::{NoMemory, NodeNo, Refused, Text};
-use ce_operations::resolve::resolve;
+use ce_operations::resolve::{resolve, resolve_user};
 use ce_page::PageStop;
 use ce_reactions::{Came, came_from};
 use frame_stack::{Stack, Waiting};
@@ -93,8 +94,32 @@ fn perform(state: &mut State, alloc: Global, stack: &mut Stack, c: Cmd) -> Resul
             let now = make_document(state, alloc, stack, var)?;
             Ok(now)
         }
-        _ => unreachable!(),
+        c => {
+            let now = act_as_user(state, alloc, stack, c)?;
+            Ok(now)
+        }
     }
+}
+
+// Does what the user does.
+#[tactic(auto, unfolding(ce_frames::specs::OperateTurns::user_turn))]
+fn act_as_user(
+    state: &mut State,
+    alloc: Global,
+    stack: &mut Stack,
+    c: Cmd,
+) -> Result<Came, NoMemory>
+    requires built { is_built_command c ≡ true }
+    requires user { IsByUser c }
+    requires paired { ArePaired stack.old state.old }
+    requires room { state.old.page.queues.pushed + state.old.fuel + 1 < 2 ^ 64 }
+    ensures turn { IfOk result (λ now. Turns (frames_of stack.old) (frames_of stack.new) now (session stack.new state.new) (user_turn c (session stack.old state.old))) }
+    ensures paired { OnOk result (ArePaired stack.new state.new) }
+    ensures placed { OnOk result (StaysPlaced state.old.page.forest (user_turn c (session stack.old state.old))) }
+{
+    let resolved = resolve_user(state, c);
+    let now = do_resolved(state, alloc, stack, resolved, None)?;
+    Ok(now)
 }
 
 // Makes an inert document, for which a variable waits.

@@ -6,7 +6,8 @@ use Rattle.node_trees.specs.Trees.{Trees}
 use Rattle.rule_script.specs.Built.{is_built_word}
 use Rattle.ce_algorithms.specs.declared.deed.Deed.{Deed}
 use Rattle.ce_algorithms.specs.declared.deed.Deed.TheVariants as deeds
-use Rattle.ce_algorithms.specs.declared.deed.Deed.TheVariants.{OnPage}
+use Rattle.ce_algorithms.specs.declared.deed.Deed.TheVariants.{OnPage, OnControls}
+use Rattle.page_calls.specs.Commands.{IsReadyOnControls}
 use Rattle.page_calls.specs.Ready.{IsReadyOnPage}
 
 abbrev pub IsReady : Trees → Deed → Type 0
@@ -14,5 +15,6 @@ IsReady f (deeds.Create local is document) = Unit {0}
 IsReady f (deeds.New class) = Unit {0}
 IsReady f (deeds.Define name class base) = Unit {0}
 IsReady f (OnPage what) = IsReadyOnPage f what
+IsReady f (OnControls what) = IsReadyOnControls f what
 IsReady f (deeds.Ask word n name) = IsNode f n × (is_built_word word ≡ true)
 IsReady f (deeds.Let var n) = IsNode f n

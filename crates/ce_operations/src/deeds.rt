@@ -19,8 +19,8 @@ use session_state::State;
 use std::alloc::Global;
 
 /// Does the steps of a deed that constructs nothing. Refused, FuelSpent and NoMemory are those of the step of `State`
-/// that it takes: `define_element`, or `on_page`. A question, and a variable that is set, refuse nothing and want no
-/// fuel.
+/// that it takes: `define_element`, `on_page` or `on_controls`. A question, and a variable that is set, refuse nothing and
+/// want no fuel.
 pub fn run(state: &mut State, alloc: Global, deed: Deed) -> Result<Given, PageStop>
     requires ready { IsReady state.old.page.forest deed }
     requires still { IsStill deed }
@@ -35,6 +35,7 @@ pub fn run(state: &mut State, alloc: Global, deed: Deed) -> Result<Given, PageSt
             gives_nothing(state.define_element(alloc, &name, class, &base))
         }
         Deed::OnPage(what) => state.on_page(alloc, what),
+        Deed::OnControls(what) => state.on_controls(alloc, what),
         Deed::Ask { word, node, name } => ask(state, alloc, word, node, &name),
         Deed::Let { var, node } => set(state, var, node),
     }

@@ -1,13 +1,15 @@
 // What an operation comes to: its operands, all read before a queue is pushed.
 mod attributes;
+mod controls;
 mod session;
 mod tree;
 
-ghost use Rattle.std.specs.Prelude.{◌≡◌, true, IfOk, IfSome};
+ghost use Rattle.std.specs.Prelude.{◌≡◌, true, false, IfOk, IfSome};
 ghost use Rattle.node_trees.specs.Nodes.{IsNode};
 ghost use Rattle.rule_script.specs.Built.{is_built_op};
 ghost use Rattle.ce_algorithms.specs.Deeds.{resolve};
 ghost use Rattle.ce_algorithms.specs.State.{view};
+ghost use Rattle.ce_operations.specs.OnControls.{is_on_controls};
 ghost use Rattle.ce_operations.specs.Ready.{IsReady};
 ghost use Rattle.page_calls.specs.Resolved.{Resolves};
 
@@ -15,6 +17,8 @@ use crate::operands::{class, element, node, node_that};
 use attributes::{del_attr, set_attr};
 use ce_algorithms::{Deed, Fit, PageDeed};
 use ce_base::{NodeNo, Refused};
+pub use controls::resolve_user;
+use controls::{is_on_controls, on_controls};
 use rule_lines::Op;
 use session::{ask, define, let_node};
 use session_state::State;
@@ -27,6 +31,26 @@ use tree::{adopt, append, before, create, make_text, remove};
 /// has to be, or no class has the name. NoMemory: memory was refused.
 pub fn resolve(state: &State, alloc: Global, this: &Option<NodeNo>, op: Op) -> Result<Deed, Refused>
     requires built { is_built_op op ≡ true }
+    requires there { IfSome this.now (IsNode state.now.page.forest) }
+    ensures deed { Resolves result (resolve (view this.now state.now) op) }
+    ensures ready { IfOk result (IsReady state.now.page.forest) }
+{
+    if is_on_controls(&op) {
+        on_controls(state, alloc, this, op)
+    } else {
+        beside_controls(state, alloc, this, op)
+    }
+}
+
+// The deed of an operation that sets nothing on a control.
+fn beside_controls(
+    state: &State,
+    alloc: Global,
+    this: &Option<NodeNo>,
+    op: Op,
+) -> Result<Deed, Refused>
+    requires built { is_built_op op ≡ true }
+    requires others { is_on_controls op ≡ false }
     requires there { IfSome this.now (IsNode state.now.page.forest) }
     ensures deed { Resolves result (resolve (view this.now state.now) op) }
     ensures ready { IfOk result (IsReady state.now.page.forest) }

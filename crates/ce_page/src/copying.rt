@@ -75,6 +75,7 @@ impl Page {
     {
         let n = self.create_like(alloc, from, fuel)?;
         self.copy_attributes(alloc, from, n, fuel)?;
+        self.copy_control(alloc, from, n)?;
         Ok(n)
     }
 

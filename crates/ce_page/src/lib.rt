@@ -4,6 +4,7 @@
 mod adoption;
 mod attributes;
 mod clone;
+mod controls;
 mod copying;
 mod create;
 mod define;
@@ -25,6 +26,7 @@ mod walk;
 pub use ce_algorithms::Note;
 pub use ce_registry::{Calls, ClassFacts, Definition, Registry};
 pub use construction::Base;
+pub use control_state::ControlTable;
 pub use form_owner::OwnerTable;
 pub use node_arena::{NodeKind, Tree};
 pub use page::Page;

@@ -8,6 +8,7 @@ use ce_algorithms::Note;
 use ce_base::{NoMemory, NodeNo};
 use ce_registry::Registry;
 use construction::Stacks;
+use control_state::ControlTable;
 use form_owner::OwnerTable;
 use node_arena::Tree;
 use reaction_queue::Queues;
@@ -16,7 +17,7 @@ use std::collections::VecDeque;
 use std::marker::Model;
 
 /// A page: its nodes, what each is as a custom element, its definitions and their construction stacks, what
-/// waits, the enqueues that were not told yet, and its form owners and disabled states.
+/// waits, the enqueues that were not told yet, what controls keep, and its form owners and disabled states.
 #[derive(Drop)]
 pub struct Page {
     pub(crate) tree: Tree,
@@ -25,6 +26,7 @@ pub struct Page {
     pub(crate) stacks: Stacks,
     pub(crate) queues: Queues,
     pub(crate) notes: VecDeque<Note>,
+    pub(crate) controls: ControlTable,
     pub(crate) owners: OwnerTable,
     pub(crate) settled: bool,
 }
@@ -46,6 +48,7 @@ impl Model for Page {
       stacks = p.stacks;
       queues = p.queues;
       notes = p.notes.items;
+      controls = p.controls;
       settled = p.settled;
     } };
 
@@ -67,6 +70,7 @@ impl Page {
             stacks: Stacks::make(alloc),
             queues: Queues::make(alloc),
             notes: VecDeque::new(alloc),
+            controls: ControlTable::make(alloc),
             owners: OwnerTable::make(alloc),
             settled: true,
         })

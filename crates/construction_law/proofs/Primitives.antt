@@ -14,6 +14,8 @@ use Rattle.ce_registry.specs.declared.class_facts.ClassFacts.{ClassFacts}
 use Rattle.ce_registry.specs.declared.definition.Definition.{Definition}
 use Rattle.ce_registry.specs.Registry.{by_class}
 use Rattle.construction.specs.Stacks.{stack_of}
+use Rattle.ce_algorithms.specs.declared.deed.ControlDeed.{ControlDeed}
+use Rattle.ce_algorithms.specs.declared.deed.ControlDeed.TheVariants.{Edit, Tick, Choose}
 use Rattle.ce_algorithms.specs.declared.deed.PageDeed.{PageDeed}
 use Rattle.ce_algorithms.specs.declared.deed.PageDeed.TheVariants as deeds
 use Rattle.ce_algorithms.specs.Steps.{Step, Outcome, Goes, Throws, Spent, then_do, ◌>>=◌, ◌>>◌, found, for_each, where_is}
@@ -26,12 +28,13 @@ use Rattle.ce_algorithms.specs.Mutation.{is_connected, remove, adopt, connected_
 use Rattle.ce_algorithms.specs.Attributes.{handle_attribute_change, remove_there}
 use Rattle.ce_algorithms.specs.Define.{define_name}
 use Rattle.ce_algorithms.specs.CreateLater.{make_in_state, make_later}
+use Rattle.ce_algorithms.specs.Controls.{ignored_or, control_steps}
 use Rattle.ce_algorithms.specs.Clone.{copy_node, copy_below}
 use Rattle.ce_algorithms.specs.Construction.{make_custom, base_entry, base_call, push_construction}
 use Rattle.ce_algorithms.specs.Upgrade.{enqueue_attribute, begin_upgrade}
 use Rattle.ce_algorithms.specs.Perform.{gives_node, page_steps}
 use Rattle.construction_law.proofs.StackDepths.{AreDeep, given_anew, one_more, push_deepens}
-use Rattle.construction_law.proofs.Steps.{Stays, Leaves, of_page, leaves_steps, leaves_done, leaves_bind, leaves_seq}
+use Rattle.construction_law.proofs.Steps.{Stays, Leaves, of_page, leaves_steps, leaves_done, leaves_give, leaves_bind, leaves_seq}
 
 -- what operations do on the page alone
 
@@ -113,6 +116,16 @@ ruleset deed_steps = (leaves_steps, leaves_pre_insert, leaves_remove, leaves_ado
 pub leaves_page_steps : (what : PageDeed) → Leaves of_page (page_steps what)
 leaves_page_steps (deeds.Clone n whole) = search (leaves_steps, leaves_copy_node, leaves_copy_below) depth 20
 leaves_page_steps what = search deed_steps depth 20
+
+leaves_ignored_or : {f : Step Work (Unit {0})} (ignored : Bool) → Leaves of_page f → Leaves of_page (ignored_or ignored f)
+leaves_ignored_or true h = leaves_give _
+leaves_ignored_or false h = leaves_seq h (leaves_give _)
+
+-- what is set on controls
+pub leaves_control_steps : (what : ControlDeed) → Leaves of_page (control_steps what)
+leaves_control_steps (Edit n text by_user) = search (leaves_steps, leaves_ignored_or) depth 12
+leaves_control_steps (Tick n on by_user) = search (leaves_steps, leaves_ignored_or) depth 12
+leaves_control_steps (Choose option on by_user) = search (leaves_steps, leaves_ignored_or) depth 12
 
 -- the base call
 

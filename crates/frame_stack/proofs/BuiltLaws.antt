@@ -42,7 +42,7 @@ fixed_built memory args (ops.StateAdd at word) h = h
 fixed_built memory args (ops.StateDelete at word) h = h
 fixed_built memory args (ops.StateClear at) h = h
 fixed_built memory args (ops.Custom at message) h = absurd (let e : false ≡ true = h in cc)
-fixed_built memory args (ops.Value at value) h = absurd (let e : false ≡ true = h in cc)
+fixed_built memory args (ops.Value at value) h = refl
 fixed_built memory args (ops.Check at on) h = h
 fixed_built memory args (ops.Choose at on) h = h
 fixed_built memory args (ops.Submit form) h = h

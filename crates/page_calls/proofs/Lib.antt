@@ -1,1 +1,3 @@
+pub mod CommandLaws
 pub mod GivenLaws
+pub mod RivalLaws

@@ -9,7 +9,7 @@ use ce_algorithms::Fit;
 use ce_base::NodeNo;
 use ce_page::{NodeKind, Page};
 use element_names::Native;
-use form_owner::is_a;
+use form_kinds::{is_a, is_text_control, is_tickable};
 
 /// Whether a node is what it has to be.
 pub fn fits(what: Fit, page: &Page, n: NodeNo) -> bool
@@ -24,9 +24,13 @@ pub fn fits(what: Fit, page: &Page, n: NodeNo) -> bool
         Fit::ElementOrText => is_element(kind) || is_text(kind),
         Fit::Form => is_a(page.tree(), n, Native::Form),
         Fit::Listed => is_listed(page, n),
+        Fit::Submittable => is_submittable(page, n),
         Fit::SubmittableOrOption => {
             is_submittable(page, n) || is_a(page.tree(), n, Native::OptionItem)
         }
+        Fit::TextControl => is_text_control(page.tree(), n),
+        Fit::Tickable => is_tickable(page.tree(), n),
+        Fit::AnOption => is_a(page.tree(), n, Native::OptionItem),
     }
 }
 

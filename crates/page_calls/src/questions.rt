@@ -6,11 +6,12 @@ ghost use Rattle.node_trees.specs.Spots.{attribute_at, parent_at};
 ghost use Rattle.reaction_queue.specs.Queues.{or_empty};
 ghost use Rattle.rule_script.specs.Built.{is_built_word};
 ghost use Rattle.ce_algorithms.specs.Forms.{controls_of, form_owner, is_disabled};
-ghost use Rattle.ce_algorithms.specs.Questions.{node_answer, question, text_answer};
+ghost use Rattle.ce_algorithms.specs.Questions.{node_answer, question, text_answer, value_answer};
 ghost use Rattle.page_calls.specs.Asked.{asked};
 ghost use Rattle.page_calls.specs.Resolved.{Resolves};
 
 use crate::fits::fits;
+use crate::groups::is_checked;
 use ce_algorithms::Fit;
 use ce_base::{Fault, NoMemory, NodeNo, Nodes, Refused, Text};
 use ce_events::Answer;
@@ -46,6 +47,8 @@ pub fn asked_of(word: AskWord) -> Fit
         AskWord::Owner => Fit::Listed,
         AskWord::Controls => Fit::Form,
         AskWord::Disabled => Fit::SubmittableOrOption,
+        AskWord::Value => Fit::Submittable,
+        AskWord::Checked => Fit::Tickable,
         _ => Fit::Any,
     }
 }
@@ -70,6 +73,8 @@ pub fn answer(
         AskWord::Owner => owner(page, n),
         AskWord::Controls => Ok(Answer::Nodes(controls(alloc, page, n)?)),
         AskWord::Disabled => Ok(Answer::Truth(is_disabled(page, n)?)),
+        AskWord::Value => value(alloc, page, n),
+        AskWord::Checked => Ok(Answer::Truth(is_checked(page, n)?)),
         _ => unreachable!(),
     }
 }
@@ -131,8 +136,19 @@ fn copied(alloc: Global, numbers: &[NodeNo]) -> Result<Nodes, NoMemory>
     Ok(nodes)
 }
 
-// Whether the node is disabled. A page that is not settled has no answer.
-fn is_disabled(page: &Page, n: NodeNo) -> Result<bool, NoMemory>
+// The value of a control. A form-associated custom element has none, as it has no internals yet.
+fn value(alloc: Global, page: &Page, n: NodeNo) -> Result<Answer, NoMemory>
+    requires { IsNode page.now.forest n }
+    ensures { IfOk result (λ a. a ≡ value_answer page.now n) }
+{
+    if page.is_form_associated(n) {
+        return Ok(Answer::Null);
+    }
+    Ok(Answer::One(page.controls().value(alloc, page.tree(), n)?))
+}
+
+/// Whether the node is disabled. A page that is not settled has no answer.
+pub(crate) fn is_disabled(page: &Page, n: NodeNo) -> Result<bool, NoMemory>
     requires { IsNode page.now.forest n }
     ensures { IfOk result (λ b. b ≡ is_disabled page.now n) }
 {

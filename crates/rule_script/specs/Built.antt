@@ -11,8 +11,8 @@ use Rattle.rule_lines.specs.declared.op.Op.TheVariants as ops
 use Rattle.rule_lines.specs.Acts.{Act, Part, Said, Blank, Command, Declares}
 use Rattle.rule_lines.specs.Acts as acts
 
--- the attributes, the parent, the children and the custom element state of a node can be asked; the form owner and the
--- disabled state of a control, and the controls of a form
+-- the attributes, the parent, the children and the custom element state of a node can be asked; the form owner, the
+-- disabled state, the value and the checkedness of a control, and the controls of a form
 abbrev pub is_built_word : AskWord → Bool
 is_built_word words.Attr = true
 is_built_word words.Parent = true
@@ -21,10 +21,12 @@ is_built_word words.State = true
 is_built_word words.Owner = true
 is_built_word words.Controls = true
 is_built_word words.Disabled = true
+is_built_word words.Value = true
+is_built_word words.Checked = true
 is_built_word _ = false
 
 -- making, constructing and cloning nodes, inserting, removing and adopting them, attributes with any values, definitions,
--- upgrades, variables, and the questions above
+-- upgrades, values, checkedness and choices of controls, variables, and the questions above
 abbrev pub is_built_op : Op → Bool
 is_built_op (ops.Create var local is document) = true
 is_built_op (ops.New var class) = true
@@ -40,14 +42,21 @@ is_built_op (ops.Clone var deep target) = true
 is_built_op (ops.Adopt document target) = true
 is_built_op (ops.Define name class base) = true
 is_built_op (ops.Upgrade target) = true
+is_built_op (ops.Value target val) = true
+is_built_op (ops.Check target on) = true
+is_built_op (ops.Choose target on) = true
 is_built_op (ops.Ask word target name) = is_built_word word
 is_built_op (ops.Let var target) = true
 is_built_op _ = false
 
--- at top level: the operations that are built, and `doc`
+-- at top level: the operations that are built, `doc`, and what the user does to the value, the checkedness and the choices
+-- of controls
 abbrev pub is_built_command : Cmd → Bool
 is_built_command (commands.Both op) = is_built_op op
 is_built_command (commands.Doc var) = true
+is_built_command (commands.UserEdit target value) = true
+is_built_command (commands.UserCheck target on) = true
+is_built_command (commands.UserChoose target on) = true
 is_built_command _ = false
 
 -- in a body: the operations that are built, also inside `try` and `if`, and each other action, with any values

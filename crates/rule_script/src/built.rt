@@ -16,6 +16,7 @@ fn is_built_op(op: &Op) -> bool
         Op::Clone { .. } | Op::Adopt { .. } => true,
         Op::SetAttr { .. } | Op::DelAttr { .. } => true,
         Op::Define { .. } | Op::Upgrade { .. } | Op::Let { .. } => true,
+        Op::Value { .. } | Op::Check { .. } | Op::Choose { .. } => true,
         Op::Ask { word, .. } => is_built_word(*word),
         _ => false,
     }
@@ -33,6 +34,8 @@ fn is_built_word(word: AskWord) -> bool
             | AskWord::Owner
             | AskWord::Controls
             | AskWord::Disabled
+            | AskWord::Value
+            | AskWord::Checked
     )
 }
 
@@ -57,6 +60,7 @@ fn is_built_command(c: &Cmd) -> bool
     match c {
         Cmd::Both(op) => is_built_op(op),
         Cmd::Doc { .. } => true,
+        Cmd::UserEdit { .. } | Cmd::UserCheck { .. } | Cmd::UserChoose { .. } => true,
         _ => false,
     }
 }

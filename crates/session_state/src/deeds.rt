@@ -1,18 +1,20 @@
 // Deeds on the page, as steps of a session.
 ghost use Rattle.std.specs.Prelude.{◌≡◌, ◌≤◌, IfOk, OnOk, OnErr, IsErrOf};
 ghost use Rattle.node_trees.specs.Nodes.{size};
+ghost use Rattle.ce_algorithms.specs.Controls.{control_steps};
 ghost use Rattle.ce_algorithms.specs.Perform.{page_steps};
 ghost use Rattle.ce_algorithms.specs.State.{on_page};
 ghost use Rattle.ce_page.specs.Ends.{Ends};
+ghost use Rattle.page_calls.specs.Commands.{IsReadyOnControls, given_by};
 ghost use Rattle.page_calls.specs.Given.{IsThere};
 ghost use Rattle.page_calls.specs.Ready.{IsReadyOnPage};
 
 use crate::State;
 use crate::state::is_out_of_fuel;
-use ce_algorithms::{Given, PageDeed};
+use ce_algorithms::{ControlDeed, Given, PageDeed};
 use ce_base::NoMemory;
 use ce_page::PageStop;
-use page_calls::run;
+use page_calls::{Outcome, run, run_on_controls};
 use std::alloc::Global;
 
 impl State {
@@ -27,6 +29,29 @@ impl State {
         let outcome = run(alloc, &mut self.page, &mut self.fuel, what);
         let logged = self.after_call(is_out_of_fuel(&outcome));
         once_logged(logged, outcome)
+    }
+
+    /// Does the steps of a deed on controls, and gives what the deed gives. Each variant of `ControlDeed` names its section of
+    /// the Standard. It refuses nothing, and wants no fuel. NoMemory: see `State`.
+    pub fn on_controls(&mut self, alloc: Global, what: ControlDeed) -> Result<Given, PageStop>
+        requires { IsReadyOnControls self.old.page.forest what }
+        ensures step { Ends (λ g. g) result self.new (on_page (control_steps what) self.old) }
+        ensures there { IfOk result (IsThere self.new.page.forest) }
+        ensures grows { size self.old.page.forest ≤ size self.new.page.forest }
+    {
+        let outcome = run_on_controls(alloc, &mut self.page, what)?;
+        self.after_call(false)?;
+        Ok(given_by(outcome))
+    }
+}
+
+/// What a command on a control gives.
+fn given_by(outcome: Outcome) -> Given
+    ensures { result ≡ given_by outcome }
+{
+    match outcome {
+        Outcome::Done => Given::Nothing,
+        Outcome::Ignored => Given::Ignored,
     }
 }
 

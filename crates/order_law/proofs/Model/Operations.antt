@@ -9,6 +9,7 @@ use Rattle.ce_base.specs.declared.fault.Fault.TheVariants.{TypeError, NotSupport
 use Rattle.element_names.specs.Names.{local_name}
 use Rattle.rule_tokens.specs.declared.operand.Operand.{Operand}
 use Rattle.rule_lines.specs.declared.line.Cmd.{Cmd}
+use Rattle.rule_lines.specs.declared.line.Cmd.TheVariants as commands
 use Rattle.rule_lines.specs.declared.op.Op.{Op}
 use Rattle.rule_lines.specs.declared.op.Op.TheVariants as ops
 use Rattle.ce_registry.specs.declared.definition.Definition.{Definition}
@@ -46,7 +47,7 @@ use Rattle.order_law.proofs.Model.Lines.{plain_holds, reported_plain}
 use Rattle.order_law.proofs.Model.Steps.{came_back, at_work, Keeps}
 use Rattle.order_law.proofs.Model.Giving.{none, one, given_nodes, maybe, AfterGives, Gives, let_go, gives_bind, gives_after, gives_seq, gives_give, gives_if, gives_catch, gives_look, gives_page, gives_keeps, keeps_gives, FoundRows}
 use Rattle.order_law.proofs.Model.Nodes.{AfterMade, made_at, state_gives}
-use Rattle.order_law.proofs.Model.PageDeeds.{page_deed_nodes, page_gives, define_gives}
+use Rattle.order_law.proofs.Model.PageDeeds.{page_deed_nodes, control_gives, page_gives, define_gives}
 use Rattle.order_law.proofs.Model.Upgrading.{upgrade_after}
 use Rattle.order_law.proofs.Model.Draining.{KeepsLaw, reacting_gives}
 use Rattle.order_law.proofs.Model.Bodies.{keeps_plain, keeps_read, keeps_read_page, keeps_class, keeps_throw_if, keeps_throw_where, view_row, construct_gives, construct_for_keeps, body_keeps}
@@ -78,6 +79,9 @@ resolved rows v (ops.Let var at) row = found_node rows (node v at) _ (row at) (�
 resolved rows v op row = search found_any depth 8
 
 resolved_user : (rows : ℕ) (v : View) (c : Cmd) → FoundRows deed_nodes rows (resolve_user v c)
+resolved_user rows v (commands.UserEdit operand text) = search found_any depth 8
+resolved_user rows v (commands.UserCheck operand on) = search found_any depth 8
+resolved_user rows v (commands.UserChoose operand on) = search found_any depth 8
 resolved_user rows v c = tt
 
 -- variables
@@ -207,6 +211,7 @@ module _ (again : Again) (keeps : KeepsLaw again) where
   deed_gives (deeds.New class) h held = node_gives (construct_gives again keeps class h)
   deed_gives (deeds.Define name class base) h held = queue_gives h (gives_nothing (define_element name class base)) (λ m. nothing_gives (define_keeps name class base (InSteps m ∷ h)))
   deed_gives (deeds.OnPage deed) h held = gives_if (is_reacting_on_page deed) (queue_gives h (on_page (page_steps deed)) (λ m. on_page_gives deed (InSteps m ∷ h) held)) (on_page_gives deed h held)
+  deed_gives (deeds.OnControls deed) h held = gives_page (λ vs l. control_gives deed)
   deed_gives (deeds.Ask word n name) h held = record { at = λ s k. (k, tt) }
   deed_gives (deeds.Let var n) h held = nothing_gives (keeps_variable var n held.0)
 

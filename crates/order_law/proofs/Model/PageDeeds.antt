@@ -13,15 +13,23 @@ use Rattle.node_trees.specs.Spots.{facts_at, kind_at, parent_at}
 use Rattle.ce_registry.specs.declared.class_facts.ClassFacts.{ClassFacts}
 use Rattle.ce_registry.specs.declared.definition.Definition.{Definition}
 use Rattle.ce_registry.specs.Registry.{may_define, is_value_of}
+use Rattle.form_controls.specs.declared.control.Control.{Control}
+use Rattle.form_controls.specs.Controls.{set_value}
+use Rattle.form_controls.specs.Setting.{set_checked, set_chosen}
+use Rattle.form_controls.specs.Resetting.{clone_state}
+use Rattle.ce_algorithms.specs.declared.deed.ControlDeed.{ControlDeed}
+use Rattle.ce_algorithms.specs.declared.deed.ControlDeed.TheVariants.{Edit, Tick, Choose}
 use Rattle.ce_algorithms.specs.declared.deed.PageDeed.{PageDeed}
 use Rattle.ce_algorithms.specs.declared.deed.PageDeed.TheVariants as page_deeds
 use Rattle.ce_events.specs.declared.event.Event.{Event}
-use Rattle.ce_algorithms.specs.declared.given.Given.TheVariants.{Nothing, Node}
+use Rattle.ce_algorithms.specs.declared.given.Given.TheVariants.{Nothing, Node, Ignored}
 use Rattle.ce_algorithms.specs.Steps.{Step, Outcome, Goes, Throws, Spent, ◌>>=◌, when, for_each}
-use Rattle.ce_algorithms.specs.Page.{Work}
+use Rattle.ce_algorithms.specs.Page.{Page, Work, with_controls}
 use Rattle.ce_algorithms.specs.Page as page
 use Rattle.ce_algorithms.specs.State.{event_of}
 use Rattle.ce_algorithms.specs.Enqueue.{enqueue_upgrade, try_upgrade}
+use Rattle.ce_algorithms.specs.Forms.{forms_of}
+use Rattle.ce_algorithms.specs.Controls.{ignored_or, control_steps}
 use Rattle.ce_algorithms.specs.Clone.{copy_node, copy_below, clone}
 use Rattle.ce_algorithms.specs.Define.{new_definition, with_defined, upgrade_candidates, define_name}
 use Rattle.ce_algorithms.specs.Perform.{upgrade_all, gives_nothing, gives_node, page_steps}
@@ -29,7 +37,7 @@ use Rattle.order_law.proofs.Model.Sound.{All}
 use Rattle.order_law.proofs.Model.Invariant.{Hold}
 use Rattle.order_law.proofs.Model.Hands.{with_hands, IsHeld}
 use Rattle.order_law.proofs.Model.Making.{defined_holds}
-use Rattle.order_law.proofs.Model.Steps.{HoldsAt, Any, AfterAt, KeepsAt, at_seq, at_done, at_each, at_where, at_read}
+use Rattle.order_law.proofs.Model.Steps.{HoldsAt, Any, AfterAt, KeepsAt, at_seq, at_done, at_each, at_where, at_read, same_page}
 use Rattle.order_law.proofs.Model.Giving.{none, one, given_nodes, GivesAt, give_bind_at, give_seq_at, give_at, give_throw_if_at, give_throw_where_at, give_refuse_at, keeps_at}
 use Rattle.order_law.proofs.Model.Primitives.{try_at, upgrade_at, remove_at, adopt_at, insert_gives, set_at, unset_at}
 use Rattle.order_law.proofs.Model.Nodes.{create_later_gives, text_gives, attach_gives}
@@ -44,9 +52,19 @@ spend_at {h} {l} = record { at = λ w k. go w w.fuel k }
     go w zero k = k
     go w (suc fuel) k = record { holds = k.holds; sound = k.sound; known = tt }
 
+-- what controls keep is changed
+controls_at : {q : Trees → Type 0} {h : List Hold} {l : List Event} (f : Page → List Control → List Control) → KeepsAt q h l (page.change_page (λ p. with_controls (f p) p))
+controls_at {h} {l} f = record {
+  at = λ w k. record {
+    holds = same_page h (l ++ map event_of w.page.notes) w.page (with_controls (f w.page) w.page) refl refl refl k.holds;
+    sound = k.sound;
+    known = k.known;
+  };
+}
+
 copy_gives : {h : List Hold} {l : List Event} (from : ℕ) (x : Facts) (element : Bool) → GivesAt one h l (copy_node from x element)
 copy_gives from x true = give_bind_at (create_later_gives x.local x.is_value x.document)
-    (λ n. give_seq_at (keeps_at (at_each x.attributes (λ (a : List ℕ × List ℕ). at_seq spend_at (set_at n a.0 a.1)))) (give_seq_at (keeps_at at_done) (give_at n (inl refl, tt))))
+    (λ n. give_seq_at (keeps_at (at_each x.attributes (λ (a : List ℕ × List ℕ). at_seq spend_at (set_at n a.0 a.1)))) (give_seq_at (keeps_at (controls_at (λ p cs. clone_state cs p.forest from n))) (give_at n (inl refl, tt))))
 copy_gives from x false = text_gives x.chars x.document
 
 below_gives : (parent : ℕ) (trees : Trees) (h : List Hold) (l : List Event) → IsHeld parent h → GivesAt none h l (copy_below parent trees)
@@ -145,3 +163,14 @@ page_gives (page_deeds.Clone n deep) held = node_given (clone_gives deep n)
 page_gives (page_deeds.Adopt document n) held = nothing_gives (give_seq_at (give_throw_where_at (λ w. is_document (kind_at w.page.forest n)) NotSupportedError)
     (give_seq_at (give_throw_where_at (λ w. is_shadow_root (kind_at w.page.forest n)) HierarchyRequestError) (keeps_at (adopt_at document n (λ f apart k. tt) (λ m f k. tt)))))
 page_gives (page_deeds.Upgrade n) held = nothing_gives (keeps_at (all_at n))
+
+-- what is set on controls
+
+ignored_gives : {h : List Hold} {l : List Event} {f : Step Work (Unit {0})} (ignored : Bool) → GivesAt none h l f → GivesAt given_nodes h l (ignored_or ignored f)
+ignored_gives true x = give_at Ignored tt
+ignored_gives false x = nothing_gives x
+
+pub control_gives : {h : List Hold} {l : List Event} (deed : ControlDeed) → GivesAt given_nodes h l (control_steps deed)
+control_gives (Edit n text by_user) = give_bind_at {nodes = none} (keeps_at (at_read _)) (λ ignored. ignored_gives ignored (keeps_at (controls_at (λ p cs. set_value cs n text by_user))))
+control_gives (Tick n on by_user) = give_bind_at {nodes = none} (keeps_at (at_read _)) (λ ignored. ignored_gives ignored (keeps_at (controls_at (λ p cs. set_checked (forms_of p) cs n on))))
+control_gives (Choose option on by_user) = give_bind_at {nodes = none} (keeps_at (at_read _)) (λ ignored. ignored_gives ignored (keeps_at (controls_at (λ p cs. set_chosen cs p.forest option on))))

@@ -1,0 +1,17 @@
+use Rattle.std.proofs.Common.{◌≡◌, length}
+use Rattle.std.specs.Prelude.{filter}
+use Rattle.std.specs.List.{last_or}
+use Rattle.form_controls.specs.Checkedness.{checked_of, is_flagged}
+use Rattle.ce_algorithms.specs.Forms.{forms_of}
+use Rattle.form_owner.specs.Groups.{members_behind}
+use Rattle.form_owner.specs.Stands.{IsMemberOrNone}
+use Rattle.page_calls.proofs.groups.checked_of.Given as goal
+
+abbrev pub invariant-loop-member : goal.invariant-loop-member
+invariant-loop-member l = record {
+  member : IsMemberOrNone l.owners l.tree l.radio l.at;
+  last : checked_of (forms_of l.fn.page) l.fn.page.controls l.radio ≡ last_or l.found (filter (is_flagged l.fn.page.controls l.fn.page.forest) (members_behind (forms_of l.fn.page) l.radio l.at));
+}
+
+abbrev pub decreases-loop-member : goal.decreases-loop-member
+decreases-loop-member l = length (members_behind (forms_of l.fn.page) l.radio l.at)
