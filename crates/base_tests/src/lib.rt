@@ -1,6 +1,6 @@
 //! Tests of the crates below the page: `base` and `names` are those of ce_base and element_names, `kinds` has what
-//! elements are for forms, `owners` has form owners beside a tree, and `calls` the calls that no program makes. `rows` has
-//! what they share.
+//! elements are for forms, `owners` has form owners beside a tree, `texts` what is read of texts, and `calls` the calls that
+//! no program makes. `rows` has what they share.
 #![tactic(auto)]
 
 #[cfg(test)]
@@ -15,3 +15,5 @@ mod names;
 mod owners;
 #[cfg(test)]
 mod rows;
+#[cfg(test)]
+mod texts;
