@@ -22,7 +22,8 @@ pub grown-filter : (p : ℕ → Bool) (found xs : List ℕ) → fold (λ ns n. i
 grown-filter p found [] = sym (append-nil found)
 grown-filter p found (x ∷ xs) = by_test (p x) (λ v. grown-filter p v xs)
   where
-    by_test : (b : Bool) → ((v : List ℕ) → fold (λ ns n. if p n then ns ++ n ∷ [] else ns) v xs ≡ v ++ filter p xs) → fold (λ ns n. if p n then ns ++ n ∷ [] else ns) (cond b (found ++ x ∷ []) found) xs ≡ found ++ cond b (x ∷ filter p xs) (filter p xs)
+    by_test : (b : Bool) → ((v : List ℕ) → fold (λ ns n. if p n then ns ++ n ∷ [] else ns) v xs ≡ v ++ filter p xs) →
+        fold (λ ns n. if p n then ns ++ n ∷ [] else ns) (cond b (found ++ x ∷ []) found) xs ≡ found ++ cond b (x ∷ filter p xs) (filter p xs)
     by_test true later = later (found ++ x ∷ []) ∙ append_assoc found (x ∷ []) (filter p xs)
     by_test false later = later found
 
@@ -31,7 +32,8 @@ grown-parts parts found [] = sym (append-nil found)
 grown-parts parts found (x ∷ xs) = grown-parts parts (found ++ parts x) xs ∙ append_assoc found (parts x) (flat_map parts xs)
 
 -- one more, where it passes
-pub filter-next : (p : ℕ → Bool) (xs : List ℕ) (i x : ℕ) (found new : List ℕ) (passes : Bool) → slice_get xs i ≡ Some x → found ≡ filter p (take i xs) → passes ≡ p x → new ≡ found ++ cond passes (x ∷ []) [] → new ≡ filter p (take (i + 1) xs)
+pub filter-next : (p : ℕ → Bool) (xs : List ℕ) (i x : ℕ) (found new : List ℕ) (passes : Bool) → slice_get xs i ≡ Some x → found ≡ filter p (take i xs) →
+    passes ≡ p x → new ≡ found ++ cond passes (x ∷ []) [] → new ≡ filter p (take (i + 1) xs)
 filter-next p xs i x found new passes at so_far is longer =
     let read : get_or xs i x ≡ x = get_or_from_slice_get xs i x x at in
     longer ∙ ap (λ b. found ++ cond b (x ∷ []) []) is ∙ ap (λ ys. ys ++ cond (p x) (x ∷ []) []) so_far
@@ -40,11 +42,11 @@ filter-next p xs i x found new passes at so_far is longer =
 -- what holds of each of a list
 
 module _ (P : ℕ → Type 0) where
-  pub all-among : (xs : List ℕ) → ((n : ℕ) → is_among n xs ≡ true → P n) → All P xs
+  all-among : (xs : List ℕ) → ((n : ℕ) → is_among n xs ≡ true → P n) → All P xs
   all-among [] h = All-nil P
   all-among (x ∷ xs) h = All-cons P x xs (h x (grind (arith, nat_tests))) (all-among xs (λ n e. h n (grind (arith, nat_tests))))
 
-  pub all-flat : (parts : ℕ → List ℕ) (xs : List ℕ) → ((n : ℕ) → is_among n xs ≡ true → All P (parts n)) → All P (flat_map parts xs)
+  all-flat : (parts : ℕ → List ℕ) (xs : List ℕ) → ((n : ℕ) → is_among n xs ≡ true → All P (parts n)) → All P (flat_map parts xs)
   all-flat parts [] h = All-nil P
   all-flat parts (x ∷ xs) h = All-append P (parts x) (flat_map parts xs) (h x (grind (arith, nat_tests))) (all-flat parts xs (λ n e. h n (grind (arith, nat_tests))))
 
@@ -64,7 +66,7 @@ module _ (P : ℕ → Type 0) where
   all-either None b one other = other
   all-either (Some x) b one other = one
 
-  pub all-one : (f : Trees) (selected options : List ℕ) → All P selected → All P options → All P (option_to_list (chosen_one f selected options))
+  all-one : (f : Trees) (selected options : List ℕ) → All P selected → All P options → All P (option_to_list (chosen_one f selected options))
   all-one f selected options some all =
       all-either (last_or None selected) (first_enabled f options) (all-last None selected (All-nil P) some) (all-find _ options all)
 

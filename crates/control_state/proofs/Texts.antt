@@ -54,6 +54,6 @@ module _ (f : Trees) (test : List ℕ → Bool) (nothing : test [] ≡ true) (pi
       regroup true b c = refl
       regroup false b c = refl
 
-  -- a text of which one piece doesn't
+  -- a text of which one piece does not
   pub still-fails : (xs : List ℕ) (next : Option ℕ) → Walks f xs (still f test) true false next → false ≡ test (concat (map (chars_at f) xs))
   still-fails xs next walk = sym (still-is false (left_from next xs)) ∙ sym walk.is ∙ still-is true xs

@@ -6,7 +6,7 @@ use Rattle.node_trees.specs.Trees.{Trees}
 use Rattle.node_trees.specs.Nodes.{IsNode, IsNodeOrNone, IsTidy}
 use Rattle.node_trees.specs.Orders.{tree_order_of}
 use Rattle.node_trees.specs.Paths.{is_among}
-use Rattle.node_trees.specs.Spots.{after, children_at, first_child_at, first_of, next_among, next_sibling_at}
+use Rattle.node_trees.specs.Spots.{after, children_at, first_of, next_among, next_sibling_at}
 use Rattle.tree_laws.proofs.Counts.{AreApart}
 use Rattle.tree_laws.proofs.InOrder.{member_is_node}
 use Rattle.tree_laws.proofs.Children.{child-node, child-parent, children_at-apart, order-begins, tree_order-apart}
@@ -58,9 +58,6 @@ module _ (f : Trees) (p : ℕ) (tidy : IsTidy f) (node : IsNode f p) {S : Type 0
       let here = subst (Walks f (children_at f p) step start now) is walk in
       e ∙ ap (next_among f n) (child-parent f p tidy node n here.among)
 
-  pub walk-begins : (next : Option ℕ) → next ≡ first_child_at f p → Walks f (children_at f p) step start start next
-  walk-begins next e = begins f (children_at f p) (children_at-apart f p tidy node) (child-node f p tidy node) step start next e
-
   pub walk-on : (now new : S) (at next : Option ℕ) (n : ℕ) → Walks f (children_at f p) step start now at → at ≡ Some n →
       next ≡ next_sibling_at f n → new ≡ step now n → Walks f (children_at f p) step start new next
   walk-on now new at next n walk is e made =
@@ -96,7 +93,8 @@ pub fold-filter : {S : Type 0} (step : S → ℕ → S) (passes : ℕ → Bool) 
 fold-filter step passes s [] = refl
 fold-filter {S = S} step passes s (x ∷ xs) = by_test (passes x) (λ v. fold-filter step passes v xs)
   where
-    by_test : (b : Bool) → ((v : S) → fold (λ w n. if passes n then step w n else w) v xs ≡ fold step v (filter passes xs)) → fold (λ w n. if passes n then step w n else w) (cond b (step s x) s) xs ≡ fold step s (cond b (x ∷ filter passes xs) (filter passes xs))
+    by_test : (b : Bool) → ((v : S) → fold (λ w n. if passes n then step w n else w) v xs ≡ fold step v (filter passes xs)) →
+        fold (λ w n. if passes n then step w n else w) (cond b (step s x) s) xs ≡ fold step s (cond b (x ∷ filter passes xs) (filter passes xs))
     by_test true later = later (step s x)
     by_test false later = later s
 

@@ -1,5 +1,5 @@
 // Which options of a select are chosen.
-ghost use Rattle.std.specs.Prelude.{◌≡◌, ◌<◌, ◌++◌, ◌∷◌, [], All, Some, None, filter, fold, if◌then◌else◌, length, slice_get, IfOk, OnOk};
+ghost use Rattle.std.specs.Prelude.{◌≡◌, ◌<◌, ◌++◌, ◌∷◌, [], All, Some, filter, if◌then◌else◌, length, slice_get, IfOk, OnOk};
 ghost use Rattle.std.specs.Option.{option_to_list};
 ghost use Rattle.node_trees.specs.Nodes.{IsNode};
 ghost use Rattle.node_trees.specs.Spots.{first_of};
@@ -169,11 +169,10 @@ impl ControlTable {
         requires { IsNode tree.now select }
         ensures { result ≡ first_of (chosen self.now tree.now select) }
     {
-        let found = found_in(self, tree, select);
         if is_multiple(tree, select) {
-            found.first
+            found_in(self, tree, select).first
         } else {
-            found.last.or(found.enabled)
+            self.chosen_one(tree, select)
         }
     }
 }

@@ -1,7 +1,6 @@
 // What is set.
 ghost use Rattle.std.specs.Prelude.{◌≡◌, ◌-◌, ◌<◌, Some, length, option_copied, slice_set, IfOk, OnOk};
 ghost use Rattle.form_controls.specs.Controls.{control_at, untouched};
-ghost use Rattle.form_controls.specs.Rows.{row_at};
 ghost use Rattle.control_state.specs.Filling.{IsFilled};
 
 use crate::table::place_of;

@@ -1,12 +1,10 @@
 // Where the value of a control comes from.
 ghost use Rattle.std.specs.Prelude.{◌≡◌, [], codes, unwrap_or};
-ghost use Rattle.element_names.specs.InputKinds.{input_kind};
 ghost use Rattle.node_trees.specs.Nodes.{IsNode};
 ghost use Rattle.node_trees.specs.Spots.{attribute_at};
 ghost use Rattle.form_controls.specs.Controls.{control_at};
-ghost use Rattle.form_controls.specs.Options.{chosen, option_value};
-ghost use Rattle.form_controls.specs.Texts.{normalized};
-ghost use Rattle.form_controls.specs.Values.{child_text, first_value, input_value, value};
+ghost use Rattle.form_controls.specs.Options.{option_value};
+ghost use Rattle.form_controls.specs.Values.{value, value_by};
 ghost use Rattle.control_state.specs.Sources.{value_from, IsOfNode};
 
 use crate::ControlTable;
@@ -69,7 +67,7 @@ impl ControlTable {
     /// "default/on").
     fn input_source<'a>(&'a self, tree: &'a Tree, n: NodeNo) -> Source<'a>
         requires { IsNode tree.now n }
-        ensures value { value_from tree.now result ≡ input_value (input_kind (attribute_at tree.now n (codes "type"))) (control_at self.now n).value (attribute_at tree.now n (codes "value")) }
+        ensures value { value_from tree.now result ≡ value_by Native.Input self.now tree.now n }
         ensures node { IsOfNode tree.now result }
     {
         match input_kind(tree.attr(n, "type")) {
@@ -83,7 +81,7 @@ impl ControlTable {
     /// The value of a textarea: its raw value, or the texts among its children.
     fn textarea_source<'a>(&'a self, tree: &'a Tree, n: NodeNo) -> Source<'a>
         requires { IsNode tree.now n }
-        ensures value { value_from tree.now result ≡ normalized (unwrap_or (control_at self.now n).value (child_text tree.now n)) }
+        ensures value { value_from tree.now result ≡ value_by Native.Textarea self.now tree.now n }
         ensures node { IsOfNode tree.now result }
     {
         match self.raw(n) {
@@ -95,7 +93,7 @@ impl ControlTable {
     /// The value of a select: that of its first chosen option.
     fn select_source<'a>(&self, tree: &'a Tree, select: NodeNo) -> Source<'a>
         requires { IsNode tree.now select }
-        ensures value { value_from tree.now result ≡ first_value tree.now (chosen self.now tree.now select) }
+        ensures value { value_from tree.now result ≡ value_by Native.Select self.now tree.now select }
         ensures node { IsOfNode tree.now result }
     {
         let _count = tree.count();

@@ -15,10 +15,12 @@ pub loop-next-preserved : goal.loop-next-preserved
 loop-next-preserved c = record {
   text = joined c.args.tree.now c.loop-next.invariant.text c.in-Some.at;
   walk = order-on _ _ c.count-count.ensures.tidy _ _ _ _ _ _ _ c.loop-next.invariant.walk c.in-Some.is c.next_in_tree-next.ensures.next refl;
-  counts = subst (λ v. CountsCollapsed c.take.new.self (c.loop-next.invariant.text ++ v)) c.chars.ensures.chars (c.take.ensures c.loop-next.invariant.text c.loop-next.invariant.counts);
+  counts = subst (λ v. CountsCollapsed c.take.new.self (c.loop-next.invariant.text ++ v)) c.chars.ensures.chars
+      (c.take.ensures c.loop-next.invariant.text c.loop-next.invariant.counts);
 }
 
 pub returns : goal.returns
 returns c =
     c.count.ensures _
-    (subst (CountsCollapsed c.loop-next.counter) (walk-ends _ _ _ _ _ _ c.loop-next.invariant.walk c.in_default.is ∙ joined-is c.args.tree.now (tree_order_of c.args.tree.now c.args.n)) c.loop-next.invariant.counts)
+    (subst (CountsCollapsed c.loop-next.counter) (walk-ends _ _ _ _ _ _ c.loop-next.invariant.walk c.in_default.is
+    ∙ joined-is c.args.tree.now (tree_order_of c.args.tree.now c.args.n)) c.loop-next.invariant.counts)
