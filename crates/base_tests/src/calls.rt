@@ -46,7 +46,7 @@ fn attach(rt: &impl Abort, alloc: Global, tree: &mut Tree, host: u64) -> Result<
     Ok(())
 }
 
-fn append(
+pub(crate) fn append(
     rt: &impl Abort,
     alloc: Global,
     tree: &mut Tree,
