@@ -5,6 +5,8 @@ pub mod Corners
 pub mod CornerLogs
 pub mod Forms
 pub mod FormLogs
+pub mod Controls
+pub mod ControlLogs
 use Rattle.std.specs.Prelude.{ℕ, not, List, filter, Result}
 use Rattle.rule_lines.specs.Acts.{Said}
 use Rattle.rule_tokens.specs.declared.refused.Bad.{Bad}

@@ -5,6 +5,8 @@ ghost use Rattle.rule_lines.specs.declared.line.Cmd.{Cmd};
 ghost use Rattle.rule_tokens.specs.declared.refused.Bad.{Bad};
 ghost use Rattle.ce_algorithms.specs.Calls.{Call};
 ghost use Rattle.ce_events.specs.declared.event.Event.{Event};
+ghost use Rattle.ce_algorithms.specs.Worked.ControlLogs as control_logs;
+ghost use Rattle.ce_algorithms.specs.Worked.Controls as controls;
 ghost use Rattle.ce_algorithms.specs.Worked.CornerLogs as corner_logs;
 ghost use Rattle.ce_algorithms.specs.Worked.Corners as corners;
 ghost use Rattle.ce_algorithms.specs.Worked.FormLogs as form_logs;
@@ -132,4 +134,12 @@ pub fn worked_owners()
     ensures owner { seen 1000 forms.owner ≡ form_logs.owner }
     ensures disabled { seen 1000 forms.disabled ≡ form_logs.disabled }
     ensures both { seen 1000 forms.owner_disabled ≡ form_logs.owner_disabled }
+{}
+
+/// The model computes: what controls keep, of radio groups, texts and options.
+#[tactic(auto, using(crate::proofs::Rows::radios_logs, crate::proofs::Rows::texts_logs, crate::proofs::Rows::options_logs))]
+pub fn worked_controls()
+    ensures radios { seen 1000 controls.radios ≡ control_logs.radios }
+    ensures texts { seen 1000 controls.texts ≡ control_logs.texts }
+    ensures options { seen 1000 controls.options ≡ control_logs.options }
 {}
