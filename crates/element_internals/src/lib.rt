@@ -1,0 +1,11 @@
+//! What ElementInternals keeps of elements: submission values and states, and custom states (HTML Standard, sections
+//! "Element internals", "Form-associated custom elements", "Custom state pseudo-class").
+#![tactic(auto)]
+
+mod attaching;
+mod reading;
+mod states;
+mod table;
+mod values;
+
+pub use table::InternalsTable;

@@ -1,0 +1,42 @@
+// What is read.
+ghost use Rattle.std.specs.Prelude.{◌≡◌, true};
+ghost use Rattle.form_controls.specs.Internals.{is_attached, kept_by};
+
+use crate::InternalsTable;
+use ce_base::{NodeNo, Texts};
+use form_controls::{Internals, Value};
+
+impl InternalsTable {
+    fn kept(&self, n: NodeNo) -> &Internals
+        requires { is_attached self.now n ≡ true }
+        ensures { result.now ≡ kept_by self.now n }
+    {
+        self.row(n).unwrap()
+    }
+
+    /// The submission value of an element (HTML Standard, section "Form-associated custom elements", "submission
+    /// value").
+    pub fn form_value(&self, n: NodeNo) -> &Value
+        requires { is_attached self.now n ≡ true }
+        ensures { result.now ≡ (kept_by self.now n).value }
+    {
+        &self.kept(n).value
+    }
+
+    /// The state of an element (HTML Standard, section "Form-associated custom elements", "state").
+    pub fn saved(&self, n: NodeNo) -> &Value
+        requires { is_attached self.now n ≡ true }
+        ensures { result.now ≡ (kept_by self.now n).saved }
+    {
+        &self.kept(n).saved
+    }
+
+    /// The custom states of an element, in the order of adding (HTML Standard, section "Custom state pseudo-class",
+    /// "states set").
+    pub fn states(&self, n: NodeNo) -> &Texts
+        requires { is_attached self.now n ≡ true }
+        ensures { result.now ≡ (kept_by self.now n).states }
+    {
+        &self.kept(n).states
+    }
+}

@@ -1,0 +1,108 @@
+// Custom states.
+ghost use Rattle.std.specs.Prelude.{◌≡◌, true, bytes_eq, OnOk};
+ghost use Rattle.std.specs.List.{list_any};
+ghost use Rattle.form_controls.specs.Internals.{add_state, clear_states, delete_state, is_attached, may_change_states, with_state};
+ghost use Rattle.element_internals.specs.Calls.{Changes, Writes};
+
+use crate::InternalsTable;
+use crate::table::place_of;
+use ce_base::{Fault, NoMemory, NodeNo, Refused, Text, Texts};
+use form_controls::Internals;
+use std::alloc::Global;
+
+/// Whether a state is among others.
+fn has_state(states: &Texts, s: &str) -> bool
+    ensures { result ≡ list_any (bytes_eq s.now) states.now }
+{
+    states.as_slice().iter().any(|t| s == t.as_str())
+}
+
+/// Puts a state behind others, where it is not among them.
+fn put_state(alloc: Global, states: &mut Texts, s: Text) -> Result<(), NoMemory>
+    ensures { OnOk result (states.new ≡ with_state states.old s) }
+{
+    if has_state(states, s.as_str()) {
+        return Ok(());
+    }
+    states.push(alloc, s)
+}
+
+/// Puts a state behind those of an element that has internals, where it is not among them.
+fn write_state(
+    alloc: Global,
+    rows: &mut [Option<Internals>],
+    n: NodeNo,
+    s: Text,
+) -> Result<(), NoMemory>
+    requires { is_attached rows.old n ≡ true }
+    ensures { OnOk result (rows.new ≡ add_state rows.old n s) }
+{
+    match &mut rows[place_of(n)] {
+        None => unreachable!(),
+        Some(kept) => put_state(alloc, &mut kept.states, s)?,
+    }
+    Ok(())
+}
+
+/// Leaves a state out of those of an element that has internals.
+fn leave_out(rows: &mut [Option<Internals>], n: NodeNo, s: &str)
+    requires { is_attached rows.old n ≡ true }
+    ensures { rows.new ≡ delete_state rows.old n s.now }
+{
+    match &mut rows[place_of(n)] {
+        None => unreachable!(),
+        Some(kept) => kept.states.remove(s),
+    }
+}
+
+/// Leaves out all states of an element that has internals.
+fn leave_out_all(rows: &mut [Option<Internals>], n: NodeNo)
+    requires { is_attached rows.old n ≡ true }
+    ensures { rows.new ≡ clear_states rows.old n }
+{
+    match &mut rows[place_of(n)] {
+        None => unreachable!(),
+        Some(kept) => kept.states.clear(),
+    }
+}
+
+impl InternalsTable {
+    /// Adds a custom state to those of an element, behind the others; one that is there stays where it is (HTML
+    /// Standard, section "Custom state pseudo-class", `CustomStateSet`, "add"). It throws TypeError where the element
+    /// has no internals. After a fault nothing has changed; after NoMemory the table is only dropped.
+    pub fn add_state(&mut self, alloc: Global, n: NodeNo, s: Text) -> Result<(), Refused>
+        ensures { Writes result (may_change_states self.old n) self.old self.new (add_state self.old n s) }
+    {
+        if !self.attached(n) {
+            return Err(Refused::Fault(Fault::TypeError));
+        }
+        write_state(alloc, &mut self.rows, n, s)?;
+        Ok(())
+    }
+
+    /// Deletes a custom state of an element, where it is there (HTML Standard, section "Custom state pseudo-class",
+    /// `CustomStateSet`, "delete"). It throws TypeError where the element has no internals, and then nothing has
+    /// changed. It takes no memory.
+    pub fn delete_state(&mut self, n: NodeNo, s: &str) -> Result<(), Fault>
+        ensures { Changes result (may_change_states self.old n) self.old self.new (delete_state self.old n s.now) }
+    {
+        if !self.attached(n) {
+            return Err(Fault::TypeError);
+        }
+        leave_out(&mut self.rows, n, s);
+        Ok(())
+    }
+
+    /// Deletes all custom states of an element (HTML Standard, section "Custom state pseudo-class", `CustomStateSet`,
+    /// "clear"). It throws TypeError where the element has no internals, and then nothing has changed. It takes no
+    /// memory.
+    pub fn clear_states(&mut self, n: NodeNo) -> Result<(), Fault>
+        ensures { Changes result (may_change_states self.old n) self.old self.new (clear_states self.old n) }
+    {
+        if !self.attached(n) {
+            return Err(Fault::TypeError);
+        }
+        leave_out_all(&mut self.rows, n);
+        Ok(())
+    }
+}
