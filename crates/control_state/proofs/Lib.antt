@@ -1,4 +1,3 @@
-pub mod Tables
 pub mod Left
 pub mod Walks
 pub mod Listing

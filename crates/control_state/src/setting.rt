@@ -1,7 +1,7 @@
 // What is set.
 ghost use Rattle.std.specs.Prelude.{◌≡◌, ◌-◌, ◌<◌, Some, length, option_copied, slice_set, IfOk, OnOk};
 ghost use Rattle.form_controls.specs.Controls.{control_at, untouched};
-ghost use Rattle.control_state.specs.Filling.{IsFilled};
+ghost use Rattle.form_controls.specs.Filling.{IsFilled};
 
 use crate::table::place_of;
 use ce_base::{NoMemory, NodeNo, Text};

@@ -1,35 +1,18 @@
--- Tables that are filled up by blank rows and written, whatever their rows are.
+-- Tables that are filled up and written over, and rows that are changed where they are there.
 use Rattle.std.proofs.Common.{◌≡◌, ℕ, zero, suc, ◌<◌, ◌≤◌, true, Option, Some, None, List, [], ◌∷◌, ◌++◌, length, get_or, refl, ap, sym, ◌∙◌, arith}
 use Rattle.std.specs.Prelude.{is_some, slice_set, unwrap_or}
 use Rattle.form_controls.specs.Rows.{row_at, with_row}
-use Rattle.element_internals.specs.Filling.{IsFilled}
+use Rattle.form_controls.specs.Filling.{IsFilled}
+use Rattle.form_controls.proofs.Filled.{with_row-within}
 
 module _ {A : Type 0} (blank : A) where
-  -- a blank row behind
-  with_row-behind : (rows : List A) (i : ℕ) (x : A) → length rows ≤ i → with_row blank (rows ++ blank ∷ []) i x ≡ with_row blank rows i x
-  with_row-behind [] zero x past = refl
-  with_row-behind [] (suc i) x past = refl
-  with_row-behind (y ∷ ys) zero x past = absurd (omega arith)
-  with_row-behind (y ∷ ys) (suc i) x past = ap (λ v. y ∷ v) (with_row-behind ys i x (omega arith))
-
-  pub filled-next : (i : ℕ) (old rows new : List A) → IsFilled blank i old rows → length rows ≤ i → new ≡ rows ++ blank ∷ [] → IsFilled blank i old new
-  filled-next i old rows new filled past e = record {
-    written = λ x. ap (λ v. with_row blank v i x) e ∙ with_row-behind rows i x past ∙ filled.written x;
-  }
-
-  -- within the table a row is written in its place
-  pub with_row-within : (rows : List A) (i : ℕ) (x : A) → i < length rows → with_row blank rows i x ≡ slice_set rows i x
-  with_row-within [] i x within = absurd (omega arith)
-  with_row-within (y ∷ ys) zero x within = refl
-  with_row-within (y ∷ ys) (suc i) x within = ap (λ v. y ∷ v) (with_row-within ys i x (omega arith))
-
-  -- so what is written where the table is filled up is written into the table that stood there
+  -- what is written where the table is filled up is written into the table that stood there
   pub filled-written : (i place : ℕ) (old was rows slice written new : List A) (x : A) → place ≡ i → was ≡ old → slice ≡ rows → new ≡ written →
       IsFilled blank place was rows → place < length rows → written ≡ slice_set slice place x → new ≡ with_row blank old i x
   filled-written i place old was rows slice written new x at table lent back filled within e =
       back ∙ e
       ∙ ap (λ v. slice_set v place x) lent
-      ∙ sym (with_row-within rows place x within)
+      ∙ sym (with_row-within blank rows place x within)
       ∙ filled.written x
       ∙ ap (λ v. with_row blank v place x) table
       ∙ ap (λ p. with_row blank old p x) at

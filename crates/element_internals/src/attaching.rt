@@ -2,7 +2,7 @@
 ghost use Rattle.std.specs.Prelude.{◌≡◌, ◌<◌, None, Some, length, slice_set, OnOk};
 ghost use Rattle.form_controls.specs.Internals.{attach, may_attach, new_internals};
 ghost use Rattle.element_internals.specs.Calls.{Writes};
-ghost use Rattle.element_internals.specs.Filling.{IsFilled};
+ghost use Rattle.form_controls.specs.Filling.{IsFilled};
 
 use crate::InternalsTable;
 use crate::table::place_of;

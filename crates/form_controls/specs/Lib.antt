@@ -4,6 +4,7 @@ pub mod Disabled
 pub mod Changes
 pub mod Differences
 pub mod Rows
+pub mod Filling
 pub mod Controls
 pub mod Texts
 pub mod Options

@@ -1,6 +1,6 @@
 use Rattle.std.proofs.Common.{arith}
 use Rattle.form_controls.specs.Controls.{untouched}
-use Rattle.control_state.proofs.Tables.{filled-next}
+use Rattle.form_controls.proofs.Filled.{filled-next}
 use Rattle.control_state.proofs.setting.fill.Goals as goal
 
 pub loop-alloc-preserved : goal.loop-alloc-preserved

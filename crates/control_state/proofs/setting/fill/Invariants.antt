@@ -1,6 +1,6 @@
 use Rattle.std.proofs.Common.{◌+◌, ◌-◌, length}
 use Rattle.form_controls.specs.Controls.{untouched}
-use Rattle.control_state.specs.Filling.{IsFilled}
+use Rattle.form_controls.specs.Filling.{IsFilled}
 use Rattle.control_state.proofs.setting.fill.Given as goal
 
 abbrev pub invariant-loop-alloc : goal.invariant-loop-alloc

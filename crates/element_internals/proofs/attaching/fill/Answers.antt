@@ -1,5 +1,5 @@
 use Rattle.std.proofs.Common.{None, arith}
-use Rattle.element_internals.proofs.Tables.{filled-next}
+use Rattle.form_controls.proofs.Filled.{filled-next}
 use Rattle.element_internals.proofs.attaching.fill.Goals as goal
 
 pub loop-rows-preserved : goal.loop-rows-preserved

@@ -1,5 +1,5 @@
 use Rattle.std.proofs.Common.{None, ◌+◌, ◌-◌, length}
-use Rattle.element_internals.specs.Filling.{IsFilled}
+use Rattle.form_controls.specs.Filling.{IsFilled}
 use Rattle.element_internals.proofs.attaching.fill.Given as goal
 
 abbrev pub invariant-loop-rows : goal.invariant-loop-rows

@@ -2,7 +2,7 @@ use Rattle.std.proofs.Common.{ap, arith, ◌-◌, ◌∙◌}
 use Rattle.std.proofs.lemmas.List.{with_items_is}
 use Rattle.form_controls.specs.Controls.{untouched, control_at, change_control}
 use Rattle.form_controls.specs.declared.control.Control.{Control}
-use Rattle.control_state.proofs.Tables.{changed-at}
+use Rattle.form_controls.proofs.Filled.{changed-at}
 use Rattle.control_state.proofs.table.ControlTable.copy_state.Goals as goal
 
 pub returns : goal.returns

@@ -2,7 +2,7 @@ use Rattle.std.proofs.Common.{Some, arith, ◌-◌}
 use Rattle.std.proofs.lemmas.List.{with_items_is}
 use Rattle.form_controls.specs.Controls.{untouched}
 use Rattle.form_controls.specs.declared.control.Control.{Control}
-use Rattle.control_state.proofs.Tables.{changed-at}
+use Rattle.form_controls.proofs.Filled.{changed-at}
 use Rattle.control_state.proofs.table.ControlTable.set_flag.Goals as goal
 
 pub returns : goal.returns

@@ -2,7 +2,7 @@
 use Rattle.std.proofs.Common.{◌≡◌, ℕ, zero, suc, ◌<◌, ◌≤◌, List, [], ◌∷◌, ◌++◌, length, refl, ap, sym, ◌∙◌, subst, arith}
 use Rattle.std.specs.Prelude.{slice_set}
 use Rattle.form_controls.specs.Rows.{row_at, with_row}
-use Rattle.control_state.specs.Filling.{IsFilled}
+use Rattle.form_controls.specs.Filling.{IsFilled}
 
 module _ {A : Type 0} (blank : A) where
   -- a blank row behind
@@ -25,7 +25,7 @@ module _ {A : Type 0} (blank : A) where
   }
 
   -- within the table a row is written in its place
-  with_row-within : (rows : List A) (i : ℕ) (x : A) → i < length rows → with_row blank rows i x ≡ slice_set rows i x
+  pub with_row-within : (rows : List A) (i : ℕ) (x : A) → i < length rows → with_row blank rows i x ≡ slice_set rows i x
   with_row-within [] i x within = absurd (omega arith)
   with_row-within (y ∷ ys) zero x within = refl
   with_row-within (y ∷ ys) (suc i) x within = ap (λ v. y ∷ v) (with_row-within ys i x (omega arith))
