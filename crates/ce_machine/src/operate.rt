@@ -19,7 +19,7 @@ ghost use Rattle.ce_reactions.specs.Blind.{BlindAt};
 ghost use Rattle.ce_machine.specs.Turns.{naming};
 ghost use Rattle.ce_reactions.specs.Turns.{Turns};
 ghost use Rattle.page_calls.specs.Given.{IsThere};
-ghost use Rattle.ce_reactions.specs.Placed.{Lasts, StaysPlaced};
+ghost use Rattle.ce_reactions.specs.Placed.{StaysPlaced};
 ghost use Rattle.ce_operations.specs.OnControls.{IsByUser};
 ghost use Rattle.ce_operations.specs.Ready.{IsReady};
 

@@ -1,5 +1,5 @@
 -- Tables that are filled up and written over, and rows that are changed where they are there.
-use Rattle.std.proofs.Common.{◌≡◌, ℕ, zero, suc, ◌<◌, ◌≤◌, true, Option, Some, None, List, [], ◌∷◌, ◌++◌, length, get_or, refl, ap, sym, ◌∙◌, arith}
+use Rattle.std.proofs.Common.{◌≡◌, ℕ, zero, suc, ◌<◌, true, Option, Some, None, List, [], ◌∷◌, length, get_or, refl, ap, sym, ◌∙◌, arith}
 use Rattle.std.specs.Prelude.{is_some, slice_set, unwrap_or}
 use Rattle.form_controls.specs.Rows.{row_at, with_row}
 use Rattle.form_controls.specs.Filling.{IsFilled}

@@ -1,5 +1,5 @@
 // Commands on controls, by a script and by the user.
-ghost use Rattle.std.specs.Prelude.{◌≡◌, ℕ, IfOk, OnOk};
+ghost use Rattle.std.specs.Prelude.{◌≡◌, ℕ, IfOk};
 ghost use Rattle.node_trees.specs.Nodes.{IsNode};
 ghost use Rattle.form_controls.specs.Setting.{is_choice_ignored, is_edit_ignored, set_checked, set_chosen};
 ghost use Rattle.ce_algorithms.specs.declared.deed.ControlDeed.TheVariants as deeds;

@@ -20,14 +20,12 @@ use Rattle.ce_algorithms.specs.declared.deed.PageDeed.{PageDeed}
 use Rattle.ce_events.specs.declared.event.Event.TheVariants.{Reported}
 use Rattle.ce_algorithms.specs.declared.given.Given.{Given}
 use Rattle.ce_algorithms.specs.declared.given.Given.TheVariants.{Nothing, Node, Answers, Ignored}
-use Rattle.ce_algorithms.specs.declared.fit.Fit.TheVariants.{ElementOrText}
 use Rattle.ce_algorithms.specs.Steps.{Step, Outcome, Goes, Throws, Spent, then_do, ◌>>=◌, ◌>>◌, give, catch, catch_in}
 use Rattle.ce_algorithms.specs.Page.{Work, element_of, definition_at}
 use Rattle.ce_algorithms.specs.State.{State, View, logged, view, on_page, with_outcome, work_of, set_variable, put_variable, class_of}
 use Rattle.ce_algorithms.specs.Calls.{Again}
-use Rattle.ce_algorithms.specs.Operands.{node, node_that, element, document, document_or_page, class}
+use Rattle.ce_algorithms.specs.Operands.{node}
 use Rattle.ce_algorithms.specs.Operands as operands
-use Rattle.ce_algorithms.specs.Questions.{question}
 use Rattle.ce_algorithms.specs.Enqueue.{lookup_in}
 use Rattle.ce_algorithms.specs.CreateLater.{make_in_state, first_state}
 use Rattle.ce_algorithms.specs.Create.{is_no_element, is_unfit, fitting, create_failed, upgrade_failed, create_extended, create_defined, create_found}

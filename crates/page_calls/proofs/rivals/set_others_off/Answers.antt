@@ -1,4 +1,4 @@
-use Rattle.std.proofs.Common.{◌≡◌, ap, sym, ◌∙◌}
+use Rattle.std.proofs.Common.{ap, sym, ◌∙◌}
 use Rattle.ce_algorithms.specs.Page.{Page, with_controls}
 use Rattle.page_calls.proofs.RivalLaws.{off-step}
 use Rattle.page_calls.proofs.rivals.set_others_off.Goals as goal
