@@ -1,6 +1,7 @@
 //! Tests of the crates below the page: `base` and `names` are those of ce_base and element_names, `kinds` has what
-//! elements are for forms, `owners` has form owners beside a tree, `controls` what controls keep beside one, `texts` what is
-//! read of texts, and `calls` the calls that no program makes. `rows` has what they share.
+//! elements are for forms, `owners` has form owners beside a tree, `controls` what controls keep beside one, `internals` what
+//! ElementInternals keeps, `texts` what is read of texts, and `calls` the calls that no program makes. `rows` has what they
+//! share.
 #![tactic(auto)]
 
 #[cfg(test)]
@@ -9,6 +10,8 @@ mod base;
 mod calls;
 #[cfg(test)]
 mod controls;
+#[cfg(test)]
+mod internals;
 #[cfg(test)]
 mod kinds;
 #[cfg(test)]
