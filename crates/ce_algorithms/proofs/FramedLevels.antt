@@ -14,7 +14,7 @@ use Rattle.ce_registry.specs.declared.definition.Definition.{Definition}
 use Rattle.ce_registry.specs.Registry.{is_autonomous}
 use Rattle.ce_algorithms.specs.declared.deed.Deed.{Deed}
 use Rattle.ce_algorithms.specs.declared.deed.Deed.TheVariants as deeds
-use Rattle.ce_algorithms.specs.declared.deed.Deed.TheVariants.{OnPage, OnControls}
+use Rattle.ce_algorithms.specs.declared.deed.Deed.TheVariants.{OnPage, OnControls, OnInternals, OnForms}
 use Rattle.ce_algorithms.specs.declared.given.Given.{Given}
 use Rattle.ce_algorithms.specs.declared.given.Given.TheVariants.{Nothing, Node, Answers, Ignored}
 use Rattle.ce_algorithms.specs.Steps.{Step}
@@ -29,7 +29,7 @@ use Rattle.ce_algorithms.specs.Upgrade.{construct_for, drop_reactions, upgrade_t
 use Rattle.ce_algorithms.specs.Drain.{log_call, call_back, call_defined, run_reaction, react, drain, open_queue, pop_queue, drain_popped, reacting, with_backup, drain_first, drain_backup}
 use Rattle.ce_algorithms.specs.Create.{construct_fit, create_failed, upgrade_failed, create_extended, create_defined, create_found, create}
 use Rattle.ce_algorithms.specs.Controls.{control_steps}
-use Rattle.ce_algorithms.specs.Perform.{create_named, define_element, gives_nothing, gives_node, page_steps, steps, perform_deed, keep, kept, operate, act_as_user}
+use Rattle.ce_algorithms.specs.Perform.{create_named, define_element, gives_nothing, gives_node, page_steps, internals_steps, form_steps, steps, perform_deed, keep, kept, operate, act_as_user}
 use Rattle.ce_algorithms.specs.Deeds.{resolve, resolve_user, is_reacting, variable}
 use Rattle.ce_algorithms.specs.Model.{level}
 use Rattle.ce_algorithms.proofs.Framed.{Framed, framed_steps, framed_bind, framed_seq, framed_give, framed_done, framed_read, framed_read_page, framed_look, framed_change_page, framed_log, framed_on_page, framed_spend, framed_set_variable, framed_list, framed_if, framed_catch, framed_finally}
@@ -211,6 +211,8 @@ module _ (again : Again) (below : (call : Call) → Framed (again call)) where
   steps_framed (deeds.Define name class base) = framed_gives_nothing (framed_define_element name class base)
   steps_framed (OnPage what) = framed_on_page (page_steps what)
   steps_framed (OnControls what) = framed_on_page (control_steps what)
+  steps_framed (OnInternals what) = framed_on_page (internals_steps what)
+  steps_framed (OnForms what) = framed_on_page (form_steps what)
   steps_framed (deeds.Ask word n name) = framed_read _ (λ events s. refl)
   steps_framed (deeds.Let var n) = framed_gives_nothing (framed_set_variable var n)
 

@@ -72,6 +72,7 @@ lower = record {
   node = λ f w. omega arith;
   stacks = λ f w. omega arith;
   controls = λ cs w. omega arith;
+  internals = λ is w. omega arith;
   spent = λ k w e. omega (arith, e);
   enqueued = enqueued_lower;
 }

@@ -5,27 +5,38 @@ use Rattle.ce_base.specs.declared.fault.Fault.{Fault}
 use Rattle.node_trees.specs.Facts.{Facts, new_element, new_text, is_element}
 use Rattle.node_trees.specs.Trees.{Trees, none, tree}
 use Rattle.reaction_queue.specs.declared.reaction.Reaction.{Reaction}
-use Rattle.reaction_queue.specs.declared.reaction.Reaction.TheVariants.{Upgrade, Connected, FormAssociated, FormDisabled}
+use Rattle.reaction_queue.specs.declared.reaction.Reaction.TheVariants.{Upgrade, Connected, FormAssociated, FormDisabled, FormReset}
 use Rattle.reaction_queue.specs.Queues.{enqueued}
 use Rattle.ce_registry.specs.declared.class_facts.ClassFacts.{ClassFacts}
 use Rattle.ce_registry.specs.declared.definition.Definition.{Definition}
 use Rattle.ce_algorithms.specs.Steps.{Step, Outcome, Goes, Throws, Spent, then_do, ◌>>=◌, ◌>>◌, give, done, throw, when, throw_if, throw_any, found, find_or, where_is, throw_where, refuse, for_each, read}
-use Rattle.ce_algorithms.specs.Page.{Page, Work, Element, spend, spend_from, read_page, change_page, with_controls, with_forest, with_queues, with_element, with_state, with_definition}
+use Rattle.ce_algorithms.specs.Page.{Page, Work, Element, spend, spend_from, read_page, change_page, with_controls, with_internals, with_forest, with_queues, with_element, with_state, with_definition}
 use Rattle.ce_algorithms.specs.Making.{with_new, make_node, make_element, make_text, make_shadow_root}
 use Rattle.ce_algorithms.specs.Enqueue.{noted, enqueue, enqueue_callback, enqueue_upgrade, enqueue_found, try_upgrade}
 use Rattle.form_controls.specs.declared.change.Change.{Change}
 use Rattle.form_controls.specs.declared.control.Control.{Control}
+use Rattle.form_controls.specs.declared.internals.Internals.{Internals}
+use Rattle.form_controls.specs.declared.value.Value.{Value}
+use Rattle.form_controls.specs.Resetting.{reset}
+use Rattle.ce_algorithms.specs.Forms.{is_custom_form_associated}
+use Rattle.reaction_queue.specs.declared.reaction.Mode.{Mode}
 use Rattle.ce_algorithms.specs.FormChanges.{tell_owner, tell_disabled, tell, tell_form_change, tell_at_turn, tell_others, tell_first_owner, tell_form}
 use Rattle.ce_algorithms.specs.Mutation.{removed, remove, adopted, move_to, adopt, connected_now, inserted, put_in, insert, pre_insert}
 use Rattle.ce_algorithms.specs.Attributes.{handle_attribute_change, set_attribute, remove_there, remove_attribute}
 use Rattle.ce_algorithms.specs.Define.{with_defined, upgrade_candidates, define_name}
 use Rattle.ce_algorithms.specs.CreateLater.{make_in_state, make_later, create_later}
 use Rattle.ce_algorithms.specs.Controls.{set_value, set_checked, set_chosen, ignored_or, unless_ignored, control_steps, copy_control}
+use Rattle.ce_algorithms.specs.Internals.{attach_internals, change_states, set_form_value}
+use Rattle.ce_algorithms.specs.Reset.{reset_control, reset_form, restore}
 use Rattle.ce_algorithms.specs.Clone.{copy_attribute, copy_node, copy_below}
 use Rattle.ce_algorithms.specs.Construction.{with_stacks, pop_construction, make_custom, base_entry, base_call}
 use Rattle.ce_algorithms.specs.Upgrade.{enqueue_attribute, begin_upgrade}
 use Rattle.ce_algorithms.specs.declared.deed.ControlDeed.{ControlDeed}
 use Rattle.ce_algorithms.specs.declared.deed.ControlDeed.TheVariants.{Edit, Tick, Choose}
+use Rattle.ce_algorithms.specs.declared.deed.FormDeed.{FormDeed}
+use Rattle.ce_algorithms.specs.declared.deed.FormDeed.TheVariants.{Reset, Restore}
+use Rattle.ce_algorithms.specs.declared.deed.InternalsDeed.{InternalsDeed}
+use Rattle.ce_algorithms.specs.declared.deed.InternalsDeed.TheVariants.{Attach, SetValue, AddState, DeleteState, ClearStates}
 use Rattle.ce_algorithms.specs.declared.deed.PageDeed.{PageDeed}
 use Rattle.ce_algorithms.specs.declared.deed.PageDeed.TheVariants as page_deeds
 use Rattle.ce_algorithms.specs.Perform as perform
@@ -52,6 +63,7 @@ pub record Closed (R : Work → Work → Type 0) : Type 0 where
   pub node : (f : Trees) (w : Work) → R w (on (with_new f) w)
   pub stacks : (f : List (List (Option ℕ)) → List (List (Option ℕ))) (w : Work) → R w (on (with_stacks f) w)
   pub controls : (cs : List Control) (w : Work) → R w (on (with_controls (λ _. cs)) w)
+  pub internals : (is : List (Option Internals)) (w : Work) → R w (on (with_internals (λ _. is)) w)
   pub spent : (k : ℕ) (w : Work) → w.fuel ≡ suc k → R w (record w { fuel = k })
   pub enqueued : (n : ℕ) (r : Reaction) (k : ℕ) (w : Work) → w.fuel ≡ suc k → R w (record { page = noted n r (with_queues (enqueued n r) w.page); fuel = k })
 
@@ -319,6 +331,45 @@ module _ (R : Work → Work → Type 0) (c : Closed R) where
   keeps_control_steps (Edit n text by_user) = keeps_unless_ignored by_user _ (keeps_set_value n text by_user)
   keeps_control_steps (Tick n on by_user) = keeps_unless_ignored by_user _ (keeps_set_checked n on)
   keeps_control_steps (Choose option on by_user) = keeps_unless_ignored by_user _ (keeps_set_chosen option on)
+
+  -- internals
+
+  keeps_change_internals : (change : Page → List (Option Internals)) → Keeps R (change_page (λ p. with_internals (λ _. change p) p))
+  keeps_change_internals change = record { at = λ w. c.internals _ w }
+
+  keeps_attach_internals : (n : ℕ) → Keeps R (attach_internals n)
+  keeps_attach_internals n = keeps_seq (keeps_refuse _) (keeps_change_internals _)
+
+  keeps_set_form_value : (n : ℕ) (value saved : Value) → Keeps R (set_form_value n value saved)
+  keeps_set_form_value n value saved = keeps_seq (keeps_refuse _) (keeps_change_internals _)
+
+  keeps_change_states : (n : ℕ) (change : List (Option Internals) → List (Option Internals)) → Keeps R (change_states n change)
+  keeps_change_states n change = keeps_seq (keeps_refuse _) (keeps_change_internals _)
+
+  pub keeps_internals_steps : (what : InternalsDeed) → Keeps R (perform.internals_steps what)
+  keeps_internals_steps (Attach n) = keeps_seq (keeps_attach_internals n) (keeps_give _)
+  keeps_internals_steps (SetValue n value saved) = keeps_seq (keeps_set_form_value n value saved) (keeps_give _)
+  keeps_internals_steps (AddState n word) = keeps_seq (keeps_change_states n _) (keeps_give _)
+  keeps_internals_steps (DeleteState n word) = keeps_seq (keeps_change_states n _) (keeps_give _)
+  keeps_internals_steps (ClearStates n) = keeps_seq (keeps_change_states n _) (keeps_give _)
+
+  -- forms
+
+  keeps_clear : (n : ℕ) → Keeps R (change_page (λ p. with_controls (λ cs. reset cs p.forest n) p))
+  keeps_clear n = record { at = λ w. c.controls _ w }
+
+  keeps_reset_control : (n : ℕ) → Keeps R (reset_control n)
+  keeps_reset_control n = keeps_seq (keeps_clear n) (keeps_where_is (λ w. is_custom_form_associated w.page n) (keeps_enqueue_callback n FormReset))
+
+  keeps_reset_form : (form : ℕ) → Keeps R (reset_form form)
+  keeps_reset_form form = keeps_bind (keeps_read_page _) (λ list. keeps_each list keeps_reset_control)
+
+  keeps_restore : (n : ℕ) (text : List ℕ) (mode : Mode) → Keeps R (restore n text mode)
+  keeps_restore n text mode = keeps_unless_ignored true _ (keeps_enqueue_callback n _)
+
+  pub keeps_form_steps : (what : FormDeed) → Keeps R (perform.form_steps what)
+  keeps_form_steps (Reset form by_user) = keeps_seq (keeps_reset_form form) (keeps_give _)
+  keeps_form_steps (Restore n text mode) = keeps_restore n text mode
 
   -- construction
 

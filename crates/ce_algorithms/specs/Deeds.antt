@@ -1,6 +1,11 @@
 -- What operations come to: deeds, once their operands were read and fit.
-use Rattle.std.specs.Prelude.{ℕ, Bool, true, false, List, Option, Some, None, Result, Ok}
+use Rattle.std.specs.Prelude.{ℕ, Bool, true, false, not, List, Option, Some, None, option_map, Result, Ok}
 use Rattle.ce_base.specs.declared.fault.Fault.{Fault}
+use Rattle.reaction_queue.specs.declared.reaction.Mode.TheVariants.{Restore, Autocomplete}
+use Rattle.rule_tokens.specs.declared.operand.Val.{Val}
+use Rattle.form_controls.specs.declared.value.Value.{Value}
+use Rattle.form_controls.specs.declared.value.Value.TheVariants as values
+use Rattle.form_controls.specs.Internals.{state_or}
 use Rattle.rule_lines.specs.declared.line.Cmd.{Cmd}
 use Rattle.rule_lines.specs.declared.line.Cmd.TheVariants as commands
 use Rattle.rule_lines.specs.declared.op.Op.{Op}
@@ -8,15 +13,22 @@ use Rattle.rule_lines.specs.declared.op.Op.TheVariants as ops
 use Rattle.ce_algorithms.specs.declared.deed.Deed.{Deed}
 use Rattle.ce_algorithms.specs.declared.deed.Deed.TheVariants as deeds
 use Rattle.ce_algorithms.specs.declared.deed.ControlDeed.TheVariants as control_deeds
-use Rattle.ce_algorithms.specs.declared.deed.Deed.TheVariants.{OnPage, OnControls}
+use Rattle.ce_algorithms.specs.declared.deed.FormDeed.{FormDeed}
+use Rattle.ce_algorithms.specs.declared.deed.FormDeed.TheVariants as form_deeds
+use Rattle.ce_algorithms.specs.declared.deed.InternalsDeed.TheVariants as internals_deeds
+use Rattle.ce_algorithms.specs.declared.deed.Deed.TheVariants.{OnPage, OnControls, OnInternals, OnForms}
 use Rattle.ce_algorithms.specs.declared.deed.PageDeed.{PageDeed}
 use Rattle.ce_algorithms.specs.declared.deed.PageDeed.TheVariants as page_deeds
-use Rattle.ce_algorithms.specs.declared.fit.Fit.TheVariants.{AnOption, ElementOrText, TextControl, Tickable}
+use Rattle.ce_algorithms.specs.declared.fit.Fit.TheVariants.{AnOption, CustomFormAssociated, ElementOrText, Form, TextControl, Tickable}
 use Rattle.ce_algorithms.specs.Unbuilt.{unbuilt_deed}
 use Rattle.ce_algorithms.specs.State.{View}
 use Rattle.ce_algorithms.specs.Operands.{◌>>=◌, node, node_that, element, document, document_or_page, class}
 use Rattle.ce_algorithms.specs.Values.{fixed_text}
 use Rattle.ce_algorithms.specs.Questions.{question}
+
+-- a value is one text
+abbrev pub text_value : Val → Value
+text_value value = values.One (fixed_text value)
 
 -- the operands of an operation, from the left, and what it comes to; nothing is done yet
 abbrev pub resolve : View → Op → Result Deed Fault
@@ -82,6 +94,30 @@ resolve v (ops.Check operand on) = do
 resolve v (ops.Choose operand on) = do
   n ← node_that AnOption v operand
   Ok (OnControls (control_deeds.Choose n on false))
+resolve v (ops.Internals operand) = do
+  n ← element v operand
+  Ok (OnInternals (internals_deeds.Attach n))
+resolve v (ops.FormValue operand value saved) = do
+  n ← element v operand
+  Ok (OnInternals (internals_deeds.SetValue n (text_value value) (state_or (text_value value) (option_map text_value saved))))
+resolve v (ops.FormList operand entries) = do
+  n ← element v operand
+  Ok (OnInternals (internals_deeds.SetValue n (values.Many entries) (state_or (values.Many entries) None)))
+resolve v (ops.FormNull operand) = do
+  n ← element v operand
+  Ok (OnInternals (internals_deeds.SetValue n values.Nothing values.Nothing))
+resolve v (ops.StateAdd operand word) = do
+  n ← element v operand
+  Ok (OnInternals (internals_deeds.AddState n word))
+resolve v (ops.StateDelete operand word) = do
+  n ← element v operand
+  Ok (OnInternals (internals_deeds.DeleteState n word))
+resolve v (ops.StateClear operand) = do
+  n ← element v operand
+  Ok (OnInternals (internals_deeds.ClearStates n))
+resolve v (ops.Reset operand) = do
+  n ← node_that Form v operand
+  Ok (OnForms (form_deeds.Reset n false))
 resolve v op = Ok unbuilt_deed
 
 -- the same of what the user does, where nothing is `this`
@@ -95,6 +131,15 @@ resolve_user v (commands.UserCheck operand on) = do
 resolve_user v (commands.UserChoose operand on) = do
   n ← node_that AnOption v operand
   Ok (OnControls (control_deeds.Choose n on true))
+resolve_user v (commands.UserReset operand) = do
+  n ← node_that Form v operand
+  Ok (OnForms (form_deeds.Reset n true))
+resolve_user v (commands.UserRestore operand text) = do
+  n ← node_that CustomFormAssociated v operand
+  Ok (OnForms (form_deeds.Restore n text Restore))
+resolve_user v (commands.UserAutofill operand text) = do
+  n ← node_that CustomFormAssociated v operand
+  Ok (OnForms (form_deeds.Restore n text Autocomplete))
 resolve_user v c = Ok unbuilt_deed
 
 -- which deeds push an element queue ([CEReactions]; HTML Standard, section "Custom element reactions")
@@ -111,12 +156,19 @@ is_reacting_on_page (page_deeds.Clone n deep) = true
 is_reacting_on_page (page_deeds.Adopt document n) = true
 is_reacting_on_page (page_deeds.Upgrade n) = true
 
+-- a reset by a script; what the user does, and a state that comes back, push none
+abbrev pub is_reacting_on_forms : FormDeed → Bool
+is_reacting_on_forms (form_deeds.Reset form by_user) = not by_user
+is_reacting_on_forms (form_deeds.Restore n text mode) = false
+
 abbrev pub is_reacting : Deed → Bool
 is_reacting (deeds.Create local is document) = true
 is_reacting (deeds.New class) = false
 is_reacting (deeds.Define name class base) = true
 is_reacting (OnPage what) = is_reacting_on_page what
 is_reacting (OnControls what) = false
+is_reacting (OnInternals what) = false
+is_reacting (OnForms what) = is_reacting_on_forms what
 is_reacting (deeds.Ask word n name) = false
 is_reacting (deeds.Let var n) = false
 

@@ -9,6 +9,8 @@ pub mod Attributes
 pub mod Define
 pub mod CreateLater
 pub mod Controls
+pub mod Internals
+pub mod Reset
 pub mod Clone
 pub mod Construction
 pub mod State

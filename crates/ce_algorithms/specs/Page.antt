@@ -10,6 +10,7 @@ use Rattle.reaction_queue.specs.Queues.{Queues, no_queues}
 use Rattle.ce_registry.specs.declared.definition.Definition.{Definition}
 use Rattle.ce_registry.specs.ClassFacts.{no_facts}
 use Rattle.form_controls.specs.declared.control.Control.{Control}
+use Rattle.form_controls.specs.declared.internals.Internals.{Internals}
 use Rattle.ce_algorithms.specs.declared.note.Note.{Note}
 use Rattle.ce_algorithms.specs.Steps.{Step, Goes, Spent}
 
@@ -26,6 +27,7 @@ pub record Page : Type 0 where
   pub queues : Queues
   pub notes : List Note  -- the enqueues that were made and not told yet, the oldest first
   pub controls : List Control  -- what the control of each node keeps, that of node 1 first; past the end nothing was set
+  pub internals : List (Option Internals)  -- what ElementInternals keeps of each node, that of node 1 first; past the end none are attached
   pub settled : Bool  -- what is kept of form owners and disabled states stands for the forest; no step changes this
 
 -- a page, and the fuel that is left
@@ -56,6 +58,9 @@ with_queues f p = record p { queues = f p.queues }
 abbrev pub with_controls : (List Control → List Control) → Page → Page
 with_controls f p = record p { controls = f p.controls }
 
+abbrev pub with_internals : (List (Option Internals) → List (Option Internals)) → Page → Page
+with_internals f p = record p { internals = f p.internals }
+
 -- a node that is no custom element
 abbrev pub uncustomized : Element
 uncustomized = record { state = Uncustomized; definition = None }
@@ -70,6 +75,7 @@ blank_page = record {
   queues = no_queues;
   notes = [];
   controls = [];
+  internals = [];
   settled = true;
 }
 

@@ -12,7 +12,11 @@ use Rattle.rule_lines.specs.declared.line.Cmd.{Cmd}
 use Rattle.rule_lines.specs.declared.op.Op.{Op}
 use Rattle.ce_algorithms.specs.declared.deed.Deed.{Deed}
 use Rattle.ce_algorithms.specs.declared.deed.Deed.TheVariants as deeds
-use Rattle.ce_algorithms.specs.declared.deed.Deed.TheVariants.{OnPage, OnControls}
+use Rattle.ce_algorithms.specs.declared.deed.Deed.TheVariants.{OnPage, OnControls, OnInternals, OnForms}
+use Rattle.ce_algorithms.specs.declared.deed.FormDeed.{FormDeed}
+use Rattle.ce_algorithms.specs.declared.deed.FormDeed.TheVariants as form_deeds
+use Rattle.ce_algorithms.specs.declared.deed.InternalsDeed.{InternalsDeed}
+use Rattle.ce_algorithms.specs.declared.deed.InternalsDeed.TheVariants as internals_deeds
 use Rattle.ce_algorithms.specs.declared.deed.PageDeed.{PageDeed}
 use Rattle.ce_algorithms.specs.declared.deed.PageDeed.TheVariants as page_deeds
 use Rattle.ce_algorithms.specs.declared.given.Given.{Given}
@@ -27,6 +31,8 @@ use Rattle.ce_algorithms.specs.Attributes.{set_attribute, remove_attribute}
 use Rattle.ce_algorithms.specs.Define.{define_name}
 use Rattle.ce_algorithms.specs.Clone.{clone}
 use Rattle.ce_algorithms.specs.Controls.{control_steps}
+use Rattle.ce_algorithms.specs.Internals.{add_state, attach_internals, clear_states, delete_state, set_form_value}
+use Rattle.ce_algorithms.specs.Reset.{reset_form, restore}
 use Rattle.ce_algorithms.specs.State.{State, look, on_page, set_variable, class_of, change_class}
 use Rattle.ce_algorithms.specs.Calls.{Again}
 use Rattle.ce_algorithms.specs.Questions.{question}
@@ -119,12 +125,25 @@ page_steps (page_deeds.Clone n deep) = gives_node (clone deep n)
 page_steps (page_deeds.Adopt document n) = gives_nothing (adopt_node document n)
 page_steps (page_deeds.Upgrade n) = gives_nothing (upgrade_all n)
 
+abbrev pub internals_steps : InternalsDeed → Step Work Given
+internals_steps (internals_deeds.Attach n) = gives_nothing (attach_internals n)
+internals_steps (internals_deeds.SetValue n value saved) = gives_nothing (set_form_value n value saved)
+internals_steps (internals_deeds.AddState n word) = gives_nothing (add_state n word)
+internals_steps (internals_deeds.DeleteState n word) = gives_nothing (delete_state n word)
+internals_steps (internals_deeds.ClearStates n) = gives_nothing (clear_states n)
+
+abbrev pub form_steps : FormDeed → Step Work Given
+form_steps (form_deeds.Reset form by_user) = gives_nothing (reset_form form)
+form_steps (form_deeds.Restore n text mode) = restore n text mode
+
 abbrev pub steps : Again → Deed → Step State Given
 steps again (deeds.Create local is document) = gives_node (create_named again local is document)
 steps again (deeds.New class) = gives_node (construct again class)
 steps again (deeds.Define name class base) = gives_nothing (define_element name class base)
 steps again (OnPage what) = on_page (page_steps what)
 steps again (OnControls what) = on_page (control_steps what)
+steps again (OnInternals what) = on_page (internals_steps what)
+steps again (OnForms what) = on_page (form_steps what)
 steps again (deeds.Ask word n name) = read (λ (s : State). Answers ((question word name).answer s.page n))
 steps again (deeds.Let var n) = gives_nothing (set_variable var n)
 

@@ -10,11 +10,13 @@ use Rattle.ce_events.specs.declared.event.Answer.TheVariants as answers
 use Rattle.ce_algorithms.specs.declared.fit.Fit.{Fit}
 use Rattle.ce_algorithms.specs.declared.fit.Fit.TheVariants as fit
 use Rattle.ce_algorithms.specs.Unbuilt.{unbuilt_answer}
-use Rattle.ce_algorithms.specs.Page.{Page, state_of}
+use Rattle.ce_algorithms.specs.Page.{Page, definition_of, state_of}
+use Rattle.form_controls.specs.declared.value.Value.{Value}
+use Rattle.form_controls.specs.declared.value.Value.TheVariants as values
 use Rattle.form_controls.specs.Checkedness.{is_checked}
-use Rattle.form_controls.specs.Owners.{is_associated}
+use Rattle.form_controls.specs.Internals.{kept_by}
 use Rattle.form_controls.specs.Values.{value}
-use Rattle.ce_algorithms.specs.Forms.{forms_of, form_owner, controls_of, is_disabled}
+use Rattle.ce_algorithms.specs.Forms.{forms_of, form_owner, controls_of, is_disabled, is_form_associated}
 
 pub record Question : Type 0 where
   pub asked_of : Fit  -- the node that it can be asked of
@@ -28,9 +30,15 @@ abbrev pub node_answer : Option ℕ → Answer
 node_answer None = answers.Null
 node_answer (Some n) = answers.Node n
 
--- a form-associated custom element has no value, as it has no internals yet
+-- a submission value or a state
+abbrev pub kept_answer : Value → Answer
+kept_answer values.Nothing = answers.Null
+kept_answer (values.One text) = answers.One text
+kept_answer (values.Many entries) = answers.Many
+
+-- a form-associated custom element has its submission value
 abbrev pub value_answer : Page → ℕ → Answer
-value_answer p n = if is_associated (forms_of p) n then answers.Null else answers.One (value p.controls p.forest n)
+value_answer p n = if is_form_associated (definition_of p n) then kept_answer (kept_by p.internals n).value else answers.One (value p.controls p.forest n)
 
 abbrev asked_of : Fit → (Page → ℕ → Answer) → Question
 asked_of what answer = record { asked_of = what; answer = answer }
@@ -45,5 +53,7 @@ question words.Owner name = asked_of fit.Listed (λ p n. node_answer (form_owner
 question words.Controls name = asked_of fit.Form (λ p n. answers.Nodes (controls_of p n))
 question words.Disabled name = asked_of fit.SubmittableOrOption (λ p n. answers.Truth (is_disabled p n))
 question words.Value name = asked_of fit.Submittable value_answer
+question words.Saved name = asked_of fit.FormAssociated (λ p n. kept_answer (kept_by p.internals n).saved)
+question words.States name = asked_of fit.WithInternals (λ p n. answers.Texts (kept_by p.internals n).states)
 question words.Checked name = asked_of fit.Tickable (λ p n. answers.Truth (is_checked (forms_of p) p.controls n))
 question word name = asked_of fit.Any (λ p n. unbuilt_answer)

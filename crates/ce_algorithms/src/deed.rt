@@ -1,8 +1,10 @@
 // Deeds: operations whose operands were read and fit.
 ghost use Rattle.std.specs.Prelude.{◌≡◌};
-ghost use Rattle.ce_algorithms.specs.Deeds.{is_reacting, is_reacting_on_page};
+ghost use Rattle.ce_algorithms.specs.Deeds.{is_reacting, is_reacting_on_forms, is_reacting_on_page};
 
 use ce_base::{ClassNo, NodeNo, Text};
+use form_controls::Value;
+use reaction_queue::Mode;
 use rule_lines::AskWord;
 
 /// What an operation comes to on the page alone: no body of a class runs before it has ended.
@@ -92,6 +94,64 @@ pub enum ControlDeed {
     },
 }
 
+/// What is written through ElementInternals. It pushes no element queue.
+#[derive(Drop)]
+pub enum InternalsDeed {
+    /// Attaches internals to an element (HTML Standard, section "Element internals", `attachInternals`).
+    Attach {
+        node: NodeNo,
+    },
+    /// Sets a submission value and a state (section "Form-associated custom elements", `setFormValue`).
+    SetValue {
+        node: NodeNo,
+        value: Value,
+        saved: Value,
+    },
+    /// Adds a custom state (section "Custom state pseudo-class").
+    AddState {
+        node: NodeNo,
+        word: Text,
+    },
+    /// Deletes a custom state.
+    DeleteState {
+        node: NodeNo,
+        word: Text,
+    },
+    /// Deletes all custom states.
+    ClearStates {
+        node: NodeNo,
+    },
+}
+
+/// What is done to a whole form, or comes back to an element of one.
+#[derive(Drop)]
+pub enum FormDeed {
+    /// Resets a form, by a script or by the user (HTML Standard, section "Resetting a form").
+    Reset {
+        form: NodeNo,
+        by_user: bool,
+    },
+    /// Brings a state back to an element, or fills it in (section "Custom element reactions",
+    /// formStateRestoreCallback).
+    Restore {
+        node: NodeNo,
+        text: Text,
+        mode: Mode,
+    },
+}
+
+impl FormDeed {
+    /// Whether it pushes an element queue ([CEReactions]; HTML Standard, section "Custom element reactions").
+    pub fn is_reacting(&self) -> bool
+        ensures { result ≡ is_reacting_on_forms self.now }
+    {
+        match self {
+            FormDeed::Reset { by_user, .. } => !*by_user,
+            FormDeed::Restore { .. } => false,
+        }
+    }
+}
+
 /// What an operation comes to: nodes by their numbers, classes by theirs, and texts.
 #[derive(Drop)]
 pub enum Deed {
@@ -115,6 +175,10 @@ pub enum Deed {
     OnPage(PageDeed),
     /// Sets something on a control.
     OnControls(ControlDeed),
+    /// Writes something through ElementInternals.
+    OnInternals(InternalsDeed),
+    /// Does something to a form, or to an element of one.
+    OnForms(FormDeed),
     /// Asks something of a node; of an attribute by its name.
     Ask {
         word: AskWord,
@@ -136,7 +200,9 @@ impl Deed {
         match self {
             Deed::Create { .. } | Deed::Define { .. } => true,
             Deed::OnPage(what) => what.is_reacting(),
-            Deed::New { .. } | Deed::OnControls(_) | Deed::Ask { .. } | Deed::Let { .. } => false,
+            Deed::OnForms(what) => what.is_reacting(),
+            Deed::New { .. } | Deed::Ask { .. } | Deed::Let { .. } => false,
+            Deed::OnControls(_) | Deed::OnInternals(_) => false,
         }
     }
 }

@@ -25,4 +25,10 @@ pub enum Fit {
     Tickable,
     /// An `option` element.
     AnOption,
+    /// A form-associated custom element (HTML Standard, section "Form-associated custom elements").
+    FormAssociated,
+    /// One whose state is "custom".
+    CustomFormAssociated,
+    /// An element with internals (section "Element internals", "attached internals").
+    WithInternals,
 }

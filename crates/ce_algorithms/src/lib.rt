@@ -13,7 +13,7 @@ mod note;
 mod settings;
 
 pub use callback::same_call;
-pub use deed::{ControlDeed, Deed, PageDeed};
+pub use deed::{ControlDeed, Deed, FormDeed, InternalsDeed, PageDeed};
 pub use fit::Fit;
 pub use given::Given;
 pub use laws::{

@@ -19,7 +19,7 @@ use Rattle.ce_algorithms.specs.Deeds.{resolve, resolve_user, IsStill}
 use Rattle.ce_algorithms.specs.Operands.{◌>>=◌ as then_resolve}
 use Rattle.ce_algorithms.specs.Drain.{open_queue, pop_queue}
 use Rattle.ce_algorithms.specs.Controls.{control_steps}
-use Rattle.ce_algorithms.specs.Perform.{define_element, gives_nothing, page_steps, steps}
+use Rattle.ce_algorithms.specs.Perform.{define_element, gives_nothing, form_steps, internals_steps, page_steps, steps}
 use Rattle.ce_frames.specs.Places.{Behaviour}
 use Rattle.ce_frames.specs.Whole.{joined_class, whole, whole_in, state_in, IsBlind}
 use Rattle.ce_frames.proofs.Wholes.{named_joined, class_facts_joined, set_joined}
@@ -206,5 +206,7 @@ still_blind again (deeds.New class) still = absurd still
 still_blind again (deeds.Define name class base) still = blind_gives (define_blind name class base)
 still_blind again (deeds.OnPage what) still = blind_on_page (page_steps what)
 still_blind again (deeds.OnControls what) still = blind_on_page (control_steps what)
+still_blind again (deeds.OnInternals what) still = blind_on_page (internals_steps what)
+still_blind again (deeds.OnForms what) still = blind_on_page (form_steps what)
 still_blind again (deeds.Ask word n name) still = blind_read _ (λ bs s. refl)
 still_blind again (deeds.Let var n) still = blind_gives (blind_set_variable var n)

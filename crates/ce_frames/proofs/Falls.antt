@@ -49,6 +49,7 @@ sinks = record {
   node = λ f w. omega arith;
   stacks = λ f w. omega arith;
   controls = λ cs w. omega arith;
+  internals = λ is w. omega arith;
   spent = λ k w is. omega (arith, is);
   enqueued = enqueued_sinks;
 }

@@ -12,7 +12,7 @@ use Rattle.ce_registry.specs.ClassFacts.{has_call}
 use Rattle.ce_registry.specs.Registry.{is_autonomous}
 use Rattle.ce_algorithms.specs.declared.deed.Deed.{Deed}
 use Rattle.ce_algorithms.specs.declared.deed.Deed.TheVariants as deeds
-use Rattle.ce_algorithms.specs.declared.deed.Deed.TheVariants.{OnPage, OnControls}
+use Rattle.ce_algorithms.specs.declared.deed.Deed.TheVariants.{OnPage, OnControls, OnInternals, OnForms}
 use Rattle.ce_events.specs.declared.event.Event.TheVariants.{Caught, Construct, UpgradeBegun, DrainBegun}
 use Rattle.ce_algorithms.specs.declared.given.Given.{Given}
 use Rattle.ce_algorithms.specs.declared.given.Given.TheVariants.{Nothing, Node}
@@ -22,11 +22,11 @@ use Rattle.ce_algorithms.specs.Enqueue.{lookup_in}
 use Rattle.ce_algorithms.specs.CreateLater.{first_state}
 use Rattle.ce_algorithms.specs.State.{State, Class, class_of, logged}
 use Rattle.ce_algorithms.specs.Values.{Args, no_args, text_of, fixed}
-use Rattle.ce_algorithms.specs.Deeds.{resolve, is_reacting_on_page, variable}
+use Rattle.ce_algorithms.specs.Deeds.{resolve, is_reacting_on_forms, is_reacting_on_page, variable}
 use Rattle.ce_algorithms.specs.Body.{Flow, Next, Ended, actions_of, act, holds}
 use Rattle.ce_algorithms.specs.Upgrade.{is_upgradable}
 use Rattle.ce_algorithms.specs.Perform.{gives_nothing, gives_node, steps}
-use Rattle.ce_algorithms.proofs.PageSteps.{keeps_base_call, keeps_begin_upgrade, keeps_make_in_state, keeps_control_steps, keeps_page_steps}
+use Rattle.ce_algorithms.proofs.PageSteps.{keeps_base_call, keeps_begin_upgrade, keeps_make_in_state, keeps_control_steps, keeps_internals_steps, keeps_form_steps, keeps_page_steps}
 use Rattle.ce_frames.specs.Frames.{Naming, Stepping, Draining, CreatingFit, CreatingExtended, Upgrading, Constructing, InBody}
 use Rattle.ce_frames.specs.Handing.{given_of}
 use Rattle.ce_frames.specs.After.{guard}
@@ -124,6 +124,10 @@ deed_costs (OnPage what) =
     let h : Falls (steps no_calls (OnPage what)) = falls_page (keeps_page_steps Sinks sinks what) in
     costs_if 6 (is_reacting_on_page what) (costs_more 1 6 (omega arith) (steps_costs h)) (costs_more 0 6 (omega arith) (costs_down h))
 deed_costs (OnControls what) = costs_more 0 6 (omega arith) (costs_down (falls_page (keeps_control_steps Sinks sinks what)))
+deed_costs (OnInternals what) = costs_more 0 6 (omega arith) (costs_down (falls_page (keeps_internals_steps Sinks sinks what)))
+deed_costs (OnForms what) =
+    let h : Falls (steps no_calls (OnForms what)) = falls_page (keeps_form_steps Sinks sinks what) in
+    costs_if 6 (is_reacting_on_forms what) (costs_more 1 6 (omega arith) (steps_costs h)) (costs_more 0 6 (omega arith) (costs_down h))
 deed_costs (deeds.Ask word n name) = costs_more 0 6 (omega arith) (costs_down (falls_read _))
 deed_costs (deeds.Let var n) = costs_more 0 6 (omega arith) (costs_down (falls_gives_nothing (falls_set_variable var n)))
 

@@ -1,3 +1,4 @@
 pub mod Fitting
 pub mod OnControls
+pub mod OnInternals
 pub mod Ready

@@ -6,9 +6,9 @@ use Rattle.node_trees.specs.Trees.{Trees}
 use Rattle.rule_script.specs.Built.{is_built_word}
 use Rattle.ce_algorithms.specs.declared.deed.Deed.{Deed}
 use Rattle.ce_algorithms.specs.declared.deed.Deed.TheVariants as deeds
-use Rattle.ce_algorithms.specs.declared.deed.Deed.TheVariants.{OnPage, OnControls}
+use Rattle.ce_algorithms.specs.declared.deed.Deed.TheVariants.{OnPage, OnControls, OnInternals, OnForms}
 use Rattle.page_calls.specs.Commands.{IsReadyOnControls}
-use Rattle.page_calls.specs.Ready.{IsReadyOnPage}
+use Rattle.page_calls.specs.Ready.{IsReadyOnForms, IsReadyOnInternals, IsReadyOnPage}
 
 abbrev pub IsReady : Trees → Deed → Type 0
 IsReady f (deeds.Create local is document) = Unit {0}
@@ -16,5 +16,7 @@ IsReady f (deeds.New class) = Unit {0}
 IsReady f (deeds.Define name class base) = Unit {0}
 IsReady f (OnPage what) = IsReadyOnPage f what
 IsReady f (OnControls what) = IsReadyOnControls f what
+IsReady f (OnInternals what) = IsReadyOnInternals f what
+IsReady f (OnForms what) = IsReadyOnForms f what
 IsReady f (deeds.Ask word n name) = IsNode f n × (is_built_word word ≡ true)
 IsReady f (deeds.Let var n) = IsNode f n

@@ -1,6 +1,7 @@
 // What an operation comes to: its operands, all read before a queue is pushed.
 mod attributes;
 mod controls;
+mod internals;
 mod session;
 mod tree;
 
@@ -10,6 +11,7 @@ ghost use Rattle.rule_script.specs.Built.{is_built_op};
 ghost use Rattle.ce_algorithms.specs.Deeds.{resolve};
 ghost use Rattle.ce_algorithms.specs.State.{view};
 ghost use Rattle.ce_operations.specs.OnControls.{is_on_controls};
+ghost use Rattle.ce_operations.specs.OnInternals.{is_on_internals};
 ghost use Rattle.ce_operations.specs.Ready.{IsReady};
 ghost use Rattle.page_calls.specs.Resolved.{Resolves};
 
@@ -19,6 +21,7 @@ use ce_algorithms::{Deed, Fit, PageDeed};
 use ce_base::{NodeNo, Refused};
 pub use controls::resolve_user;
 use controls::{is_on_controls, on_controls};
+use internals::{is_on_internals, on_internals};
 use rule_lines::Op;
 use session::{ask, define, let_node};
 use session_state::State;
@@ -37,12 +40,14 @@ pub fn resolve(state: &State, alloc: Global, this: &Option<NodeNo>, op: Op) -> R
 {
     if is_on_controls(&op) {
         on_controls(state, alloc, this, op)
+    } else if is_on_internals(&op) {
+        on_internals(state, alloc, this, op)
     } else {
         beside_controls(state, alloc, this, op)
     }
 }
 
-// The deed of an operation that sets nothing on a control.
+// The deed of an operation that neither sets anything on a control nor is about internals.
 fn beside_controls(
     state: &State,
     alloc: Global,
@@ -50,7 +55,8 @@ fn beside_controls(
     op: Op,
 ) -> Result<Deed, Refused>
     requires built { is_built_op op ≡ true }
-    requires others { is_on_controls op ≡ false }
+    requires no_control { is_on_controls op ≡ false }
+    requires no_internals { is_on_internals op ≡ false }
     requires there { IfSome this.now (IsNode state.now.page.forest) }
     ensures deed { Resolves result (resolve (view this.now state.now) op) }
     ensures ready { IfOk result (IsReady state.now.page.forest) }

@@ -2,7 +2,7 @@
 ghost use Rattle.std.specs.Prelude.{◌≡◌, OnOk};
 ghost use Rattle.node_trees.specs.Nodes.{IsNode};
 ghost use Rattle.form_controls.specs.Controls.{copy_state, set_flag, set_value};
-ghost use Rattle.form_controls.specs.Resetting.{clone_state};
+ghost use Rattle.form_controls.specs.Resetting.{clone_state, reset};
 ghost use Rattle.ce_algorithms.specs.Page.{with_controls};
 
 use crate::Page;
@@ -42,6 +42,15 @@ impl Page {
         ensures rest { self.new ≡ with_controls (λ cs. self.new.controls) self.old }
     {
         self.controls.set_flag(alloc, n, on)
+    }
+
+    /// Resets a control: what was set on it is cleared (HTML Standard, section "Resetting a form", "reset algorithm"). Nothing
+    /// else of the page changes. It takes no memory.
+    pub fn reset(&mut self, n: NodeNo)
+        requires { IsNode self.old.forest n }
+        ensures { self.new ≡ with_controls (λ cs. reset cs self.old.forest n) self.old }
+    {
+        self.controls.reset(&self.tree, n);
     }
 
     /// Hands what a control keeps of its value and its checkedness on to another one. Nothing else of the page changes.

@@ -9,6 +9,7 @@ use ce_base::{NoMemory, NodeNo};
 use ce_registry::Registry;
 use construction::Stacks;
 use control_state::ControlTable;
+use element_internals::InternalsTable;
 use form_owner::OwnerTable;
 use node_arena::Tree;
 use reaction_queue::Queues;
@@ -17,7 +18,7 @@ use std::collections::VecDeque;
 use std::marker::Model;
 
 /// A page: its nodes, what each is as a custom element, its definitions and their construction stacks, what
-/// waits, the enqueues that were not told yet, what controls keep, and its form owners and disabled states.
+/// waits, the enqueues that were not told yet, what controls and internals keep, and its form owners and disabled states.
 #[derive(Drop)]
 pub struct Page {
     pub(crate) tree: Tree,
@@ -27,6 +28,7 @@ pub struct Page {
     pub(crate) queues: Queues,
     pub(crate) notes: VecDeque<Note>,
     pub(crate) controls: ControlTable,
+    pub(crate) internals: InternalsTable,
     pub(crate) owners: OwnerTable,
     pub(crate) settled: bool,
 }
@@ -49,6 +51,7 @@ impl Model for Page {
       queues = p.queues;
       notes = p.notes.items;
       controls = p.controls;
+      internals = p.internals;
       settled = p.settled;
     } };
 
@@ -71,6 +74,7 @@ impl Page {
             queues: Queues::make(alloc),
             notes: VecDeque::new(alloc),
             controls: ControlTable::make(alloc),
+            internals: InternalsTable::make(alloc),
             owners: OwnerTable::make(alloc),
             settled: true,
         })

@@ -13,7 +13,7 @@ use Rattle.ce_registry.specs.declared.definition.Definition.{Definition}
 use Rattle.construction.specs.Stacks.{popped}
 use Rattle.ce_algorithms.specs.declared.deed.Deed.{Deed}
 use Rattle.ce_algorithms.specs.declared.deed.Deed.TheVariants as deeds
-use Rattle.ce_algorithms.specs.declared.deed.Deed.TheVariants.{OnPage, OnControls}
+use Rattle.ce_algorithms.specs.declared.deed.Deed.TheVariants.{OnPage, OnControls, OnInternals, OnForms}
 use Rattle.ce_events.specs.declared.event.Event.TheVariants.{UpgradeBegun}
 use Rattle.ce_algorithms.specs.declared.given.Given.{Given}
 use Rattle.ce_algorithms.specs.declared.given.Given.TheVariants.{Node, Answers}
@@ -34,7 +34,7 @@ use Rattle.ce_algorithms.specs.Session.{perform, command}
 use Rattle.ce_algorithms.specs.Model.{clock, level, run, model}
 use Rattle.construction_law.proofs.StackDepths.{one_more, pop_takes_back}
 use Rattle.construction_law.proofs.Steps.{Stays, Leaves, of_session, leaves_steps, leaves_goes, leaves_give, leaves_done, leaves_read, leaves_bind, leaves_seq, leaves_list, leaves_if, leaves_catch, leaves_on_page, leaves_look, leaves_spend}
-use Rattle.construction_law.proofs.Primitives.{leaves_document, leaves_tell_form, leaves_define_name, leaves_make_in_state, leaves_control_steps, leaves_page_steps, leaves_base_call, Deepens, begin_deepens}
+use Rattle.construction_law.proofs.Primitives.{leaves_document, leaves_tell_form, leaves_define_name, leaves_make_in_state, leaves_control_steps, leaves_internals_steps, leaves_form_steps, leaves_page_steps, leaves_base_call, Deepens, begin_deepens}
 
 -- what calls nothing again
 
@@ -170,6 +170,8 @@ module _ (again : Again) (below : (call : Call) → Leaves of_session (again cal
   steps_leave : (deed : Deed) → Leaves of_session (steps again deed)
   steps_leave (OnPage what) = leaves_on_page (leaves_page_steps what)
   steps_leave (OnControls what) = leaves_on_page (leaves_control_steps what)
+  steps_leave (OnInternals what) = leaves_on_page (leaves_internals_steps what)
+  steps_leave (OnForms what) = leaves_on_page (leaves_form_steps what)
   steps_leave (deeds.Create local is document) = search (leaves_steps, create_leaves) depth 14
   steps_leave (deeds.New class) = search (leaves_steps, construct_leaves) depth 12
   steps_leave (deeds.Define name class base) = search (leaves_steps, leaves_define_name) depth 14

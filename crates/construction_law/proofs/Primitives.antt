@@ -29,10 +29,14 @@ use Rattle.ce_algorithms.specs.Attributes.{handle_attribute_change, remove_there
 use Rattle.ce_algorithms.specs.Define.{define_name}
 use Rattle.ce_algorithms.specs.CreateLater.{make_in_state, make_later}
 use Rattle.ce_algorithms.specs.Controls.{ignored_or, control_steps}
+use Rattle.ce_algorithms.specs.declared.deed.FormDeed.{FormDeed}
+use Rattle.ce_algorithms.specs.declared.deed.FormDeed.TheVariants.{Reset, Restore}
+use Rattle.ce_algorithms.specs.declared.deed.InternalsDeed.{InternalsDeed}
+use Rattle.ce_algorithms.specs.declared.deed.InternalsDeed.TheVariants.{Attach, SetValue, AddState, DeleteState, ClearStates}
 use Rattle.ce_algorithms.specs.Clone.{copy_node, copy_below}
 use Rattle.ce_algorithms.specs.Construction.{make_custom, base_entry, base_call, push_construction}
 use Rattle.ce_algorithms.specs.Upgrade.{enqueue_attribute, begin_upgrade}
-use Rattle.ce_algorithms.specs.Perform.{gives_node, page_steps}
+use Rattle.ce_algorithms.specs.Perform.{gives_node, form_steps, internals_steps, page_steps}
 use Rattle.construction_law.proofs.StackDepths.{AreDeep, given_anew, one_more, push_deepens}
 use Rattle.construction_law.proofs.Steps.{Stays, Leaves, of_page, leaves_steps, leaves_done, leaves_give, leaves_bind, leaves_seq}
 
@@ -126,6 +130,19 @@ pub leaves_control_steps : (what : ControlDeed) → Leaves of_page (control_step
 leaves_control_steps (Edit n text by_user) = search (leaves_steps, leaves_ignored_or) depth 12
 leaves_control_steps (Tick n on by_user) = search (leaves_steps, leaves_ignored_or) depth 12
 leaves_control_steps (Choose option on by_user) = search (leaves_steps, leaves_ignored_or) depth 12
+
+-- what is written through internals
+pub leaves_internals_steps : (what : InternalsDeed) → Leaves of_page (internals_steps what)
+leaves_internals_steps (Attach n) = search leaves_steps depth 12
+leaves_internals_steps (SetValue n value saved) = search leaves_steps depth 12
+leaves_internals_steps (AddState n word) = search leaves_steps depth 12
+leaves_internals_steps (DeleteState n word) = search leaves_steps depth 12
+leaves_internals_steps (ClearStates n) = search leaves_steps depth 12
+
+-- resets, and states that come back
+pub leaves_form_steps : (what : FormDeed) → Leaves of_page (form_steps what)
+leaves_form_steps (Reset form by_user) = search (leaves_steps, leaves_callback) depth 16
+leaves_form_steps (Restore n text mode) = search (leaves_steps, leaves_ignored_or, leaves_callback) depth 14
 
 -- the base call
 

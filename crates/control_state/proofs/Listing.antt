@@ -42,7 +42,7 @@ filter-next p xs i x found new passes at so_far is longer =
 -- what holds of each of a list
 
 module _ (P : ℕ → Type 0) where
-  all-among : (xs : List ℕ) → ((n : ℕ) → is_among n xs ≡ true → P n) → All P xs
+  pub all-among : (xs : List ℕ) → ((n : ℕ) → is_among n xs ≡ true → P n) → All P xs
   all-among [] h = All-nil P
   all-among (x ∷ xs) h = All-cons P x xs (h x (grind (arith, nat_tests))) (all-among xs (λ n e. h n (grind (arith, nat_tests))))
 

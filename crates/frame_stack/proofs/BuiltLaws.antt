@@ -34,7 +34,7 @@ fixed_built memory args (ops.Define name class base) h = h
 fixed_built memory args (ops.Upgrade at) h = h
 fixed_built memory args (ops.Reset form) h = h
 fixed_built memory args (ops.Internals at) h = h
-fixed_built memory args (ops.FormValue at value saved) h = absurd (let e : false ≡ true = h in cc)
+fixed_built memory args (ops.FormValue at value saved) h = refl
 fixed_built memory args (ops.FormList at entries) h = h
 fixed_built memory args (ops.FormNull at) h = h
 fixed_built memory args (ops.Validity at flags message) h = absurd (let e : false ≡ true = h in cc)

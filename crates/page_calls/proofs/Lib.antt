@@ -1,3 +1,4 @@
 pub mod CommandLaws
+pub mod ControlsLaws
 pub mod GivenLaws
 pub mod RivalLaws

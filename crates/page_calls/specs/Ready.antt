@@ -4,6 +4,10 @@ use Rattle.node_trees.specs.declared.kind.NodeKind.TheVariants.{Element as Eleme
 use Rattle.node_trees.specs.Nodes.{IsNode, IsNodeOrNone}
 use Rattle.node_trees.specs.Spots.{kind_at}
 use Rattle.node_trees.specs.Trees.{Trees}
+use Rattle.ce_algorithms.specs.declared.deed.FormDeed.{FormDeed}
+use Rattle.ce_algorithms.specs.declared.deed.FormDeed.TheVariants.{Reset, Restore}
+use Rattle.ce_algorithms.specs.declared.deed.InternalsDeed.{InternalsDeed}
+use Rattle.ce_algorithms.specs.declared.deed.InternalsDeed.TheVariants.{Attach, SetValue, AddState, DeleteState, ClearStates}
 use Rattle.ce_algorithms.specs.declared.deed.PageDeed.{PageDeed}
 use Rattle.ce_algorithms.specs.declared.deed.PageDeed.TheVariants as page_deeds
 
@@ -18,3 +22,14 @@ IsReadyOnPage f (page_deeds.DelAttr n name) = IsNode f n × (kind_at f n ≡ Ele
 IsReadyOnPage f (page_deeds.Clone n deep) = IsNode f n
 IsReadyOnPage f (page_deeds.Adopt document n) = IsNode f n
 IsReadyOnPage f (page_deeds.Upgrade n) = IsNode f n
+
+abbrev pub IsReadyOnInternals : Trees → InternalsDeed → Type 0
+IsReadyOnInternals f (Attach n) = IsNode f n
+IsReadyOnInternals f (SetValue n value saved) = IsNode f n
+IsReadyOnInternals f (AddState n word) = IsNode f n
+IsReadyOnInternals f (DeleteState n word) = IsNode f n
+IsReadyOnInternals f (ClearStates n) = IsNode f n
+
+abbrev pub IsReadyOnForms : Trees → FormDeed → Type 0
+IsReadyOnForms f (Reset form by_user) = IsNode f form
+IsReadyOnForms f (Restore n text mode) = IsNode f n

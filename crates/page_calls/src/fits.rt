@@ -3,10 +3,10 @@ ghost use Rattle.std.specs.Prelude.{◌≡◌};
 ghost use Rattle.node_trees.specs.Facts.{is_document, is_element, is_text};
 ghost use Rattle.node_trees.specs.Nodes.{IsNode};
 ghost use Rattle.ce_algorithms.specs.Fits.{fits};
-ghost use Rattle.ce_algorithms.specs.Forms.{is_listed, is_submittable};
+ghost use Rattle.ce_algorithms.specs.Forms.{is_custom_form_associated, is_listed, is_submittable};
 
 use ce_algorithms::Fit;
-use ce_base::NodeNo;
+use ce_base::{CustomState, NodeNo};
 use ce_page::{NodeKind, Page};
 use element_names::Native;
 use form_kinds::{is_a, is_text_control, is_tickable};
@@ -31,6 +31,9 @@ pub fn fits(what: Fit, page: &Page, n: NodeNo) -> bool
         Fit::TextControl => is_text_control(page.tree(), n),
         Fit::Tickable => is_tickable(page.tree(), n),
         Fit::AnOption => is_a(page.tree(), n, Native::OptionItem),
+        Fit::FormAssociated => page.is_form_associated(n),
+        Fit::CustomFormAssociated => is_custom_form_associated(page, n),
+        Fit::WithInternals => page.inner().attached(n),
     }
 }
 
@@ -48,6 +51,14 @@ fn is_submittable(page: &Page, n: NodeNo) -> bool
     ensures { result ≡ is_submittable page.now n }
 {
     is_listed(page, n) && !is_a(page.tree(), n, Native::Fieldset)
+}
+
+/// Whether a node is a custom form-associated element: a form-associated custom element whose state is "custom" (HTML
+/// Standard, section "Form-associated custom elements").
+pub(crate) fn is_custom_form_associated(page: &Page, n: NodeNo) -> bool
+    ensures { result ≡ is_custom_form_associated page.now n }
+{
+    matches!(page.state(n), CustomState::Custom) && page.is_form_associated(n)
 }
 
 fn is_element(kind: NodeKind) -> bool

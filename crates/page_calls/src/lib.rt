@@ -1,5 +1,5 @@
-//! What is done on the page without a frame and without a body: deeds, with what each tests first, commands on controls, and
-//! questions.
+//! What is done on the page without a frame and without a body: deeds, with what each tests first, commands on controls, what
+//! internals keep, resets of forms, and questions.
 #![tactic(auto)]
 
 mod attributes;
@@ -8,8 +8,10 @@ mod controls;
 mod deeds;
 pub mod fits;
 mod groups;
+mod internals;
 mod outcome;
 mod questions;
+mod reset;
 mod rivals;
 mod shadow;
 mod tree;
@@ -17,6 +19,8 @@ mod tree;
 pub use attributes::lowercased;
 pub use controls::{choose, edit, run_on_controls, tick};
 pub use deeds::{gives_node, gives_nothing, run};
+pub use internals::run_on_internals;
 pub use outcome::Outcome;
 pub use questions::{answer, ask, asked_of};
+pub use reset::{reset_form, run_on_forms};
 pub use shadow::disables_shadow;

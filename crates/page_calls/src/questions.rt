@@ -1,21 +1,23 @@
 // Questions about nodes.
-ghost use Rattle.std.specs.Prelude.{◌≡◌, ℕ, List, Option, option_copied, true, IfOk};
+ghost use Rattle.std.specs.Prelude.{◌≡◌, ℕ, All, List, Option, option_copied, true, IfOk};
 ghost use Rattle.std.specs.Str.{str_to_ascii_lowercase};
 ghost use Rattle.node_trees.specs.Nodes.{IsNode};
 ghost use Rattle.node_trees.specs.Spots.{attribute_at, parent_at};
 ghost use Rattle.reaction_queue.specs.Queues.{or_empty};
 ghost use Rattle.rule_script.specs.Built.{is_built_word};
+ghost use Rattle.form_controls.specs.Internals.{kept_by};
 ghost use Rattle.ce_algorithms.specs.Forms.{controls_of, form_owner, is_disabled};
-ghost use Rattle.ce_algorithms.specs.Questions.{node_answer, question, text_answer, value_answer};
+ghost use Rattle.ce_algorithms.specs.Questions.{kept_answer, node_answer, question, text_answer, value_answer};
 ghost use Rattle.page_calls.specs.Asked.{asked};
 ghost use Rattle.page_calls.specs.Resolved.{Resolves};
 
 use crate::fits::fits;
 use crate::groups::is_checked;
 use ce_algorithms::Fit;
-use ce_base::{Fault, NoMemory, NodeNo, Nodes, Refused, Text};
+use ce_base::{Fault, NoMemory, NodeNo, Nodes, Refused, Text, Texts};
 use ce_events::Answer;
 use ce_page::Page;
+use form_controls::Value;
 use rule_lines::AskWord;
 use std::alloc::Global;
 
@@ -48,6 +50,8 @@ pub fn asked_of(word: AskWord) -> Fit
         AskWord::Controls => Fit::Form,
         AskWord::Disabled => Fit::SubmittableOrOption,
         AskWord::Value => Fit::Submittable,
+        AskWord::Saved => Fit::FormAssociated,
+        AskWord::States => Fit::WithInternals,
         AskWord::Checked => Fit::Tickable,
         _ => Fit::Any,
     }
@@ -74,6 +78,8 @@ pub fn answer(
         AskWord::Controls => Ok(Answer::Nodes(controls(alloc, page, n)?)),
         AskWord::Disabled => Ok(Answer::Truth(is_disabled(page, n)?)),
         AskWord::Value => value(alloc, page, n),
+        AskWord::Saved => saved(alloc, page, n),
+        AskWord::States => Ok(Answer::Texts(states(alloc, page, n)?)),
         AskWord::Checked => Ok(Answer::Truth(is_checked(page, n)?)),
         _ => unreachable!(),
     }
@@ -115,14 +121,16 @@ fn owner(page: &Page, n: NodeNo) -> Result<Answer, NoMemory>
     }
 }
 
-// The controls of a form. A page that is not settled has no answer.
-fn controls(alloc: Global, page: &Page, form: NodeNo) -> Result<Nodes, NoMemory>
+/// The controls of a form. A page that is not settled has no answer.
+pub(crate) fn controls(alloc: Global, page: &Page, form: NodeNo) -> Result<Nodes, NoMemory>
     requires { IsNode page.now.forest form }
-    ensures { IfOk result (λ ns. ns ≡ controls_of page.now form) }
+    ensures list { IfOk result (λ ns. ns ≡ controls_of page.now form) }
+    ensures nodes { IfOk result (All (IsNode page.now.forest)) }
 {
     if !page.is_settled() {
         return Err(NoMemory);
     }
+    let _count = page.tree().count();
     copied(alloc, page.owners().controls(form))
 }
 
@@ -136,15 +144,55 @@ fn copied(alloc: Global, numbers: &[NodeNo]) -> Result<Nodes, NoMemory>
     Ok(nodes)
 }
 
-// The value of a control. A form-associated custom element has none, as it has no internals yet.
+// The value of a control; of a form-associated custom element its submission value.
 fn value(alloc: Global, page: &Page, n: NodeNo) -> Result<Answer, NoMemory>
     requires { IsNode page.now.forest n }
     ensures { IfOk result (λ a. a ≡ value_answer page.now n) }
 {
     if page.is_form_associated(n) {
-        return Ok(Answer::Null);
+        return submission_value(alloc, page, n);
     }
     Ok(Answer::One(page.controls().value(alloc, page.tree(), n)?))
+}
+
+// The submission value. An element without internals has none.
+fn submission_value(alloc: Global, page: &Page, n: NodeNo) -> Result<Answer, NoMemory>
+    ensures { IfOk result (λ a. a ≡ kept_answer (kept_by page.now.internals n).value) }
+{
+    if !page.inner().attached(n) {
+        return Ok(Answer::Null);
+    }
+    kept(alloc, page.inner().form_value(n))
+}
+
+// The state. An element without internals has none.
+fn saved(alloc: Global, page: &Page, n: NodeNo) -> Result<Answer, NoMemory>
+    ensures { IfOk result (λ a. a ≡ kept_answer (kept_by page.now.internals n).saved) }
+{
+    if !page.inner().attached(n) {
+        return Ok(Answer::Null);
+    }
+    kept(alloc, page.inner().saved(n))
+}
+
+fn kept(alloc: Global, v: &Value) -> Result<Answer, NoMemory>
+    ensures { IfOk result (λ a. a ≡ kept_answer v.now) }
+{
+    match v {
+        Value::Nothing => Ok(Answer::Null),
+        Value::One(text) => Ok(Answer::One(text.copy(alloc)?)),
+        Value::Many(_) => Ok(Answer::Many),
+    }
+}
+
+// The custom states. An element without internals has none.
+fn states(alloc: Global, page: &Page, n: NodeNo) -> Result<Texts, NoMemory>
+    ensures { IfOk result (λ ts. ts ≡ (kept_by page.now.internals n).states) }
+{
+    if !page.inner().attached(n) {
+        return Ok(Texts::make(alloc));
+    }
+    page.inner().states(n).copy(alloc)
 }
 
 /// Whether the node is disabled. A page that is not settled has no answer.

@@ -12,7 +12,8 @@ use Rattle.rule_lines.specs.Acts.{Act, Part, Said, Blank, Command, Declares}
 use Rattle.rule_lines.specs.Acts as acts
 
 -- the attributes, the parent, the children and the custom element state of a node can be asked; the form owner, the
--- disabled state, the value and the checkedness of a control, and the controls of a form
+-- disabled state, the value, the state and the checkedness of a control, the custom states of an element, and the controls
+-- of a form
 abbrev pub is_built_word : AskWord → Bool
 is_built_word words.Attr = true
 is_built_word words.Parent = true
@@ -22,11 +23,14 @@ is_built_word words.Owner = true
 is_built_word words.Controls = true
 is_built_word words.Disabled = true
 is_built_word words.Value = true
+is_built_word words.Saved = true
 is_built_word words.Checked = true
+is_built_word words.States = true
 is_built_word _ = false
 
 -- making, constructing and cloning nodes, inserting, removing and adopting them, attributes with any values, definitions,
--- upgrades, values, checkedness and choices of controls, variables, and the questions above
+-- upgrades, resets of forms, internals but for validity, values, checkedness and choices of controls, variables, and the
+-- questions above
 abbrev pub is_built_op : Op → Bool
 is_built_op (ops.Create var local is document) = true
 is_built_op (ops.New var class) = true
@@ -42,6 +46,14 @@ is_built_op (ops.Clone var deep target) = true
 is_built_op (ops.Adopt document target) = true
 is_built_op (ops.Define name class base) = true
 is_built_op (ops.Upgrade target) = true
+is_built_op (ops.Reset form) = true
+is_built_op (ops.Internals target) = true
+is_built_op (ops.FormValue target val saved) = true
+is_built_op (ops.FormList target entries) = true
+is_built_op (ops.FormNull target) = true
+is_built_op (ops.StateAdd target word) = true
+is_built_op (ops.StateDelete target word) = true
+is_built_op (ops.StateClear target) = true
 is_built_op (ops.Value target val) = true
 is_built_op (ops.Check target on) = true
 is_built_op (ops.Choose target on) = true
@@ -49,14 +61,16 @@ is_built_op (ops.Ask word target name) = is_built_word word
 is_built_op (ops.Let var target) = true
 is_built_op _ = false
 
--- at top level: the operations that are built, `doc`, and what the user does to the value, the checkedness and the choices
--- of controls
+-- at top level: the operations that are built, `doc`, and what the user does but for pressing a button
 abbrev pub is_built_command : Cmd → Bool
 is_built_command (commands.Both op) = is_built_op op
 is_built_command (commands.Doc var) = true
 is_built_command (commands.UserEdit target value) = true
 is_built_command (commands.UserCheck target on) = true
 is_built_command (commands.UserChoose target on) = true
+is_built_command (commands.UserReset form) = true
+is_built_command (commands.UserRestore target value) = true
+is_built_command (commands.UserAutofill target value) = true
 is_built_command _ = false
 
 -- in a body: the operations that are built, also inside `try` and `if`, and each other action, with any values
@@ -66,8 +80,7 @@ is_built_act (acts.Try act) = is_built_act act
 is_built_act (acts.If equal left right act) = is_built_act act
 is_built_act _ = true
 
--- the constructor, and the callbacks that are told of an insertion, a removal, an adoption, an attribute, a form owner and
--- a disabled state
+-- the constructor, and every callback
 abbrev pub is_built_call : CallName → Bool
 is_built_call calls.Constructor = true
 is_built_call calls.Connected = true
@@ -76,7 +89,8 @@ is_built_call calls.Adopted = true
 is_built_call calls.Attribute = true
 is_built_call calls.FormAssociated = true
 is_built_call calls.FormDisabled = true
-is_built_call _ = false
+is_built_call calls.FormReset = true
+is_built_call calls.FormStateRestore = true
 
 -- classes, these callbacks, the actions above in their bodies, observed names, classes that are form-associated, and
 -- features that are disabled

@@ -17,6 +17,9 @@ fn is_built_op(op: &Op) -> bool
         Op::SetAttr { .. } | Op::DelAttr { .. } => true,
         Op::Define { .. } | Op::Upgrade { .. } | Op::Let { .. } => true,
         Op::Value { .. } | Op::Check { .. } | Op::Choose { .. } => true,
+        Op::Reset { .. } | Op::Internals { .. } => true,
+        Op::FormValue { .. } | Op::FormList { .. } | Op::FormNull { .. } => true,
+        Op::StateAdd { .. } | Op::StateDelete { .. } | Op::StateClear { .. } => true,
         Op::Ask { word, .. } => is_built_word(*word),
         _ => false,
     }
@@ -35,7 +38,9 @@ fn is_built_word(word: AskWord) -> bool
             | AskWord::Controls
             | AskWord::Disabled
             | AskWord::Value
+            | AskWord::Saved
             | AskWord::Checked
+            | AskWord::States
     )
 }
 
@@ -51,6 +56,8 @@ fn is_built_call(call: CallName) -> bool
             | CallName::Attribute
             | CallName::FormAssociated
             | CallName::FormDisabled
+            | CallName::FormReset
+            | CallName::FormStateRestore
     )
 }
 
@@ -61,6 +68,7 @@ fn is_built_command(c: &Cmd) -> bool
         Cmd::Both(op) => is_built_op(op),
         Cmd::Doc { .. } => true,
         Cmd::UserEdit { .. } | Cmd::UserCheck { .. } | Cmd::UserChoose { .. } => true,
+        Cmd::UserReset { .. } | Cmd::UserRestore { .. } | Cmd::UserAutofill { .. } => true,
         _ => false,
     }
 }

@@ -32,8 +32,8 @@ use Rattle.ce_algorithms.specs.Create.{is_no_element, is_unfit, fitting, create_
 use Rattle.ce_algorithms.specs.Upgrade.{upgrade}
 use Rattle.ce_algorithms.specs.Construct.{construct}
 use Rattle.ce_algorithms.specs.Drain.{reacting}
-use Rattle.ce_algorithms.specs.Deeds.{resolve, resolve_user, variable, is_reacting_on_page}
-use Rattle.ce_algorithms.specs.Perform.{create_named, define_element, gives_nothing, gives_node, page_steps, perform_deed, keep, kept, operate, act_as_user}
+use Rattle.ce_algorithms.specs.Deeds.{resolve, resolve_user, variable, is_reacting_on_forms, is_reacting_on_page}
+use Rattle.ce_algorithms.specs.Perform.{create_named, define_element, gives_nothing, gives_node, form_steps, page_steps, perform_deed, keep, kept, operate, act_as_user}
 use Rattle.order_law.specs.Law.{Lawful}
 use Rattle.order_law.proofs.Model.Sound.{IsRow, All}
 use Rattle.order_law.proofs.Model.Invariant.{Hold, InSteps, InHand, Known, nodes_of, HoldsIn, After}
@@ -45,7 +45,7 @@ use Rattle.order_law.proofs.Model.Lines.{plain_holds, reported_plain}
 use Rattle.order_law.proofs.Model.Steps.{came_back, at_work, Keeps}
 use Rattle.order_law.proofs.Model.Giving.{none, one, given_nodes, maybe, AfterGives, Gives, let_go, gives_bind, gives_after, gives_seq, gives_give, gives_if, gives_catch, gives_look, gives_page, gives_keeps, keeps_gives, FoundRows}
 use Rattle.order_law.proofs.Model.Nodes.{AfterMade, made_at, state_gives}
-use Rattle.order_law.proofs.Model.PageDeeds.{page_deed_nodes, control_gives, page_gives, define_gives}
+use Rattle.order_law.proofs.Model.PageDeeds.{page_deed_nodes, control_gives, form_gives, internals_gives, page_gives, define_gives}
 use Rattle.order_law.proofs.Model.Upgrading.{upgrade_after}
 use Rattle.order_law.proofs.Model.Draining.{KeepsLaw, reacting_gives}
 use Rattle.order_law.proofs.Model.Bodies.{keeps_plain, keeps_read, keeps_read_page, keeps_class, keeps_throw_if, keeps_throw_where, view_row, construct_gives, construct_for_keeps, body_keeps}
@@ -80,6 +80,9 @@ resolved_user : (rows : ℕ) (v : View) (c : Cmd) → FoundRows deed_nodes rows 
 resolved_user rows v (commands.UserEdit operand text) = search found_any depth 8
 resolved_user rows v (commands.UserCheck operand on) = search found_any depth 8
 resolved_user rows v (commands.UserChoose operand on) = search found_any depth 8
+resolved_user rows v (commands.UserReset operand) = search found_any depth 8
+resolved_user rows v (commands.UserRestore operand text) = search found_any depth 8
+resolved_user rows v (commands.UserAutofill operand text) = search found_any depth 8
 resolved_user rows v c = tt
 
 -- variables
@@ -210,6 +213,8 @@ module _ (again : Again) (keeps : KeepsLaw again) where
   deed_gives (deeds.Define name class base) h held = queue_gives h (gives_nothing (define_element name class base)) (λ m. nothing_gives (define_keeps name class base (InSteps m ∷ h)))
   deed_gives (deeds.OnPage deed) h held = gives_if (is_reacting_on_page deed) (queue_gives h (on_page (page_steps deed)) (λ m. on_page_gives deed (InSteps m ∷ h) held)) (on_page_gives deed h held)
   deed_gives (deeds.OnControls deed) h held = gives_page (λ vs l. control_gives deed)
+  deed_gives (deeds.OnInternals deed) h held = gives_page (λ vs l. internals_gives deed)
+  deed_gives (deeds.OnForms deed) h held = gives_if (is_reacting_on_forms deed) (queue_gives h (on_page (form_steps deed)) (λ m. gives_page (λ vs l. form_gives deed))) (gives_page (λ vs l. form_gives deed))
   deed_gives (deeds.Ask word n name) h held = record { at = λ s k. (k, tt) }
   deed_gives (deeds.Let var n) h held = nothing_gives (keeps_variable var n held.0)
 

@@ -2,6 +2,7 @@
 use Rattle.std.proofs.Common.{◌≡◌, ℕ, zero, suc, Bool, true, false, List, [], ◌∷◌, ◌++◌, length, map, Option, None, refl, sym, ap, ◌∙◌, inl, inr}
 use Rattle.std.specs.Prelude.{◌||◌, not, is_some, filter, if◌then◌else◌}
 use Rattle.std.specs.Str.{str_to_ascii_lowercase}
+use Rattle.ce_base.specs.declared.fault.Fault.{Fault}
 use Rattle.ce_base.specs.declared.fault.Fault.TheVariants.{NotSupportedError, HierarchyRequestError, NotFoundError, InvalidCharacterError}
 use Rattle.element_names.specs.Names.{attr_name}
 use Rattle.node_trees.specs.Facts.{Facts, is_document, is_element, is_shadow_root}
@@ -16,28 +17,36 @@ use Rattle.ce_registry.specs.Registry.{may_define, is_value_of}
 use Rattle.form_controls.specs.declared.control.Control.{Control}
 use Rattle.form_controls.specs.Controls.{set_value}
 use Rattle.form_controls.specs.Setting.{set_checked, set_chosen}
-use Rattle.form_controls.specs.Resetting.{clone_state}
+use Rattle.form_controls.specs.Internals as inner
+use Rattle.form_controls.specs.declared.internals.Internals.{Internals}
+use Rattle.form_controls.specs.Resetting.{clone_state, reset}
+use Rattle.reaction_queue.specs.declared.reaction.Reaction.TheVariants.{FormReset, FormStateRestore}
 use Rattle.ce_algorithms.specs.declared.deed.ControlDeed.{ControlDeed}
 use Rattle.ce_algorithms.specs.declared.deed.ControlDeed.TheVariants.{Edit, Tick, Choose}
+use Rattle.ce_algorithms.specs.declared.deed.FormDeed.{FormDeed}
+use Rattle.ce_algorithms.specs.declared.deed.FormDeed.TheVariants as form_deeds
+use Rattle.ce_algorithms.specs.declared.deed.InternalsDeed.{InternalsDeed}
+use Rattle.ce_algorithms.specs.declared.deed.InternalsDeed.TheVariants as internals_deeds
 use Rattle.ce_algorithms.specs.declared.deed.PageDeed.{PageDeed}
 use Rattle.ce_algorithms.specs.declared.deed.PageDeed.TheVariants as page_deeds
 use Rattle.ce_events.specs.declared.event.Event.{Event}
 use Rattle.ce_algorithms.specs.declared.given.Given.TheVariants.{Nothing, Node, Ignored}
-use Rattle.ce_algorithms.specs.Steps.{Step, Outcome, Goes, Throws, Spent, ◌>>=◌, when, for_each}
-use Rattle.ce_algorithms.specs.Page.{Page, Work, with_controls}
+use Rattle.ce_algorithms.specs.Steps.{Step, Outcome, Goes, Throws, Spent, ◌>>=◌, ◌>>◌, refuse, when, for_each}
+use Rattle.ce_algorithms.specs.Page.{Page, Work, with_controls, with_internals}
 use Rattle.ce_algorithms.specs.Page as page
 use Rattle.ce_algorithms.specs.State.{event_of}
 use Rattle.ce_algorithms.specs.Enqueue.{enqueue_upgrade, try_upgrade}
-use Rattle.ce_algorithms.specs.Forms.{forms_of}
+use Rattle.ce_algorithms.specs.Forms.{controls_of, forms_of, is_custom_form_associated}
 use Rattle.ce_algorithms.specs.Controls.{ignored_or, control_steps}
 use Rattle.ce_algorithms.specs.Clone.{copy_node, copy_below, clone}
 use Rattle.ce_algorithms.specs.Define.{new_definition, with_defined, upgrade_candidates, define_name}
-use Rattle.ce_algorithms.specs.Perform.{upgrade_all, gives_nothing, gives_node, page_steps}
+use Rattle.ce_algorithms.specs.Perform.{upgrade_all, gives_nothing, gives_node, form_steps, internals_steps, page_steps}
+use Rattle.ce_algorithms.specs.Reset.{reset_control}
 use Rattle.order_law.proofs.Model.Sound.{All}
 use Rattle.order_law.proofs.Model.Invariant.{Hold}
 use Rattle.order_law.proofs.Model.Hands.{with_hands, IsHeld}
 use Rattle.order_law.proofs.Model.Making.{defined_holds}
-use Rattle.order_law.proofs.Model.Steps.{HoldsAt, Any, AfterAt, KeepsAt, at_seq, at_done, at_each, at_where, at_read, same_page}
+use Rattle.order_law.proofs.Model.Steps.{HoldsAt, Any, AfterAt, KeepsAt, at_seq, at_done, at_each, at_where, at_bind, at_read, callback_at, same_page}
 use Rattle.order_law.proofs.Model.Giving.{none, one, given_nodes, GivesAt, give_bind_at, give_seq_at, give_at, give_throw_if_at, give_throw_where_at, give_refuse_at, keeps_at}
 use Rattle.order_law.proofs.Model.Primitives.{try_at, upgrade_at, remove_at, adopt_at, insert_gives, set_at, unset_at}
 use Rattle.order_law.proofs.Model.Nodes.{create_later_gives, text_gives, attach_gives}
@@ -174,3 +183,34 @@ pub control_gives : {h : List Hold} {l : List Event} (deed : ControlDeed) → Gi
 control_gives (Edit n text by_user) = give_bind_at {nodes = none} (keeps_at (at_read _)) (λ ignored. ignored_gives ignored (keeps_at (controls_at (λ p cs. set_value cs n text by_user))))
 control_gives (Tick n on by_user) = give_bind_at {nodes = none} (keeps_at (at_read _)) (λ ignored. ignored_gives ignored (keeps_at (controls_at (λ p cs. set_checked (forms_of p) cs n on))))
 control_gives (Choose option on by_user) = give_bind_at {nodes = none} (keeps_at (at_read _)) (λ ignored. ignored_gives ignored (keeps_at (controls_at (λ p cs. set_chosen cs p.forest option on))))
+
+-- what is written through internals
+
+internals_at : {h : List Hold} {l : List Event} (f : List (Option Internals) → List (Option Internals)) → KeepsAt Any h l (page.change_page (with_internals f))
+internals_at {h} {l} f = record {
+  at = λ w k. record {
+    holds = same_page h (l ++ map event_of w.page.notes) w.page (with_internals f w.page) refl refl refl k.holds;
+    sound = k.sound;
+    known = k.known;
+  };
+}
+
+written_gives : {h : List Hold} {l : List Event} (tests : Work → Option Fault) (f : List (Option Internals) → List (Option Internals)) →
+    GivesAt given_nodes h l (gives_nothing (refuse tests >> page.change_page (with_internals f)))
+written_gives tests f = nothing_gives (give_seq_at (give_refuse_at tests) (keeps_at (internals_at f)))
+
+pub internals_gives : {h : List Hold} {l : List Event} (deed : InternalsDeed) → GivesAt given_nodes h l (internals_steps deed)
+internals_gives (internals_deeds.Attach n) = written_gives _ (λ is. inner.attach is n)
+internals_gives (internals_deeds.SetValue n value saved) = written_gives _ (λ is. inner.set_form_value is n value saved)
+internals_gives (internals_deeds.AddState n word) = written_gives _ (λ is. inner.add_state is n word)
+internals_gives (internals_deeds.DeleteState n word) = written_gives _ (λ is. inner.delete_state is n word)
+internals_gives (internals_deeds.ClearStates n) = written_gives _ (λ is. inner.clear_states is n)
+
+-- resets, and states that come back
+
+reset_at : {h : List Hold} {l : List Event} (n : ℕ) → KeepsAt Any h l (reset_control n)
+reset_at n = at_seq (controls_at (λ p cs. reset cs p.forest n)) (at_where (λ w. is_custom_form_associated w.page n) (callback_at n FormReset))
+
+pub form_gives : {h : List Hold} {l : List Event} (deed : FormDeed) → GivesAt given_nodes h l (form_steps deed)
+form_gives (form_deeds.Reset form by_user) = nothing_gives (keeps_at (at_bind (at_read (λ p. controls_of p form)) (λ list. at_each list reset_at)))
+form_gives (form_deeds.Restore n text mode) = give_bind_at {nodes = none} (keeps_at (at_read _)) (λ ignored. ignored_gives ignored (keeps_at (callback_at n (FormStateRestore text mode))))
