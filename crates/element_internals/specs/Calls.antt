@@ -1,4 +1,5 @@
--- What a call that changes the internals of an element comes to: what it answers, why it may be refused, the table before and after, and what the table is to be where nothing is refused.
+-- What a call that changes the internals of an element comes to: what it answers, why it may be refused, the table before
+-- and after, and what the table is to be where nothing is refused.
 use Rattle.std.specs.Prelude.{◌≡◌, List, Option, Some, None, Result, Ok, Err}
 use Rattle.ce_base.specs.declared.fault.Fault.{Fault}
 use Rattle.ce_base.specs.declared.fault.Refused.{Refused}
