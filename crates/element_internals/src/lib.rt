@@ -6,6 +6,8 @@ mod attaching;
 mod reading;
 mod states;
 mod table;
+mod validity;
 mod values;
 
 pub use table::InternalsTable;
+pub use validity::is_raised;

@@ -32,7 +32,7 @@ fn write_value(rows: &mut [Option<Internals>], n: NodeNo, v: Value, saved: Value
 
 impl InternalsTable {
     /// Why what only a form-associated custom element has may not be written. None exactly where it may.
-    fn write_fault(&self, n: NodeNo, associated: bool) -> Option<Fault>
+    pub(crate) fn write_fault(&self, n: NodeNo, associated: bool) -> Option<Fault>
         ensures { result ≡ may_write self.now n associated }
     {
         if !self.attached(n) {
