@@ -1,6 +1,6 @@
 -- What is found among options is what is chosen.
-use Rattle.std.proofs.Common.{◌≡◌, ℕ, Bool, true, false, cond, List, [], ◌∷◌, Option, Some, None, refl, ap, ◌∙◌}
-use Rattle.std.specs.Prelude.{filter, find, not}
+use Rattle.std.proofs.Common.{◌≡◌, ℕ, Bool, true, false, cond, List, [], ◌∷◌, ◌++◌, Option, Some, None, refl, ap, ◌∙◌}
+use Rattle.std.specs.Prelude.{filter, find, flat_map, fold, not}
 use Rattle.std.specs.List.{last_or}
 use Rattle.std.specs.Option.{option_or, option_to_list}
 use Rattle.node_trees.specs.Trees.{Trees}
@@ -19,7 +19,24 @@ first-found p o x xs = by_test (p x) o
     by_test true (Some y) = refl
     by_test false o = refl
 
-first-filtered : (p : ℕ → Bool) (xs : List ℕ) → find p xs ≡ first_of (filter p xs)
+-- the first that passes, of those that are looked at one after another
+pub first-among : (p : ℕ → Bool) (o : Option ℕ) (xs : List ℕ) → fold (λ v x. first_where (p x) v x) o xs ≡ option_or o (find p xs)
+first-among p None [] = refl
+first-among p (Some y) [] = refl
+first-among p o (x ∷ xs) = first-among p (first_where (p x) o x) xs ∙ first-found p o x xs
+
+-- and the first of all parts
+pub first-part : (parts : ℕ → List ℕ) (o : Option ℕ) (xs : List ℕ) → fold (λ v x. option_or v (first_of (parts x))) o xs ≡ option_or o (first_of (flat_map parts xs))
+first-part parts None [] = refl
+first-part parts (Some y) [] = refl
+first-part parts o (x ∷ xs) = first-part parts (option_or o (first_of (parts x))) xs ∙ by_case o (parts x) (flat_map parts xs)
+  where
+    by_case : (o : Option ℕ) (ys zs : List ℕ) → option_or (option_or o (first_of ys)) (first_of zs) ≡ option_or o (first_of (ys ++ zs))
+    by_case (Some y) ys zs = refl
+    by_case None [] zs = refl
+    by_case None (y ∷ ys) zs = refl
+
+pub first-filtered : (p : ℕ → Bool) (xs : List ℕ) → find p xs ≡ first_of (filter p xs)
 first-filtered p [] = refl
 first-filtered p (x ∷ xs) = by_test (p x) (first-filtered p xs)
   where

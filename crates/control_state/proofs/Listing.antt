@@ -8,7 +8,7 @@ use Rattle.std.proofs.lemmas.List.Elements.{All-nil, All-cons, All-head, All-tai
 use Rattle.std.proofs.lemmas.Option.{get_or_from_slice_get, slice_get_within}
 use Rattle.node_trees.specs.Paths.{is_among}
 use Rattle.node_trees.specs.Trees.{Trees}
-use Rattle.node_trees.specs.Nodes.{IsNode, IsTidy}
+use Rattle.node_trees.specs.Nodes.{IsNode, IsNodeOrNone, IsTidy}
 use Rattle.node_trees.specs.Spots.{children_at, first_of}
 use Rattle.element_names.specs.declared.natives.Native.TheVariants.{Optgroup, OptionItem}
 use Rattle.form_controls.specs.Kinds.{is_a}
@@ -98,9 +98,13 @@ module _ (f : Trees) (tidy : IsTidy f) where
       by_test true = All-filter _ (IsNode f) (options_of f select) (options-nodes select node)
       by_test false = one-nodes controls select node
 
-  pub first-node : (controls : List Control) (select option : ℕ) → IsNode f select → Some option ≡ first_of (chosen controls f select) → IsNode f option
+  first-node : (controls : List Control) (select option : ℕ) → IsNode f select → Some option ≡ first_of (chosen controls f select) → IsNode f option
   first-node controls select option node e = by_list (chosen controls f select) (chosen-nodes controls select node) e
     where
       by_list : (xs : List ℕ) → All (IsNode f) xs → Some option ≡ first_of xs → IsNode f option
       by_list [] all is = absurd cc
       by_list (x ∷ xs) all is = let same : x ≡ option = cc in subst (IsNode f) same (All-head (IsNode f) x xs all)
+
+  pub first-or-none : (controls : List Control) (select : ℕ) (found : Option ℕ) → IsNode f select → found ≡ first_of (chosen controls f select) → IsNodeOrNone f found
+  first-or-none controls select None node e = tt
+  first-or-none controls select (Some option) node e = first-node controls select option node e

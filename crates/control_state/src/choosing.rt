@@ -1,7 +1,7 @@
 // Which options of a select are chosen.
 ghost use Rattle.std.specs.Prelude.{◌≡◌, ◌<◌, ◌++◌, ◌∷◌, [], All, Some, filter, if◌then◌else◌, length, slice_get, IfOk, OnOk};
 ghost use Rattle.std.specs.Option.{option_to_list};
-ghost use Rattle.node_trees.specs.Nodes.{IsNode};
+ghost use Rattle.node_trees.specs.Nodes.{IsNode, IsNodeOrNone};
 ghost use Rattle.node_trees.specs.Spots.{first_of};
 ghost use Rattle.form_controls.specs.Options.{chosen, chosen_one, is_selected, option_children, options_at, options_of, selected_of};
 ghost use Rattle.control_state.specs.Choosing.{noted, noted_all, nothing_found};
@@ -167,8 +167,10 @@ impl ControlTable {
     /// The first chosen option of a select. None exactly where none is chosen.
     pub fn first_chosen(&self, tree: &Tree, select: NodeNo) -> Option<NodeNo>
         requires { IsNode tree.now select }
-        ensures { result ≡ first_of (chosen self.now tree.now select) }
+        ensures option { result ≡ first_of (chosen self.now tree.now select) }
+        ensures node { IsNodeOrNone tree.now result }
     {
+        let _count = tree.count();
         if is_multiple(tree, select) {
             found_in(self, tree, select).first
         } else {

@@ -1,12 +1,13 @@
 // The lengths of values, and whether they are empty. No value is built.
 ghost use Rattle.std.specs.Prelude.{◌≡◌, ◌-◌, ◌^◌, min};
 ghost use Rattle.node_trees.specs.Nodes.{IsNode};
-ghost use Rattle.form_controls.specs.Options.{text_below};
+ghost use Rattle.form_controls.specs.Options.{option_value, text_below};
 ghost use Rattle.form_controls.specs.Texts.{collapsed, is_empty, normalized, units_of};
 ghost use Rattle.form_controls.specs.Values.{child_text, units, value};
+ghost use Rattle.control_state.specs.Sources.{IsOfNode, value_from};
 
 use crate::ControlTable;
-use crate::source::Source;
+use crate::source::{Source, option_source};
 use ce_base::NodeNo;
 use control_texts::{
     CollapsedUnits, NormalizedUnits, is_only_newlines, is_only_whitespace,
@@ -96,6 +97,28 @@ fn is_empty_below(tree: &Tree, n: NodeNo) -> bool
     true
 }
 
+/// Whether a value is empty, by where it comes from.
+fn is_empty_from(tree: &Tree, source: Source<'_>) -> bool
+    requires { IsOfNode tree.now source }
+    ensures { result ≡ is_empty (value_from tree.now source.entry) }
+{
+    match source {
+        Source::Plain(text) => text.is_empty(),
+        Source::Line(text) => is_only_newlines(text),
+        Source::Lines(text) => is_empty_of_lines(text),
+        Source::Children(n) => is_empty_of_children(tree, n),
+        Source::Below(n) => is_empty_below(tree, n),
+    }
+}
+
+/// Whether the value of an option is the empty text (HTML Standard, section "The option element", "value").
+pub fn is_option_empty(tree: &Tree, option: NodeNo) -> bool
+    requires { IsNode tree.now option }
+    ensures { result ≡ is_empty (option_value tree.now option) }
+{
+    is_empty_from(tree, option_source(tree, option))
+}
+
 impl ControlTable {
     /// The length of a control's value in code units of UTF-16 (Infra Standard, section "Strings", "length"), or the
     /// greatest `u64` where it is longer.
@@ -117,12 +140,6 @@ impl ControlTable {
         requires { IsNode tree.now n }
         ensures { result ≡ is_empty (value self.now tree.now n) }
     {
-        match self.source(tree, n) {
-            Source::Plain(text) => text.is_empty(),
-            Source::Line(text) => is_only_newlines(text),
-            Source::Lines(text) => is_empty_of_lines(text),
-            Source::Children(n) => is_empty_of_children(tree, n),
-            Source::Below(n) => is_empty_below(tree, n),
-        }
+        is_empty_from(tree, self.source(tree, n))
     }
 }

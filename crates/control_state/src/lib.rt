@@ -12,5 +12,6 @@ mod source;
 mod table;
 mod values;
 
-pub use options::{is_multiple, options_of, select_of};
+pub use lengths::is_option_empty;
+pub use options::{first_option, is_multiple, options_of, select_of};
 pub use table::ControlTable;

@@ -1,6 +1,7 @@
 // The options of a select.
 ghost use Rattle.std.specs.Prelude.{◌≡◌, ◌++◌, All, IfOk, OnOk};
 ghost use Rattle.node_trees.specs.Nodes.{IsNode, IsNodeOrNone};
+ghost use Rattle.node_trees.specs.Spots.{first_of};
 ghost use Rattle.form_controls.specs.Options.{is_multiple, option_children, options_at, options_of, select_of, where_select};
 
 use ce_base::{NoMemory, NodeNo, Nodes};
@@ -103,4 +104,51 @@ pub fn options_of(alloc: Global, tree: &Tree, select: NodeNo) -> Result<Nodes, N
         next = tree.next_sibling(child);
     }
     Ok(list)
+}
+
+/// The first option among the children of an optgroup.
+fn first_child_option(tree: &Tree, group: NodeNo) -> Option<NodeNo>
+    requires { IsNode tree.now group }
+    ensures { result ≡ first_of (option_children tree.now group) }
+{
+    let _count = tree.count();
+    let mut found = None;
+    let mut next = tree.first_child(group);
+    while let Some(child) = next {
+        if is_a(tree, child, Native::OptionItem) {
+            found = found.or(Some(child));
+        }
+        next = tree.next_sibling(child);
+    }
+    found
+}
+
+/// An option, or the first option of an optgroup.
+fn first_option_at(tree: &Tree, child: NodeNo) -> Option<NodeNo>
+    requires { IsNode tree.now child }
+    ensures { result ≡ first_of (options_at tree.now child) }
+{
+    if is_a(tree, child, Native::OptionItem) {
+        return Some(child);
+    }
+    if is_a(tree, child, Native::Optgroup) {
+        return first_child_option(tree, child);
+    }
+    None
+}
+
+/// The first option of a select (HTML Standard, section "The select element", "list of options"). None exactly where it has
+/// none. No list is built.
+pub fn first_option(tree: &Tree, select: NodeNo) -> Option<NodeNo>
+    requires { IsNode tree.now select }
+    ensures { result ≡ first_of (options_of tree.now select) }
+{
+    let _count = tree.count();
+    let mut found = None;
+    let mut next = tree.first_child(select);
+    while let Some(child) = next {
+        found = found.or(first_option_at(tree, child));
+        next = tree.next_sibling(child);
+    }
+    found
 }

@@ -69,3 +69,11 @@ pub(crate) fn write_state(rows: &mut [Control], n: NodeNo, value: Option<Text>, 
     row.value = value;
     row.flag = flag;
 }
+
+pub(crate) fn write_message(rows: &mut [Control], n: NodeNo, m: Text)
+    requires { n - 1 < length rows.old }
+    ensures { rows.new ≡ slice_set rows.old (n - 1) (record (control_at rows.old n) { message = m }) }
+{
+    let row = &mut rows[place_of(n)];
+    row.message = m;
+}

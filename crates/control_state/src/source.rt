@@ -40,7 +40,7 @@ fn attribute_or<'a>(tree: &'a Tree, n: NodeNo, name: &str, other: &'a str) -> &'
 }
 
 /// An option's value: its `value` attribute, or its text (HTML Standard, section "The option element").
-fn option_source(tree: &Tree, option: NodeNo) -> Source<'_>
+pub(crate) fn option_source(tree: &Tree, option: NodeNo) -> Source<'_>
     requires { IsNode tree.now option }
     ensures value { value_from tree.now result ≡ option_value tree.now option }
     ensures node { IsOfNode tree.now result }

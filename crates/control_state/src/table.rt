@@ -1,8 +1,8 @@
 // The table.
 ghost use Rattle.std.specs.Prelude.{◌≡◌, ◌-◌, [], OnOk, option_copied};
-ghost use Rattle.form_controls.specs.Controls.{control_at, copy_state, is_edited, set_flag, set_value};
+ghost use Rattle.form_controls.specs.Controls.{control_at, copy_state, is_edited, message_at, set_flag, set_message, set_value};
 
-use crate::setting::{copy_of, fill, write_flag, write_state, write_value};
+use crate::setting::{copy_of, fill, write_flag, write_message, write_state, write_value};
 use ce_base::{NoMemory, NodeNo, Text};
 use form_controls::Control;
 use node_arena::Tree;
@@ -49,6 +49,17 @@ impl ControlTable {
         match self.rows.get(place_of(n)) {
             None => false,
             Some(row) => row.edited,
+        }
+    }
+
+    /// The custom validity error message, or the empty text where none was set (HTML Standard, section "The constraint
+    /// validation API").
+    pub fn message(&self, n: NodeNo) -> &str
+        ensures { result.now ≡ message_at self.now n }
+    {
+        match self.rows.get(place_of(n)) {
+            None => "",
+            Some(row) => row.message.as_str(),
         }
     }
 
@@ -99,6 +110,16 @@ impl ControlTable {
     {
         fill(alloc, &mut self.rows, place_of(n))?;
         write_flag(&mut self.rows, n, on);
+        Ok(())
+    }
+
+    /// Sets the custom validity error message; the empty one takes it away (HTML Standard, section "The constraint validation
+    /// API", `setCustomValidity`). `NoMemory` comes only where memory was refused, and then the table is only dropped.
+    pub fn set_message(&mut self, alloc: Global, n: NodeNo, m: Text) -> Result<(), NoMemory>
+        ensures { OnOk result (self.new ≡ set_message self.old n m) }
+    {
+        fill(alloc, &mut self.rows, place_of(n))?;
+        write_message(&mut self.rows, n, m);
         Ok(())
     }
 

@@ -1,0 +1,14 @@
+use Rattle.std.proofs.Common.{length}
+use Rattle.element_names.specs.declared.natives.Native.TheVariants.{OptionItem}
+use Rattle.form_controls.specs.Kinds.{is_a}
+use Rattle.node_trees.specs.Spots.{children_at}
+use Rattle.control_state.specs.Choosing.{first_where}
+use Rattle.control_state.proofs.Left.{left_from}
+use Rattle.control_state.proofs.Walks.{Walks}
+use Rattle.control_state.proofs.options.first_child_option.Given as goal
+
+abbrev pub invariant-loop-next : goal.invariant-loop-next
+invariant-loop-next l = Walks l.tree (children_at l.tree l.fn.group) (λ v n. first_where (is_a OptionItem l.tree n) v n) l.initial.found l.found l.next
+
+abbrev pub decreases-loop-next : goal.decreases-loop-next
+decreases-loop-next l = length (left_from l.next (children_at l.tree l.fn.group))
