@@ -3,16 +3,17 @@ use Rattle.std.proofs.Common.{◌≡◌, All, ℕ, ◌+◌, ◌-◌, ◌<◌, �
 use Rattle.std.specs.Prelude.{filter, find, codes}
 use Rattle.std.proofs.lemmas.Bool.{cases_lt}
 use Rattle.std.proofs.lemmas.Bool.Decides.{nat_tests}
-use Rattle.std.proofs.lemmas.List.Elements.{All-map, All-filter}
+use Rattle.std.proofs.lemmas.List.Elements.{All-map, All-filter, All-nil, All-cons}
 use Rattle.std.proofs.lemmas.List.FromFn.{length-range_with_len, get_or-range_with_len}
 use Rattle.element_names.specs.declared.natives.Native.TheVariants.{Form, OptionItem}
 use Rattle.node_trees.specs.Trees.{Trees, none, is_number}
 use Rattle.node_trees.specs.Nodes.{times, size, IsNode, IsTidy}
 use Rattle.node_trees.specs.Orders.{tree_order_of}
-use Rattle.node_trees.specs.Paths.{root_at, connected}
+use Rattle.node_trees.specs.Paths.{is_among, root_at, connected}
 use Rattle.node_trees.specs.Ids.{first_with_id}
 use Rattle.node_trees.specs.Spots.{attribute_at, or_no_spot, facts_at}
 use Rattle.node_trees.proofs.Absent.{spot-absent}
+use Rattle.tree_laws.proofs.InOrder.{member_is_node}
 use Rattle.form_controls.specs.declared.change.Change.{Change}
 use Rattle.form_controls.specs.Changes.{is_change, numbers}
 use Rattle.form_controls.specs.Kinds.{is_a}
@@ -100,6 +101,17 @@ owner-form f n k e = by_test (is_listed f n) e
     by_test : (b : Bool) → cond b (owner_by f.forest n (attribute_at f.forest n (codes "form"))) None ≡ Some k → is_a Form f.forest k ≡ true
     by_test true i = owner-by-form f.forest n (attribute_at f.forest n (codes "form")) k i
     by_test false i = absurd cc
+
+-- the controls of a form are nodes
+
+all-members : (P : ℕ → Type 0) (xs : List ℕ) → ((n : ℕ) → is_among n xs ≡ true → P n) → All P xs
+all-members P [] h = All-nil P
+all-members P (x ∷ xs) h = All-cons P x xs (h x (grind (arith, nat_tests))) (all-members P xs (λ n e. h n (grind (arith, nat_tests))))
+
+pub controls-nodes : (f : Forms) (form : ℕ) → IsTidy f.forest → All (IsNode f.forest) (controls_of f form)
+controls-nodes f form tidy =
+    let order = tree_order_of f.forest (root_at f.forest form) in
+    All-filter (is_owned_by f form) (IsNode f.forest) order (all-members (IsNode f.forest) order (λ n among. member_is_node f.forest (root_at f.forest form) n tidy among))
 
 -- so what is no form has no controls
 

@@ -21,5 +21,6 @@ pub use laws::{
     only_members_count,
 };
 pub use owner::is_listed;
+pub use reading::is_in_datalist;
 pub use table::OwnerTable;
 pub use touch::Touch;

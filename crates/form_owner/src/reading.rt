@@ -2,9 +2,12 @@
 ghost use Rattle.std.specs.Prelude.{◌≡◌, ◌<◌, All, Some, length, slice_get};
 ghost use Rattle.node_trees.specs.Nodes.{IsNode, IsTidy};
 ghost use Rattle.node_trees.specs.Paths.{is_among};
+ghost use Rattle.form_controls.specs.Barred.{is_in_datalist};
 ghost use Rattle.form_controls.specs.Owners.{ancestors};
 
 use ce_base::{NodeNo, Nodes};
+use element_names::Native;
+use form_kinds::is_a;
 use node_arena::Tree;
 
 /// The node at a place of a list.
@@ -15,6 +18,22 @@ pub(crate) fn node_at(tree: &Tree, nodes: &Nodes, place: usize) -> NodeNo
     ensures node { IsNode tree.now result }
 {
     nodes.get(place).unwrap()
+}
+
+/// Whether a node is below a datalist, in its own tree (HTML Standard, section "The datalist element").
+pub fn is_in_datalist(tree: &Tree, n: NodeNo) -> bool
+    requires tidy { IsTidy tree.now }
+    requires node { IsNode tree.now n }
+    ensures { result ≡ is_in_datalist tree.now n }
+{
+    let mut at = n;
+    while let Some(parent) = tree.parent(at) {
+        if is_a(tree, parent, Native::Datalist) {
+            return true;
+        }
+        at = parent;
+    }
+    false
 }
 
 /// Whether a node is below another, in its own tree.

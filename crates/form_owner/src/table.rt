@@ -1,14 +1,14 @@
 // The table.
-ghost use Rattle.std.specs.Prelude.{◌≡◌, []};
+ghost use Rattle.std.specs.Prelude.{◌≡◌, All, []};
 ghost use Rattle.node_trees.specs.declared.kind.NodeKind.TheVariants.{Document};
 ghost use Rattle.node_trees.specs.Facts.{blank};
-ghost use Rattle.node_trees.specs.Nodes.{IsNode};
+ghost use Rattle.node_trees.specs.Nodes.{IsNode, IsTidy};
 ghost use Rattle.node_trees.specs.Trees.{single};
 ghost use Rattle.form_controls.specs.Disabled.{is_disabled};
-ghost use Rattle.form_controls.specs.Owners.{Forms, controls_of, form_owner};
+ghost use Rattle.form_controls.specs.Owners.{Forms, controls_of, form_owner, is_associated};
 ghost use Rattle.form_owner.specs.Stands.{Stands};
 
-use crate::row::{Row, controls_in, disabled_in, owner_in};
+use crate::row::{Row, associated_in, controls_in, disabled_in, owner_in};
 use ce_base::NodeNo;
 use std::alloc::Global;
 use std::marker::Model;
@@ -53,10 +53,18 @@ impl OwnerTable {
         disabled_in(&self.rows, n)
     }
 
+    /// Whether a node is a form-associated custom element (HTML Standard, section "Core concepts").
+    pub fn associated(&self, n: NodeNo) -> bool
+        ensures { (f : Forms) → Stands self.now f → IsNode f.forest n → result ≡ is_associated f n }
+    {
+        associated_in(&self.rows, n)
+    }
+
     /// The controls of a form, in tree order: the listed elements whose form owner it is (HTML Standard, section "The form
     /// element"). Another node has none.
     pub fn controls(&self, form: NodeNo) -> &[NodeNo]
-        ensures { (f : Forms) → Stands self.now f → IsNode f.forest form → result.now ≡ controls_of f form }
+        ensures list { (f : Forms) → Stands self.now f → IsNode f.forest form → result.now ≡ controls_of f form }
+        ensures nodes { (f : Forms) → Stands self.now f → IsTidy f.forest → IsNode f.forest form → All (IsNode f.forest) result.now }
     {
         controls_in(&self.rows, form)
     }
