@@ -13,6 +13,7 @@ use Rattle.ce_algorithms.specs.Steps.{Step, Outcome, Goes, Throws, Spent, then_d
 use Rattle.ce_algorithms.specs.Page.{Page, Work, Element, spend, spend_from, read_page, change_page, with_controls, with_internals, with_forest, with_queues, with_element, with_state, with_definition}
 use Rattle.ce_algorithms.specs.Making.{with_new, make_node, make_element, make_text, make_shadow_root}
 use Rattle.ce_algorithms.specs.Enqueue.{noted, enqueue, enqueue_callback, enqueue_upgrade, enqueue_found, try_upgrade}
+use Rattle.ce_base.specs.declared.flags.Flags.{Flags}
 use Rattle.form_controls.specs.declared.change.Change.{Change}
 use Rattle.form_controls.specs.declared.control.Control.{Control}
 use Rattle.form_controls.specs.declared.internals.Internals.{Internals}
@@ -25,18 +26,18 @@ use Rattle.ce_algorithms.specs.Mutation.{removed, remove, adopted, move_to, adop
 use Rattle.ce_algorithms.specs.Attributes.{handle_attribute_change, set_attribute, remove_there, remove_attribute}
 use Rattle.ce_algorithms.specs.Define.{with_defined, upgrade_candidates, define_name}
 use Rattle.ce_algorithms.specs.CreateLater.{make_in_state, make_later, create_later}
-use Rattle.ce_algorithms.specs.Controls.{set_value, set_checked, set_chosen, ignored_or, unless_ignored, control_steps, copy_control}
-use Rattle.ce_algorithms.specs.Internals.{attach_internals, change_states, set_form_value}
+use Rattle.ce_algorithms.specs.Controls.{set_value, set_checked, set_chosen, set_message, ignored_or, unless_ignored, control_steps, copy_control}
+use Rattle.ce_algorithms.specs.Internals.{attach_internals, change_states, set_form_value, set_validity}
 use Rattle.ce_algorithms.specs.Reset.{reset_control, reset_form, restore}
 use Rattle.ce_algorithms.specs.Clone.{copy_attribute, copy_node, copy_below}
 use Rattle.ce_algorithms.specs.Construction.{with_stacks, pop_construction, make_custom, base_entry, base_call}
 use Rattle.ce_algorithms.specs.Upgrade.{enqueue_attribute, begin_upgrade}
 use Rattle.ce_algorithms.specs.declared.deed.ControlDeed.{ControlDeed}
-use Rattle.ce_algorithms.specs.declared.deed.ControlDeed.TheVariants.{Edit, Tick, Choose}
+use Rattle.ce_algorithms.specs.declared.deed.ControlDeed.TheVariants.{Edit, Tick, Choose, SetMessage}
 use Rattle.ce_algorithms.specs.declared.deed.FormDeed.{FormDeed}
 use Rattle.ce_algorithms.specs.declared.deed.FormDeed.TheVariants.{Reset, Restore}
 use Rattle.ce_algorithms.specs.declared.deed.InternalsDeed.{InternalsDeed}
-use Rattle.ce_algorithms.specs.declared.deed.InternalsDeed.TheVariants.{Attach, SetValue, AddState, DeleteState, ClearStates}
+use Rattle.ce_algorithms.specs.declared.deed.InternalsDeed.TheVariants.{Attach, SetValue, SetValidity, AddState, DeleteState, ClearStates}
 use Rattle.ce_algorithms.specs.declared.deed.PageDeed.{PageDeed}
 use Rattle.ce_algorithms.specs.declared.deed.PageDeed.TheVariants as page_deeds
 use Rattle.ce_algorithms.specs.Perform as perform
@@ -320,6 +321,9 @@ module _ (R : Work → Work → Type 0) (c : Closed R) where
   keeps_set_chosen : (option : ℕ) (on : Bool) → Keeps R (set_chosen option on)
   keeps_set_chosen option on = record { at = λ w. c.controls _ w }
 
+  keeps_set_message : (n : ℕ) (message : List ℕ) → Keeps R (set_message n message)
+  keeps_set_message n message = record { at = λ w. c.controls _ w }
+
   keeps_ignored_or : {f : Step Work (Unit {0})} (ignored : Bool) → Keeps R f → Keeps R (ignored_or ignored f)
   keeps_ignored_or true h = keeps_give _
   keeps_ignored_or false h = keeps_seq h (keeps_give _)
@@ -331,6 +335,7 @@ module _ (R : Work → Work → Type 0) (c : Closed R) where
   keeps_control_steps (Edit n text by_user) = keeps_unless_ignored by_user _ (keeps_set_value n text by_user)
   keeps_control_steps (Tick n on by_user) = keeps_unless_ignored by_user _ (keeps_set_checked n on)
   keeps_control_steps (Choose option on by_user) = keeps_unless_ignored by_user _ (keeps_set_chosen option on)
+  keeps_control_steps (SetMessage n message) = keeps_seq (keeps_set_message n message) (keeps_give _)
 
   -- internals
 
@@ -343,12 +348,16 @@ module _ (R : Work → Work → Type 0) (c : Closed R) where
   keeps_set_form_value : (n : ℕ) (value saved : Value) → Keeps R (set_form_value n value saved)
   keeps_set_form_value n value saved = keeps_seq (keeps_refuse _) (keeps_change_internals _)
 
+  keeps_set_validity : (n : ℕ) (flags : Flags) (message : List ℕ) → Keeps R (set_validity n flags message)
+  keeps_set_validity n flags message = keeps_seq (keeps_refuse _) (keeps_change_internals _)
+
   keeps_change_states : (n : ℕ) (change : List (Option Internals) → List (Option Internals)) → Keeps R (change_states n change)
   keeps_change_states n change = keeps_seq (keeps_refuse _) (keeps_change_internals _)
 
   pub keeps_internals_steps : (what : InternalsDeed) → Keeps R (perform.internals_steps what)
   keeps_internals_steps (Attach n) = keeps_seq (keeps_attach_internals n) (keeps_give _)
   keeps_internals_steps (SetValue n value saved) = keeps_seq (keeps_set_form_value n value saved) (keeps_give _)
+  keeps_internals_steps (SetValidity n flags message) = keeps_seq (keeps_set_validity n flags message) (keeps_give _)
   keeps_internals_steps (AddState n word) = keeps_seq (keeps_change_states n _) (keeps_give _)
   keeps_internals_steps (DeleteState n word) = keeps_seq (keeps_change_states n _) (keeps_give _)
   keeps_internals_steps (ClearStates n) = keeps_seq (keeps_change_states n _) (keeps_give _)

@@ -5,7 +5,7 @@ use Rattle.form_controls.specs.Setting as setting
 use Rattle.form_controls.specs.Setting.{is_edit_ignored, is_tick_ignored, is_choice_ignored}
 use Rattle.form_controls.specs.Resetting.{clone_state}
 use Rattle.ce_algorithms.specs.declared.deed.ControlDeed.{ControlDeed}
-use Rattle.ce_algorithms.specs.declared.deed.ControlDeed.TheVariants.{Edit, Tick, Choose}
+use Rattle.ce_algorithms.specs.declared.deed.ControlDeed.TheVariants.{Edit, Tick, Choose, SetMessage}
 use Rattle.ce_algorithms.specs.declared.given.Given.{Given}
 use Rattle.ce_algorithms.specs.declared.given.Given.TheVariants.{Nothing, Ignored}
 use Rattle.ce_algorithms.specs.Steps.{Step, ◌>>=◌, ◌>>◌, give}
@@ -26,6 +26,10 @@ set_checked n on = change_page (λ p. with_controls (λ cs. setting.set_checked 
 abbrev pub set_chosen : ℕ → Bool → Step Work (Unit {0})
 set_chosen option on = change_page (λ p. with_controls (λ cs. setting.set_chosen cs p.forest option on) p)
 
+-- the custom validity error message (section "The constraint validation API", `setCustomValidity`)
+abbrev pub set_message : ℕ → List ℕ → Step Work (Unit {0})
+set_message n message = change_page (with_controls (λ cs. controls.set_message cs n message))
+
 -- what the user may not do
 
 abbrev pub ignored_or : Bool → Step Work (Unit {0}) → Step Work Given
@@ -45,6 +49,9 @@ abbrev pub control_steps : ControlDeed → Step Work Given
 control_steps (Edit n text by_user) = unless_ignored by_user (λ p. is_edit_ignored (forms_of p) n) (set_value n text by_user)
 control_steps (Tick n on by_user) = unless_ignored by_user (λ p. is_tick_ignored (forms_of p) n) (set_checked n on)
 control_steps (Choose option on by_user) = unless_ignored by_user (λ p. is_choice_ignored (forms_of p) option) (set_chosen option on)
+control_steps (SetMessage n message) = do
+  set_message n message
+  give Nothing
 
 -- cloning
 

@@ -19,7 +19,7 @@ use Rattle.ce_algorithms.specs.declared.deed.InternalsDeed.TheVariants as intern
 use Rattle.ce_algorithms.specs.declared.deed.Deed.TheVariants.{OnPage, OnControls, OnInternals, OnForms}
 use Rattle.ce_algorithms.specs.declared.deed.PageDeed.{PageDeed}
 use Rattle.ce_algorithms.specs.declared.deed.PageDeed.TheVariants as page_deeds
-use Rattle.ce_algorithms.specs.declared.fit.Fit.TheVariants.{AnOption, CustomFormAssociated, ElementOrText, Form, TextControl, Tickable}
+use Rattle.ce_algorithms.specs.declared.fit.Fit.TheVariants.{AnOption, CustomFormAssociated, ElementOrText, Form, ListedNative, TextControl, Tickable}
 use Rattle.ce_algorithms.specs.Unbuilt.{unbuilt_deed}
 use Rattle.ce_algorithms.specs.State.{View}
 use Rattle.ce_algorithms.specs.Operands.{◌>>=◌, node, node_that, element, document, document_or_page, class}
@@ -94,6 +94,9 @@ resolve v (ops.Check operand on) = do
 resolve v (ops.Choose operand on) = do
   n ← node_that AnOption v operand
   Ok (OnControls (control_deeds.Choose n on false))
+resolve v (ops.Custom operand message) = do
+  n ← node_that ListedNative v operand
+  Ok (OnControls (control_deeds.SetMessage n (fixed_text message)))
 resolve v (ops.Internals operand) = do
   n ← element v operand
   Ok (OnInternals (internals_deeds.Attach n))
@@ -106,6 +109,9 @@ resolve v (ops.FormList operand entries) = do
 resolve v (ops.FormNull operand) = do
   n ← element v operand
   Ok (OnInternals (internals_deeds.SetValue n values.Nothing values.Nothing))
+resolve v (ops.Validity operand flags message) = do
+  n ← element v operand
+  Ok (OnInternals (internals_deeds.SetValidity n flags (fixed_text message)))
 resolve v (ops.StateAdd operand word) = do
   n ← element v operand
   Ok (OnInternals (internals_deeds.AddState n word))

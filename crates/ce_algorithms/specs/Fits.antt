@@ -4,9 +4,10 @@ use Rattle.node_trees.specs.Facts.{is_document, is_element, is_text}
 use Rattle.node_trees.specs.Spots.{kind_at}
 use Rattle.element_names.specs.declared.natives.Native.TheVariants.{Form as FormElement, OptionItem}
 use Rattle.form_controls.specs.Internals.{is_attached}
-use Rattle.form_controls.specs.Kinds.{is_a, is_text_control, is_tickable}
+use Rattle.form_controls.specs.Kinds.{is_a, is_text_control, is_tickable, native_at}
+use Rattle.form_controls.specs.Owners.{is_listed_native}
 use Rattle.ce_algorithms.specs.declared.fit.Fit.{Fit}
-use Rattle.ce_algorithms.specs.declared.fit.Fit.TheVariants.{Any, Element, Document, ElementOrText, Form, Listed, Submittable, SubmittableOrOption, TextControl, Tickable, AnOption, FormAssociated, CustomFormAssociated, WithInternals}
+use Rattle.ce_algorithms.specs.declared.fit.Fit.TheVariants.{Any, Element, Document, ElementOrText, Form, Listed, ListedNative, Submittable, SubmittableOrOption, TextControl, Tickable, AnOption, FormAssociated, CustomFormAssociated, WithInternals}
 use Rattle.ce_algorithms.specs.Page.{Page, definition_of}
 use Rattle.ce_algorithms.specs.Forms.{is_custom_form_associated, is_form_associated, is_listed, is_submittable}
 
@@ -17,6 +18,7 @@ fits Document p n = is_document (kind_at p.forest n)
 fits ElementOrText p n = is_element (kind_at p.forest n) || is_text (kind_at p.forest n)
 fits Form p n = is_a FormElement p.forest n
 fits Listed p n = is_listed p n
+fits ListedNative p n = is_listed_native (native_at p.forest n)
 fits Submittable p n = is_submittable p n
 fits SubmittableOrOption p n = is_submittable p n || is_a OptionItem p.forest n
 fits TextControl p n = is_text_control p.forest n

@@ -1,13 +1,14 @@
--- What ElementInternals keeps of elements: submission values, states, custom states (HTML Standard, section "Element internals").
+-- What ElementInternals keeps of elements: submission values, states, validity flags, custom states (HTML Standard, section "Element internals").
 use Rattle.std.specs.Prelude.{ℕ, Bool, true, false, List, Option, Some, None, is_some}
 use Rattle.ce_base.specs.declared.custom_state.CustomState.{CustomState}
 use Rattle.ce_base.specs.declared.custom_state.CustomState.TheVariants.{Precustomized, Custom}
+use Rattle.ce_base.specs.declared.flags.Flags.{Flags}
 use Rattle.node_trees.specs.Spots.{facts_at}
 use Rattle.form_controls.specs.declared.attach.Attach.{Attach}
 use Rattle.form_controls.specs.declared.internals.Internals.{Internals}
 use Rattle.form_controls.specs.declared.value.Value.{Value}
 use Rattle.form_controls.specs.Internals as inner
-use Rattle.form_controls.specs.Internals.{may_attach, may_change_states, may_write}
+use Rattle.form_controls.specs.Internals.{may_attach, may_change_states, may_set_validity, may_write}
 use Rattle.ce_algorithms.specs.Steps.{Step, ◌>>=◌, ◌>>◌, refuse}
 use Rattle.ce_algorithms.specs.Page.{Page, Work, change_page, definition_at, definition_of, state_of, with_internals}
 use Rattle.ce_algorithms.specs.Enqueue.{lookup_for}
@@ -43,6 +44,12 @@ abbrev pub set_form_value : ℕ → Value → Value → Step Work (Unit {0})
 set_form_value n value saved = do
   refuse (λ w. may_write w.page.internals n (is_form_associated (definition_of w.page n)))
   change_page (with_internals (λ is. inner.set_form_value is n value saved))
+
+-- all validity flags and their message (`setValidity`)
+abbrev pub set_validity : ℕ → Flags → List ℕ → Step Work (Unit {0})
+set_validity n flags message = do
+  refuse (λ w. may_set_validity w.page.internals n (is_form_associated (definition_of w.page n)) flags message)
+  change_page (with_internals (λ is. inner.set_validity is n flags message))
 
 -- custom states (section "Custom state pseudo-class", `CustomStateSet`)
 

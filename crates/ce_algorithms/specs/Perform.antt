@@ -31,7 +31,7 @@ use Rattle.ce_algorithms.specs.Attributes.{set_attribute, remove_attribute}
 use Rattle.ce_algorithms.specs.Define.{define_name}
 use Rattle.ce_algorithms.specs.Clone.{clone}
 use Rattle.ce_algorithms.specs.Controls.{control_steps}
-use Rattle.ce_algorithms.specs.Internals.{add_state, attach_internals, clear_states, delete_state, set_form_value}
+use Rattle.ce_algorithms.specs.Internals.{add_state, attach_internals, clear_states, delete_state, set_form_value, set_validity}
 use Rattle.ce_algorithms.specs.Reset.{reset_form, restore}
 use Rattle.ce_algorithms.specs.State.{State, look, on_page, set_variable, class_of, change_class}
 use Rattle.ce_algorithms.specs.Calls.{Again}
@@ -128,6 +128,7 @@ page_steps (page_deeds.Upgrade n) = gives_nothing (upgrade_all n)
 abbrev pub internals_steps : InternalsDeed → Step Work Given
 internals_steps (internals_deeds.Attach n) = gives_nothing (attach_internals n)
 internals_steps (internals_deeds.SetValue n value saved) = gives_nothing (set_form_value n value saved)
+internals_steps (internals_deeds.SetValidity n flags message) = gives_nothing (set_validity n flags message)
 internals_steps (internals_deeds.AddState n word) = gives_nothing (add_state n word)
 internals_steps (internals_deeds.DeleteState n word) = gives_nothing (delete_state n word)
 internals_steps (internals_deeds.ClearStates n) = gives_nothing (clear_states n)

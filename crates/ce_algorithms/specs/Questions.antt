@@ -9,12 +9,13 @@ use Rattle.ce_events.specs.declared.event.Answer.{Answer}
 use Rattle.ce_events.specs.declared.event.Answer.TheVariants as answers
 use Rattle.ce_algorithms.specs.declared.fit.Fit.{Fit}
 use Rattle.ce_algorithms.specs.declared.fit.Fit.TheVariants as fit
-use Rattle.ce_algorithms.specs.Unbuilt.{unbuilt_answer}
 use Rattle.ce_algorithms.specs.Page.{Page, definition_of, state_of}
 use Rattle.form_controls.specs.declared.value.Value.{Value}
 use Rattle.form_controls.specs.declared.value.Value.TheVariants as values
+use Rattle.form_controls.specs.Barred.{will_validate}
 use Rattle.form_controls.specs.Checkedness.{is_checked}
 use Rattle.form_controls.specs.Internals.{kept_by}
+use Rattle.form_controls.specs.Validity.{flags, message_of}
 use Rattle.form_controls.specs.Values.{value}
 use Rattle.ce_algorithms.specs.Forms.{forms_of, form_owner, controls_of, is_disabled, is_form_associated}
 
@@ -43,7 +44,7 @@ value_answer p n = if is_form_associated (definition_of p n) then kept_answer (k
 abbrev asked_of : Fit → (Page → ℕ → Answer) → Question
 asked_of what answer = record { asked_of = what; answer = answer }
 
--- a row for each question that is built; an attribute is asked for by its name, lowercased
+-- a row for each question; an attribute is asked for by its name, lowercased
 abbrev pub question : AskWord → Option (List ℕ) → Question
 question words.Attr name = asked_of fit.Element (λ p n. text_answer (attribute_at p.forest n (str_to_ascii_lowercase (or_empty name))))
 question words.Parent name = asked_of fit.Any (λ p n. node_answer (parent_at p.forest n))
@@ -56,4 +57,6 @@ question words.Value name = asked_of fit.Submittable value_answer
 question words.Saved name = asked_of fit.FormAssociated (λ p n. kept_answer (kept_by p.internals n).saved)
 question words.States name = asked_of fit.WithInternals (λ p n. answers.Texts (kept_by p.internals n).states)
 question words.Checked name = asked_of fit.Tickable (λ p n. answers.Truth (is_checked (forms_of p) p.controls n))
-question word name = asked_of fit.Any (λ p n. unbuilt_answer)
+question words.Candidate name = asked_of fit.Submittable (λ p n. answers.Truth (will_validate (forms_of p) n))
+question words.Valid name = asked_of fit.Submittable (λ p n. answers.Raised (flags (forms_of p) p.controls p.internals n))
+question words.Message name = asked_of fit.Submittable (λ p n. answers.One (message_of (forms_of p) p.controls p.internals n))

@@ -1,10 +1,8 @@
--- What stands for the forms of the language that are not built yet, so that no body of code can do or answer it.
+-- What stands for the forms of the language that are not built yet, so that no body of code can do it.
 use Rattle.std.specs.Prelude.{ℕ, None}
 use Rattle.rule_lines.specs.declared.ask_word.AskWord.TheVariants.{Parent}
 use Rattle.ce_algorithms.specs.declared.deed.Deed.{Deed}
 use Rattle.ce_algorithms.specs.declared.deed.Deed.TheVariants.{Ask}
-use Rattle.ce_events.specs.declared.event.Answer.{Answer}
-use Rattle.ce_events.specs.declared.event.Answer.TheVariants.{Node as NodeAnswer}
 
 -- the first number that no node can have, as a node's number has 64 bits
 abbrev pub no_node : ℕ
@@ -12,6 +10,3 @@ no_node = 18446744073709551616
 
 abbrev pub unbuilt_deed : Deed
 unbuilt_deed = Ask Parent no_node None
-
-abbrev pub unbuilt_answer : Answer
-unbuilt_answer = NodeAnswer no_node

@@ -2,7 +2,7 @@
 ghost use Rattle.std.specs.Prelude.{◌≡◌};
 ghost use Rattle.ce_algorithms.specs.Deeds.{is_reacting, is_reacting_on_forms, is_reacting_on_page};
 
-use ce_base::{ClassNo, NodeNo, Text};
+use ce_base::{ClassNo, Flags, NodeNo, Text};
 use form_controls::Value;
 use reaction_queue::Mode;
 use rule_lines::AskWord;
@@ -92,6 +92,11 @@ pub enum ControlDeed {
         on: bool,
         by_user: bool,
     },
+    /// Sets the custom validity error message (section "The constraint validation API", `setCustomValidity`).
+    SetMessage {
+        node: NodeNo,
+        message: Text,
+    },
 }
 
 /// What is written through ElementInternals. It pushes no element queue.
@@ -106,6 +111,12 @@ pub enum InternalsDeed {
         node: NodeNo,
         value: Value,
         saved: Value,
+    },
+    /// Sets all validity flags, and their message (section "Element internals", `setValidity`).
+    SetValidity {
+        node: NodeNo,
+        flags: Flags,
+        message: Text,
     },
     /// Adds a custom state (section "Custom state pseudo-class").
     AddState {

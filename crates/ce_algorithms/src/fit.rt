@@ -15,6 +15,8 @@ pub enum Fit {
     Form,
     /// A listed element (HTML Standard, section "Categories").
     Listed,
+    /// An element that its local name makes a listed one: `button`, `fieldset`, `input`, `select` or `textarea`.
+    ListedNative,
     /// A submittable element (section "Categories").
     Submittable,
     /// A submittable element, or an `option` element: what can be disabled.

@@ -19,12 +19,11 @@ ghost use Rattle.ce_algorithms.specs.Session.{command, run_line};
 ghost use Rattle.ce_algorithms.specs.State.{State};
 ghost use Rattle.ce_algorithms.specs.Steps.{GoesOn};
 ghost use Rattle.ce_algorithms.specs.Worked.{seen, traced, worked};
-ghost use Rattle.ce_algorithms.specs.Unbuilt.{no_node, unbuilt_answer, unbuilt_deed};
+ghost use Rattle.ce_algorithms.specs.Unbuilt.{no_node, unbuilt_deed};
 ghost use Rattle.ce_algorithms.specs.Written.{behind, behind_in};
 
 use crate::Deed;
 use ce_base::NodeNo;
-use ce_events::Answer;
 
 /// Each algorithm calls the others as they are: the model is the fixed point of its algorithms, however
 /// many levels of them are counted.
@@ -62,16 +61,6 @@ pub fn no_code_has_the_unbuilt_deed(deed: &Deed)
             node,
             name: _,
         } => no_code_has_no_node(*node),
-        _ => (),
-    }
-}
-
-/// No code has the answer that a question which is not built has.
-pub fn no_code_has_the_unbuilt_answer(answer: &Answer)
-    ensures { answer.now ≡ unbuilt_answer → ⊥ }
-{
-    match answer {
-        Answer::Node(n) => no_code_has_no_node(*n),
         _ => (),
     }
 }

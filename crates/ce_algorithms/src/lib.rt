@@ -17,9 +17,9 @@ pub use deed::{ControlDeed, Deed, FormDeed, InternalsDeed, PageDeed};
 pub use fit::Fit;
 pub use given::Given;
 pub use laws::{
-    each_calls_the_others, no_code_has_no_node, no_code_has_the_unbuilt_answer,
-    no_code_has_the_unbuilt_deed, no_command_throws, no_step_reads_the_log, worked_callbacks,
-    worked_controls, worked_corners, worked_first, worked_owners, worked_traces, worked_upgrades,
+    each_calls_the_others, no_code_has_no_node, no_code_has_the_unbuilt_deed, no_command_throws,
+    no_step_reads_the_log, worked_callbacks, worked_controls, worked_corners, worked_first,
+    worked_owners, worked_traces, worked_upgrades,
 };
 pub use note::Note;
 pub use settings::Settings;

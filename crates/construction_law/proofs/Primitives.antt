@@ -15,7 +15,7 @@ use Rattle.ce_registry.specs.declared.definition.Definition.{Definition}
 use Rattle.ce_registry.specs.Registry.{by_class}
 use Rattle.construction.specs.Stacks.{stack_of}
 use Rattle.ce_algorithms.specs.declared.deed.ControlDeed.{ControlDeed}
-use Rattle.ce_algorithms.specs.declared.deed.ControlDeed.TheVariants.{Edit, Tick, Choose}
+use Rattle.ce_algorithms.specs.declared.deed.ControlDeed.TheVariants.{Edit, Tick, Choose, SetMessage}
 use Rattle.ce_algorithms.specs.declared.deed.PageDeed.{PageDeed}
 use Rattle.ce_algorithms.specs.declared.deed.PageDeed.TheVariants as deeds
 use Rattle.ce_algorithms.specs.Steps.{Step, Outcome, Goes, Throws, Spent, then_do, ◌>>=◌, ◌>>◌, found, for_each, where_is}
@@ -32,7 +32,7 @@ use Rattle.ce_algorithms.specs.Controls.{ignored_or, control_steps}
 use Rattle.ce_algorithms.specs.declared.deed.FormDeed.{FormDeed}
 use Rattle.ce_algorithms.specs.declared.deed.FormDeed.TheVariants.{Reset, Restore}
 use Rattle.ce_algorithms.specs.declared.deed.InternalsDeed.{InternalsDeed}
-use Rattle.ce_algorithms.specs.declared.deed.InternalsDeed.TheVariants.{Attach, SetValue, AddState, DeleteState, ClearStates}
+use Rattle.ce_algorithms.specs.declared.deed.InternalsDeed.TheVariants.{Attach, SetValue, SetValidity, AddState, DeleteState, ClearStates}
 use Rattle.ce_algorithms.specs.Clone.{copy_node, copy_below}
 use Rattle.ce_algorithms.specs.Construction.{make_custom, base_entry, base_call, push_construction}
 use Rattle.ce_algorithms.specs.Upgrade.{enqueue_attribute, begin_upgrade}
@@ -130,11 +130,13 @@ pub leaves_control_steps : (what : ControlDeed) → Leaves of_page (control_step
 leaves_control_steps (Edit n text by_user) = search (leaves_steps, leaves_ignored_or) depth 12
 leaves_control_steps (Tick n on by_user) = search (leaves_steps, leaves_ignored_or) depth 12
 leaves_control_steps (Choose option on by_user) = search (leaves_steps, leaves_ignored_or) depth 12
+leaves_control_steps (SetMessage n message) = search leaves_steps depth 12
 
 -- what is written through internals
 pub leaves_internals_steps : (what : InternalsDeed) → Leaves of_page (internals_steps what)
 leaves_internals_steps (Attach n) = search leaves_steps depth 12
 leaves_internals_steps (SetValue n value saved) = search leaves_steps depth 12
+leaves_internals_steps (SetValidity n flags message) = search leaves_steps depth 12
 leaves_internals_steps (AddState n word) = search leaves_steps depth 12
 leaves_internals_steps (DeleteState n word) = search leaves_steps depth 12
 leaves_internals_steps (ClearStates n) = search leaves_steps depth 12

@@ -37,11 +37,11 @@ fixed_built memory args (ops.Internals at) h = h
 fixed_built memory args (ops.FormValue at value saved) h = refl
 fixed_built memory args (ops.FormList at entries) h = h
 fixed_built memory args (ops.FormNull at) h = h
-fixed_built memory args (ops.Validity at flags message) h = absurd (let e : false ≡ true = h in cc)
+fixed_built memory args (ops.Validity at flags message) h = refl
 fixed_built memory args (ops.StateAdd at word) h = h
 fixed_built memory args (ops.StateDelete at word) h = h
 fixed_built memory args (ops.StateClear at) h = h
-fixed_built memory args (ops.Custom at message) h = absurd (let e : false ≡ true = h in cc)
+fixed_built memory args (ops.Custom at message) h = refl
 fixed_built memory args (ops.Value at value) h = refl
 fixed_built memory args (ops.Check at on) h = h
 fixed_built memory args (ops.Choose at on) h = h

@@ -1,64 +1,14 @@
 // What is built already.
 ghost use Rattle.std.specs.Prelude.{◌≡◌};
 ghost use Rattle.rule_lines.specs.Acts.{act_of, line_of, part_of};
-ghost use Rattle.rule_script.specs.Built.{is_built, is_built_act, is_built_call, is_built_command, is_built_op, is_built_part, is_built_word};
+ghost use Rattle.rule_script.specs.Built.{is_built, is_built_act, is_built_command, is_built_op, is_built_part};
 
-use rule_lines::{Action, AskWord, ClassPart, Cmd, Line, Op};
-use rule_tokens::CallName;
+use rule_lines::{Action, ClassPart, Cmd, Line, Op};
 
 fn is_built_op(op: &Op) -> bool
     ensures { result ≡ is_built_op op.now }
 {
-    match op {
-        Op::Create { .. } | Op::New { .. } | Op::MakeText { .. } | Op::Shadow { .. } => true,
-        Op::Append { .. } | Op::Before { .. } => true,
-        Op::Remove { .. } | Op::Detach { .. } => true,
-        Op::Clone { .. } | Op::Adopt { .. } => true,
-        Op::SetAttr { .. } | Op::DelAttr { .. } => true,
-        Op::Define { .. } | Op::Upgrade { .. } | Op::Let { .. } => true,
-        Op::Value { .. } | Op::Check { .. } | Op::Choose { .. } => true,
-        Op::Reset { .. } | Op::Internals { .. } => true,
-        Op::FormValue { .. } | Op::FormList { .. } | Op::FormNull { .. } => true,
-        Op::StateAdd { .. } | Op::StateDelete { .. } | Op::StateClear { .. } => true,
-        Op::Ask { word, .. } => is_built_word(*word),
-        _ => false,
-    }
-}
-
-fn is_built_word(word: AskWord) -> bool
-    ensures { result ≡ is_built_word word }
-{
-    matches!(
-        word,
-        AskWord::Attr
-            | AskWord::Parent
-            | AskWord::Kids
-            | AskWord::State
-            | AskWord::Owner
-            | AskWord::Controls
-            | AskWord::Disabled
-            | AskWord::Value
-            | AskWord::Saved
-            | AskWord::Checked
-            | AskWord::States
-    )
-}
-
-fn is_built_call(call: CallName) -> bool
-    ensures { result ≡ is_built_call call }
-{
-    matches!(
-        call,
-        CallName::Constructor
-            | CallName::Connected
-            | CallName::Disconnected
-            | CallName::Adopted
-            | CallName::Attribute
-            | CallName::FormAssociated
-            | CallName::FormDisabled
-            | CallName::FormReset
-            | CallName::FormStateRestore
-    )
+    !matches!(op, Op::Submit { .. } | Op::Request { .. })
 }
 
 fn is_built_command(c: &Cmd) -> bool
@@ -66,10 +16,8 @@ fn is_built_command(c: &Cmd) -> bool
 {
     match c {
         Cmd::Both(op) => is_built_op(op),
-        Cmd::Doc { .. } => true,
-        Cmd::UserEdit { .. } | Cmd::UserCheck { .. } | Cmd::UserChoose { .. } => true,
-        Cmd::UserReset { .. } | Cmd::UserRestore { .. } | Cmd::UserAutofill { .. } => true,
-        _ => false,
+        Cmd::UserPress { .. } => false,
+        _ => true,
     }
 }
 
@@ -89,11 +37,8 @@ fn is_built_part(part: &ClassPart) -> bool
     ensures { result ≡ is_built_part (part_of part.now) }
 {
     match part {
-        ClassPart::Class(_) | ClassPart::Observe { .. } => true,
-        ClassPart::Associate(_) => true,
-        ClassPart::DisableShadow(_) | ClassPart::DisableInternals(_) => true,
-        ClassPart::On { call, action, .. } => is_built_call(*call) && is_built_action(action),
-        ClassPart::Has { call, .. } => is_built_call(*call),
+        ClassPart::On { action, .. } => is_built_action(action),
+        _ => true,
     }
 }
 

@@ -15,14 +15,14 @@ use Rattle.ce_registry.specs.declared.class_facts.ClassFacts.{ClassFacts}
 use Rattle.ce_registry.specs.declared.definition.Definition.{Definition}
 use Rattle.ce_registry.specs.Registry.{may_define, is_value_of}
 use Rattle.form_controls.specs.declared.control.Control.{Control}
-use Rattle.form_controls.specs.Controls.{set_value}
+use Rattle.form_controls.specs.Controls.{set_message, set_value}
 use Rattle.form_controls.specs.Setting.{set_checked, set_chosen}
 use Rattle.form_controls.specs.Internals as inner
 use Rattle.form_controls.specs.declared.internals.Internals.{Internals}
 use Rattle.form_controls.specs.Resetting.{clone_state, reset}
 use Rattle.reaction_queue.specs.declared.reaction.Reaction.TheVariants.{FormReset, FormStateRestore}
 use Rattle.ce_algorithms.specs.declared.deed.ControlDeed.{ControlDeed}
-use Rattle.ce_algorithms.specs.declared.deed.ControlDeed.TheVariants.{Edit, Tick, Choose}
+use Rattle.ce_algorithms.specs.declared.deed.ControlDeed.TheVariants.{Edit, Tick, Choose, SetMessage}
 use Rattle.ce_algorithms.specs.declared.deed.FormDeed.{FormDeed}
 use Rattle.ce_algorithms.specs.declared.deed.FormDeed.TheVariants as form_deeds
 use Rattle.ce_algorithms.specs.declared.deed.InternalsDeed.{InternalsDeed}
@@ -183,6 +183,7 @@ pub control_gives : {h : List Hold} {l : List Event} (deed : ControlDeed) → Gi
 control_gives (Edit n text by_user) = give_bind_at {nodes = none} (keeps_at (at_read _)) (λ ignored. ignored_gives ignored (keeps_at (controls_at (λ p cs. set_value cs n text by_user))))
 control_gives (Tick n on by_user) = give_bind_at {nodes = none} (keeps_at (at_read _)) (λ ignored. ignored_gives ignored (keeps_at (controls_at (λ p cs. set_checked (forms_of p) cs n on))))
 control_gives (Choose option on by_user) = give_bind_at {nodes = none} (keeps_at (at_read _)) (λ ignored. ignored_gives ignored (keeps_at (controls_at (λ p cs. set_chosen cs p.forest option on))))
+control_gives (SetMessage n message) = nothing_gives (keeps_at (controls_at (λ p cs. set_message cs n message)))
 
 -- what is written through internals
 
@@ -202,6 +203,7 @@ written_gives tests f = nothing_gives (give_seq_at (give_refuse_at tests) (keeps
 pub internals_gives : {h : List Hold} {l : List Event} (deed : InternalsDeed) → GivesAt given_nodes h l (internals_steps deed)
 internals_gives (internals_deeds.Attach n) = written_gives _ (λ is. inner.attach is n)
 internals_gives (internals_deeds.SetValue n value saved) = written_gives _ (λ is. inner.set_form_value is n value saved)
+internals_gives (internals_deeds.SetValidity n flags message) = written_gives _ (λ is. inner.set_validity is n flags message)
 internals_gives (internals_deeds.AddState n word) = written_gives _ (λ is. inner.add_state is n word)
 internals_gives (internals_deeds.DeleteState n word) = written_gives _ (λ is. inner.delete_state is n word)
 internals_gives (internals_deeds.ClearStates n) = written_gives _ (λ is. inner.clear_states is n)
