@@ -1,7 +1,7 @@
 // What controls keep.
 ghost use Rattle.std.specs.Prelude.{◌≡◌, OnOk};
 ghost use Rattle.node_trees.specs.Nodes.{IsNode};
-ghost use Rattle.form_controls.specs.Controls.{copy_state, set_flag, set_value};
+ghost use Rattle.form_controls.specs.Controls.{copy_state, set_flag, set_message, set_value};
 ghost use Rattle.form_controls.specs.Resetting.{clone_state, reset};
 ghost use Rattle.ce_algorithms.specs.Page.{with_controls};
 
@@ -42,6 +42,15 @@ impl Page {
         ensures rest { self.new ≡ with_controls (λ cs. self.new.controls) self.old }
     {
         self.controls.set_flag(alloc, n, on)
+    }
+
+    /// Sets the custom validity error message of a control (HTML Standard, section "The constraint validation API",
+    /// `setCustomValidity`). Nothing else of the page changes. NoMemory: memory was refused, and the page is only dropped.
+    pub fn set_message(&mut self, alloc: Global, n: NodeNo, m: Text) -> Result<(), NoMemory>
+        ensures page { OnOk result (self.new ≡ with_controls (λ cs. set_message cs n m) self.old) }
+        ensures rest { self.new ≡ with_controls (λ cs. self.new.controls) self.old }
+    {
+        self.controls.set_message(alloc, n, m)
     }
 
     /// Resets a control: what was set on it is cleared (HTML Standard, section "Resetting a form", "reset algorithm"). Nothing

@@ -1,11 +1,11 @@
 // What ElementInternals keeps.
 ghost use Rattle.std.specs.Prelude.{◌≡◌};
-ghost use Rattle.form_controls.specs.Internals.{add_state, attach, clear_states, delete_state, may_attach, may_change_states, may_write, set_form_value};
+ghost use Rattle.form_controls.specs.Internals.{add_state, attach, clear_states, delete_state, may_attach, may_change_states, may_set_validity, may_write, set_form_value, set_validity};
 ghost use Rattle.element_internals.specs.Calls.{Changes, Writes};
 ghost use Rattle.ce_algorithms.specs.Page.{with_internals};
 
 use crate::Page;
-use ce_base::{Fault, NodeNo, Refused, Text};
+use ce_base::{Fault, Flags, NodeNo, Refused, Text};
 use element_internals::InternalsTable;
 use form_controls::{Attach, Value};
 use std::alloc::Global;
@@ -41,6 +41,23 @@ impl Page {
     {
         self.internals
             .set_form_value(alloc, n, associated, v, saved)
+    }
+
+    /// Sets all validity flags of an element and their message, as `InternalsTable::set_validity` does. Nothing else of the
+    /// page changes.
+    pub fn set_validity(
+        &mut self,
+        alloc: Global,
+        n: NodeNo,
+        associated: bool,
+        f: Flags,
+        message: Text,
+    ) -> Result<(), Refused>
+        ensures table { Writes result (may_set_validity self.old.internals n associated f message) self.old.internals self.new.internals (set_validity self.old.internals n f message) }
+        ensures rest { self.new ≡ with_internals (λ is. self.new.internals) self.old }
+    {
+        self.internals
+            .set_validity(alloc, n, associated, f, message)
     }
 
     /// Adds a custom state, as `InternalsTable::add_state` does. Nothing else of the page changes.
