@@ -5,11 +5,12 @@ use Rattle.rule_lines.specs.declared.line.Cmd.TheVariants as commands
 use Rattle.rule_lines.specs.declared.op.Op.{Op}
 use Rattle.rule_lines.specs.declared.op.Op.TheVariants as ops
 
--- a value, a checkedness or a choice that is set, or a form that is reset
+-- a value, a checkedness, a choice or a custom message that is set, or a form that is reset
 abbrev pub is_on_controls : Op → Bool
 is_on_controls (ops.Value operand value) = true
 is_on_controls (ops.Check operand on) = true
 is_on_controls (ops.Choose operand on) = true
+is_on_controls (ops.Custom operand message) = true
 is_on_controls (ops.Reset form) = true
 is_on_controls op = false
 

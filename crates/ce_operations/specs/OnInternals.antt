@@ -9,6 +9,7 @@ is_on_internals (ops.Internals operand) = true
 is_on_internals (ops.FormValue operand value saved) = true
 is_on_internals (ops.FormList operand entries) = true
 is_on_internals (ops.FormNull operand) = true
+is_on_internals (ops.Validity operand flags message) = true
 is_on_internals (ops.StateAdd operand word) = true
 is_on_internals (ops.StateDelete operand word) = true
 is_on_internals (ops.StateClear operand) = true

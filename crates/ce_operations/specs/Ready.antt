@@ -1,9 +1,6 @@
--- What doing a deed asks of the page: the nodes that it speaks of are there, and are what its steps need. A question that
--- is not built yet is never ready.
-use Rattle.std.specs.Prelude.{◌≡◌, true}
+-- What doing a deed asks of the page: the nodes that it speaks of are there, and are what its steps need.
 use Rattle.node_trees.specs.Nodes.{IsNode}
 use Rattle.node_trees.specs.Trees.{Trees}
-use Rattle.rule_script.specs.Built.{is_built_word}
 use Rattle.ce_algorithms.specs.declared.deed.Deed.{Deed}
 use Rattle.ce_algorithms.specs.declared.deed.Deed.TheVariants as deeds
 use Rattle.ce_algorithms.specs.declared.deed.Deed.TheVariants.{OnPage, OnControls, OnInternals, OnForms}
@@ -18,5 +15,5 @@ IsReady f (OnPage what) = IsReadyOnPage f what
 IsReady f (OnControls what) = IsReadyOnControls f what
 IsReady f (OnInternals what) = IsReadyOnInternals f what
 IsReady f (OnForms what) = IsReadyOnForms f what
-IsReady f (deeds.Ask word n name) = IsNode f n × (is_built_word word ≡ true)
+IsReady f (deeds.Ask word n name) = IsNode f n
 IsReady f (deeds.Let var n) = IsNode f n

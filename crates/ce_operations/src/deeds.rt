@@ -1,7 +1,6 @@
 // The steps of deeds, in the queue that is open.
 ghost use Rattle.std.specs.Prelude.{◌≡◌, ◌≤◌, true, IfOk};
 ghost use Rattle.node_trees.specs.Nodes.{IsNode, size};
-ghost use Rattle.rule_script.specs.Built.{is_built_word};
 ghost use Rattle.ce_algorithms.specs.Deeds.{IsStill};
 ghost use Rattle.ce_algorithms.specs.declared.deed.Deed.TheVariants as deeds;
 ghost use Rattle.ce_algorithms.specs.Model.{model};
@@ -50,8 +49,7 @@ fn ask(
     n: NodeNo,
     name: &Option<Text>,
 ) -> Result<Given, PageStop>
-    requires node { IsNode state.now.page.forest n }
-    requires built { is_built_word word ≡ true }
+    requires { IsNode state.now.page.forest n }
     ensures step { Ends (λ g. g) result state.now (steps model (deeds.Ask word n name.now) state.now) }
     ensures there { IfOk result (IsThere state.now.page.forest) }
 {

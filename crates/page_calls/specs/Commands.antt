@@ -6,7 +6,7 @@ use Rattle.ce_base.specs.declared.fault.Fault.TheVariants.{TypeError}
 use Rattle.node_trees.specs.Nodes.{IsNode}
 use Rattle.node_trees.specs.Trees.{Trees}
 use Rattle.ce_algorithms.specs.declared.deed.ControlDeed.{ControlDeed}
-use Rattle.ce_algorithms.specs.declared.deed.ControlDeed.TheVariants.{Edit, Tick, Choose}
+use Rattle.ce_algorithms.specs.declared.deed.ControlDeed.TheVariants.{Edit, Tick, Choose, SetMessage}
 use Rattle.ce_algorithms.specs.declared.fit.Fit.{Fit}
 use Rattle.ce_algorithms.specs.declared.given.Given.{Given}
 use Rattle.ce_algorithms.specs.declared.given.Given.TheVariants.{Nothing, Ignored as WasIgnored}
@@ -23,6 +23,7 @@ abbrev pub IsReadyOnControls : Trees → ControlDeed → Type 0
 IsReadyOnControls f (Edit n text by_user) = IsNode f n
 IsReadyOnControls f (Tick n on by_user) = IsNode f n
 IsReadyOnControls f (Choose option on by_user) = IsNode f option
+IsReadyOnControls f (SetMessage n message) = IsNode f n
 
 -- what a command gives
 abbrev pub given_by : Outcome → Given

@@ -7,7 +7,7 @@ use Rattle.node_trees.specs.Trees.{Trees}
 use Rattle.ce_algorithms.specs.declared.deed.FormDeed.{FormDeed}
 use Rattle.ce_algorithms.specs.declared.deed.FormDeed.TheVariants.{Reset, Restore}
 use Rattle.ce_algorithms.specs.declared.deed.InternalsDeed.{InternalsDeed}
-use Rattle.ce_algorithms.specs.declared.deed.InternalsDeed.TheVariants.{Attach, SetValue, AddState, DeleteState, ClearStates}
+use Rattle.ce_algorithms.specs.declared.deed.InternalsDeed.TheVariants.{Attach, SetValue, SetValidity, AddState, DeleteState, ClearStates}
 use Rattle.ce_algorithms.specs.declared.deed.PageDeed.{PageDeed}
 use Rattle.ce_algorithms.specs.declared.deed.PageDeed.TheVariants as page_deeds
 
@@ -26,6 +26,7 @@ IsReadyOnPage f (page_deeds.Upgrade n) = IsNode f n
 abbrev pub IsReadyOnInternals : Trees → InternalsDeed → Type 0
 IsReadyOnInternals f (Attach n) = IsNode f n
 IsReadyOnInternals f (SetValue n value saved) = IsNode f n
+IsReadyOnInternals f (SetValidity n flags message) = IsNode f n
 IsReadyOnInternals f (AddState n word) = IsNode f n
 IsReadyOnInternals f (DeleteState n word) = IsNode f n
 IsReadyOnInternals f (ClearStates n) = IsNode f n

@@ -41,6 +41,7 @@ pub fn run_on_controls(
         } => set_text(alloc, page, node, text, by_user),
         ControlDeed::Tick { node, on, by_user } => set_tick(alloc, page, node, on, by_user),
         ControlDeed::Choose { node, on, by_user } => set_choice(alloc, page, node, on, by_user),
+        ControlDeed::SetMessage { node, message } => set_message(alloc, page, node, message),
     }
 }
 
@@ -156,6 +157,19 @@ fn set_choice(
         return Ok(Outcome::Ignored);
     }
     set_chosen(alloc, page, n, on)?;
+    Ok(Outcome::Done)
+}
+
+fn set_message(
+    alloc: Global,
+    page: &mut Page,
+    n: NodeNo,
+    message: Text,
+) -> Result<Outcome, NoMemory>
+    ensures step { IfOk result (λ o. Comes o page.old page.new (deeds.SetMessage n message)) }
+    ensures rest { page.new ≡ with_controls (λ cs. page.new.controls) page.old }
+{
+    page.set_message(alloc, n, message)?;
     Ok(Outcome::Done)
 }
 

@@ -24,6 +24,7 @@ pub fn fits(what: Fit, page: &Page, n: NodeNo) -> bool
         Fit::ElementOrText => is_element(kind) || is_text(kind),
         Fit::Form => is_a(page.tree(), n, Native::Form),
         Fit::Listed => is_listed(page, n),
+        Fit::ListedNative => form_owner::is_listed(page.tree(), n, false),
         Fit::Submittable => is_submittable(page, n),
         Fit::SubmittableOrOption => {
             is_submittable(page, n) || is_a(page.tree(), n, Native::OptionItem)

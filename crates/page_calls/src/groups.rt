@@ -2,7 +2,7 @@
 ghost use Rattle.std.specs.Prelude.{◌≡◌, true, IfOk, OnOk};
 ghost use Rattle.node_trees.specs.Nodes.{IsNode};
 ghost use Rattle.element_names.specs.declared.input_kinds.InputKind.TheVariants.{Radio};
-ghost use Rattle.form_controls.specs.Checkedness.{checked_of, group_of, is_checked};
+ghost use Rattle.form_controls.specs.Checkedness.{group_of, is_checked};
 ghost use Rattle.form_controls.specs.Kinds.{has_kind};
 ghost use Rattle.form_controls.specs.Setting.{set_checked};
 ghost use Rattle.ce_algorithms.specs.Forms.{forms_of};
@@ -64,32 +64,13 @@ pub(crate) fn is_checked(page: &Page, n: NodeNo) -> Result<bool, NoMemory>
     requires { IsNode page.now.forest n }
     ensures { IfOk result (λ b. b ≡ is_checked (forms_of page.now) page.now.controls n) }
 {
-    if !has_kind(page.tree(), n, InputKind::Radio) {
-        return Ok(page.controls().is_flagged(page.tree(), n));
-    }
     if !page.is_settled() {
         return Err(NoMemory);
     }
-    Ok(checked_of(page, n) == Some(n))
-}
-
-// Of a radio button's group the last that is flagged.
-fn checked_of(page: &Page, radio: NodeNo) -> Option<NodeNo>
-    requires node { IsNode page.now.forest radio }
-    requires radio { has_kind Radio page.now.forest radio ≡ true }
-    requires settled { IsSettled page.now }
-    ensures { result ≡ checked_of (forms_of page.now) page.now.controls radio }
-{
-    let owners = page.owners();
-    let tree = page.tree();
-    let _count = tree.count();
-    let mut found = None;
-    let mut at = None;
-    while let Some(member) = owners.next_in_group(tree, radio, at) {
-        if page.controls().is_flagged(tree, member) {
-            found = Some(member);
-        }
-        at = Some(member);
-    }
-    found
+    Ok(checkedness::is_checked(
+        page.tree(),
+        page.owners(),
+        page.controls(),
+        n,
+    ))
 }

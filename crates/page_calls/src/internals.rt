@@ -1,7 +1,7 @@
 // What is written through ElementInternals.
 ghost use Rattle.std.specs.Prelude.{◌≡◌, ℕ, IfOk};
 ghost use Rattle.node_trees.specs.Nodes.{IsNode};
-ghost use Rattle.ce_algorithms.specs.Internals.{add_state, attach_internals, attach_of, clear_states, delete_state, disables_internals, is_ready_state, set_form_value};
+ghost use Rattle.ce_algorithms.specs.Internals.{add_state, attach_internals, attach_of, clear_states, delete_state, disables_internals, is_ready_state, set_form_value, set_validity};
 ghost use Rattle.ce_algorithms.specs.Page.{with_internals};
 ghost use Rattle.ce_algorithms.specs.Perform.{internals_steps};
 ghost use Rattle.ce_page.specs.Ends.{Does, Ends, work};
@@ -10,7 +10,7 @@ ghost use Rattle.page_calls.specs.Ready.{IsReadyOnInternals};
 
 use crate::deeds::gives_nothing;
 use ce_algorithms::{Given, InternalsDeed};
-use ce_base::{CustomState, DefNo, NodeNo, Text};
+use ce_base::{CustomState, DefNo, Flags, NodeNo, Text};
 use ce_page::{Page, PageStop};
 use form_controls::{Attach, Value};
 use std::alloc::Global;
@@ -20,8 +20,9 @@ use std::alloc::Global;
 ///
 /// Refused: the deed throws this fault, and the page is as it was. Internals that are attached: NotSupportedError, where the
 /// element has an `is` value, the look-up gives it no definition or one that disables internals, it has internals, or it is
-/// neither precustomized nor custom. Anything else: TypeError, where it has no internals; and a value: NotSupportedError,
-/// where it is not form-associated. It wants no fuel. NoMemory: memory was refused, and the page is only dropped.
+/// neither precustomized nor custom. Anything else: TypeError, where it has no internals; a value and validity flags:
+/// NotSupportedError, where it is not form-associated; validity flags: TypeError, where one is set and the message is empty.
+/// It wants no fuel. NoMemory: memory was refused, and the page is only dropped.
 pub fn run_on_internals(
     alloc: Global,
     page: &mut Page,
@@ -37,6 +38,11 @@ pub fn run_on_internals(
         InternalsDeed::SetValue { node, value, saved } => {
             gives_nothing(set_form_value(alloc, page, node, value, saved))
         }
+        InternalsDeed::SetValidity {
+            node,
+            flags,
+            message,
+        } => gives_nothing(set_validity(alloc, page, node, flags, message)),
         InternalsDeed::AddState { node, word } => gives_nothing(add_state(alloc, page, node, word)),
         InternalsDeed::DeleteState { node, word } => {
             gives_nothing(delete_state(page, node, word.as_str()))
@@ -105,6 +111,21 @@ fn set_form_value(
 {
     let associated = page.is_form_associated(n);
     page.set_form_value(alloc, n, associated, value, saved)?;
+    Ok(())
+}
+
+fn set_validity(
+    alloc: Global,
+    page: &mut Page,
+    n: NodeNo,
+    flags: Flags,
+    message: Text,
+) -> Result<(), PageStop>
+    ensures step { (fuel : ℕ) → Does result (work page.new fuel) (set_validity n flags message (work page.old fuel)) }
+    ensures rest { page.new ≡ with_internals (λ is. page.new.internals) page.old }
+{
+    let associated = page.is_form_associated(n);
+    page.set_validity(alloc, n, associated, flags, message)?;
     Ok(())
 }
 

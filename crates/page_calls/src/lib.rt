@@ -15,6 +15,7 @@ mod reset;
 mod rivals;
 mod shadow;
 mod tree;
+mod validation;
 
 pub use attributes::lowercased;
 pub use controls::{choose, edit, run_on_controls, tick};

@@ -4,7 +4,6 @@ ghost use Rattle.std.specs.Str.{str_to_ascii_lowercase};
 ghost use Rattle.node_trees.specs.Nodes.{IsNode};
 ghost use Rattle.node_trees.specs.Spots.{attribute_at, parent_at};
 ghost use Rattle.reaction_queue.specs.Queues.{or_empty};
-ghost use Rattle.rule_script.specs.Built.{is_built_word};
 ghost use Rattle.form_controls.specs.Internals.{kept_by};
 ghost use Rattle.ce_algorithms.specs.Forms.{controls_of, form_owner, is_disabled};
 ghost use Rattle.ce_algorithms.specs.Questions.{kept_answer, node_answer, question, text_answer, value_answer};
@@ -13,6 +12,7 @@ ghost use Rattle.page_calls.specs.Resolved.{Resolves};
 
 use crate::fits::fits;
 use crate::groups::is_checked;
+use crate::validation::{flags, message, will_validate};
 use ce_algorithms::Fit;
 use ce_base::{Fault, NoMemory, NodeNo, Nodes, Refused, Text, Texts};
 use ce_events::Answer;
@@ -30,8 +30,7 @@ pub fn ask(
     name: Option<&str>,
     n: NodeNo,
 ) -> Result<Answer, Refused>
-    requires node { IsNode page.now.forest n }
-    requires built { is_built_word word ≡ true }
+    requires { IsNode page.now.forest n }
     ensures { Resolves result (asked word (option_copied name.entry) page.now n) }
 {
     if !fits(asked_of(word), page, n) {
@@ -45,15 +44,16 @@ pub fn asked_of(word: AskWord) -> Fit
     ensures { (name : Option (List ℕ)) → result ≡ (question word name).asked_of }
 {
     match word {
+        AskWord::Parent | AskWord::Kids => Fit::Any,
         AskWord::Attr | AskWord::State => Fit::Element,
         AskWord::Owner => Fit::Listed,
         AskWord::Controls => Fit::Form,
         AskWord::Disabled => Fit::SubmittableOrOption,
+        AskWord::Candidate | AskWord::Valid | AskWord::Message => Fit::Submittable,
         AskWord::Value => Fit::Submittable,
         AskWord::Saved => Fit::FormAssociated,
         AskWord::States => Fit::WithInternals,
         AskWord::Checked => Fit::Tickable,
-        _ => Fit::Any,
     }
 }
 
@@ -65,8 +65,7 @@ pub fn answer(
     name: Option<&str>,
     n: NodeNo,
 ) -> Result<Answer, NoMemory>
-    requires node { IsNode page.now.forest n }
-    requires built { is_built_word word ≡ true }
+    requires { IsNode page.now.forest n }
     ensures { IfOk result (λ a. a ≡ (question word (option_copied name.entry)).answer page.now n) }
 {
     match word {
@@ -81,7 +80,9 @@ pub fn answer(
         AskWord::Saved => saved(alloc, page, n),
         AskWord::States => Ok(Answer::Texts(states(alloc, page, n)?)),
         AskWord::Checked => Ok(Answer::Truth(is_checked(page, n)?)),
-        _ => unreachable!(),
+        AskWord::Candidate => Ok(Answer::Truth(will_validate(page, n)?)),
+        AskWord::Valid => Ok(Answer::Raised(flags(page, n)?)),
+        AskWord::Message => Ok(Answer::One(message(alloc, page, n)?)),
     }
 }
 

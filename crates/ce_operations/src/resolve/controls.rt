@@ -9,6 +9,7 @@ ghost use Rattle.ce_algorithms.specs.declared.fit.Fit.TheVariants as kinds;
 ghost use Rattle.ce_algorithms.specs.Deeds.{resolve, resolve_user};
 ghost use Rattle.ce_algorithms.specs.Operands.{◌>>=◌ as and_then, node_that};
 ghost use Rattle.ce_algorithms.specs.State.{view};
+ghost use Rattle.ce_algorithms.specs.Values.{fixed_text};
 ghost use Rattle.page_calls.specs.Resolved.{Resolves};
 ghost use Rattle.ce_operations.specs.OnControls.{IsByUser, is_on_controls};
 ghost use Rattle.ce_operations.specs.Ready.{IsReady};
@@ -18,17 +19,21 @@ use ce_algorithms::{ControlDeed, Deed, Fit, FormDeed};
 use ce_base::{NodeNo, Refused, Text};
 use reaction_queue::Mode;
 use rule_lines::{Cmd, Op};
-use rule_tokens::Operand;
+use rule_tokens::{Operand, Val};
 use session_state::State;
 use std::alloc::Global;
 
-// Whether an operation sets a value, a checkedness or a choice, or resets a form.
+// Whether an operation sets a value, a checkedness, a choice or a custom message, or resets a form.
 pub(crate) fn is_on_controls(op: &Op) -> bool
     ensures { result ≡ is_on_controls op.now }
 {
     matches!(
         op,
-        Op::Value { .. } | Op::Check { .. } | Op::Choose { .. } | Op::Reset { .. }
+        Op::Value { .. }
+            | Op::Check { .. }
+            | Op::Choose { .. }
+            | Op::Custom { .. }
+            | Op::Reset { .. }
     )
 }
 
@@ -51,6 +56,7 @@ pub(crate) fn on_controls(
         }
         Op::Check { node, on } => tick(state, this, &node, on, false),
         Op::Choose { node, on } => choose(state, this, &node, on, false),
+        Op::Custom { node, message } => custom(state, alloc, this, &node, message),
         Op::Reset { form } => reset(state, this, &form, false),
         _ => unreachable!(),
     }
@@ -125,6 +131,23 @@ fn choose(
 {
     let node = node_that(Fit::AnOption, state, this, operand)?;
     Ok(Deed::OnControls(ControlDeed::Choose { node, on, by_user }))
+}
+
+// The deed of a custom message.
+fn custom(
+    state: &State,
+    alloc: Global,
+    this: &Option<NodeNo>,
+    operand: &Operand,
+    message: Val,
+) -> Result<Deed, Refused>
+    requires { IfSome this.now (IsNode state.now.page.forest) }
+    ensures deed { Resolves result (and_then (node_that kinds.ListedNative (view this.now state.now) operand.now) (λ n. Ok (OnControls (control_deeds.SetMessage n (fixed_text message))))) }
+    ensures ready { IfOk result (IsReady state.now.page.forest) }
+{
+    let message = fixed_text(alloc, message)?;
+    let node = node_that(Fit::ListedNative, state, this, operand)?;
+    Ok(Deed::OnControls(ControlDeed::SetMessage { node, message }))
 }
 
 // The deed of a reset.

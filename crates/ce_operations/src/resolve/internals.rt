@@ -8,13 +8,14 @@ ghost use Rattle.ce_algorithms.specs.declared.deed.InternalsDeed.TheVariants as 
 ghost use Rattle.ce_algorithms.specs.Deeds.{resolve, text_value};
 ghost use Rattle.ce_algorithms.specs.Operands.{◌>>=◌ as and_then, element};
 ghost use Rattle.ce_algorithms.specs.State.{view};
+ghost use Rattle.ce_algorithms.specs.Values.{fixed_text};
 ghost use Rattle.page_calls.specs.Resolved.{Resolves};
 ghost use Rattle.ce_operations.specs.OnInternals.{is_on_internals};
 ghost use Rattle.ce_operations.specs.Ready.{IsReady};
 
 use crate::operands::{element, fixed_text};
 use ce_algorithms::{Deed, InternalsDeed};
-use ce_base::{Entries, NoMemory, NodeNo, Refused, Text};
+use ce_base::{Entries, Flags, NoMemory, NodeNo, Refused, Text};
 use form_controls::Value;
 use rule_lines::Op;
 use rule_tokens::{Operand, Val};
@@ -28,6 +29,7 @@ pub(crate) fn is_on_internals(op: &Op) -> bool
     match op {
         Op::Internals { .. } => true,
         Op::FormValue { .. } | Op::FormList { .. } | Op::FormNull { .. } => true,
+        Op::Validity { .. } => true,
         Op::StateAdd { .. } | Op::StateDelete { .. } | Op::StateClear { .. } => true,
         _ => false,
     }
@@ -53,6 +55,11 @@ pub(crate) fn on_internals(
         Op::FormValue { node, value, saved } => text(state, alloc, this, &node, value, saved),
         Op::FormList { node, entries } => list(state, alloc, this, &node, entries),
         Op::FormNull { node } => written(state, this, &node, Value::Nothing, Value::Nothing),
+        Op::Validity {
+            node,
+            flags,
+            message,
+        } => validity(state, alloc, this, &node, flags, message),
         Op::StateAdd {
             node: operand,
             word,
@@ -123,6 +130,28 @@ fn list(
         Value::Many(entries),
         Value::Many(saved),
     )
+}
+
+// The deed of validity flags.
+fn validity(
+    state: &State,
+    alloc: Global,
+    this: &Option<NodeNo>,
+    operand: &Operand,
+    flags: Flags,
+    message: Val,
+) -> Result<Deed, Refused>
+    requires { IfSome this.now (IsNode state.now.page.forest) }
+    ensures deed { Resolves result (and_then (element (view this.now state.now) operand.now) (λ n. Ok (OnInternals (internals_deeds.SetValidity n flags (fixed_text message))))) }
+    ensures ready { IfOk result (IsReady state.now.page.forest) }
+{
+    let message = fixed_text(alloc, message)?;
+    let node = element(state, this, operand)?;
+    Ok(Deed::OnInternals(InternalsDeed::SetValidity {
+        node,
+        flags,
+        message,
+    }))
 }
 
 // The deed of a value and a state.

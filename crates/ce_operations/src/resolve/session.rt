@@ -2,7 +2,6 @@
 ghost use Rattle.std.specs.Prelude.{◌≡◌, IfOk, IfSome, true};
 ghost use Rattle.node_trees.specs.Nodes.{IsNode};
 ghost use Rattle.rule_lines.specs.declared.op.Op.TheVariants as ops;
-ghost use Rattle.rule_script.specs.Built.{is_built_word};
 ghost use Rattle.ce_algorithms.specs.Deeds.{resolve};
 ghost use Rattle.ce_algorithms.specs.Operands.{◌>>=◌ as and_then, class};
 ghost use Rattle.ce_algorithms.specs.State.{view};
@@ -39,8 +38,7 @@ pub(crate) fn ask(
     operand: &Operand,
     name: Option<Text>,
 ) -> Result<Deed, Refused>
-    requires built { is_built_word word ≡ true }
-    requires there { IfSome this.now (IsNode state.now.page.forest) }
+    requires { IfSome this.now (IsNode state.now.page.forest) }
     ensures deed { Resolves result (resolve (view this.now state.now) (ops.Ask word operand.now name)) }
     ensures ready { IfOk result (IsReady state.now.page.forest) }
 {
