@@ -9,7 +9,7 @@ use Rattle.form_controls.specs.declared.internals.Internals.{Internals}
 use Rattle.form_controls.specs.declared.value.Value.{Value}
 use Rattle.form_controls.specs.Internals as inner
 use Rattle.form_controls.specs.Internals.{may_attach, may_change_states, may_set_validity, may_write}
-use Rattle.ce_algorithms.specs.Steps.{Step, ◌>>=◌, ◌>>◌, refuse}
+use Rattle.ce_algorithms.specs.Steps.{Step, ◌>>◌, refuse}
 use Rattle.ce_algorithms.specs.Page.{Page, Work, change_page, definition_at, definition_of, state_of, with_internals}
 use Rattle.ce_algorithms.specs.Enqueue.{lookup_for}
 use Rattle.ce_algorithms.specs.Forms.{is_form_associated}

@@ -7,6 +7,12 @@ pub mod Forms
 pub mod FormLogs
 pub mod Controls
 pub mod ControlLogs
+pub mod Internals
+pub mod InternalLogs
+pub mod Resets
+pub mod ResetLogs
+pub mod Validity
+pub mod ValidityLogs
 use Rattle.std.specs.Prelude.{ℕ, not, List, filter, Result}
 use Rattle.rule_lines.specs.Acts.{Said}
 use Rattle.rule_tokens.specs.declared.refused.Bad.{Bad}

@@ -11,13 +11,19 @@ ghost use Rattle.ce_algorithms.specs.Worked.CornerLogs as corner_logs;
 ghost use Rattle.ce_algorithms.specs.Worked.Corners as corners;
 ghost use Rattle.ce_algorithms.specs.Worked.FormLogs as form_logs;
 ghost use Rattle.ce_algorithms.specs.Worked.Forms as forms;
+ghost use Rattle.ce_algorithms.specs.Worked.InternalLogs as internal_logs;
+ghost use Rattle.ce_algorithms.specs.Worked.Internals as internals;
 ghost use Rattle.ce_algorithms.specs.Worked.Logs as logs;
+ghost use Rattle.ce_algorithms.specs.Worked.ResetLogs as reset_logs;
+ghost use Rattle.ce_algorithms.specs.Worked.Resets as resets;
 ghost use Rattle.ce_algorithms.specs.Model.{level, model};
 ghost use Rattle.ce_algorithms.specs.Steps.{is_spent};
 ghost use Rattle.ce_algorithms.specs.Worked.Scripts as scripts;
 ghost use Rattle.ce_algorithms.specs.Session.{command, run_line};
 ghost use Rattle.ce_algorithms.specs.State.{State};
 ghost use Rattle.ce_algorithms.specs.Steps.{GoesOn};
+ghost use Rattle.ce_algorithms.specs.Worked.Validity as validity;
+ghost use Rattle.ce_algorithms.specs.Worked.ValidityLogs as validity_logs;
 ghost use Rattle.ce_algorithms.specs.Worked.{seen, traced, worked};
 ghost use Rattle.ce_algorithms.specs.Unbuilt.{no_node, unbuilt_deed};
 ghost use Rattle.ce_algorithms.specs.Written.{behind, behind_in};
@@ -74,7 +80,6 @@ pub fn worked_first()
 {}
 
 /// The model computes: queues and callbacks.
-#[tactic(auto, using(crate::proofs::Rows::inner_queue_logs, crate::proofs::Rows::reentry_logs, crate::proofs::Rows::try_logs, crate::proofs::Rows::connected_logs, crate::proofs::Rows::adopted_logs, crate::proofs::Rows::tree_logs, crate::proofs::Rows::endless_logs))]
 pub fn worked_callbacks()
     ensures inner_queue { seen 1000 scripts.inner_queue ≡ logs.inner_queue }
     ensures reentry { seen 1000 scripts.reentry ≡ logs.reentry }
@@ -86,7 +91,6 @@ pub fn worked_callbacks()
 {}
 
 /// The model computes: upgrades, creations and constructors.
-#[tactic(auto, using(crate::proofs::Rows::candidates_logs, crate::proofs::Rows::upgrade_throws_logs, crate::proofs::Rows::create_throws_logs, crate::proofs::Rows::construction_logs, crate::proofs::Rows::constructors_logs, crate::proofs::Rows::extends_logs, crate::proofs::Rows::definitions_logs))]
 pub fn worked_upgrades()
     ensures candidates { seen 1000 scripts.candidates ≡ logs.candidates }
     ensures upgrade_throws { seen 1000 scripts.upgrade_throws ≡ logs.upgrade_throws }
@@ -105,7 +109,6 @@ pub fn worked_traces()
 {}
 
 /// The model computes: corners of the rules.
-#[tactic(auto, using(crate::proofs::Rows::put_back_logs, crate::proofs::Rows::operands_logs, crate::proofs::Rows::under_construction_logs, crate::proofs::Rows::shadow_disabled_logs, crate::proofs::Rows::inert_logs, crate::proofs::Rows::clones_logs, crate::proofs::Rows::second_super_logs, crate::proofs::Rows::arguments_logs))]
 pub fn worked_corners()
     ensures put_back { seen 1000 corners.put_back ≡ corner_logs.put_back }
     ensures operands { seen 1000 corners.operands ≡ corner_logs.operands }
@@ -118,7 +121,6 @@ pub fn worked_corners()
 {}
 
 /// The model computes: form owners, disabled states, and whom their changes tell.
-#[tactic(auto, using(crate::proofs::Rows::owner_logs, crate::proofs::Rows::disabled_logs, crate::proofs::Rows::owner_disabled_logs))]
 pub fn worked_owners()
     ensures owner { seen 1000 forms.owner ≡ form_logs.owner }
     ensures disabled { seen 1000 forms.disabled ≡ form_logs.disabled }
@@ -131,4 +133,26 @@ pub fn worked_controls()
     ensures radios { seen 1000 controls.radios ≡ control_logs.radios }
     ensures texts { seen 1000 controls.texts ≡ control_logs.texts }
     ensures options { seen 1000 controls.options ≡ control_logs.options }
+{}
+
+/// The model computes: who gets internals, what they keep, and custom states.
+pub fn worked_internals()
+    ensures refused { seen 1000 internals.refused ≡ internal_logs.refused }
+    ensures values { seen 1000 internals.values ≡ internal_logs.values }
+    ensures attached { seen 1000 internals.attached ≡ internal_logs.attached }
+{}
+
+/// The model computes: resets by scripts and by the user, one of them with its trace, and states that come back.
+pub fn worked_resets()
+    ensures with_trace { traced resets.traced ≡ reset_logs.traced }
+    ensures radios { seen 1000 resets.radios ≡ reset_logs.radios }
+    ensures form { seen 1000 resets.form ≡ reset_logs.form }
+    ensures within { seen 1000 resets.within ≡ reset_logs.within }
+    ensures restored { seen 1000 resets.restored ≡ reset_logs.restored }
+{}
+
+/// The model computes: validity flags of texts and of internals, messages, and who is barred.
+pub fn worked_validity()
+    ensures texts { seen 1000 validity.texts ≡ validity_logs.texts }
+    ensures internals { seen 1000 validity.internals ≡ validity_logs.internals }
 {}
