@@ -8,3 +8,6 @@ returns-in-Tick-clause-step c = rw c.in-Tick.is c.set_tick.ensures.step
 
 pub returns-in-Choose-clause-step : goal.returns-in-Choose-clause-step
 returns-in-Choose-clause-step c = rw c.in-Choose.is c.set_choice.ensures.step
+
+pub returns-in-SetMessage-clause-step : goal.returns-in-SetMessage-clause-step
+returns-in-SetMessage-clause-step c = rw c.in-SetMessage.is c.set_message.ensures.step
