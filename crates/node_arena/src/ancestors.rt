@@ -1,6 +1,6 @@
 // What is above a node.
 ghost use Rattle.std.specs.Prelude.{◌≡◌};
-ghost use Rattle.node_trees.specs.Paths.{path, is_among, root_at, connected};
+ghost use Rattle.node_trees.specs.Paths.{path, is_among, root_at, shadow_including_root_at, connected};
 ghost use Rattle.node_trees.specs.Nodes.{IsNode, IsTidy};
 ghost use Rattle.node_trees.specs.Orders.{order_of};
 ghost use Rattle.node_arena.specs.Walks.{IsUp};
@@ -64,10 +64,20 @@ impl Tree {
         requires { IsNode self.now n }
         ensures { result ≡ connected self.now n }
     {
+        self.kind(self.shadow_including_root(n)) == NodeKind::Document
+    }
+
+    /// The root of the node's tree, from each shadow root on the root of its host's (DOM Standard, section "Interface
+    /// ShadowRoot", "shadow-including root").
+    pub fn shadow_including_root(&self, n: NodeNo) -> NodeNo
+        requires { IsNode self.now n }
+        ensures root { result ≡ shadow_including_root_at self.now n }
+        ensures node { IsNode self.now result }
+    {
         let mut at = n;
         while let Some(next) = self.above(at) {
             at = next;
         }
-        self.kind(at) == NodeKind::Document
+        at
     }
 }
