@@ -3,8 +3,10 @@ ghost use Rattle.std.specs.Prelude.{◌≡◌, ◌<◌, All, Some, length, slice
 ghost use Rattle.node_trees.specs.Nodes.{IsNode, IsTidy};
 ghost use Rattle.node_trees.specs.Paths.{is_among};
 ghost use Rattle.form_controls.specs.Barred.{is_in_datalist};
-ghost use Rattle.form_controls.specs.Owners.{ancestors};
+ghost use Rattle.form_controls.specs.Owners.{Forms, ancestors, is_submittable};
+ghost use Rattle.form_owner.specs.Stands.{Stands};
 
+use crate::{OwnerTable, is_listed};
 use ce_base::{NodeNo, Nodes};
 use element_names::Native;
 use form_kinds::is_a;
@@ -18,6 +20,16 @@ pub(crate) fn node_at(tree: &Tree, nodes: &Nodes, place: usize) -> NodeNo
     ensures node { IsNode tree.now result }
 {
     nodes.get(place).unwrap()
+}
+
+impl OwnerTable {
+    /// Whether a node is a submittable element (HTML Standard, section "Categories").
+    pub fn submittable(&self, tree: &Tree, n: NodeNo) -> bool
+        requires { IsNode tree.now n }
+        ensures { (f : Forms) → f.forest ≡ tree.now → Stands self.now f → result ≡ is_submittable f n }
+    {
+        is_listed(tree, n, self.associated(n)) && !is_a(tree, n, Native::Fieldset)
+    }
 }
 
 /// Whether a node is below a datalist, in its own tree (HTML Standard, section "The datalist element").

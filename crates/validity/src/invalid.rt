@@ -1,7 +1,7 @@
 // The invalid controls of a form.
 ghost use Rattle.std.specs.Prelude.{◌≡◌, ◌++◌, ◌∷◌, [], All, if◌then◌else◌, IfOk, OnOk};
 ghost use Rattle.node_trees.specs.Nodes.{IsNode};
-ghost use Rattle.form_controls.specs.Owners.{Forms, is_submittable};
+ghost use Rattle.form_controls.specs.Owners.{Forms};
 ghost use Rattle.form_controls.specs.Validity.{invalid_controls, is_invalid};
 ghost use Rattle.form_owner.specs.Stands.{Stands, StandsFor};
 
@@ -9,19 +9,9 @@ use crate::{flags, will_validate};
 use ce_base::{NoMemory, NodeNo, Nodes};
 use control_state::ControlTable;
 use element_internals::{InternalsTable, is_raised};
-use element_names::Native;
-use form_kinds::is_a;
-use form_owner::{OwnerTable, is_listed};
+use form_owner::OwnerTable;
 use node_arena::Tree;
 use std::alloc::Global;
-
-/// Whether an element is submittable (HTML Standard, section "Categories").
-fn is_submittable(tree: &Tree, owners: &OwnerTable, n: NodeNo) -> bool
-    requires { IsNode tree.now n }
-    ensures { (f : Forms) → f.forest ≡ tree.now → Stands owners.now f → result ≡ is_submittable f n }
-{
-    is_listed(tree, n, owners.associated(n)) && !is_a(tree, n, Native::Fieldset)
-}
 
 /// Whether an element is validated, and has a flag.
 fn is_invalid(
@@ -35,7 +25,7 @@ fn is_invalid(
     requires node { IsNode tree.now n }
     ensures { (f : Forms) → f.forest ≡ tree.now → Stands owners.now f → result ≡ is_invalid f controls.now inner.now n }
 {
-    is_submittable(tree, owners, n)
+    owners.submittable(tree, n)
         && will_validate(tree, owners, n)
         && is_raised(flags(tree, owners, controls, inner, n))
 }
