@@ -15,3 +15,4 @@ mod values;
 pub use lengths::is_option_empty;
 pub use options::{first_option, is_multiple, options_of, select_of};
 pub use table::ControlTable;
+pub use values::option_value;

@@ -1,12 +1,13 @@
 // The values of controls.
 ghost use Rattle.std.specs.Prelude.{◌≡◌, IfOk};
 ghost use Rattle.node_trees.specs.Nodes.{IsNode};
-ghost use Rattle.form_controls.specs.Options.{text_below};
+ghost use Rattle.control_state.specs.Sources.{IsOfNode, value_from};
+ghost use Rattle.form_controls.specs.Options.{option_value, text_below};
 ghost use Rattle.form_controls.specs.Texts.{collapsed, normalized};
 ghost use Rattle.form_controls.specs.Values.{child_text, value};
 
 use crate::ControlTable;
-use crate::source::Source;
+use crate::source::{Source, option_source};
 use ce_base::{NoMemory, NodeNo, Text};
 use control_texts::{collapsed, normalized, without_newlines};
 use node_arena::Tree;
@@ -58,6 +59,29 @@ fn collapsed_below(alloc: Global, tree: &Tree, n: NodeNo) -> Result<Text, NoMemo
     collapsed(alloc, text.as_str())
 }
 
+/// A value, by where it comes from.
+fn value_from(alloc: Global, tree: &Tree, source: Source<'_>) -> Result<Text, NoMemory>
+    requires { IsOfNode tree.now source }
+    ensures { IfOk result (λ t. t ≡ value_from tree.now source.entry) }
+{
+    match source {
+        Source::Plain(text) => Text::of(alloc, text),
+        Source::Line(text) => without_newlines(alloc, text),
+        Source::Lines(text) => normalized(alloc, text),
+        Source::Children(n) => normalized_children(alloc, tree, n),
+        Source::Below(n) => collapsed_below(alloc, tree, n),
+    }
+}
+
+/// The value of an option: its `value` attribute, or its text (HTML Standard, section "The option element", "value").
+/// NoMemory: memory was refused.
+pub fn option_value(alloc: Global, tree: &Tree, option: NodeNo) -> Result<Text, NoMemory>
+    requires { IsNode tree.now option }
+    ensures { IfOk result (λ t. t ≡ option_value tree.now option) }
+{
+    value_from(alloc, tree, option_source(tree, option))
+}
+
 impl ControlTable {
     /// The value of a control, of a select that of its first chosen option; and that of an option (HTML Standard,
     /// sections "A form control's value", "The option element"). What is neither has the empty text.
@@ -65,12 +89,6 @@ impl ControlTable {
         requires { IsNode tree.now n }
         ensures { IfOk result (λ t. t ≡ value self.now tree.now n) }
     {
-        match self.source(tree, n) {
-            Source::Plain(text) => Text::of(alloc, text),
-            Source::Line(text) => without_newlines(alloc, text),
-            Source::Lines(text) => normalized(alloc, text),
-            Source::Children(n) => normalized_children(alloc, tree, n),
-            Source::Below(n) => collapsed_below(alloc, tree, n),
-        }
+        value_from(alloc, tree, self.source(tree, n))
     }
 }
