@@ -1,0 +1,45 @@
+// Who is passed over.
+ghost use Rattle.std.specs.Prelude.{◌≡◌};
+ghost use Rattle.node_trees.specs.Nodes.{IsNode};
+ghost use Rattle.form_controls.specs.Kinds.{is_button};
+ghost use Rattle.form_controls.specs.Owners.{Forms};
+ghost use Rattle.form_owner.specs.Stands.{Stands, StandsFor};
+ghost use Rattle.form_submission.specs.EntryList.{is_skipped};
+
+use ce_base::NodeNo;
+use checkedness::is_checked;
+use control_state::ControlTable;
+use element_names::InputKind;
+use form_kinds::{has_kind, is_tickable};
+use form_owner::{OwnerTable, is_in_datalist};
+use node_arena::Tree;
+
+/// Whether a node is a button (HTML Standard, section "Categories").
+fn is_button(tree: &Tree, n: NodeNo) -> bool
+    requires { IsNode tree.now n }
+    ensures { result ≡ is_button tree.now n }
+{
+    has_kind(tree, n, InputKind::Submit)
+        || has_kind(tree, n, InputKind::Reset)
+        || has_kind(tree, n, InputKind::Button)
+}
+
+/// Whether an element is passed over: it is below a datalist, disabled, a button that is not the submitter, or a checkbox or a
+/// radio button that is not checked.
+pub(crate) fn is_skipped(
+    tree: &Tree,
+    owners: &OwnerTable,
+    controls: &ControlTable,
+    submitter: Option<NodeNo>,
+    n: NodeNo,
+) -> bool
+    requires stands { StandsFor owners.now tree.now }
+    requires node { IsNode tree.now n }
+    ensures { (f : Forms) → f.forest ≡ tree.now → Stands owners.now f → result ≡ is_skipped f controls.now submitter n }
+{
+    let _count = tree.count();
+    is_in_datalist(tree, n)
+        || owners.disabled(n)
+        || (is_button(tree, n) && submitter != Some(n))
+        || (is_tickable(tree, n) && !is_checked(tree, owners, controls, n))
+}
