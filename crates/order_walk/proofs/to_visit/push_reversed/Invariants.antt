@@ -1,6 +1,6 @@
 use Rattle.std.proofs.Common.{◌≡◌, ◌≤◌, ◌++◌, drop, length}
 use Rattle.std.specs.Prelude.{reverse}
-use Rattle.node_arena.proofs.orders.push_reversed.Given as goal
+use Rattle.order_walk.proofs.to_visit.push_reversed.Given as goal
 
 abbrev pub invariant-loop-left : goal.invariant-loop-left
 invariant-loop-left l = (l.left ≤ length l.numbers) × (reverse l.stack.items ≡ drop l.left l.numbers ++ reverse l.fn.stack.items)
