@@ -1,6 +1,5 @@
-//! Tests of the crates below the page: `base` and `names` are those of ce_base and element_names, `kinds` has what
-//! elements are for forms, `owners` has form owners beside a tree, `controls` what controls keep beside one, `internals` what
-//! ElementInternals keeps, `texts` what is read of texts, and `calls` the calls that no program makes. `rows` has what they
+//! Tests of the crates below the page: `base` has devices at the edge and lists, `kinds` what elements are for forms,
+//! `lengths` how long texts are as controls read them, and `calls` the calls that no program makes. `rows` has what they
 //! share.
 #![tactic(auto)]
 
@@ -11,14 +10,8 @@ mod calls;
 #[cfg(test)]
 mod controls;
 #[cfg(test)]
-mod internals;
-#[cfg(test)]
 mod kinds;
 #[cfg(test)]
-mod names;
-#[cfg(test)]
-mod owners;
+mod lengths;
 #[cfg(test)]
 mod rows;
-#[cfg(test)]
-mod texts;

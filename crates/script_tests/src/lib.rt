@@ -2,6 +2,4 @@
 #![tactic(auto)]
 
 #[cfg(test)]
-mod values;
-#[cfg(test)]
 mod writing;

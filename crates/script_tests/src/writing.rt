@@ -138,13 +138,6 @@ ask checked $a
 ask states $a
 let $a $b"#;
 
-#[test]
-fn operations_are_written(rt: HostRuntime) -> Result<(), Fail> {
-    let actions = OPERATIONS.replace(rt.alloc(), "\n", "\non A connected : ")?;
-    compare(&rt, rt.alloc(), OPERATIONS)?;
-    compare(&rt, rt.alloc(), actions.as_str())
-}
-
 const ACTIONS: &str = r#"on A attribute : log "a" @1 @2 @3 @count @kept
 on A constructor : super
 on A connected : return
@@ -176,12 +169,6 @@ user restore $a "s"
 user autofill $a "s"
 user press $a"#;
 
-#[test]
-fn actions_and_classes_are_written(rt: HostRuntime) -> Result<(), Fail> {
-    compare(&rt, rt.alloc(), ACTIONS)?;
-    compare(&rt, rt.alloc(), CLASSES)
-}
-
 const SPELLINGS: &str = r#"  # nothing => 
  create  $a div  is x-b in $d  => create $a "div" is "x-b" in $d
 text $a in in doc => text $a "in" in doc
@@ -196,9 +183,15 @@ on A attribute :  log log "@1" @1 => on A attribute : log "log" "@1" @1
 on A formReset : if ne : : : throw : => on A formReset : if ne ":" ":" : throw ":"
 user edit doc edit => user edit doc "edit""#;
 
+// Operations stand alone, and as actions.
 #[test]
-fn other_spellings_are_written_canonically(rt: HostRuntime) -> Result<(), Fail> {
-    compare(&rt, rt.alloc(), SPELLINGS)
+fn lines_are_written_canonically(rt: HostRuntime) -> Result<(), Fail> {
+    let actions = OPERATIONS.replace(rt.alloc(), "\n", "\non A connected : ")?;
+    compare(&rt, rt.alloc(), actions.as_str())?;
+    for rows in [OPERATIONS, ACTIONS, CLASSES, SPELLINGS] {
+        compare(&rt, rt.alloc(), rows)?;
+    }
+    Ok(())
 }
 
 #[test]
