@@ -10,7 +10,7 @@ use Rattle.ce_frames.specs.Frames.{InBody}
 use Rattle.ce_frames.specs.Turned.{Turn, ◌>>=◌, ◌>>◌, below, ended}
 use Rattle.ce_frames.specs.BodyTurns.{guarded_step, flow_turn, act_turn, body_turn}
 use Rattle.ce_frames.specs.OperateTurns.{operate_turn}
-use Rattle.behaviours.specs.Resume.{Stop, Doing, Returning, Throwing, OutOfFuel, Resumed}
+use Rattle.class_bodies.specs.Resume.{Stop, Doing, Returning, Throwing, OutOfFuel, Resumed}
 
 -- the state in which the class remembers this, with this fuel
 abbrev pub remembering : ℕ → Memory → ℕ → State → State

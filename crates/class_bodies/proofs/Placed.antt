@@ -9,7 +9,7 @@ use Rattle.rule_lines.specs.declared.action.Action.{Action}
 use Rattle.reaction_queue.specs.Queues.{or_empty}
 use Rattle.ce_registry.specs.ClassFacts.{place_of}
 use Rattle.ce_algorithms.specs.Body.{actions_of, same_call}
-use Rattle.behaviours.specs.Bodies.{ArePlaced, kept_for, lines_of, places_from}
+use Rattle.class_bodies.specs.Bodies.{ArePlaced, kept_for, lines_of, places_from}
 use Rattle.ce_algorithms.proofs.CallNames.{same_is, same_self}
 
 -- callbacks are told by their words, and by their places

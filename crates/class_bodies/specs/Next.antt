@@ -2,9 +2,9 @@
 use Rattle.std.specs.Prelude.{ℕ, List, Option, option_map}
 use Rattle.rule_lines.specs.Acts.{Act, act_of}
 use Rattle.ce_algorithms.specs.State.{Memory}
-use Rattle.behaviours.specs.declared.next.Next.{Next}
-use Rattle.behaviours.specs.declared.next.Next.TheVariants.{Do, Return, Throw, FuelSpent}
-use Rattle.behaviours.specs.Resume.{Stop, Doing, Returning, Throwing, OutOfFuel, Acted, Resumed}
+use Rattle.class_bodies.specs.declared.next.Next.{Next}
+use Rattle.class_bodies.specs.declared.next.Next.TheVariants.{Do, Return, Throw, FuelSpent}
+use Rattle.class_bodies.specs.Resume.{Stop, Doing, Returning, Throwing, OutOfFuel, Acted, Resumed}
 
 abbrev pub stop_of : Next → Stop
 stop_of (Do action guarded) = Doing (act_of action) guarded

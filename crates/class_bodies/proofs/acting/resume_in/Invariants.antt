@@ -1,7 +1,7 @@
 use Rattle.std.proofs.Common.{◌≡◌, ◌≤◌, drop, length}
 use Rattle.ce_algorithms.specs.Body.{actions_of}
-use Rattle.behaviours.specs.Resume.{resumed}
-use Rattle.behaviours.proofs.acting.resume_in.Given as goal
+use Rattle.class_bodies.specs.Resume.{resumed}
+use Rattle.class_bodies.proofs.acting.resume_in.Given as goal
 
 abbrev pub invariant-loop-action : goal.invariant-loop-action
 invariant-loop-action l = record {

@@ -51,7 +51,7 @@ impl Places {
 /// The bodies of a class's callbacks. A contract sees the actions in the order of their lines; beside them
 /// stands for each callback where its own ones are.
 #[derive(Drop)]
-pub(crate) struct Bodies {
+pub struct Bodies {
     lines: Vec<(CallName, Action)>,
     places: [Places; 9],
 }
@@ -62,7 +62,7 @@ impl Model for Bodies {
     ghost use Rattle.rule_lines.specs.Acts.{Act};
     ghost use Rattle.rule_lines.specs.ActCode.{act_code};
     ghost use Rattle.rule_tokens.specs.declared.callback.CallName.{CallName};
-    ghost use Rattle.behaviours.specs.Bodies.{ArePlaced, lines_of};
+    ghost use Rattle.class_bodies.specs.Bodies.{ArePlaced, lines_of};
 
     ghost Value = { List (CallName × Act) };
 
@@ -75,7 +75,7 @@ impl Model for Bodies {
 
 impl Bodies {
     /// No actions.
-    pub(crate) fn make(alloc: Global) -> Bodies
+    pub fn make(alloc: Global) -> Bodies
         ensures { result ≡ [] }
     {
         Bodies {
@@ -84,8 +84,8 @@ impl Bodies {
         }
     }
 
-    /// Puts an action behind the others of its callback.
-    pub(crate) fn push(&mut self, call: CallName, action: Action) -> Result<(), NoMemory>
+    /// Puts an action behind the others of its callback. NoMemory: memory was refused, and nothing has changed.
+    pub fn push(&mut self, call: CallName, action: Action) -> Result<(), NoMemory>
         ensures pushed { OnOk result (self.new ≡ self.old ++ (call, act_of action) ∷ []) }
         ensures same { OnErr result (self.new ≡ self.old) }
     {
@@ -101,7 +101,7 @@ impl Bodies {
     }
 
     /// The action of a callback's body at a place, from 0. None exactly where the body ends before it.
-    pub(crate) fn get(&self, call: CallName, index: usize) -> Option<&Action>
+    pub fn get(&self, call: CallName, index: usize) -> Option<&Action>
         ensures action { MatchOption result (drop index (actions_of call self.now) ≡ []) (λ a. drop index (actions_of call self.now) ≡ act_of a.now ∷ drop (index + 1) (actions_of call self.now)) }
         ensures room { IfSome result (λ _. index + 1 < 2 ^ 64) }
     {

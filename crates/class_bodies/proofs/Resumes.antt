@@ -15,8 +15,8 @@ use Rattle.ce_frames.specs.After.{guard}
 use Rattle.ce_frames.specs.Turned.{Turn, Turned, ◌>>◌, turn_after, below}
 use Rattle.ce_frames.specs.OperateTurns.{operate_turn}
 use Rattle.ce_frames.specs.BodyTurns.{flow_turn, act_turn, body_turn}
-use Rattle.behaviours.specs.Resume.{Stop, Acted, acted, goes_on, spending, stop_or, resumed}
-use Rattle.behaviours.specs.Turns.{remembering, stop_turn, resumed_turn}
+use Rattle.class_bodies.specs.Resume.{Stop, Acted, acted, goes_on, spending, stop_or, resumed}
+use Rattle.class_bodies.specs.Turns.{remembering, stop_turn, resumed_turn}
 use Rattle.ce_base.proofs.Places.{set_found}
 
 -- a member that is put where it is changes nothing

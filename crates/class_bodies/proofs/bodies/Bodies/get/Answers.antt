@@ -1,6 +1,6 @@
 use Rattle.std.proofs.Common.{◌<◌, ℕ, List, length, get_or, ap, arith, rules}
-use Rattle.behaviours.proofs.Placed.{body_at, body_ends, body_within}
-use Rattle.behaviours.proofs.bodies.Bodies.get.Goals as goal
+use Rattle.class_bodies.proofs.Placed.{body_at, body_ends, body_within}
+use Rattle.class_bodies.proofs.bodies.Bodies.get.Goals as goal
 
 pub index-requires : goal.index-requires
 index-requires c =

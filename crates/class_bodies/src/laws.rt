@@ -4,8 +4,8 @@ ghost use Rattle.rule_lines.specs.Acts.{Act};
 ghost use Rattle.ce_algorithms.specs.State.{Class, State};
 ghost use Rattle.ce_algorithms.specs.Values.{Args};
 ghost use Rattle.ce_frames.specs.BodyTurns.{body_turn};
-ghost use Rattle.behaviours.specs.Resume.{resumed};
-ghost use Rattle.behaviours.specs.Turns.{resumed_turn};
+ghost use Rattle.class_bodies.specs.Resume.{resumed};
+ghost use Rattle.class_bodies.specs.Turns.{resumed_turn};
 
 /// The turn of a body is what `Behaviour::resume` does of it, and then the turn from where that stopped: in the
 /// state with what the class then remembers and with the fuel that is then left.

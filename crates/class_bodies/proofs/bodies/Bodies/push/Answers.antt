@@ -1,6 +1,6 @@
 use Rattle.std.proofs.Common.{◌≡◌, ◌<◌, ◌∙◌, ℕ, List, length, get_or, ap, rules}
-use Rattle.behaviours.proofs.Placed.{placed_more}
-use Rattle.behaviours.proofs.bodies.Bodies.push.Goals as goal
+use Rattle.class_bodies.proofs.Placed.{placed_more}
+use Rattle.class_bodies.proofs.bodies.Bodies.push.Goals as goal
 
 pub invariant_of-self-in-Ok : goal.invariant_of-self-in-Ok
 invariant_of-self-in-Ok c =

@@ -1,20 +1,19 @@
 // The frame of a body.
-ghost use Rattle.std.specs.Prelude.{◌≡◌, ◌≤◌, None, IfOk};
-ghost use Rattle.ce_frames.specs.Places.{Body as BodyHeld, holding};
-ghost use Rattle.behaviours.specs.Next.{stop_of};
-ghost use Rattle.frame_stack.specs.Frames.{first_place, with_this};
-ghost use Rattle.frame_stack.specs.Kinds.{body_of};
-ghost use Rattle.frame_stack.specs.Resumes.{FrameResumes, IsSameBody, is_guarded};
+ghost use Rattle.std.specs.Prelude.{◌≡◌, ◌≤◌, None, Some, IfOk};
+ghost use Rattle.class_bodies.specs.Next.{stop_of};
+ghost use Rattle.body_frames.specs.Kept.{first_place, frame_of};
+ghost use Rattle.body_frames.specs.Resumes.{FrameResumes, IsSameBody, is_guarded};
 
 use behaviours::{Args, At, Behaviour, Next};
 use ce_base::{ClassNo, Fuel, NoMemory, NodeNo};
 use rule_tokens::CallName;
 use std::alloc::Global;
+use std::marker::Model;
 
 /// A body of a class: how far it is, its arguments, what `this` is, whether the action that it has reached stands
-/// in a `try`, and the behaviour of its class, unless a frame above has it.
+/// in a `try`, and the behaviour of its class, unless a frame above has it. A contract sees it as it is kept.
 #[derive(Drop)]
-pub(crate) struct Body {
+pub struct Body {
     class: ClassNo,
     at: At,
     args: Args,
@@ -23,10 +22,26 @@ pub(crate) struct Body {
     held: Option<Behaviour>,
 }
 
+impl Model for Body {
+    ghost use Rattle.std.specs.Coded.{codes};
+    ghost use Rattle.rule_lines.specs.ActCode.{act_code};
+    ghost use Rattle.body_frames.specs.Kept.{Kept};
+
+    ghost Value = { Kept };
+
+    ghost coded = { Prim.hlevel (codes, act_code) };
+
+    ghost view = { λ b. record {
+      class = b.class;
+      place = record { call = b.at.call; index = b.at.index; args = b.args; this = b.this; guarded = b.guarded };
+      held = b.held;
+    } };
+}
+
 impl Body {
     /// A body that begins.
-    pub(crate) fn begin(class: ClassNo, call: CallName, args: Args, this: Option<NodeNo>) -> Body
-        ensures { body_of result ≡ BodyHeld class (first_place call args this) None }
+    pub fn begin(class: ClassNo, call: CallName, args: Args, this: Option<NodeNo>) -> Body
+        ensures { result ≡ record { class = class; place = first_place call args this; held = None } }
     {
         Body {
             class,
@@ -39,7 +54,7 @@ impl Body {
     }
 
     /// Its class, and the behaviour.
-    pub(crate) fn into_held(self) -> (ClassNo, Option<Behaviour>)
+    pub fn into_held(self) -> (ClassNo, Option<Behaviour>)
         ensures class { result.0 ≡ self.class }
         ensures held { result.1 ≡ self.held }
     {
@@ -47,52 +62,52 @@ impl Body {
     }
 
     /// Its class.
-    pub(crate) fn class(&self) -> ClassNo
+    pub fn class(&self) -> ClassNo
         ensures { result ≡ self.now.class }
     {
         self.class
     }
 
     /// What `this` is.
-    pub(crate) fn this(&self) -> Option<NodeNo>
-        ensures { result ≡ self.now.this }
+    pub fn this(&self) -> Option<NodeNo>
+        ensures { result ≡ self.now.place.this }
     {
         self.this
     }
 
     /// Whether the action that it has reached stands in a `try`.
-    pub(crate) fn is_guarded(&self) -> bool
-        ensures { result ≡ self.now.guarded }
+    pub fn is_guarded(&self) -> bool
+        ensures { result ≡ self.now.place.guarded }
     {
         self.guarded
     }
 
     /// From now on `this` is this node.
-    pub(crate) fn set_this(&mut self, n: NodeNo)
-        ensures { body_of self.new ≡ with_this n (body_of self.old) }
+    pub fn set_this(&mut self, n: NodeNo)
+        ensures { self.new ≡ record self.old { place = record (self.old.place) { this = Some n } } }
     {
         self.this = Some(n);
     }
 
     /// Takes the behaviour.
-    pub(crate) fn take(&mut self) -> Option<Behaviour>
+    pub fn take(&mut self) -> Option<Behaviour>
         ensures held { result ≡ self.old.held }
-        ensures rest { body_of self.new ≡ holding None (body_of self.old) }
+        ensures rest { self.new ≡ record self.old { held = None } }
     {
         self.held.take()
     }
 
     /// Puts the behaviour in its place.
-    pub(crate) fn put(&mut self, held: Option<Behaviour>)
-        ensures { body_of self.new ≡ holding held (body_of self.old) }
+    pub fn put(&mut self, held: Option<Behaviour>)
+        ensures { self.new ≡ record self.old { held = held } }
     {
         self.held = held;
     }
 
     /// Runs the body up to its next stop. One whose class is not there has no actions.
-    pub(crate) fn resume(&mut self, alloc: Global, fuel: &mut Fuel) -> Result<Next, NoMemory>
-        ensures resumed { IfOk result (λ next. FrameResumes (body_of self.old) (body_of self.new) fuel.old fuel.new next) }
-        ensures same { IsSameBody (body_of self.old) (body_of self.new) }
+    pub fn resume(&mut self, alloc: Global, fuel: &mut Fuel) -> Result<Next, NoMemory>
+        ensures resumed { IfOk result (λ next. FrameResumes (frame_of self.old) (frame_of self.new) fuel.old fuel.new next) }
+        ensures same { IsSameBody (frame_of self.old) (frame_of self.new) }
         ensures less { fuel.new ≤ fuel.old }
     {
         match &mut self.held {

@@ -4,8 +4,8 @@ ghost use Rattle.ce_base.specs.declared.fault.Fault.TheVariants.{UserThrow};
 ghost use Rattle.rule_lines.specs.Acts.{Both, Log, act_of};
 ghost use Rattle.ce_algorithms.specs.Body.{actions_of, holds};
 ghost use Rattle.ce_algorithms.specs.Values.{fixed, fixed_value, text_of};
-ghost use Rattle.behaviours.specs.Next.{acted_to, resumed_to, stop_of};
-ghost use Rattle.behaviours.specs.Resume.{Doing, Returning, Throwing, acted, resumed};
+ghost use Rattle.class_bodies.specs.Next.{acted_to, resumed_to, stop_of};
+ghost use Rattle.class_bodies.specs.Resume.{Doing, Returning, Throwing, acted, resumed};
 
 use crate::bodies::Bodies;
 use crate::fixing::{fixed, fixed_values};
@@ -15,8 +15,9 @@ use rule_lines::{Action, Op, Vals};
 use rule_tokens::{Operand, Val};
 use std::alloc::Global;
 
-/// Runs a body from a place on, up to an action that it does not do itself, or to its end.
-pub(crate) fn resume_in(
+/// Runs a body from a place on. Before each action one unit of fuel is spent, and one more for the action in a `try` or an
+/// `if`. It runs `bump`, `keep`, `if` and `try` itself, and stops at the next other action, or at the end of the body.
+pub fn resume_in(
     bodies: &Bodies,
     memory: &mut Memory,
     alloc: Global,
