@@ -1,8 +1,8 @@
 use Rattle.std.proofs.Common.{◌∙◌, sym, arith}
 use Rattle.std.proofs.lemmas.Bool.Decides.{nat_tests}
-use Rattle.form_owner.proofs.Ancestors.{ancestors-less}
-use Rattle.form_owner.proofs.Walks.{among-up, among-top}
-use Rattle.form_owner.proofs.reading.is_below.Goals as goal
+use Rattle.owner_reading.proofs.Ancestors.{ancestors-less}
+use Rattle.owner_reading.proofs.Climbing.{among-up, among-top}
+use Rattle.disabled_reading.proofs.reading.is_below.Goals as goal
 
 pub returns-then-eq : goal.returns-then-eq
 returns-then-eq c = grind (arith, nat_tests, c.loop-parent.invariant.is, among-up _ _ c.requires.tidy c.loop-parent.invariant.node c.args.above _ c.in-Some.ensures.parent)

@@ -1,8 +1,8 @@
 use Rattle.std.proofs.Common.{◌∙◌, sym, arith}
 use Rattle.form_controls.specs.Disabled.{disables}
-use Rattle.form_owner.proofs.Ancestors.{ancestors-less}
-use Rattle.form_owner.proofs.Walks.{any-up, any-top}
-use Rattle.form_owner.proofs.disabled.is_in_disabled_fieldset.Goals as goal
+use Rattle.owner_reading.proofs.Ancestors.{ancestors-less}
+use Rattle.owner_reading.proofs.Climbing.{any-up, any-top}
+use Rattle.disabled_reading.proofs.disabled.is_in_disabled_fieldset.Goals as goal
 
 pub returns-then-branch : goal.returns-then-branch
 returns-then-branch c = grind (arith, c.loop-parent.invariant.is, any-up _ _ c.requires.tidy c.loop-parent.invariant.node (disables c.args.tree.now c.args.n) _ c.in-Some.ensures.parent, c.in_ok-disables.ensures, c.if-branch.true)

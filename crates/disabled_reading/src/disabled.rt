@@ -4,14 +4,14 @@ ghost use Rattle.element_names.specs.declared.natives.Native.TheVariants.{Legend
 ghost use Rattle.node_trees.specs.Nodes.{IsNode, IsTidy};
 ghost use Rattle.form_controls.specs.Disabled.{disables, first_legend, is_in_disabled_fieldset};
 ghost use Rattle.form_controls.specs.Kinds.{is_a};
-ghost use Rattle.form_owner.specs.Reading.{disabled_with};
+ghost use Rattle.disabled_reading.specs.Disabled.{disabled_with};
 
-use crate::owner::is_listed;
 use crate::reading::{is_below, node_at};
 use ce_base::{NoMemory, NodeNo, Nodes};
 use element_names::Native;
 use form_kinds::{has_disabled, is_a, is_option_disabled};
 use node_arena::Tree;
+use owner_reading::is_listed;
 use std::alloc::Global;
 
 /// The first legend among some children.
@@ -69,7 +69,7 @@ fn is_in_disabled_fieldset(alloc: Global, tree: &Tree, n: NodeNo) -> Result<bool
 }
 
 /// Whether a node is disabled, given whether it is a form-associated custom element.
-pub(crate) fn disabled_of(
+pub fn disabled_of(
     alloc: Global,
     tree: &Tree,
     n: NodeNo,

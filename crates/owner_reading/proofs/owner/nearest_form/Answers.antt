@@ -1,9 +1,9 @@
 use Rattle.std.proofs.Common.{◌∙◌, sym, arith}
 use Rattle.element_names.specs.declared.natives.Native.TheVariants.{Form}
 use Rattle.form_controls.specs.Kinds.{is_a}
-use Rattle.form_owner.proofs.Ancestors.{ancestors-less}
-use Rattle.form_owner.proofs.Walks.{find-up, find-top}
-use Rattle.form_owner.proofs.owner.nearest_form.Goals as goal
+use Rattle.owner_reading.proofs.Ancestors.{ancestors-less}
+use Rattle.owner_reading.proofs.Climbing.{find-up, find-top}
+use Rattle.owner_reading.proofs.owner.nearest_form.Goals as goal
 
 pub returns-then-is_a : goal.returns-then-is_a
 returns-then-is_a c = grind (arith, c.loop-parent.invariant.is, find-up _ _ c.requires.tidy c.loop-parent.invariant.node (is_a Form c.args.tree.now) _ c.in-Some.ensures.parent)

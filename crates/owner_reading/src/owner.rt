@@ -2,7 +2,7 @@
 ghost use Rattle.std.specs.Prelude.{◌≡◌};
 ghost use Rattle.node_trees.specs.Nodes.{IsNode, IsTidy};
 ghost use Rattle.form_controls.specs.Owners.{is_listed_native, named_form, nearest_form};
-ghost use Rattle.form_owner.specs.Reading.{listed_by, owner_with};
+ghost use Rattle.owner_reading.specs.Owners.{listed_by, owner_with};
 
 use ce_base::NodeNo;
 use element_names::Native;
@@ -65,7 +65,7 @@ fn named_form(tree: &Tree, n: NodeNo, id: &str) -> Option<NodeNo>
 }
 
 /// The form owner of a node (HTML Standard, section "Association of controls and forms", "reset the form owner").
-pub(crate) fn owner_of(tree: &Tree, n: NodeNo, associated: bool) -> Option<NodeNo>
+pub fn owner_of(tree: &Tree, n: NodeNo, associated: bool) -> Option<NodeNo>
     requires tidy { IsTidy tree.now }
     requires node { IsNode tree.now n }
     ensures { result ≡ owner_with tree.now n associated }
