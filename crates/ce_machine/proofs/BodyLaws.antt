@@ -41,13 +41,13 @@ use Rattle.frame_stack.specs.Sessions.{ArePaired, session}
 use Rattle.frame_stack.specs.Stacked.{Stacked, HasBody, Running, behaviour_at, behaviours_of, below_top, frames_of, guarded_of, in_body, this_of, top_of}
 use Rattle.frame_stack.proofs.TopLaws.{below_push, top_below, top_push}
 use Rattle.ce_machine.specs.Bodies.{GoesOn, StopsAt, acting_turn, answer, frame_on_top, given_node, or_constructing, running_turn, stopped_turn}
-use Rattle.ce_reactions.specs.declared.came.Came.{Came}
-use Rattle.ce_reactions.specs.declared.came.Came.TheVariants.{Threw, Over}
+use Rattle.ce_outcomes.specs.declared.came.Came.{Came}
+use Rattle.ce_outcomes.specs.declared.came.Came.TheVariants.{Threw, Over}
 use Rattle.page_calls.specs.Given.{IsThere}
-use Rattle.ce_reactions.specs.Placed.{Lasts}
-use Rattle.ce_reactions.specs.Turns.{Turns}
+use Rattle.ce_outcomes.specs.Placed.{Lasts}
+use Rattle.ce_outcomes.specs.Turns.{Turns}
 use Rattle.ce_reactions.proofs.SessionLaws.{session_is}
-use Rattle.ce_reactions.proofs.TurnLaws.{turns_as, turns_ended, turns_pushed}
+use Rattle.ce_outcomes.proofs.TurnLaws.{turns_as, turns_ended, turns_pushed}
 use Rattle.frame_stack.proofs.ClassLaws.{behaviour_there}
 
 -- where the forest has grown

@@ -8,8 +8,8 @@ use Rattle.ce_frames.specs.Frames.{Frame}
 use Rattle.ce_frames.specs.Rest.{End, outcome_of}
 use Rattle.ce_frames.specs.Rest as ends
 use Rattle.ce_frames.specs.Turned.{Turned}
-use Rattle.ce_reactions.specs.declared.came.Came.{Came}
-use Rattle.ce_reactions.specs.declared.came.Came.TheVariants.{Went, Threw, Over}
+use Rattle.ce_outcomes.specs.declared.came.Came.{Came}
+use Rattle.ce_outcomes.specs.declared.came.Came.TheVariants.{Went, Threw, Over}
 
 abbrev pub end_of : Came → End
 end_of (Went given) = ends.Went given

@@ -4,9 +4,9 @@ use Rattle.ce_algorithms.specs.declared.given.Given.{Given}
 use Rattle.ce_frames.specs.Frames as waiting
 use Rattle.ce_frames.specs.Turned.{Turned, ended}
 use Rattle.ce_frames.specs.Turns.{turn_went}
-use Rattle.ce_reactions.specs.Turns.{came_in}
-use Rattle.ce_reactions.proofs.CreateLaws.{misfit_is}
-use Rattle.ce_reactions.proofs.creations.fit_turn.Goals as goal
+use Rattle.ce_outcomes.specs.Turns.{came_in}
+use Rattle.ce_outcomes.proofs.EndLaws.{misfit_is}
+use Rattle.ce_outcomes.proofs.creations.fit_turn.Goals as goal
 
 pub returns-in-Some-clause-turn : goal.returns-in-Some-clause-turn
 returns-in-Some-clause-turn c =

@@ -8,8 +8,8 @@ use Rattle.ce_frames.specs.Frames.{Frame, Naming, Stepping, Draining, CreatingFi
 use Rattle.ce_frames.specs.Rest.{End, Went, Threw, Over}
 use Rattle.ce_frames.specs.Turned.{Turned}
 use Rattle.page_calls.specs.Given.{IsThere}
-use Rattle.ce_reactions.specs.declared.came.Came.{Came}
-use Rattle.ce_reactions.specs.declared.came.Came.TheVariants as came
+use Rattle.ce_outcomes.specs.declared.came.Came.{Came}
+use Rattle.ce_outcomes.specs.declared.came.Came.TheVariants as came
 
 -- a node with which it came is there
 abbrev pub IsEndThere : Trees → Came → Type 0

@@ -3,8 +3,8 @@ use Rattle.ce_algorithms.specs.Create.{create_failed}
 use Rattle.ce_algorithms.specs.Perform.{gives_node}
 use Rattle.ce_frames.specs.Turned.{ended}
 use Rattle.page_calls.proofs.GivenLaws.{node_ends}
-use Rattle.ce_reactions.proofs.ConstructLaws.{node_there}
-use Rattle.ce_reactions.proofs.creations.failed_turn.Goals as goal
+use Rattle.ce_outcomes.proofs.EndLaws.{node_there}
+use Rattle.ce_outcomes.proofs.creations.failed_turn.Goals as goal
 
 pub returns-clause-turn : goal.returns-clause-turn
 returns-clause-turn c =

@@ -6,8 +6,8 @@ ghost use Rattle.ce_algorithms.specs.State.{State};
 ghost use Rattle.ce_algorithms.specs.Steps.{Outcome};
 ghost use Rattle.ce_page.specs.Ends.{Ends};
 ghost use Rattle.page_calls.specs.Given.{IsThere};
-ghost use Rattle.ce_reactions.specs.Placed.{IsEndThere};
-ghost use Rattle.ce_reactions.specs.Turns.{came_in, came_of};
+ghost use Rattle.ce_outcomes.specs.Placed.{IsEndThere};
+ghost use Rattle.ce_outcomes.specs.Turns.{came_in, came_of};
 
 use ce_algorithms::Given;
 use ce_base::{Fault, NoMemory};

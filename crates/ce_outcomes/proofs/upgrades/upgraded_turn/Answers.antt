@@ -2,8 +2,8 @@ use Rattle.ce_algorithms.specs.declared.given.Given.TheVariants.{Nothing}
 use Rattle.ce_algorithms.specs.Steps.{give, then_do}
 use Rattle.ce_algorithms.specs.Upgrade.{upgrade_ends}
 use Rattle.page_calls.proofs.GivenLaws.{nothing_ends}
-use Rattle.ce_reactions.proofs.UpgradeLaws.{ends_is, threw_is}
-use Rattle.ce_reactions.proofs.upgrades.upgraded_turn.Goals as goal
+use Rattle.ce_outcomes.proofs.EndLaws.{ends_is, threw_is}
+use Rattle.ce_outcomes.proofs.upgrades.upgraded_turn.Goals as goal
 
 pub returns-in_ok-now-in-Ok-clause-turn : goal.returns-in_ok-now-in-Ok-clause-turn
 returns-in_ok-now-in-Ok-clause-turn c =

@@ -5,9 +5,9 @@ use Rattle.ce_algorithms.specs.State.{State}
 use Rattle.ce_algorithms.specs.Steps.{Outcome}
 use Rattle.ce_frames.specs.Frames.{Frame}
 use Rattle.ce_frames.specs.Turned.{Turned, Turn, ended, with_below, below}
-use Rattle.ce_reactions.specs.declared.came.Came.{Came}
-use Rattle.ce_reactions.specs.declared.came.Came.TheVariants.{Went, Threw, Over}
-use Rattle.ce_reactions.specs.Turns.{Turns, came_in}
+use Rattle.ce_outcomes.specs.declared.came.Came.{Came}
+use Rattle.ce_outcomes.specs.declared.came.Came.TheVariants.{Went, Threw, Over}
+use Rattle.ce_outcomes.specs.Turns.{Turns, came_in}
 
 -- nothing is pushed
 pub turns_same : (frames : List Frame) (now : Came) (s : State) (o : Outcome State Given) → came_in now s ≡ o → Turns frames frames now s (ended o)
