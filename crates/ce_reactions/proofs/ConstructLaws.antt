@@ -1,9 +1,9 @@
 -- The turns of constructions.
 use Rattle.std.proofs.Common.{◌≡◌, ℕ, true, false, Bool, List, [], ◌∷◌, ◌++◌, None, ◌≤◌, refl, ap, sym, ◌∙◌, subst, arith}
-use Rattle.std.specs.Prelude.{Result, Ok, Err, IfOk, if◌then◌else◌}
+use Rattle.std.specs.Prelude.{if◌then◌else◌}
 use Rattle.rule_tokens.specs.declared.callback.CallName.TheVariants.{Constructor}
 use Rattle.ce_registry.specs.ClassFacts.{has_call}
-use Rattle.node_trees.specs.Nodes.{IsNode, size}
+use Rattle.node_trees.specs.Nodes.{size}
 use Rattle.node_trees.specs.Trees.{Trees}
 use Rattle.ce_events.specs.declared.event.Event.TheVariants.{Construct}
 use Rattle.ce_algorithms.specs.declared.given.Given.{Given}
@@ -23,8 +23,6 @@ use Rattle.ce_frames.proofs.BlindTurns.{construct_blind, construct_classes}
 use Rattle.ce_frames.proofs.Wholes.{class_bodies_joined, class_facts_joined, class_name_joined}
 use Rattle.frame_stack.specs.Sessions.{ArePaired, session}
 use Rattle.frame_stack.specs.Stacked.{Stacked, actions_at, behaviours_of, frames_of}
-use Rattle.ce_page.specs.declared.stop.PageStop.{PageStop}
-use Rattle.page_calls.specs.Given.{IsThere, node_of}
 use Rattle.ce_outcomes.specs.declared.came.Came.{Came}
 use Rattle.ce_outcomes.specs.declared.came.Came.TheVariants.{Went, Threw, Over}
 use Rattle.ce_reactions.specs.Blind.{BlindAt}

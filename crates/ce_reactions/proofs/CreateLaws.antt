@@ -2,24 +2,20 @@
 use Rattle.std.proofs.Common.{◌≡◌, ℕ, true, Bool, List, [], ◌∷◌, ◌++◌, Some, None, Option, ◌≤◌, refl, ap, sym, ◌∙◌, subst, arith}
 use Rattle.std.specs.Prelude.{if◌then◌else◌}
 use Rattle.ce_base.specs.declared.custom_state.CustomState.TheVariants.{Undefined}
-use Rattle.ce_base.specs.declared.fault.Fault.{Fault}
 use Rattle.node_trees.specs.Nodes.{IsNode, size}
 use Rattle.node_trees.specs.Trees.{Trees}
 use Rattle.ce_registry.specs.declared.definition.Definition.{Definition}
 use Rattle.ce_registry.specs.Registry.{is_autonomous}
-use Rattle.ce_algorithms.specs.declared.given.Given.TheVariants.{Node}
-use Rattle.ce_algorithms.specs.Create.{fitting}
 use Rattle.ce_algorithms.specs.CreateLater.{make_in_state, make_undefined}
 use Rattle.ce_algorithms.specs.Enqueue.{lookup_in}
 use Rattle.ce_algorithms.specs.Page.{definition_at}
 use Rattle.ce_algorithms.specs.Perform as algorithms
 use Rattle.ce_algorithms.specs.State.{State, on_page}
-use Rattle.ce_algorithms.specs.Steps.{Outcome, Goes, Throws, attempt_in}
-use Rattle.ce_frames.specs.ConstructTurns.{construct_turn, create_extended_turn, create_found_turn, create_turn, created_turn, upgrade_turn}
+use Rattle.ce_algorithms.specs.Steps.{Outcome, Goes}
+use Rattle.ce_frames.specs.ConstructTurns.{construct_turn, create_extended_turn, create_found_turn, create_turn, upgrade_turn}
 use Rattle.ce_frames.specs.Frames as waiting
 use Rattle.ce_frames.specs.Frames.{Frame}
 use Rattle.ce_frames.specs.Turned.{Turn, Turned, below, turn_after}
-use Rattle.ce_frames.specs.Turns.{turn_threw, turn_went}
 use Rattle.ce_frames.specs.Whole.{whole}
 use Rattle.ce_frames.proofs.BlindTurns.{blind_node}
 use Rattle.ce_outcomes.specs.declared.came.Came.{Came}

@@ -1,23 +1,20 @@
 -- The turns of upgrades.
 use Rattle.std.proofs.Common.{◌≡◌, ℕ, true, false, List, [], ◌∷◌, ◌++◌, refl, ap, sym, ◌∙◌}
-use Rattle.std.specs.Prelude.{Result, Ok, Err}
 use Rattle.ce_base.specs.declared.custom_state.CustomState.TheVariants.{Precustomized}
-use Rattle.ce_base.specs.declared.fault.Fault.{Fault}
 use Rattle.ce_base.specs.declared.fault.Fault.TheVariants.{NotSupportedError}
 use Rattle.ce_events.specs.declared.event.Event.TheVariants.{UpgradeBegun}
 use Rattle.ce_algorithms.specs.declared.given.Given.TheVariants.{Nothing}
-use Rattle.ce_algorithms.specs.Construction.{pop_construction}
 use Rattle.ce_algorithms.specs.Page.{definition_at, state_of, with_state}
 use Rattle.ce_algorithms.specs.State.{State, change_page, logged, on_page, read_page}
-use Rattle.ce_algorithms.specs.Steps.{Outcome, Goes, Throws, Spent, give, then_do, throw_if}
-use Rattle.ce_algorithms.specs.Upgrade.{begin_upgrade, is_shadow_refused, is_upgradable, upgrade_ends, upgrade_threw}
-use Rattle.ce_frames.specs.ConstructTurns.{construct_for_turn, construct_turn, upgrade_now_turn, upgrade_result_turn, upgrade_turn, upgraded_turn}
+use Rattle.ce_algorithms.specs.Steps.{Outcome, Goes, Throws, throw_if}
+use Rattle.ce_algorithms.specs.Upgrade.{begin_upgrade, is_shadow_refused, is_upgradable}
+use Rattle.ce_frames.specs.ConstructTurns.{construct_for_turn, construct_turn, upgrade_now_turn, upgrade_turn}
 use Rattle.ce_frames.specs.Frames as waiting
 use Rattle.ce_frames.specs.Frames.{Frame}
 use Rattle.ce_frames.specs.Turned.{Turn, ◌>>=◌, ◌>>◌, below, ended, go_on, turn_after, when_turn}
 use Rattle.ce_outcomes.specs.declared.came.Came.{Came}
 use Rattle.ce_outcomes.specs.declared.came.Came.TheVariants.{Went, Threw}
-use Rattle.ce_outcomes.specs.Turns.{Turns, came_in}
+use Rattle.ce_outcomes.specs.Turns.{Turns}
 use Rattle.ce_outcomes.proofs.TurnLaws.{turns_as, turns_below, turns_same}
 
 -- by the element's state

@@ -1,6 +1,5 @@
 // Turns of creations (DOM Standard, section "Interface Element", "create an element").
 ghost use Rattle.std.specs.Prelude.{◌≡◌, ◌≤◌, ℕ, List, Option, Some, true, IfOk, OnOk};
-ghost use Rattle.node_trees.specs.Nodes.{size};
 ghost use Rattle.ce_registry.specs.Registry.{is_autonomous};
 ghost use Rattle.ce_algorithms.specs.Page.{definition_at};
 ghost use Rattle.ce_frames.specs.ConstructTurns.{create_extended_turn, create_found_turn, create_turn};

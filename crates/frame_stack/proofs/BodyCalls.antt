@@ -6,7 +6,7 @@ use Rattle.rule_tokens.specs.declared.callback.CallName.{CallName}
 use Rattle.ce_base.specs.declared.memory.NoMemory.{NoMemory}
 use Rattle.ce_algorithms.specs.Values.{Args}
 use Rattle.ce_frames.specs.Frames.{InBody}
-use Rattle.ce_frames.specs.Places.{Behaviour, Held, Homes, Place, Wait, Body, held_in, home_of}
+use Rattle.ce_frames.specs.Places.{Behaviour, Held, Homes, Wait, Body, held_in, home_of}
 use Rattle.class_bodies.specs.declared.next.Next.{Next}
 use Rattle.behaviours.specs.Next.{stop_of}
 use Rattle.frame_stack.specs.Chains.{linked, topmost, unlinked}
