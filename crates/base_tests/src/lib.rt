@@ -1,6 +1,7 @@
-//! Tests of the crates below the page: `base` has devices at the edge and lists, `kinds` what elements are for forms,
-//! `lengths` how long texts are as controls read them, and `calls` the calls that no program makes. `rows` has what they
-//! share.
+//! Tests of the crates below the page and the session: `base` has devices at the edge and lists, `kinds` what elements are
+//! for forms, `lengths` how long texts are as controls read them, `controls` and `calls` the calls that no program makes,
+//! `writing` lines of scripts that are read, written and copied, and `lines` lines of transcripts that are read, which no
+//! program does. `rows` has what they share.
 #![tactic(auto)]
 
 #[cfg(test)]
@@ -14,4 +15,8 @@ mod kinds;
 #[cfg(test)]
 mod lengths;
 #[cfg(test)]
+mod lines;
+#[cfg(test)]
 mod rows;
+#[cfg(test)]
+mod writing;
