@@ -31,6 +31,30 @@ impl Write for Full {
     }
 }
 
+fn one_entry(alloc: Global) -> Result<Entry, Fail> {
+    let name = Text::of(alloc, "city")?;
+    let value = Text::of(alloc, "Lyon")?;
+    Ok(Entry { name, value })
+}
+
+#[test]
+fn entries_are_kept(rt: HostRuntime) -> Result<(), Fail> {
+    let mut entries = Entries::make(rt.alloc());
+    entries.push(rt.alloc(), one_entry(rt.alloc())?)?;
+    assert!(rt; entries.len() == 1);
+    assert!(rt; entries.get(0).is_some_and(|e| e.value.as_str() == "Lyon"));
+    Ok(())
+}
+
+#[test]
+fn texts_are_kept(rt: HostRuntime) -> Result<(), Fail> {
+    let mut texts = Texts::make(rt.alloc());
+    texts.push(rt.alloc(), Text::of(rt.alloc(), "déjà")?)?;
+    assert!(rt; texts.len() == 1);
+    assert!(rt; texts.get(0).is_some_and(|text| text.as_str() == "déjà"));
+    Ok(())
+}
+
 #[test]
 fn nodes_are_copied(rt: HostRuntime) -> Result<(), Fail> {
     let mut nodes = Nodes::make(rt.alloc());
