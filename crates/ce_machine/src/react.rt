@@ -22,12 +22,12 @@ ghost use Rattle.ce_operations.specs.Ready.{IsReady};
 
 use ce_algorithms::{Deed, Given};
 use ce_base::{NoMemory, NodeNo, QueueNo, Text};
+use ce_drains::pop_turn;
 use ce_operations::deeds::run;
+use ce_outcomes::{Came, came_from};
 use ce_page::PageStop;
 use ce_reactions::constructions::construct;
 use ce_reactions::creations::create_named;
-use ce_drains::pop_turn;
-use ce_outcomes::{Came, came_from};
 use frame_stack::{Stack, Waiting};
 use session_state::State;
 use std::alloc::Global;

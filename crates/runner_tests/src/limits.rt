@@ -13,8 +13,12 @@ fn feeds(rt: &impl Abort, alloc: Global, length: usize, status: Status) -> Resul
 }
 
 #[test]
-fn a_script_may_have_16_777_216_bytes_and_no_more(rt: HostRuntime) -> Result<(), Fail> {
-    feeds(&rt, rt.alloc(), 16_777_216, Status::Done)?;
+fn a_script_may_have_16_777_216_bytes(rt: HostRuntime) -> Result<(), Fail> {
+    feeds(&rt, rt.alloc(), 16_777_216, Status::Done)
+}
+
+#[test]
+fn a_longer_script_is_too_long(rt: HostRuntime) -> Result<(), Fail> {
     feeds(&rt, rt.alloc(), 16_777_217, Status::TooLong)
 }
 

@@ -5,8 +5,8 @@ ghost use Rattle.ce_base.specs.Outside.{AppendsPart};
 ghost use Rattle.ce_algorithms.specs.Lines.{whole_lines, last_line};
 ghost use Rattle.script_runner.specs.Ran.{Answered, Drained, answers};
 
-use crate::lines::run_lines;
 use crate::Session;
+use crate::lines::run_lines;
 use ce_base::{Gathering, NoMemory, Pending, Sink, Stop};
 use ce_machine::End;
 use line_feed::Feed;

@@ -5,8 +5,8 @@ ghost use Rattle.ce_base.specs.Outside.{AppendsPart};
 ghost use Rattle.ce_algorithms.specs.Lines.{whole_lines};
 ghost use Rattle.script_runner.specs.Ran.{Answered, Drained, answers};
 
-use crate::blank::says_nothing;
 use crate::Session;
+use crate::blank::says_nothing;
 use ce_base::{NoMemory, Sink, Stop};
 use ce_machine::End;
 use line_feed::Feed;
