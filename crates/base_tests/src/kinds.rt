@@ -6,72 +6,56 @@ use std::fmt::Write;
 use std::process::Abort;
 use std::test::Fail;
 
-// Each row is a local name and the element that it names.
-const ELEMENTS: &str = "\
-form => Form
-fieldset => Fieldset
-legend => Legend
-button => Button
-input => Input
-select => Select
-optgroup => Optgroup
-option => OptionItem
-textarea => Textarea
-datalist => Datalist
-label => Other
-output => Other
-Form => Other
-forms => Other
-x-form => Other
-'' => Other";
-
-// Each row is a type, `-` for none, and the kind of an input with it.
-const TYPES: &str = "\
-- => Text
-'' => Text
-text => Text
-password => Text
-hidden => Hidden
-HIDDEN => Hidden
-checkbox => Checkbox
-cHeckbox => Checkbox
-radio => Radio
-submit => Submit
-SubmiT => Submit
-reset => Reset
-button => Button
-file => Button
-Image => Button
-hıdden => Text
-check => Text";
-
-fn same_element(rt: &impl Abort, alloc: Global, row: &str) -> Result<(), Fail> {
-    let (local, want) = sides(row);
-    let mut out = String::new(alloc);
-    write!(out, "{:?}", native(word(local, 0)))?;
-    same(rt, out.as_str(), want, local);
-    Ok(())
-}
+// Each row is a local name and the element that it names, or a type, `-` for none, and the kind of an input with it.
+const KINDS: &str = "\
+element form => Form
+element fieldset => Fieldset
+element legend => Legend
+element button => Button
+element input => Input
+element select => Select
+element optgroup => Optgroup
+element option => OptionItem
+element textarea => Textarea
+element datalist => Datalist
+element label => Other
+element output => Other
+element Form => Other
+element forms => Other
+element x-form => Other
+element '' => Other
+input - => Text
+input '' => Text
+input text => Text
+input password => Text
+input hidden => Hidden
+input HIDDEN => Hidden
+input checkbox => Checkbox
+input cHeckbox => Checkbox
+input radio => Radio
+input submit => Submit
+input SubmiT => Submit
+input reset => Reset
+input button => Button
+input file => Button
+input Image => Button
+input hıdden => Text
+input check => Text";
 
 fn same_kind(rt: &impl Abort, alloc: Global, row: &str) -> Result<(), Fail> {
-    let (kind_text, want) = sides(row);
+    let (step, want) = sides(row);
     let mut out = String::new(alloc);
-    write!(out, "{:?}", input_kind(word_or_none(kind_text, 0)))?;
-    same(rt, out.as_str(), want, kind_text);
-    Ok(())
-}
-
-#[test]
-fn an_element_goes_by_its_local_name(rt: HostRuntime) -> Result<(), Fail> {
-    for row in ELEMENTS.lines() {
-        same_element(&rt, rt.alloc(), row)?;
+    match word(step, 0) {
+        "element" => write!(out, "{:?}", native(word(step, 1)))?,
+        _ => write!(out, "{:?}", input_kind(word_or_none(step, 1)))?,
     }
+    same(rt, out.as_str(), want, step);
     Ok(())
 }
 
 #[test]
-fn an_input_goes_by_its_type_in_any_case(rt: HostRuntime) -> Result<(), Fail> {
-    for row in TYPES.lines() {
+fn an_element_goes_by_its_local_name_and_an_input_by_its_type(rt: HostRuntime) -> Result<(), Fail> {
+    for row in KINDS.lines() {
         same_kind(&rt, rt.alloc(), row)?;
     }
     Ok(())

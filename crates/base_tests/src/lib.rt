@@ -1,7 +1,7 @@
-//! Tests of the crates below the page: `base` and `names` are those of ce_base and element_names, `kinds` has what
-//! elements are for forms, `owners` has form owners beside a tree, `controls` what controls keep beside one, `internals` what
-//! ElementInternals keeps, `texts` what is read of texts, and `calls` the calls that no program makes. `rows` has what they
-//! share.
+//! Tests of the crates below the page and the session: `base` has devices at the edge and lists, `kinds` what elements are
+//! for forms, `lengths` how long texts are as controls read them, `controls` and `calls` the calls that no program makes,
+//! `writing` lines of scripts that are read, written and copied, and `lines` lines of transcripts that are read, which no
+//! program does. `rows` has what they share.
 #![tactic(auto)]
 
 #[cfg(test)]
@@ -11,14 +11,12 @@ mod calls;
 #[cfg(test)]
 mod controls;
 #[cfg(test)]
-mod internals;
-#[cfg(test)]
 mod kinds;
 #[cfg(test)]
-mod names;
+mod lengths;
 #[cfg(test)]
-mod owners;
+mod lines;
 #[cfg(test)]
 mod rows;
 #[cfg(test)]
-mod texts;
+mod writing;

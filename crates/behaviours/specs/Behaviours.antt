@@ -5,7 +5,7 @@ use Rattle.rule_lines.specs.Acts.{Act}
 use Rattle.ce_algorithms.specs.State.{blank_memory}
 use Rattle.ce_algorithms.specs.Body.{actions_of}
 use Rattle.ce_frames.specs.Places.{Behaviour, Homes, home_of}
-use Rattle.behaviours.specs.declared.next.At.{At}
+use Rattle.class_bodies.specs.declared.next.At.{At}
 
 -- of a class without callbacks, which remembers nothing yet
 abbrev pub new_behaviour : Behaviour

@@ -1,5 +1,4 @@
+pub use Rattle.class_bodies.specs.Resume
+pub use Rattle.class_bodies.specs.Next
+pub use Rattle.class_bodies.specs.Turns
 pub mod Behaviours
-pub mod Bodies
-pub mod Resume
-pub mod Next
-pub mod Turns

@@ -2,13 +2,11 @@
 ghost use Rattle.std.specs.Prelude.{◌≡◌, ◌≤◌, IfOk, OnErr, OnOk};
 ghost use Rattle.rule_lines.specs.Acts.{act_of};
 ghost use Rattle.behaviours.specs.Behaviours.{left_at, new_behaviour, with_action};
-ghost use Rattle.behaviours.specs.Next.{resumed_to};
-ghost use Rattle.behaviours.specs.Resume.{resumed};
+ghost use Rattle.class_bodies.specs.Next.{resumed_to};
+ghost use Rattle.class_bodies.specs.Resume.{resumed};
 
-use crate::acting::resume_in;
-use crate::bodies::Bodies;
-use crate::{Args, At, Memory, Next};
 use ce_base::{Fuel, NoMemory};
+use class_bodies::{Args, At, Bodies, Memory, Next, resume_in};
 use rule_lines::Action;
 use rule_tokens::CallName;
 use std::alloc::Global;

@@ -1,19 +1,9 @@
-//! The bodies of classes, and what classes remember: behaviours, which have no copy, and their homes.
+//! Behaviours, what classes do and remember, which have no copy, and their homes.
 #![tactic(auto)]
 
-mod acting;
-mod args;
 mod behaviour;
-mod bodies;
-mod fixing;
 mod homes;
-mod laws;
-mod memory;
-mod next;
 
-pub use args::Args;
 pub use behaviour::Behaviour;
+pub use class_bodies::{Args, At, Memory, Next, a_body_goes_on_where_it_stopped};
 pub use homes::Homes;
-pub use laws::a_body_goes_on_where_it_stopped;
-pub use memory::Memory;
-pub use next::{At, Next};

@@ -22,11 +22,11 @@ use Rattle.frame_stack.specs.Changes.{SetsThis}
 use Rattle.frame_stack.specs.Sessions.{ArePaired, session}
 use Rattle.frame_stack.specs.Stacked.{HasBody, Stacked, behaviours_of, below_top, frames_of, guarded_of, in_body, owner_of, this_of, top_of}
 use Rattle.frame_stack.proofs.TopLaws.{below_push, top_push}
-use Rattle.ce_reactions.specs.declared.came.Came.TheVariants.{Over}
-use Rattle.ce_reactions.specs.Placed.{Lasts}
-use Rattle.ce_reactions.specs.Turns.{Turns}
+use Rattle.ce_outcomes.specs.declared.came.Came.TheVariants.{Over}
+use Rattle.ce_outcomes.specs.Placed.{Lasts}
+use Rattle.ce_outcomes.specs.Turns.{Turns}
 use Rattle.ce_reactions.proofs.SessionLaws.{goes_whole, session_is, spent_whole, throws_whole}
-use Rattle.ce_reactions.proofs.TurnLaws.{turns_ended}
+use Rattle.ce_outcomes.proofs.TurnLaws.{turns_ended}
 use Rattle.ce_machine.specs.Bodies.{GoesOn, acting_turn, based_turn, frame_on_top, running_turn, stopped_turn}
 use Rattle.ce_machine.proofs.BodyLaws.{lasts_ended, on_top}
 

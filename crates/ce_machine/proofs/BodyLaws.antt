@@ -11,8 +11,8 @@ use Rattle.rule_tokens.specs.declared.operand.Operand.{Operand}
 use Rattle.rule_tokens.specs.declared.operand.Operand.TheVariants.{Doc, This, Variable}
 use Rattle.rule_lines.specs.declared.op.Op.{Op}
 use Rattle.rule_lines.specs.Acts.{Act, Both}
-use Rattle.behaviours.proofs.Resumes.{body_resumes}
-use Rattle.behaviours.specs.declared.next.Next.{Next}
+use Rattle.class_bodies.proofs.Resumes.{body_resumes}
+use Rattle.class_bodies.specs.declared.next.Next.{Next}
 use Rattle.behaviours.specs.Next.{stop_of}
 use Rattle.behaviours.specs.Resume.{Doing, Resumed, Returning, Stop, Throwing, resumed}
 use Rattle.behaviours.specs.Turns.{remembering, stop_turn}
@@ -35,18 +35,19 @@ use Rattle.ce_frames.specs.Turned.{Turn, Turned, ended, turn_after, with_below}
 use Rattle.ce_frames.specs.Turns.{turn}
 use Rattle.ce_frames.specs.Whole.{whole, whole_in}
 use Rattle.ce_frames.proofs.Wholes.{found_joined, remembering_joined}
-use Rattle.frame_stack.specs.Resumes.{Proceeds, Resumes, is_guarded, resumed_of}
+use Rattle.body_frames.specs.Resumes.{is_guarded}
+use Rattle.frame_stack.specs.Resumes.{Proceeds, Resumes, resumed_of}
 use Rattle.frame_stack.specs.Sessions.{ArePaired, session}
 use Rattle.frame_stack.specs.Stacked.{Stacked, HasBody, Running, behaviour_at, behaviours_of, below_top, frames_of, guarded_of, in_body, this_of, top_of}
 use Rattle.frame_stack.proofs.TopLaws.{below_push, top_below, top_push}
 use Rattle.ce_machine.specs.Bodies.{GoesOn, StopsAt, acting_turn, answer, frame_on_top, given_node, or_constructing, running_turn, stopped_turn}
-use Rattle.ce_reactions.specs.declared.came.Came.{Came}
-use Rattle.ce_reactions.specs.declared.came.Came.TheVariants.{Threw, Over}
+use Rattle.ce_outcomes.specs.declared.came.Came.{Came}
+use Rattle.ce_outcomes.specs.declared.came.Came.TheVariants.{Threw, Over}
 use Rattle.page_calls.specs.Given.{IsThere}
-use Rattle.ce_reactions.specs.Placed.{Lasts}
-use Rattle.ce_reactions.specs.Turns.{Turns}
+use Rattle.ce_outcomes.specs.Placed.{Lasts}
+use Rattle.ce_outcomes.specs.Turns.{Turns}
 use Rattle.ce_reactions.proofs.SessionLaws.{session_is}
-use Rattle.ce_reactions.proofs.TurnLaws.{turns_as, turns_ended, turns_pushed}
+use Rattle.ce_outcomes.proofs.TurnLaws.{turns_as, turns_ended, turns_pushed}
 use Rattle.frame_stack.proofs.ClassLaws.{behaviour_there}
 
 -- where the forest has grown

@@ -18,13 +18,13 @@ use Rattle.ce_frames.specs.Loop.{command_turn}
 use Rattle.ce_frames.specs.Turned.{Turned}
 use Rattle.ce_frames.proofs.Joins.{dropped_nothing}
 use Rattle.ce_frames.proofs.Looping.{begun_is}
-use Rattle.ce_reactions.specs.declared.came.Came.{Came}
-use Rattle.ce_reactions.specs.declared.came.Came.TheVariants.{Went, Threw, Over}
+use Rattle.ce_outcomes.specs.declared.came.Came.{Came}
+use Rattle.ce_outcomes.specs.declared.came.Came.TheVariants.{Went, Threw, Over}
 use Rattle.ce_machine.specs.Ended.{IsNoFault, end_for}
 use Rattle.ce_machine.specs.Ended as endings
-use Rattle.ce_reactions.specs.Turns.{Turns, came_in, end_of}
+use Rattle.ce_outcomes.specs.Turns.{Turns, came_in, end_of}
 use Rattle.ce_machine.specs.Turns.{over}
-use Rattle.ce_reactions.specs.Placed.{ArePlaced, StaysPlaced}
+use Rattle.ce_outcomes.specs.Placed.{ArePlaced, StaysPlaced}
 use Rattle.ce_frames.specs.Frames.{Frame}
 use Rattle.node_trees.specs.Trees.{Trees}
 use Rattle.frame_stack.specs.Stacked.{Stacked, behaviours_of, bodies_in, frames_of}

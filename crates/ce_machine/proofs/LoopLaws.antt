@@ -22,8 +22,8 @@ use Rattle.frame_stack.specs.Stacked.{Stacked, frames_of}
 use Rattle.reaction_queue.specs.ElementQueues.{is_empty}
 use Rattle.session_state.specs.Steps.{forgotten}
 use Rattle.ce_frames.specs.Frames.{Frame}
-use Rattle.ce_reactions.specs.declared.came.Came.{Came}
-use Rattle.ce_reactions.specs.Turns.{Turns, came_in, end_of}
+use Rattle.ce_outcomes.specs.declared.came.Came.{Came}
+use Rattle.ce_outcomes.specs.Turns.{Turns, came_in, end_of}
 use Rattle.ce_machine.specs.Turns.{left, over}
 
 -- one turn

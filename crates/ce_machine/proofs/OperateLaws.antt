@@ -36,13 +36,13 @@ use Rattle.page_calls.specs.Given.{IsThere}
 use Rattle.page_calls.specs.Resolved.{Resolves}
 use Rattle.frame_stack.specs.Sessions.{session}
 use Rattle.frame_stack.specs.Stacked.{Stacked, behaviours_of}
-use Rattle.ce_reactions.specs.declared.came.Came.{Came}
-use Rattle.ce_reactions.specs.declared.came.Came.TheVariants.{Threw}
+use Rattle.ce_outcomes.specs.declared.came.Came.{Came}
+use Rattle.ce_outcomes.specs.declared.came.Came.TheVariants.{Threw}
 use Rattle.ce_reactions.specs.Blind.{BlindAt}
-use Rattle.ce_reactions.specs.Placed.{IsKeptThere, Lasts, StaysPlaced}
-use Rattle.ce_reactions.specs.Turns.{Turns, came_in}
+use Rattle.ce_outcomes.specs.Placed.{IsKeptThere, Lasts, StaysPlaced}
+use Rattle.ce_outcomes.specs.Turns.{Turns, came_in}
 use Rattle.ce_reactions.proofs.SessionLaws.{blind_at}
-use Rattle.ce_reactions.proofs.TurnLaws.{turns_as, turns_below, turns_same}
+use Rattle.ce_outcomes.proofs.TurnLaws.{turns_as, turns_below, turns_same}
 
 -- steps and their queue
 

@@ -27,8 +27,8 @@ use Rattle.ce_frames.specs.OperateTurns.{next_turn, pop_turn}
 use Rattle.ce_frames.specs.DrainTurns.{call_turn, reaction_turn, taken_turn, next_backup_turn, taken_backup_turn, checked_turn}
 use Rattle.ce_frames.specs.Turns.{turn}
 use Rattle.ce_frames.specs.Frames.{Frame}
-use Rattle.ce_reactions.specs.declared.came.Came.{Came}
-use Rattle.ce_reactions.specs.declared.came.Came.TheVariants.{Went, Threw, Over}
+use Rattle.ce_outcomes.specs.declared.came.Came.{Came}
+use Rattle.ce_outcomes.specs.declared.came.Came.TheVariants.{Went, Threw, Over}
 use Rattle.frame_stack.specs.declared.waiting.Waiting.{Waiting}
 use Rattle.frame_stack.specs.declared.waiting.Waiting.TheVariants.{Replying, Checking, DrainingBackup, Naming, Stepping, Draining, InReaction, CreatingFit, CreatingExtended, Upgrading, Constructing}
 use Rattle.frame_stack.specs.Frames.{waiting_of}
@@ -36,11 +36,11 @@ use Rattle.ce_page.specs.Rows.{HasRows}
 use Rattle.ce_page.proofs.RowLemmas.{row_element}
 use Rattle.frame_stack.specs.Stacked.{Stacked, HasBody, below_top, frames_of, this_of, top_of}
 use Rattle.ce_machine.specs.Bodies.{frame_on_top}
-use Rattle.ce_reactions.specs.Turns.{Turns, end_of}
+use Rattle.ce_outcomes.specs.Turns.{Turns, end_of}
 use Rattle.ce_reactions.proofs.SettleLaws.{threw_settles, upgrade_settles, went_settles}
 use Rattle.ce_machine.proofs.BodyLaws.{on_top, popped_body}
 use Rattle.page_calls.specs.Given.{IsThere}
-use Rattle.ce_reactions.specs.Placed.{IsEndThere, IsKeptThere, Reaches, Gives, IsNamed, ArePlaced, Creates, IfCreating, Lasts}
+use Rattle.ce_outcomes.specs.Placed.{IsEndThere, IsKeptThere, Reaches, Gives, IsNamed, ArePlaced, Creates, IfCreating, Lasts}
 
 -- where the forest has grown
 

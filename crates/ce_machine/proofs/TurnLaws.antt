@@ -7,10 +7,10 @@ use Rattle.ce_algorithms.specs.Steps.{Spent}
 use Rattle.ce_frames.specs.Frames.{Frame}
 use Rattle.ce_frames.specs.Turned.{ended}
 use Rattle.ce_frames.specs.Turns.{turn, turn_threw, turn_went}
-use Rattle.ce_reactions.specs.declared.came.Came.{Came}
-use Rattle.ce_reactions.specs.declared.came.Came.TheVariants.{Went, Threw, Over}
-use Rattle.ce_reactions.specs.Turns.{Turns, end_of}
-use Rattle.ce_reactions.proofs.TurnLaws.{turns_as, turns_same}
+use Rattle.ce_outcomes.specs.declared.came.Came.{Came}
+use Rattle.ce_outcomes.specs.declared.came.Came.TheVariants.{Went, Threw, Over}
+use Rattle.ce_outcomes.specs.Turns.{Turns, end_of}
+use Rattle.ce_outcomes.proofs.TurnLaws.{turns_as, turns_same}
 
 -- a frame goes on
 

@@ -18,7 +18,7 @@ use Rattle.ce_frames.specs.Handing.{given_of}
 use Rattle.ce_frames.specs.BodyTurns.{body_turn, flow_turn, guarded_step}
 use Rattle.ce_frames.specs.Turned.{Turn, ◌>>=◌, go_on}
 use Rattle.frame_stack.specs.Sessions.{ArePaired, session}
-use Rattle.frame_stack.specs.Resumes.{is_guarded}
+use Rattle.body_frames.specs.Resumes.{is_guarded}
 use Rattle.frame_stack.specs.Stacked.{Stacked, HasBody, below_top, frames_of, guarded_of, this_of, top_of}
 
 -- a frame, or one that stands for it where there is none

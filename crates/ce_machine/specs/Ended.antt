@@ -7,8 +7,8 @@ use Rattle.frame_stack.specs.Sessions.{ArePaired}
 use Rattle.frame_stack.specs.Stacked.{Stacked}
 use Rattle.ce_machine.specs.declared.end.End.{End}
 use Rattle.ce_machine.specs.declared.end.End.TheVariants.{Replied, FuelSpent}
-use Rattle.ce_reactions.specs.declared.came.Came.{Came}
-use Rattle.ce_reactions.specs.declared.came.Came.TheVariants.{Went, Threw, Over}
+use Rattle.ce_outcomes.specs.declared.came.Came.{Came}
+use Rattle.ce_outcomes.specs.declared.came.Came.TheVariants.{Went, Threw, Over}
 
 -- the outcome of the definitions for a command's end
 abbrev pub outcome_of : End → State → Outcome State (Unit {0})

@@ -8,14 +8,14 @@ ghost use Rattle.ce_frames.specs.Turns.{turn};
 ghost use Rattle.frame_stack.specs.Sessions.{ArePaired, session};
 ghost use Rattle.frame_stack.specs.Stacked.{HasBody, below_top, frames_of, this_of, top_of};
 ghost use Rattle.ce_machine.specs.Bodies.{frame_on_top, running_turn};
-ghost use Rattle.ce_reactions.specs.Placed.{Lasts};
-ghost use Rattle.ce_reactions.specs.Turns.{Turns};
+ghost use Rattle.ce_outcomes.specs.Placed.{Lasts};
+ghost use Rattle.ce_outcomes.specs.Turns.{Turns};
 
 use crate::stops::go_on;
 use ce_algorithms::Given;
 use ce_base::{Fault, NoMemory};
 use ce_events::Event;
-use ce_reactions::Came;
+use ce_outcomes::Came;
 use frame_stack::Stack;
 use session_state::State;
 use std::alloc::Global;

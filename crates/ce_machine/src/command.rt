@@ -18,7 +18,7 @@ use crate::looping::run;
 use crate::operate::begin;
 use ce_base::{NoMemory, Refused, Sink, Stop};
 use ce_events::Event;
-use ce_reactions::Came;
+use ce_outcomes::Came;
 use frame_stack::Stack;
 use rule_lines::{ClassPart, Cmd};
 use session_state::State;

@@ -23,12 +23,12 @@ use Rattle.ce_frames.proofs.Wholes.{class_bodies_joined}
 use Rattle.frame_stack.specs.Sessions.{ArePaired, session}
 use Rattle.frame_stack.specs.Stacked.{Stacked, actions_at, behaviours_of, frames_of}
 use Rattle.session_state.specs.Steps.{callee, is_callback}
-use Rattle.ce_reactions.specs.declared.came.Came.{Came}
-use Rattle.ce_reactions.specs.declared.came.Came.TheVariants.{Went}
+use Rattle.ce_outcomes.specs.declared.came.Came.{Came}
+use Rattle.ce_outcomes.specs.declared.came.Came.TheVariants.{Went}
 use Rattle.ce_reactions.specs.Callbacks.{callback_turn}
-use Rattle.ce_reactions.specs.Turns.{Turns}
+use Rattle.ce_outcomes.specs.Turns.{Turns}
 use Rattle.ce_reactions.proofs.SessionLaws.{session_is}
-use Rattle.ce_reactions.proofs.TurnLaws.{turns_as, turns_same}
+use Rattle.ce_outcomes.proofs.TurnLaws.{turns_as, turns_same}
 
 -- what a reaction does
 

@@ -1,9 +1,9 @@
 -- The turns of constructions.
 use Rattle.std.proofs.Common.{◌≡◌, ℕ, true, false, Bool, List, [], ◌∷◌, ◌++◌, None, ◌≤◌, refl, ap, sym, ◌∙◌, subst, arith}
-use Rattle.std.specs.Prelude.{Result, Ok, Err, IfOk, if◌then◌else◌}
+use Rattle.std.specs.Prelude.{if◌then◌else◌}
 use Rattle.rule_tokens.specs.declared.callback.CallName.TheVariants.{Constructor}
 use Rattle.ce_registry.specs.ClassFacts.{has_call}
-use Rattle.node_trees.specs.Nodes.{IsNode, size}
+use Rattle.node_trees.specs.Nodes.{size}
 use Rattle.node_trees.specs.Trees.{Trees}
 use Rattle.ce_events.specs.declared.event.Event.TheVariants.{Construct}
 use Rattle.ce_algorithms.specs.declared.given.Given.{Given}
@@ -23,16 +23,14 @@ use Rattle.ce_frames.proofs.BlindTurns.{construct_blind, construct_classes}
 use Rattle.ce_frames.proofs.Wholes.{class_bodies_joined, class_facts_joined, class_name_joined}
 use Rattle.frame_stack.specs.Sessions.{ArePaired, session}
 use Rattle.frame_stack.specs.Stacked.{Stacked, actions_at, behaviours_of, frames_of}
-use Rattle.ce_page.specs.declared.stop.PageStop.{PageStop}
-use Rattle.page_calls.specs.Given.{IsThere, node_of}
-use Rattle.ce_reactions.specs.declared.came.Came.{Came}
-use Rattle.ce_reactions.specs.declared.came.Came.TheVariants.{Went, Threw, Over}
+use Rattle.ce_outcomes.specs.declared.came.Came.{Came}
+use Rattle.ce_outcomes.specs.declared.came.Came.TheVariants.{Went, Threw, Over}
 use Rattle.ce_reactions.specs.Blind.{BlindAt}
 use Rattle.ce_reactions.specs.Constructors.{own_turn}
-use Rattle.ce_reactions.specs.Placed.{IsEndThere, Lasts}
-use Rattle.ce_reactions.specs.Turns.{Turns, came_in}
+use Rattle.ce_outcomes.specs.Placed.{IsEndThere, Lasts}
+use Rattle.ce_outcomes.specs.Turns.{Turns, came_in}
 use Rattle.ce_reactions.proofs.SessionLaws.{lifted, lifted_lasts, lifted_paired, session_is}
-use Rattle.ce_reactions.proofs.TurnLaws.{turns_as, turns_pushed, turns_same}
+use Rattle.ce_outcomes.proofs.TurnLaws.{turns_as, turns_pushed, turns_same}
 
 -- what a step has come to, which waits for nothing
 
@@ -43,11 +41,6 @@ came_lasts_in F Over s le h = record { grows = le; gives = tt; placed = tt }
 
 pub down_lasts : (F : Trees) (now : Came) (s : State) (o : Outcome State Given) → came_in now s ≡ o → size F ≤ size s.page.forest → IsEndThere s.page.forest now → Lasts F (ended o)
 down_lasts F now s o is le h = subst (λ x. Lasts F (ended x)) is (came_lasts_in F now s le h)
-
--- a node that a step gave
-pub node_there : (r : Result ℕ PageStop) (F : Trees) → IfOk r (IsNode F) → IfOk (node_of r) (IsThere F)
-node_there (Ok n) F h = h
-node_there (Err x) F h = tt
 
 -- a class is constructed
 

@@ -2,34 +2,30 @@
 use Rattle.std.proofs.Common.{◌≡◌, ℕ, true, Bool, List, [], ◌∷◌, ◌++◌, Some, None, Option, ◌≤◌, refl, ap, sym, ◌∙◌, subst, arith}
 use Rattle.std.specs.Prelude.{if◌then◌else◌}
 use Rattle.ce_base.specs.declared.custom_state.CustomState.TheVariants.{Undefined}
-use Rattle.ce_base.specs.declared.fault.Fault.{Fault}
 use Rattle.node_trees.specs.Nodes.{IsNode, size}
 use Rattle.node_trees.specs.Trees.{Trees}
 use Rattle.ce_registry.specs.declared.definition.Definition.{Definition}
 use Rattle.ce_registry.specs.Registry.{is_autonomous}
-use Rattle.ce_algorithms.specs.declared.given.Given.TheVariants.{Node}
-use Rattle.ce_algorithms.specs.Create.{fitting}
 use Rattle.ce_algorithms.specs.CreateLater.{make_in_state, make_undefined}
 use Rattle.ce_algorithms.specs.Enqueue.{lookup_in}
 use Rattle.ce_algorithms.specs.Page.{definition_at}
 use Rattle.ce_algorithms.specs.Perform as algorithms
 use Rattle.ce_algorithms.specs.State.{State, on_page}
-use Rattle.ce_algorithms.specs.Steps.{Outcome, Goes, Throws, attempt_in}
-use Rattle.ce_frames.specs.ConstructTurns.{construct_turn, create_extended_turn, create_found_turn, create_turn, created_turn, upgrade_turn}
+use Rattle.ce_algorithms.specs.Steps.{Outcome, Goes}
+use Rattle.ce_frames.specs.ConstructTurns.{construct_turn, create_extended_turn, create_found_turn, create_turn, upgrade_turn}
 use Rattle.ce_frames.specs.Frames as waiting
 use Rattle.ce_frames.specs.Frames.{Frame}
 use Rattle.ce_frames.specs.Turned.{Turn, Turned, below, turn_after}
-use Rattle.ce_frames.specs.Turns.{turn_threw, turn_went}
 use Rattle.ce_frames.specs.Whole.{whole}
 use Rattle.ce_frames.proofs.BlindTurns.{blind_node}
-use Rattle.ce_reactions.specs.declared.came.Came.{Came}
+use Rattle.ce_outcomes.specs.declared.came.Came.{Came}
 use Rattle.ce_reactions.specs.Blind.{BlindAt}
-use Rattle.ce_reactions.specs.Placed.{IsEndThere, Lasts}
-use Rattle.ce_reactions.specs.Turns.{Turns, came_in}
+use Rattle.ce_outcomes.specs.Placed.{IsEndThere, Lasts}
+use Rattle.ce_outcomes.specs.Turns.{Turns, came_in}
 use Rattle.ce_reactions.proofs.ConstructLaws.{down_lasts}
 use Rattle.ce_reactions.proofs.SessionLaws.{as_at, blind_at}
 use Rattle.ce_reactions.proofs.SettleLaws.{upgrade_settles}
-use Rattle.ce_reactions.proofs.TurnLaws.{turns_as, turns_below, turns_same}
+use Rattle.ce_outcomes.proofs.TurnLaws.{turns_as, turns_below, turns_same}
 
 -- by what was looked up
 
@@ -82,10 +78,6 @@ fit_turns frames frames' new now local is document d class s s1 on same pushed h
 pub fit_lasts : (F : Trees) (local : List ℕ) (is : Option (List ℕ)) (document d class : ℕ) (s : State) → is_autonomous (definition_at s.page d) ≡ true → class ≡ (definition_at s.page d).class → Lasts F (construct_turn class s) → Lasts F (create_found_turn local is document (Some d) s)
 fit_lasts F local is document d class s on same h =
     subst (Lasts F) (fit_is local is document d class s on same) (record { grows = h.grows; gives = h.gives; placed = (h.gives, h.placed) })
-
--- what was constructed does not fit
-pub misfit_is : (local : List ℕ) (document n : ℕ) (f : Fault) (s : State) → Throws f s ≡ fitting local document n s → turn_threw (waiting.CreatingFit local document) f s ≡ turn_went (waiting.CreatingFit local document) (Node n) s
-misfit_is local document n f s is = ap (λ (o : Outcome State ℕ). turn_after (attempt_in o) (created_turn local document)) is
 
 -- it extends an element: a new element is made, and upgraded above the creation's frame
 

@@ -1,4 +1,3 @@
-pub mod TurnLaws
 pub mod SessionLaws
 pub mod ConstructLaws
 pub mod SettleLaws

@@ -10,11 +10,11 @@ use Rattle.ce_frames.specs.Turned.{Turn, Turned}
 use Rattle.ce_frames.specs.Whole.{IsBlind, IsBlindTurn, whole, whole_in, whole_turned}
 use Rattle.frame_stack.specs.Sessions.{ArePaired, session}
 use Rattle.frame_stack.specs.Stacked.{Stacked, behaviours_of}
-use Rattle.ce_reactions.specs.declared.came.Came.{Came}
+use Rattle.ce_outcomes.specs.declared.came.Came.{Came}
 use Rattle.ce_reactions.specs.Blind.{BlindAt}
-use Rattle.ce_reactions.specs.Placed.{Lasts}
-use Rattle.ce_reactions.specs.Turns.{Turns}
-use Rattle.ce_reactions.proofs.TurnLaws.{turns_as}
+use Rattle.ce_outcomes.specs.Placed.{Lasts}
+use Rattle.ce_outcomes.specs.Turns.{Turns}
+use Rattle.ce_outcomes.proofs.TurnLaws.{turns_as}
 
 -- the same behaviours, and the same state
 pub session_is : (old new : Stacked) (s t : State) → behaviours_of new ≡ behaviours_of old → s ≡ t → session new s ≡ session old t

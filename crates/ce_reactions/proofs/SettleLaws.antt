@@ -21,7 +21,7 @@ use Rattle.ce_frames.specs.ConstructTurns.{begin_body, construct_for_turn, const
 use Rattle.ce_frames.specs.Frames.{Constructing, Upgrading}
 use Rattle.ce_frames.specs.Turned.{Turn, Turned, ◌>>=◌, ◌>>◌, below, ended, go_on, hand_down, turn_after, when_turn}
 use Rattle.ce_frames.specs.Turns.{turn_threw, turn_went}
-use Rattle.ce_reactions.specs.Placed.{ArePlaced}
+use Rattle.ce_outcomes.specs.Placed.{ArePlaced}
 
 abbrev pub Settled : Turned → Type 0
 Settled t = (F : Trees) → ArePlaced F t.pushed t.end

@@ -1,24 +1,21 @@
 -- The turns of upgrades.
 use Rattle.std.proofs.Common.{◌≡◌, ℕ, true, false, List, [], ◌∷◌, ◌++◌, refl, ap, sym, ◌∙◌}
-use Rattle.std.specs.Prelude.{Result, Ok, Err}
 use Rattle.ce_base.specs.declared.custom_state.CustomState.TheVariants.{Precustomized}
-use Rattle.ce_base.specs.declared.fault.Fault.{Fault}
 use Rattle.ce_base.specs.declared.fault.Fault.TheVariants.{NotSupportedError}
 use Rattle.ce_events.specs.declared.event.Event.TheVariants.{UpgradeBegun}
 use Rattle.ce_algorithms.specs.declared.given.Given.TheVariants.{Nothing}
-use Rattle.ce_algorithms.specs.Construction.{pop_construction}
 use Rattle.ce_algorithms.specs.Page.{definition_at, state_of, with_state}
 use Rattle.ce_algorithms.specs.State.{State, change_page, logged, on_page, read_page}
-use Rattle.ce_algorithms.specs.Steps.{Outcome, Goes, Throws, Spent, give, then_do, throw_if}
-use Rattle.ce_algorithms.specs.Upgrade.{begin_upgrade, is_shadow_refused, is_upgradable, upgrade_ends, upgrade_threw}
-use Rattle.ce_frames.specs.ConstructTurns.{construct_for_turn, construct_turn, upgrade_now_turn, upgrade_result_turn, upgrade_turn, upgraded_turn}
+use Rattle.ce_algorithms.specs.Steps.{Outcome, Goes, Throws, throw_if}
+use Rattle.ce_algorithms.specs.Upgrade.{begin_upgrade, is_shadow_refused, is_upgradable}
+use Rattle.ce_frames.specs.ConstructTurns.{construct_for_turn, construct_turn, upgrade_now_turn, upgrade_turn}
 use Rattle.ce_frames.specs.Frames as waiting
 use Rattle.ce_frames.specs.Frames.{Frame}
 use Rattle.ce_frames.specs.Turned.{Turn, ◌>>=◌, ◌>>◌, below, ended, go_on, turn_after, when_turn}
-use Rattle.ce_reactions.specs.declared.came.Came.{Came}
-use Rattle.ce_reactions.specs.declared.came.Came.TheVariants.{Went, Threw}
-use Rattle.ce_reactions.specs.Turns.{Turns, came_in}
-use Rattle.ce_reactions.proofs.TurnLaws.{turns_as, turns_below, turns_same}
+use Rattle.ce_outcomes.specs.declared.came.Came.{Came}
+use Rattle.ce_outcomes.specs.declared.came.Came.TheVariants.{Went, Threw}
+use Rattle.ce_outcomes.specs.Turns.{Turns}
+use Rattle.ce_outcomes.proofs.TurnLaws.{turns_as, turns_below, turns_same}
 
 -- by the element's state
 
@@ -79,26 +76,3 @@ module _ (n d class : ℕ) (s s1 : State) (off : is_shadow_refused s.page n d �
       ∙ ap (λ (o : Outcome State (Unit {0})). turn_after o (λ _. read_page (λ p. (definition_at p d).class) >>= construct_turn)) set
       ∙ for_is n d s off)
       h
-
--- its construction has ended
-
--- the stack has lost its entry
-result_is : (n d : ℕ) (r : Result (Unit {0}) Fault) (s s0 : State) → Goes tt s0 ≡ on_page (pop_construction d) s → upgrade_result_turn n r s0 ≡ upgraded_turn n d r s
-result_is n d r s s0 popped = ap (λ (o : Outcome State (Unit {0})). turn_after o (λ _. upgrade_result_turn n r)) popped
-
-down_is : (o : Outcome State (Unit {0})) → ended (then_do o (λ _. give Nothing)) ≡ turn_after o (λ _. go_on)
-down_is (Goes x s) = refl
-down_is (Throws f s) = refl
-down_is (Spent s) = refl
-
--- it ends
-pub ends_is : (n d : ℕ) (r : Result (Unit {0}) Fault) (s s0 s1 : State) (now : Came) → r ≡ Ok tt → Goes tt s0 ≡ on_page (pop_construction d) s → came_in now s1 ≡ then_do (upgrade_ends n s0) (λ _. give Nothing) → ended (came_in now s1) ≡ upgraded_turn n d r s
-ends_is n d r s s0 s1 now is popped came =
-    ap ended came ∙ down_is (upgrade_ends n s0) ∙ ap (λ (x : Result (Unit {0}) Fault). upgrade_result_turn n x s0) (sym is) ∙ result_is n d r s s0 popped
-
--- it threw
-pub threw_is : (n d : ℕ) (r : Result (Unit {0}) Fault) (f : Fault) (s s0 s1 : State) → r ≡ Err f → Goes tt s0 ≡ on_page (pop_construction d) s → Throws f s1 ≡ upgrade_threw n f s0 → ended (Throws f s1) ≡ upgraded_turn n d r s
-threw_is n d r f s s0 s1 is popped threw =
-    ap (λ (o : Outcome State (Unit {0})). ended (then_do o (λ _. give Nothing))) threw
-    ∙ ap (λ (x : Result (Unit {0}) Fault). upgrade_result_turn n x s0) (sym is)
-    ∙ result_is n d r s s0 popped

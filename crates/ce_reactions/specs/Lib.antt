@@ -1,5 +1,5 @@
-pub mod Turns
 pub mod Blind
 pub mod Callbacks
 pub mod Constructors
-pub mod Placed
+pub use Rattle.ce_outcomes.specs.Turns
+pub use Rattle.ce_outcomes.specs.Placed

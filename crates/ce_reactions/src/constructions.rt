@@ -3,21 +3,18 @@ ghost use Rattle.std.specs.Prelude.{◌≡◌, ◌≤◌, IfOk, OnOk};
 ghost use Rattle.node_trees.specs.Nodes.{size};
 ghost use Rattle.ce_algorithms.specs.Construction.{base_call};
 ghost use Rattle.ce_algorithms.specs.Perform.{gives_node};
-ghost use Rattle.ce_algorithms.specs.State.{State as IsState, on_page};
+ghost use Rattle.ce_algorithms.specs.State.{on_page};
 ghost use Rattle.ce_frames.specs.ConstructTurns.{construct_turn};
-ghost use Rattle.ce_frames.specs.Frames as waiting;
-ghost use Rattle.ce_frames.specs.Turned.{ended};
-ghost use Rattle.ce_frames.specs.Turns.{turn_went};
 ghost use Rattle.frame_stack.specs.Sessions.{ArePaired, session};
 ghost use Rattle.frame_stack.specs.Stacked.{frames_of};
 ghost use Rattle.ce_reactions.specs.Constructors.{own_turn};
-ghost use Rattle.ce_reactions.specs.Placed.{IsEndThere, Lasts};
-ghost use Rattle.ce_reactions.specs.Turns.{Turns, came_in};
+ghost use Rattle.ce_outcomes.specs.Placed.{IsEndThere, Lasts};
+ghost use Rattle.ce_outcomes.specs.Turns.{Turns, came_in};
 
-use crate::came::{Came, came_from};
 use behaviours::Args;
 use ce_algorithms::Given;
-use ce_base::{ClassNo, Fault, NoMemory};
+use ce_base::{ClassNo, NoMemory};
+use ce_outcomes::{Came, came_from};
 use frame_stack::{Stack, Waiting};
 use page_calls::gives_node;
 use rule_tokens::CallName;
@@ -69,17 +66,4 @@ fn begin(state: &State, alloc: Global, stack: &mut Stack, class: ClassNo) -> Res
     stack.push(Waiting::Constructing)?;
     stack.begin(class, CallName::Constructor, args, None)?;
     Ok(Came::Went(Given::Nothing))
-}
-
-/// The body of a constructor has ended: it has to have given a node (Web IDL, section "Invoking callback functions",
-/// "construct a callback function"). ReferenceError where it has not.
-pub fn given_turn(given: Given) -> Came
-    ensures { (s : IsState) → ended (came_in result s) ≡ turn_went waiting.Constructing given s }
-{
-    match given {
-        Given::Node(n) => Came::Went(Given::Node(n)),
-        Given::Nothing => Came::Threw(Fault::ReferenceError),
-        Given::Answers(_) => Came::Threw(Fault::ReferenceError),
-        Given::Ignored => Came::Threw(Fault::ReferenceError),
-    }
 }

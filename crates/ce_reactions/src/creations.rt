@@ -1,28 +1,19 @@
 // Turns of creations (DOM Standard, section "Interface Element", "create an element").
 ghost use Rattle.std.specs.Prelude.{◌≡◌, ◌≤◌, ℕ, List, Option, Some, true, IfOk, OnOk};
-ghost use Rattle.node_trees.specs.Nodes.{size};
 ghost use Rattle.ce_registry.specs.Registry.{is_autonomous};
 ghost use Rattle.ce_algorithms.specs.Page.{definition_at};
-ghost use Rattle.ce_frames.specs.Frames as waiting;
 ghost use Rattle.ce_frames.specs.ConstructTurns.{create_extended_turn, create_found_turn, create_turn};
 ghost use Rattle.ce_frames.specs.OperateTurns.{create_named_turn};
-ghost use Rattle.ce_frames.specs.Turned.{ended};
-ghost use Rattle.ce_frames.specs.Turns.{turn_threw, turn_went};
 ghost use Rattle.frame_stack.specs.Sessions.{ArePaired, session};
 ghost use Rattle.frame_stack.specs.Stacked.{frames_of};
-ghost use Rattle.page_calls.specs.Given.{IsThere};
-ghost use Rattle.ce_reactions.specs.Placed.{IsEndThere, Lasts};
-ghost use Rattle.ce_reactions.specs.Turns.{Turns, came_in};
+ghost use Rattle.ce_outcomes.specs.Placed.{Lasts};
+ghost use Rattle.ce_outcomes.specs.Turns.{Turns};
 
-use crate::came::{Came, came_from};
 use crate::constructions::construct;
 use crate::upgrades::upgrade_turn;
-use ce_algorithms::Given;
 use ce_base::{CustomState, DefNo, Fault, NoMemory, NodeNo, Text};
-use ce_events::Event;
-use ce_operations::create::{
-    class_of, create_failed, create_undefined, is_autonomous, lookup, misfit,
-};
+use ce_operations::create::{class_of, create_undefined, is_autonomous, lookup};
+use ce_outcomes::{Came, came_from};
 use ce_page::PageStop;
 use element_names::is_local_name;
 use frame_stack::{Stack, Waiting};
@@ -151,59 +142,4 @@ fn create_extended(
         Err(PageStop::FuelSpent) => Ok(Came::Over),
         Err(PageStop::NoMemory) => Err(NoMemory),
     }
-}
-
-/// What was constructed for a creation is tested, and is the answer; or the fault is reported, and a failed element
-/// is (DOM Standard, section "Interface Element", "create an element"). Over exactly where no fuel is left for that.
-/// NoMemory: see `Came`.
-pub fn fit_turn(
-    state: &mut State,
-    alloc: Global,
-    local: Text,
-    document: NodeNo,
-    given: Given,
-) -> Result<Came, NoMemory>
-    requires { IsThere state.old.page.forest given }
-    ensures turn { IfOk result (λ now. ended (came_in now state.new) ≡ turn_went (waiting.CreatingFit local document) given state.old) }
-    ensures grows { size state.old.page.forest ≤ size state.new.page.forest }
-    ensures there { IfOk result (IsEndThere state.new.page.forest) }
-{
-    match given {
-        Given::Node(n) => match misfit(state, local.as_str(), document, n) {
-            None => Ok(Came::Went(Given::Node(n))),
-            Some(f) => failed_turn(state, alloc, local, document, f),
-        },
-        Given::Nothing => failed_turn(state, alloc, local, document, Fault::TypeError),
-        Given::Answers(_) => failed_turn(state, alloc, local, document, Fault::TypeError),
-        Given::Ignored => failed_turn(state, alloc, local, document, Fault::TypeError),
-    }
-}
-
-/// The construction for a creation threw: the fault is reported, and a failed element is the answer (DOM Standard,
-/// section "Interface Element", "create an element"). Over exactly where no fuel is left for it. NoMemory: see `Came`.
-pub fn failed_turn(
-    state: &mut State,
-    alloc: Global,
-    local: Text,
-    document: NodeNo,
-    f: Fault,
-) -> Result<Came, NoMemory>
-    ensures turn { IfOk result (λ now. ended (came_in now state.new) ≡ turn_threw (waiting.CreatingFit local document) f state.old) }
-    ensures grows { size state.old.page.forest ≤ size state.new.page.forest }
-    ensures there { IfOk result (IsEndThere state.new.page.forest) }
-{
-    let made = gives_node(create_failed(state, alloc, local, document, f));
-    let now = came_from(made)?;
-    Ok(now)
-}
-
-/// The upgrade for a creation threw: the fault is reported, and the new element, which is failed, is the answer (DOM
-/// Standard, section "Interface Element", "create an element"). NoMemory: see `Came`.
-pub fn extended_threw(state: &mut State, n: NodeNo, f: Fault) -> Result<Came, NoMemory>
-    ensures turn { IfOk result (λ now. ended (came_in now state.new) ≡ turn_threw (waiting.CreatingExtended n) f state.old) }
-    ensures grows { size state.old.page.forest ≤ size state.new.page.forest }
-{
-    state.log(Event::Reported(f))?;
-    state.set_state(n, CustomState::Failed);
-    Ok(Came::Went(Given::Node(n)))
 }

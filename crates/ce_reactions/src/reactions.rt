@@ -12,14 +12,14 @@ ghost use Rattle.frame_stack.specs.Sessions.{ArePaired, session};
 ghost use Rattle.frame_stack.specs.Stacked.{frames_of};
 ghost use Rattle.session_state.specs.Steps.{is_callback};
 ghost use Rattle.ce_reactions.specs.Callbacks.{callback_turn};
-ghost use Rattle.ce_reactions.specs.Turns.{Turns};
+ghost use Rattle.ce_outcomes.specs.Turns.{Turns};
 
-use crate::came::Came;
 use crate::upgrades::upgrade_turn;
 use behaviours::Args;
 use ce_algorithms::Given;
 use ce_base::{ClassNo, DefNo, NoMemory, NodeNo, ReactionNo};
 use ce_events::Event;
+use ce_outcomes::Came;
 use frame_stack::{Stack, Waiting};
 use reaction_queue::Reaction;
 use rule_tokens::CallOrUpgrade;

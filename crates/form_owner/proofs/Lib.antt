@@ -1,4 +1,3 @@
-pub mod Ancestors
 pub mod Walks
 pub mod Rows
 pub mod Nodes

@@ -16,7 +16,9 @@ use Rattle.form_controls.specs.declared.change.Change.{Change}
 use Rattle.form_controls.specs.Changes.{where_new, is_change}
 use Rattle.form_controls.specs.Kinds.{is_a}
 use Rattle.form_owner.specs.OwnerRows.{OwnerRow, blank_row, row_in, row_of}
-use Rattle.form_owner.specs.Reading.{owner_with, disabled_with, change_read, changes_read, is_owned_in, controls_in}
+use Rattle.owner_reading.specs.Owners.{owner_with}
+use Rattle.disabled_reading.specs.Disabled.{disabled_with}
+use Rattle.form_owner.specs.Reading.{change_read, changes_read, is_owned_in, controls_in}
 use Rattle.form_owner.specs.Writing.{Written, with_told, with_changes, unlisted, AreListed}
 
 -- one more number

@@ -15,7 +15,9 @@ use Rattle.form_controls.specs.Owners.{Forms, is_associated, form_owner, is_owne
 use Rattle.form_controls.specs.Disabled.{is_disabled}
 use Rattle.form_controls.specs.Changes.{form_change, form_changes, is_change, numbers}
 use Rattle.form_owner.specs.OwnerRows.{OwnerRow, OwnerRows, blank_row, row_in, row_of}
-use Rattle.form_owner.specs.Reading.{owner_with, disabled_with, change_read, changes_read, is_owned_in, owned_in}
+use Rattle.owner_reading.specs.Owners.{owner_with}
+use Rattle.disabled_reading.specs.Disabled.{disabled_with}
+use Rattle.form_owner.specs.Reading.{change_read, changes_read, is_owned_in, owned_in}
 use Rattle.form_owner.specs.Stands.{KnowsAssociated, Stands}
 use Rattle.form_owner.specs.declared.touch.Touch.{Touch}
 use Rattle.form_owner.specs.Touches.{IsTouched, after_touch}

@@ -5,7 +5,8 @@ use Rattle.node_trees.specs.Orders.{tree_order_of}
 use Rattle.node_trees.specs.Paths.{is_among, root_at}
 use Rattle.form_controls.specs.Owners.{Forms, form_owner, is_owned_by, controls_of}
 use Rattle.form_owner.specs.OwnerRows.{OwnerRows}
-use Rattle.form_owner.specs.Reading.{owner_with, disabled_with}
+use Rattle.owner_reading.specs.Owners.{owner_with}
+use Rattle.disabled_reading.specs.Disabled.{disabled_with}
 use Rattle.form_owner.specs.Stands.{Stands}
 use Rattle.form_owner.proofs.Rows.{filter-members}
 

@@ -1,30 +1,17 @@
--- What is read of one node, given whether it is a form-associated custom element. With is_associated for that, these are
--- the definitions of form_controls.
-use Rattle.std.specs.Prelude.{ℕ, Bool, not, ◌&&◌, ◌||◌, if◌then◌else◌, nat_eq, List, [], codes, map, filter, Option, None}
+-- What is read of one node, beside its row.
+use Rattle.std.specs.Prelude.{ℕ, Bool, if◌then◌else◌, nat_eq, List, [], map, filter}
 use Rattle.std.specs.Bool.{beq}
 use Rattle.std.specs.Option.{option_eq}
-use Rattle.element_names.specs.declared.natives.Native.TheVariants.{Fieldset, Form, OptionItem}
+use Rattle.element_names.specs.declared.natives.Native.TheVariants.{Form}
 use Rattle.node_trees.specs.Trees.{Trees, is_number}
-use Rattle.node_trees.specs.Spots.{attribute_at}
 use Rattle.node_trees.specs.Paths.{root_at}
 use Rattle.node_trees.specs.Orders.{tree_order_of}
 use Rattle.form_controls.specs.declared.change.Change.{Change}
-use Rattle.form_controls.specs.Kinds.{native_at, is_a}
-use Rattle.form_controls.specs.Owners.{is_listed_native, owner_by}
-use Rattle.form_controls.specs.Disabled.{has_disabled, is_in_disabled_fieldset, is_option_disabled}
+use Rattle.form_controls.specs.Kinds.{is_a}
 use Rattle.form_controls.specs.Changes.{where_new, is_change}
+use Rattle.owner_reading.specs.Owners.{owner_with}
+use Rattle.disabled_reading.specs.Disabled.{disabled_with}
 use Rattle.form_owner.specs.OwnerRows.{OwnerRow, row_of}
-
-abbrev pub listed_by : Trees → ℕ → Bool → Bool
-listed_by forest n associated = is_listed_native (native_at forest n) || associated
-
-abbrev pub owner_with : Trees → ℕ → Bool → Option ℕ
-owner_with forest n associated = if listed_by forest n associated then owner_by forest n (attribute_at forest n (codes "form")) else None
-
-abbrev pub disabled_with : Trees → ℕ → Bool → Bool
-disabled_with forest n associated =
-    if is_a OptionItem forest n then is_option_disabled forest n
-    else (listed_by forest n associated && not (is_a Fieldset forest n)) && (has_disabled forest n || is_in_disabled_fieldset forest n)
 
 -- what differs between a node's row and the trees
 

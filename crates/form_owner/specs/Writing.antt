@@ -6,7 +6,9 @@ use Rattle.form_controls.specs.declared.change.Change.{Change}
 use Rattle.form_owner.specs.declared.touch.Touch.{Touch}
 use Rattle.form_owner.specs.declared.touch.Touch.TheVariants.{Inserted, Removed, Attr, Associated}
 use Rattle.form_owner.specs.OwnerRows.{OwnerRow, row_in, row_of}
-use Rattle.form_owner.specs.Reading.{owner_with, disabled_with, controls_in}
+use Rattle.owner_reading.specs.Owners.{owner_with}
+use Rattle.disabled_reading.specs.Disabled.{disabled_with}
+use Rattle.form_owner.specs.Reading.{controls_in}
 
 -- one row was written
 pub record Written (old new : List OwnerRow) (place : ℕ) (row : OwnerRow) : Type 0 where

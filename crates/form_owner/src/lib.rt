@@ -4,10 +4,8 @@
 
 mod changes;
 mod controls;
-mod disabled;
 mod group;
 mod laws;
-mod owner;
 mod reading;
 mod row;
 mod settle;
@@ -20,7 +18,7 @@ pub use laws::{
     a_group_is_gone_through, a_node_document_changes_nothing, making_a_node_changes_nothing,
     only_members_count,
 };
-pub use owner::is_listed;
+pub use owner_reading::is_listed;
 pub use reading::is_in_datalist;
 pub use table::OwnerTable;
 pub use touch::Touch;

@@ -12,13 +12,12 @@ ghost use Rattle.form_owner.specs.Touches.{IsTouched, after_touch};
 ghost use Rattle.form_owner.specs.Writing.{AreRenewed, IsPlaced, Noted, Written, with_changes, with_told};
 
 use crate::controls::list_controls;
-use crate::disabled::disabled_of;
-use crate::owner::owner_of;
-use crate::reading::node_at;
 use crate::row::{Row, associated_in, disabled_in, owner_in, place_of};
 use crate::{Change, Changes, OwnerTable, Touch};
 use ce_base::{NoMemory, NodeNo, Nodes};
+use disabled_reading::{disabled_of, node_at};
 use node_arena::Tree;
+use owner_reading::owner_of;
 use std::alloc::Global;
 
 /// The nodes whose form owner or disabled state a touch may have changed, in the order of their numbers: all nodes.

@@ -5,11 +5,15 @@ ghost use Rattle.node_trees.specs.Facts.{blank};
 ghost use Rattle.node_trees.specs.Nodes.{IsNode, IsTidy};
 ghost use Rattle.node_trees.specs.Trees.{single};
 ghost use Rattle.form_controls.specs.Disabled.{is_disabled};
-ghost use Rattle.form_controls.specs.Owners.{Forms, controls_of, form_owner, is_associated};
+ghost use Rattle.form_controls.specs.Owners.{Forms, controls_of, form_owner, is_associated, is_submittable};
 ghost use Rattle.form_owner.specs.Stands.{Stands};
 
 use crate::row::{Row, associated_in, controls_in, disabled_in, owner_in};
 use ce_base::NodeNo;
+use element_names::Native;
+use form_kinds::is_a;
+use node_arena::Tree;
+use owner_reading::is_listed;
 use std::alloc::Global;
 use std::marker::Model;
 
@@ -58,6 +62,14 @@ impl OwnerTable {
         ensures { (f : Forms) → Stands self.now f → IsNode f.forest n → result ≡ is_associated f n }
     {
         associated_in(&self.rows, n)
+    }
+
+    /// Whether a node is a submittable element (HTML Standard, section "Categories").
+    pub fn submittable(&self, tree: &Tree, n: NodeNo) -> bool
+        requires { IsNode tree.now n }
+        ensures { (f : Forms) → f.forest ≡ tree.now → Stands self.now f → result ≡ is_submittable f n }
+    {
+        is_listed(tree, n, self.associated(n)) && !is_a(tree, n, Native::Fieldset)
     }
 
     /// The controls of a form, in tree order: the listed elements whose form owner it is (HTML Standard, section "The form

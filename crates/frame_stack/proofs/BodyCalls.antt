@@ -6,14 +6,16 @@ use Rattle.rule_tokens.specs.declared.callback.CallName.{CallName}
 use Rattle.ce_base.specs.declared.memory.NoMemory.{NoMemory}
 use Rattle.ce_algorithms.specs.Values.{Args}
 use Rattle.ce_frames.specs.Frames.{InBody}
-use Rattle.ce_frames.specs.Places.{Behaviour, Held, Homes, Place, Wait, Body, held_in, home_of}
-use Rattle.behaviours.specs.declared.next.Next.{Next}
+use Rattle.ce_frames.specs.Places.{Behaviour, Held, Homes, Wait, Body, held_in, home_of}
+use Rattle.class_bodies.specs.declared.next.Next.{Next}
 use Rattle.behaviours.specs.Next.{stop_of}
 use Rattle.frame_stack.specs.Chains.{linked, topmost, unlinked}
-use Rattle.frame_stack.specs.Frames.{class_in, first_place, is_body}
+use Rattle.body_frames.specs.Kept.{first_place}
+use Rattle.body_frames.specs.Resumes.{FrameResumes, IsSameBody}
+use Rattle.frame_stack.specs.Frames.{class_in, is_body}
 use Rattle.frame_stack.specs.Moves.{frames_filled, frames_left, holding_at, homes_filled, homes_left, taken}
 use Rattle.frame_stack.specs.Order.{AreInOrder}
-use Rattle.frame_stack.specs.Resumes.{FrameResumes, IsBuiltStop, Proceeds, IsSameBody, Resumes}
+use Rattle.frame_stack.specs.Resumes.{IsBuiltStop, Proceeds, Resumes}
 use Rattle.frame_stack.specs.Stacked.{Stacked, actions_at, behaviours_of, below_top, frames_of}
 use Rattle.frame_stack.proofs.BeginLaws.{begin_behaviours, begin_frames, begin_order, below_there, unknown_behaviours, unknown_frames, unknown_order}
 use Rattle.frame_stack.proofs.EndLaws.{end_behaviours, end_frames, end_order, gone_behaviours, gone_frames, gone_order, has_home, room_below}
@@ -65,12 +67,6 @@ module _ (homes : Homes) (chains : List (List ℕ)) (frames : List Held) (k : �
       subst (λ (l : List Held). BeginsAt homes1 chains1 l) (sym fs) b5
 
 -- a body goes on
-
-pub same_body : (k : ℕ) (p q : Place) (held : Option Behaviour) (b c : Behaviour) → held ≡ Some b → c.bodies ≡ b.bodies → IsSameBody (Body k p held) (Body k q (Some c))
-same_body k p q None b c h e = absurd (let f : None ≡ Some b = h in cc)
-same_body k p q (Some a) b c h e =
-    let i : a ≡ b = cc in
-    (q, c.memory, ap (λ l. Body k q (Some (record { bodies = l; memory = c.memory }))) (e ∙ sym (ap (λ (x : Behaviour). x.bodies) i)))
 
 module _ (homes : Homes) (chains : List (List ℕ)) (frames : List Held) (i : ℕ) (f g : Held) (before after : ℕ) (now : Stacked) (view : stacked homes frames ≡ now) (o : AreInOrder homes chains frames) (top : AtTop frames i f) where
   front_order : AreInOrder homes chains (top.front ++ f ∷ [])

@@ -11,11 +11,12 @@ use Rattle.ce_frames.specs.Frames.{Frame}
 use Rattle.ce_frames.specs.Places.{Behaviour, Held, Homes, Place, Stands, Wait, Body, seen}
 use Rattle.ce_frames.proofs.Moves.{changed, top_has, unknown_stays}
 use Rattle.ce_frames.proofs.Wholes.{bodies_stay}
-use Rattle.behaviours.specs.declared.next.Next.{Next}
+use Rattle.class_bodies.specs.declared.next.Next.{Next}
 use Rattle.behaviours.specs.Next.{stop_of}
 use Rattle.behaviours.specs.Resume.{Resumed, resumed}
 use Rattle.frame_stack.specs.Order.{AreInOrder}
-use Rattle.frame_stack.specs.Resumes.{Ends, FrameResumes, IsBuiltStop, IsSameBody, Resumes, Runs, is_guarded}
+use Rattle.body_frames.specs.Resumes.{Ends, FrameResumes, IsSameBody, Runs, is_guarded}
+use Rattle.frame_stack.specs.Resumes.{IsBuiltStop, Resumes}
 use Rattle.frame_stack.specs.Stacked.{Stacked, Running, behaviour_at, behaviours_of, below_top, bodies_in, frames_of, in_body, or_new, placed_from, top_of}
 use Rattle.frame_stack.proofs.BuiltLaws.{behaviour_built, body_built, set_built}
 use Rattle.frame_stack.proofs.ChainLaws.{chained_as, top_indices}

@@ -6,7 +6,7 @@ use Rattle.ce_algorithms.specs.Body.{holds}
 use Rattle.ce_algorithms.specs.State.{Memory}
 use Rattle.ce_algorithms.specs.Values.{Args, text_of}
 use Rattle.behaviours.specs.Resume.{Stop, acted, spending, goes_on, stop_or, resumed}
-use Rattle.behaviours.specs.declared.next.Next.{Next}
+use Rattle.class_bodies.specs.declared.next.Next.{Next}
 use Rattle.behaviours.specs.Next.{stop_of}
 use Rattle.frame_stack.specs.Resumes.{Proceeds, Resumes}
 use Rattle.frame_stack.specs.Stacked.{Stacked}

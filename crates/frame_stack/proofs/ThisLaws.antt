@@ -9,7 +9,7 @@ use Rattle.ce_frames.specs.Places.{Behaviour, Held, Homes, OnlyLast, Place, Stan
 use Rattle.frame_stack.specs.Changes.{SetsThis}
 use Rattle.frame_stack.specs.Frames.{is_body, with_this}
 use Rattle.frame_stack.specs.Order.{AreInOrder}
-use Rattle.frame_stack.specs.Resumes.{IsSameBody}
+use Rattle.body_frames.specs.Resumes.{IsSameBody}
 use Rattle.frame_stack.specs.Stacked.{Stacked, Running, below_top, bodies_in, frames_of, in_body, placed_from, top_of}
 use Rattle.frame_stack.proofs.PushLaws.{frames_are}
 use Rattle.frame_stack.proofs.ResumeLaws.{resume_order}

@@ -1,10 +1,8 @@
 -- What the frames of the code stand for.
 use Rattle.std.specs.Prelude.{◌≡◌, ℕ, Bool, true, false, not, ◌∷◌, Option, Some, None}
-use Rattle.rule_tokens.specs.declared.callback.CallName.{CallName}
-use Rattle.ce_algorithms.specs.Values.{Args}
 use Rattle.ce_frames.specs.Frames.{Frame}
 use Rattle.ce_frames.specs.Frames as frames
-use Rattle.ce_frames.specs.Places.{Held, Place, Wait, Body}
+use Rattle.ce_frames.specs.Places.{Held, Wait, Body}
 use Rattle.frame_stack.specs.declared.waiting.Waiting.{Waiting}
 use Rattle.frame_stack.specs.declared.waiting.Waiting.TheVariants.{Replying, Checking, DrainingBackup, Naming, Stepping, Draining, InReaction, CreatingFit, CreatingExtended, Upgrading, Constructing}
 
@@ -60,7 +58,3 @@ owner_in (Body class place held) = Some class
 abbrev pub class_in : Held → ℕ
 class_in (Wait f) = 0
 class_in (Body class place held) = class
-
--- where a body begins
-abbrev pub first_place : CallName → Args → Option ℕ → Place
-first_place call args this = record { call = call; index = 0; args = args; this = this; guarded = false }

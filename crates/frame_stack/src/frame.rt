@@ -1,12 +1,13 @@
 // A frame.
 ghost use Rattle.std.specs.Prelude.{◌≡◌, ◌≤◌, false, true, None, IfOk};
 ghost use Rattle.ce_frames.specs.Places.{Body as BodyHeld, Wait as WaitHeld, held_in, holding};
-ghost use Rattle.frame_stack.specs.Frames.{IsPlain, class_in, first_place, guarded_in, is_body, owner_in, this_in, waiting_of, with_this};
-ghost use Rattle.frame_stack.specs.Resumes.{FrameResumes, IsSameBody};
+ghost use Rattle.body_frames.specs.Kept.{first_place};
+ghost use Rattle.body_frames.specs.Resumes.{FrameResumes, IsSameBody};
+ghost use Rattle.frame_stack.specs.Frames.{IsPlain, class_in, guarded_in, is_body, owner_in, this_in, waiting_of, with_this};
 
-use crate::body::Body;
 use crate::waiting::Waiting;
 use behaviours::{Args, Behaviour, Next};
+use body_frames::Body;
 use ce_base::{ClassNo, Fuel, NoMemory, NodeNo};
 use rule_tokens::CallName;
 use std::alloc::Global;

@@ -3,7 +3,6 @@
 #![tactic(auto)]
 
 mod bodies;
-mod body;
 mod chain;
 mod classes;
 mod frame;

@@ -1,40 +1,35 @@
--- One step of the walk with a stack.
+-- One step of a walk in shadow-including tree order.
 use Rattle.std.proofs.Common.{◌≡◌, ℕ, ◌<◌, List, [], ◌∷◌, ◌++◌, ap, sym, ◌∙◌, subst, arith, length, append_assoc, zero, suc, get_or, true, false, cond, eqb}
 use Rattle.std.specs.List.{All, AllByRecursion}
 use Rattle.std.proofs.lemmas.List.Elements.{All-from_recursion}
 use Rattle.node_trees.specs.Spots.{after, first_of}
 use Rattle.node_trees.specs.Nodes.{IsNode, IsNodeOrNone}
-use Rattle.std.specs.Prelude.{reverse}
-use Rattle.std.proofs.lemmas.List.{reverse-append}
 use Rattle.node_trees.specs.Trees.{Trees, tree_of}
 use Rattle.node_trees.specs.Orders.{order}
 use Rattle.node_arena.specs.Walks.{AreNodes, orders}
 use Rattle.node_arena.proofs.OrderLemmas.{orders-append, nodes-append}
 
-module _ (f : Trees) (m : ℕ) (links todo rest stack : List ℕ) (popped : todo ≡ rest ++ (m ∷ [])) (pushed : reverse stack ≡ links ++ reverse rest) where
-  top : reverse todo ≡ m ∷ reverse rest
-  top = ap reverse popped ∙ reverse-append rest (m ∷ [])
-
+module _ (f : Trees) (m : ℕ) (links todo rest ahead : List ℕ) (next : todo ≡ m ∷ rest) (entered : ahead ≡ links ++ rest) where
   -- what was left to do is this node, and then what is left now
-  then : order (tree_of m f) ≡ m ∷ orders f links → orders f (reverse todo) ≡ m ∷ orders f (reverse stack)
+  then : order (tree_of m f) ≡ m ∷ orders f links → orders f todo ≡ m ∷ orders f ahead
   then step =
-      let a : orders f (reverse todo) ≡ order (tree_of m f) ++ orders f (reverse rest) = ap (orders f) top in
-      let b : orders f (reverse stack) ≡ orders f links ++ orders f (reverse rest) = ap (orders f) pushed ∙ orders-append f links (reverse rest) in
-      a ∙ ap (λ xs. xs ++ orders f (reverse rest)) step ∙ ap (λ xs. m ∷ xs) (sym b)
+      let a : orders f todo ≡ order (tree_of m f) ++ orders f rest = ap (orders f) next in
+      let b : orders f ahead ≡ orders f links ++ orders f rest = ap (orders f) entered ∙ orders-append f links rest in
+      a ∙ ap (λ xs. xs ++ orders f rest) step ∙ ap (λ xs. m ∷ xs) (sym b)
 
-  pub walk_on : (out out' whole : List ℕ) → order (tree_of m f) ≡ m ∷ orders f links → out' ≡ out ++ (m ∷ []) → out ++ orders f (reverse todo) ≡ whole → out' ++ orders f (reverse stack) ≡ whole
+  pub walk_on : (out out' whole : List ℕ) → order (tree_of m f) ≡ m ∷ orders f links → out' ≡ out ++ (m ∷ []) → out ++ orders f todo ≡ whole → out' ++ orders f ahead ≡ whole
   walk_on out out' whole step grown so_far =
-      ap (λ xs. xs ++ orders f (reverse stack)) grown ∙ append_assoc out (m ∷ []) (orders f (reverse stack)) ∙ ap (λ xs. out ++ xs) (sym (then step)) ∙ so_far
+      ap (λ xs. xs ++ orders f ahead) grown ∙ append_assoc out (m ∷ []) (orders f ahead) ∙ ap (λ xs. out ++ xs) (sym (then step)) ∙ so_far
 
-  pub walk_less : order (tree_of m f) ≡ m ∷ orders f links → length (orders f (reverse stack)) < length (orders f (reverse todo))
+  pub walk_less : order (tree_of m f) ≡ m ∷ orders f links → length (orders f ahead) < length (orders f todo)
   walk_less step = omega (arith, ap length (then step))
 
-  pub walk_nodes : AreNodes f (reverse todo) → AreNodes f links → AreNodes f (reverse stack)
-  walk_nodes old new = let both : AreNodes f (m ∷ reverse rest) = subst (AreNodes f) top old in subst (AreNodes f) (sym pushed) (nodes-append f links (reverse rest) new both.1)
+  pub walk_nodes : AreNodes f todo → AreNodes f links → AreNodes f ahead
+  walk_nodes old new = let both : AreNodes f (m ∷ rest) = subst (AreNodes f) next old in subst (AreNodes f) (sym entered) (nodes-append f links rest new both.1)
 
   -- the node that is put out is one
-  pub walk_out : (out out' : List ℕ) → AreNodes f (reverse todo) → out' ≡ out ++ (m ∷ []) → AreNodes f out → AreNodes f out'
-  walk_out out out' old grown are = let both : AreNodes f (m ∷ reverse rest) = subst (AreNodes f) top old in subst (AreNodes f) (sym grown) (nodes-append f out (m ∷ []) are (both.0, tt))
+  pub walk_out : (out out' : List ℕ) → AreNodes f todo → out' ≡ out ++ (m ∷ []) → AreNodes f out → AreNodes f out'
+  walk_out out out' old grown are = let both : AreNodes f (m ∷ rest) = subst (AreNodes f) next old in subst (AreNodes f) (sym grown) (nodes-append f out (m ∷ []) are (both.0, tt))
 
 -- each of these is a node
 by_recursion : (f : Trees) (ns : List ℕ) → AreNodes f ns → AllByRecursion (IsNode f) ns

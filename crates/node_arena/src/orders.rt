@@ -1,38 +1,14 @@
 // Tree order and the shadow-including order.
-ghost use Rattle.std.specs.Prelude.{◌≡◌, ◌++◌, true, reverse, OnOk, IfOk, IfSome, All};
+ghost use Rattle.std.specs.Prelude.{◌≡◌, true, IfOk, IfSome, All};
 ghost use Rattle.node_trees.specs.Orders.{order_of, tree_order_of};
 ghost use Rattle.node_trees.specs.Paths.{connected, is_among};
 ghost use Rattle.node_trees.specs.Nodes.{IsNode, IsNodeOrNone};
 ghost use Rattle.node_trees.specs.Spots.{after};
-ghost use Rattle.node_arena.specs.NodeRows.{row};
 
 use crate::Tree;
-use crate::node::Node;
 use ce_base::{NoMemory, NodeNo, Nodes};
+use order_walk::ToVisit;
 use std::alloc::Global;
-
-/// Puts numbers on a stack, the first on top.
-fn push_reversed(stack: &mut Vec<NodeNo>, numbers: &[NodeNo]) -> Result<(), NoMemory>
-    ensures { OnOk result (reverse stack.new.items ≡ numbers.now ++ reverse stack.old.items) }
-{
-    let mut left = numbers.len();
-    while left > 0 {
-        left -= 1;
-        stack.push(numbers[left])?;
-    }
-    Ok(())
-}
-
-/// Puts a node's shadow root and children on a stack, the shadow root on top.
-fn push_links(stack: &mut Vec<NodeNo>, node: &Node) -> Result<(), NoMemory>
-    ensures { OnOk result (reverse stack.new.items ≡ ((row node.now).shadow ++ (row node.now).children) ++ reverse stack.old.items) }
-{
-    push_reversed(stack, &node.children)?;
-    if let Some(root) = node.shadow {
-        stack.push(root)?;
-    }
-    Ok(())
-}
 
 impl Tree {
     /// What comes behind a node of the tree of `root` in that tree's order (DOM Standard, section "Trees", "tree order",
@@ -91,12 +67,11 @@ impl Tree {
         ensures connected { IfOk result (All (λ m. connected self.now m ≡ connected self.now n)) }
     {
         let mut out = Nodes::make(alloc);
-        let mut todo = Vec::new(alloc);
-        todo.push(n)?;
-        while let Some(m) = todo.pop() {
+        let mut todo = ToVisit::from(alloc, n)?;
+        while let Some(m) = todo.next() {
             out.push(alloc, m)?;
             let node = self.node(m);
-            push_links(&mut todo, node)?;
+            todo.enter(node.shadow, &node.children)?;
         }
         Ok(out)
     }

@@ -1,7 +1,4 @@
-pub mod Script
-pub mod Sitting
-pub mod Ran
-pub mod Feed
-pub mod Words
-pub mod Chosen
-pub mod Table
+pub use Rattle.line_feed.specs.Feed
+pub use Rattle.script_runner.specs.Script
+pub use Rattle.script_runner.specs.Words
+pub use Rattle.script_runner.specs.Table

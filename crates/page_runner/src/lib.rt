@@ -1,18 +1,8 @@
-//! Runs a script line by line, from a source to a sink.
+//! A whole run of a script: from the words and the source to the sink and a status.
 #![tactic(auto)]
 
-mod answers;
-mod ask;
-mod blank;
-mod feed;
-mod lines;
-mod session;
-mod status;
 mod top;
-mod words;
 
-pub use feed::Feed;
-pub use session::Session;
-pub use status::Status;
+pub use line_feed::Feed;
+pub use script_runner::{Meaning, Options, Session, Status};
 pub use top::run;
-pub use words::{Meaning, Options};

@@ -1,21 +1,12 @@
 // A whole run, from the words and the source to the sink and a status.
-ghost use Rattle.std.specs.Prelude.{◌≡◌, ◌≤◌, ◌<◌, ◌↔◌, length, map, string_bytes, Some, IfOk, vec_len, List, ℕ};
+ghost use Rattle.std.specs.Prelude.{◌≡◌, ◌≤◌, ◌<◌, ◌↔◌, length, map, string_bytes, Some, List, ℕ};
 ghost use Rattle.ce_base.specs.Faults.{Rose};
-ghost use Rattle.page_runner.specs.Table.{RunMeets, RunsWhole, limit, piece, status_of};
-ghost use Rattle.page_runner.specs.Words.{meaning};
+ghost use Rattle.script_runner.specs.Table.{RunMeets, RunsWhole, limit};
+ghost use Rattle.script_runner.specs.Words.{meaning};
 
-use crate::answers::{finish, take_piece};
-use crate::ask::ask;
-use crate::{Feed, Meaning, Options, Session, Status};
-use ce_base::{Got, NoMemory, Sink, Source, Stop};
-use ce_machine::End;
+use ce_base::{Sink, Source};
+use script_runner::{Meaning, Options, Status, run_script};
 use std::alloc::Global;
-
-// How many bytes are asked for at a time.
-const BUFFER: usize = 65_536;
-
-// How many bytes a script may have.
-const LIMIT: usize = 16_777_216;
 
 /// Runs the script that the source gives, as the words say, and writes its transcript to the sink. Words are none,
 /// `--trace`, `--fuel N`, or both in either order; others are refused, and then nothing is read or written.
@@ -55,74 +46,5 @@ pub fn run<S: Source, K: Sink>(
     match Meaning::of(words) {
         Meaning::Refused => Status::Usage,
         Meaning::Script(options) => Status::of(run_script(alloc, options, source, sink)),
-    }
-}
-
-// Runs a script, piece by piece.
-fn run_script<S: Source, K: Sink>(
-    alloc: Global,
-    options: Options,
-    source: &mut S,
-    sink: &mut K,
-) -> Result<Status, Stop>
-    ensures table { RunMeets (Meaning.Script options) (status_of result) (S.left source.old) (S.left source.new) (K.held sink.old) (K.held sink.new)
-        (S.ended source.new) (S.failed source.old) (S.failed source.new) (K.failed sink.old) (K.failed sink.new) }
-    ensures later { (S.failed source.old ≤ S.failed source.new) × (K.failed sink.old ≤ K.failed sink.new) }
-    ensures read_fault { S.failed source.old < S.failed source.new → status_of result ≡ Status.ReadFault }
-    ensures write_fault { K.failed sink.old < K.failed sink.new → status_of result ≡ Status.WriteFault }
-{
-    let mut buffer = make_buffer(alloc)?;
-    run_pieces(alloc, options, &mut buffer, source, sink)
-}
-
-fn make_buffer(alloc: Global) -> Result<Vec<u8>, NoMemory>
-    ensures { IfOk result (λ buffer. vec_len buffer ≡ piece) }
-{
-    Ok(vec![in alloc; 0u8; BUFFER]?)
-}
-
-// Asks for a piece after the other, and runs each before it asks again.
-fn run_pieces<S: Source, K: Sink>(
-    alloc: Global,
-    options: Options,
-    buffer: &mut [u8],
-    source: &mut S,
-    sink: &mut K,
-) -> Result<Status, Stop>
-    requires { length buffer.old ≡ piece }
-    ensures table { RunMeets (Meaning.Script options) (status_of result) (S.left source.old) (S.left source.new) (K.held sink.old) (K.held sink.new)
-        (S.ended source.new) (S.failed source.old) (S.failed source.new) (K.failed sink.old) (K.failed sink.new) }
-    ensures later { (S.failed source.old ≤ S.failed source.new) × (K.failed sink.old ≤ K.failed sink.new) }
-    ensures read_fault { S.failed source.old < S.failed source.new → status_of result ≡ Status.ReadFault }
-    ensures write_fault { K.failed sink.old < K.failed sink.new → status_of result ≡ Status.WriteFault }
-{
-    let mut feed = Feed::make(alloc);
-    let mut session = Session::make(alloc, options)?;
-    let mut taken = 0;
-    'pieces: loop {
-        match ask(source, buffer) {
-            Got::Failed => {
-                drop(session);
-                return Ok(Status::ReadFault);
-            }
-            Got::End => {
-                let (session, end) = finish(alloc, session, feed, sink)?;
-                return Ok(Status::at_end(session, end));
-            }
-            Got::Bytes(count) => {
-                let within = count.min(LIMIT - taken);
-                let (next, end) = take_piece(alloc, session, &mut feed, &buffer[..within], sink)?;
-                if let End::FuelSpent = end {
-                    drop(next);
-                    return Ok(Status::Fuel);
-                }
-                if within < count {
-                    drop(next);
-                    return Ok(Status::TooLong);
-                }
-                session = next;
-                taken += count;
-            }
-        }
     }
 }

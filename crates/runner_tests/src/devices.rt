@@ -28,14 +28,11 @@ fn reads(
     Ok(())
 }
 
+// The third read, with no whole line before it, and the read behind the script.
 #[test]
 fn a_failing_read_ends_the_run(rt: HostRuntime) -> Result<(), Fail> {
-    reads(&rt, rt.alloc(), 16, 3, "")
-}
-
-#[test]
-fn a_read_that_fails_behind_the_script_ends_the_run(rt: HostRuntime) -> Result<(), Fail> {
     let transcript = transcript_of(rt.alloc(), FIRST)?;
+    reads(&rt, rt.alloc(), 16, 3, "")?;
     reads(&rt, rt.alloc(), 4096, 2, transcript.as_str())
 }
 
@@ -69,11 +66,6 @@ fn writes(
     Ok(())
 }
 
-#[test]
-fn a_failing_write_ends_the_run(rt: HostRuntime) -> Result<(), Fail> {
-    writes(&rt, rt.alloc(), FIRST, 1, Status::WriteFault, 0)
-}
-
 // The last command writes a value of 4000 bytes 21 times.
 const MUCH: &str = r#"> class A
 > observe A k
@@ -88,18 +80,12 @@ const MUCH: &str = r#"> class A
 20< log "%"
 < 25: ok"#;
 
+// What comes before a failing write was passed on, also within a command.
 #[test]
-fn a_first_write_that_fails_within_a_command_is_a_write_fault(rt: HostRuntime) -> Result<(), Fail> {
-    writes(&rt, rt.alloc(), MUCH, 1, Status::WriteFault, 0)
-}
-
-#[test]
-fn answers_are_passed_on_within_a_command(rt: HostRuntime) -> Result<(), Fail> {
-    writes(&rt, rt.alloc(), MUCH, 2, Status::WriteFault, 65_536)
-}
-
-#[test]
-fn a_command_may_answer_much(rt: HostRuntime) -> Result<(), Fail> {
+fn a_failing_write_ends_the_run(rt: HostRuntime) -> Result<(), Fail> {
+    writes(&rt, rt.alloc(), FIRST, 1, Status::WriteFault, 0)?;
+    writes(&rt, rt.alloc(), MUCH, 1, Status::WriteFault, 0)?;
+    writes(&rt, rt.alloc(), MUCH, 2, Status::WriteFault, 65_536)?;
     writes(&rt, rt.alloc(), MUCH, 3, Status::Done, 100_000)
 }
 
@@ -173,13 +159,9 @@ fn pipes(
 }
 
 #[test]
-fn a_writer_may_take_a_few_bytes_at_a_time(rt: HostRuntime) -> Result<(), Fail> {
+fn a_writer_may_take_a_few_bytes_at_a_time_and_fail(rt: HostRuntime) -> Result<(), Fail> {
     let transcript = transcript_of(rt.alloc(), FIRST)?;
-    pipes(&rt, rt.alloc(), 0, (Status::Done, 0), transcript.as_str())
-}
-
-#[test]
-fn a_writer_that_fails_ends_the_run(rt: HostRuntime) -> Result<(), Fail> {
+    pipes(&rt, rt.alloc(), 0, (Status::Done, 0), transcript.as_str())?;
     pipes(&rt, rt.alloc(), 1, (Status::WriteFault, 1), "")?;
     pipes(&rt, rt.alloc(), 4, (Status::WriteFault, 1), "4: ok\ncon")
 }

@@ -3,7 +3,7 @@ use Rattle.ce_algorithms.specs.Page.{Page}
 use Rattle.frame_stack.specs.Sessions.{session}
 use Rattle.frame_stack.specs.Stacked.{below_top, frames_of}
 use Rattle.ce_machine.proofs.BodyLaws.{caught_is, running_lasts, threw_lasts, threw_turns}
-use Rattle.ce_reactions.proofs.TurnLaws.{turns_as}
+use Rattle.ce_outcomes.proofs.TurnLaws.{turns_as}
 use Rattle.ce_machine.proofs.bodies.body_threw.Goals as goal
 
 pub returns-then-not-is_guarded-clause-turn : goal.returns-then-not-is_guarded-clause-turn

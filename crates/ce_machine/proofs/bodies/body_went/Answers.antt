@@ -3,7 +3,7 @@ use Rattle.ce_algorithms.specs.Page.{Page}
 use Rattle.frame_stack.specs.Sessions.{session}
 use Rattle.frame_stack.specs.Stacked.{below_top, frames_of}
 use Rattle.ce_machine.proofs.BodyLaws.{running_lasts, went_is}
-use Rattle.ce_reactions.proofs.TurnLaws.{turns_as}
+use Rattle.ce_outcomes.proofs.TurnLaws.{turns_as}
 use Rattle.ce_machine.proofs.bodies.body_went.Goals as goal
 
 pub returns-in_ok-now-in-Ok-clause-turn : goal.returns-in_ok-now-in-Ok-clause-turn

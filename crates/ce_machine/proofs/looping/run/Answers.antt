@@ -5,7 +5,7 @@ use Rattle.ce_algorithms.proofs.Writing.{did_front}
 use Rattle.frame_stack.specs.Sessions.{session}
 use Rattle.frame_stack.specs.Stacked.{frames_of}
 use Rattle.frame_stack.proofs.PushLaws.{no_frames as none_kept}
-use Rattle.ce_reactions.specs.Turns.{came_in}
+use Rattle.ce_outcomes.specs.Turns.{came_in}
 use Rattle.ce_machine.proofs.LoopLaws.{flushed, flushed_part, turned_did, no_frames, ended_did, left_forgotten, less_of}
 use Rattle.ce_machine.proofs.looping.run.Goals as goal
 

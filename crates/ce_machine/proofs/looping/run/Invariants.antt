@@ -2,8 +2,8 @@ use Rattle.std.proofs.Common.{◌≡◌, ◌≤◌}
 use Rattle.ce_algorithms.specs.Written.{Did}
 use Rattle.frame_stack.specs.Sessions.{ArePaired, session}
 use Rattle.frame_stack.specs.Stacked.{frames_of}
-use Rattle.ce_reactions.specs.Placed.{ArePlaced}
-use Rattle.ce_reactions.specs.Turns.{came_in, end_of}
+use Rattle.ce_outcomes.specs.Placed.{ArePlaced}
+use Rattle.ce_outcomes.specs.Turns.{came_in, end_of}
 use Rattle.ce_machine.specs.Turns.{left, over}
 use Rattle.ce_machine.proofs.looping.run.Given as goal
 

@@ -4,8 +4,8 @@ use Rattle.ce_frames.specs.OperateTurns.{deed_turn}
 use Rattle.ce_frames.specs.Turned.{Turned}
 use Rattle.frame_stack.specs.Sessions.{session}
 use Rattle.frame_stack.specs.Stacked.{frames_of}
-use Rattle.ce_reactions.specs.Placed.{Lasts}
-use Rattle.ce_reactions.proofs.TurnLaws.{turns_as}
+use Rattle.ce_outcomes.specs.Placed.{Lasts}
+use Rattle.ce_outcomes.proofs.TurnLaws.{turns_as}
 use Rattle.ce_machine.proofs.OperateLaws.{new_is}
 use Rattle.ce_machine.proofs.react.deed_turn.Goals as goal
 

@@ -1,4 +1,4 @@
-use Rattle.ce_reactions.specs.Turns.{end_of}
+use Rattle.ce_outcomes.specs.Turns.{end_of}
 use Rattle.ce_machine.proofs.PlacedLaws.{body_there}
 use Rattle.ce_machine.proofs.turns.resume_body.Goals as goal
 

@@ -4,13 +4,13 @@ use Rattle.ce_frames.specs.Turns.{turn}
 use Rattle.frame_stack.specs.Sessions.{session}
 use Rattle.frame_stack.specs.Stacked.{Stacked, below_top, frames_of}
 use Rattle.ce_machine.specs.Bodies.{frame_on_top}
-use Rattle.ce_reactions.specs.Placed.{Lasts}
-use Rattle.ce_reactions.specs.Turns.{Turns, end_of}
+use Rattle.ce_outcomes.specs.Placed.{Lasts}
+use Rattle.ce_outcomes.specs.Turns.{Turns, end_of}
 use Rattle.ce_machine.proofs.BodyLaws.{popped_body}
 use Rattle.ce_machine.proofs.LoopLaws.{turned_rest, turned_left}
 use Rattle.ce_machine.proofs.PlacedLaws.{body_placed, topmost_placed, turned_placed}
 use Rattle.ce_reactions.proofs.SessionLaws.{session_is}
-use Rattle.ce_reactions.proofs.TurnLaws.{turns_as}
+use Rattle.ce_outcomes.proofs.TurnLaws.{turns_as}
 use Rattle.ce_machine.proofs.turns.turn.Goals as goal
 
 -- a body

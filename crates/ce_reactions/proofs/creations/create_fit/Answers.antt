@@ -3,10 +3,10 @@ use Rattle.ce_algorithms.specs.State.{State}
 use Rattle.ce_frames.specs.ConstructTurns.{construct_turn}
 use Rattle.frame_stack.specs.Sessions.{session}
 use Rattle.frame_stack.specs.Stacked.{frames_of}
-use Rattle.ce_reactions.specs.Placed.{Lasts}
+use Rattle.ce_outcomes.specs.Placed.{Lasts}
 use Rattle.ce_reactions.proofs.CreateLaws.{fit_lasts, fit_turns}
 use Rattle.ce_reactions.proofs.SessionLaws.{session_is}
-use Rattle.ce_reactions.proofs.TurnLaws.{turns_as}
+use Rattle.ce_outcomes.proofs.TurnLaws.{turns_as}
 use Rattle.ce_reactions.proofs.creations.create_fit.Goals as goal
 
 pub returns-clause-turn : goal.returns-clause-turn

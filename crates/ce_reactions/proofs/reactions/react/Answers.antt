@@ -1,7 +1,7 @@
 use Rattle.frame_stack.specs.Sessions.{session}
 use Rattle.frame_stack.specs.Stacked.{frames_of}
 use Rattle.ce_reactions.proofs.CallLaws.{upgrade_is}
-use Rattle.ce_reactions.proofs.TurnLaws.{turns_as}
+use Rattle.ce_outcomes.proofs.TurnLaws.{turns_as}
 use Rattle.ce_reactions.proofs.reactions.react.Goals as goal
 
 pub returns-in_ok-now-in-Some-clause-turn : goal.returns-in_ok-now-in-Some-clause-turn

@@ -1,8 +1,8 @@
 use Rattle.std.proofs.Common.{◌∙◌, sym, arith}
 use Rattle.element_names.specs.declared.natives.Native.TheVariants.{Datalist}
 use Rattle.form_controls.specs.Kinds.{is_a}
-use Rattle.form_owner.proofs.Ancestors.{ancestors-less}
-use Rattle.form_owner.proofs.Walks.{any-up, any-top}
+use Rattle.owner_reading.proofs.Ancestors.{ancestors-less}
+use Rattle.owner_reading.proofs.Climbing.{any-up, any-top}
 use Rattle.form_owner.proofs.reading.is_in_datalist.Goals as goal
 
 pub returns-then-is_a : goal.returns-then-is_a

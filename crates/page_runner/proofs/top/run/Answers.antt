@@ -1,6 +1,6 @@
 use Rattle.std.proofs.Common.{◌∙◌}
-use Rattle.page_runner.proofs.ExitLaws.{meets_refused}
-use Rattle.page_runner.proofs.WholeLaws.{runs_whole}
+use Rattle.script_runner.proofs.ExitLaws.{meets_refused}
+use Rattle.script_runner.proofs.WholeLaws.{runs_whole}
 use Rattle.page_runner.proofs.top.run.Goals as goal
 
 pub returns-in-Refused-clause-table : goal.returns-in-Refused-clause-table

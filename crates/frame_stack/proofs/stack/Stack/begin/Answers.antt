@@ -1,7 +1,7 @@
 use Rattle.std.proofs.Common.{◌≡◌, ◌++◌, ◌∷◌, [], None, false, ap, ◌∙◌, arith}
 use Rattle.ce_frames.specs.Frames.{InBody}
 use Rattle.ce_frames.specs.Places.{Held, Body}
-use Rattle.frame_stack.specs.Frames.{first_place}
+use Rattle.body_frames.specs.Kept.{first_place}
 use Rattle.frame_stack.specs.Stacked.{Stacked, actions_at, behaviours_of, frames_of}
 use Rattle.frame_stack.proofs.BodyCalls.{Begins, known_begun, known_there, unknown_begun}
 use Rattle.frame_stack.proofs.Tops.{stacked}

@@ -1,5 +1,4 @@
 use Rattle.std.proofs.Common.{◌≡◌, ◌++◌, ◌<◌, length}
-use Rattle.std.specs.Prelude.{reverse}
 use Rattle.node_trees.specs.Trees.{tree_of}
 use Rattle.node_trees.specs.Orders.{order}
 use Rattle.node_trees.specs.Nodes.{IsTidy}
@@ -8,11 +7,11 @@ use Rattle.node_arena.proofs.tree.Tree.shadow_order.Given as goal
 
 abbrev pub invariant-loop-m : goal.invariant-loop-m
 invariant-loop-m l = record {
-  so_far : l.out ++ orders l.self (reverse l.todo.items) ≡ order (tree_of l.fn.n l.self);
-  left : AreNodes l.self (reverse l.todo.items);
+  so_far : l.out ++ orders l.self l.todo ≡ order (tree_of l.fn.n l.self);
+  left : AreNodes l.self l.todo;
   out : AreNodes l.self l.out;
   tidy : 0 < length l.out → IsTidy l.self;
 }
 
 abbrev pub decreases-loop-m : goal.decreases-loop-m
-decreases-loop-m l = length (orders l.self (reverse l.todo.items))
+decreases-loop-m l = length (orders l.self l.todo)

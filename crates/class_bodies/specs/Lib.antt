@@ -1,0 +1,4 @@
+pub mod Bodies
+pub mod Resume
+pub mod Next
+pub mod Turns

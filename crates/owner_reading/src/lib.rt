@@ -1,0 +1,6 @@
+//! The form owner of a node, read off the tree (HTML Standard, section "Association of controls and forms").
+#![tactic(auto)]
+
+mod owner;
+
+pub use owner::{is_listed, owner_of};

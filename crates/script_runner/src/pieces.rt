@@ -1,0 +1,89 @@
+// A script that comes in pieces: each is run before the next is asked for.
+ghost use Rattle.std.specs.Prelude.{◌≡◌, ◌≤◌, ◌<◌, length, IfOk, vec_len};
+ghost use Rattle.script_runner.specs.Table.{RunMeets, piece, status_of};
+
+use crate::answers::{finish, take_piece};
+use crate::ask::ask;
+use crate::{Options, Session, Status};
+use ce_base::{Got, NoMemory, Sink, Source, Stop};
+use ce_machine::End;
+use line_feed::Feed;
+use std::alloc::Global;
+
+// How many bytes are asked for at a time.
+const BUFFER: usize = 65_536;
+
+// How many bytes a script may have.
+const LIMIT: usize = 16_777_216;
+
+/// Runs the script that the source gives, with these options, and writes its transcript to the sink. All lines that were
+/// wholly read are run, and their answers written, before the source is asked again.
+///
+/// What comes of it is a status as `page_runner::run` gives it, or a `Stop`, as `Status::of` says.
+pub fn run_script<S: Source, K: Sink>(
+    alloc: Global,
+    options: Options,
+    source: &mut S,
+    sink: &mut K,
+) -> Result<Status, Stop>
+    ensures table { RunMeets (Meaning.Script options) (status_of result) (S.left source.old) (S.left source.new) (K.held sink.old) (K.held sink.new)
+        (S.ended source.new) (S.failed source.old) (S.failed source.new) (K.failed sink.old) (K.failed sink.new) }
+    ensures later { (S.failed source.old ≤ S.failed source.new) × (K.failed sink.old ≤ K.failed sink.new) }
+    ensures read_fault { S.failed source.old < S.failed source.new → status_of result ≡ Status.ReadFault }
+    ensures write_fault { K.failed sink.old < K.failed sink.new → status_of result ≡ Status.WriteFault }
+{
+    let mut buffer = make_buffer(alloc)?;
+    run_pieces(alloc, options, &mut buffer, source, sink)
+}
+
+fn make_buffer(alloc: Global) -> Result<Vec<u8>, NoMemory>
+    ensures { IfOk result (λ buffer. vec_len buffer ≡ piece) }
+{
+    Ok(vec![in alloc; 0u8; BUFFER]?)
+}
+
+// Asks for a piece after the other, and runs each before it asks again.
+fn run_pieces<S: Source, K: Sink>(
+    alloc: Global,
+    options: Options,
+    buffer: &mut [u8],
+    source: &mut S,
+    sink: &mut K,
+) -> Result<Status, Stop>
+    requires { length buffer.old ≡ piece }
+    ensures table { RunMeets (Meaning.Script options) (status_of result) (S.left source.old) (S.left source.new) (K.held sink.old) (K.held sink.new)
+        (S.ended source.new) (S.failed source.old) (S.failed source.new) (K.failed sink.old) (K.failed sink.new) }
+    ensures later { (S.failed source.old ≤ S.failed source.new) × (K.failed sink.old ≤ K.failed sink.new) }
+    ensures read_fault { S.failed source.old < S.failed source.new → status_of result ≡ Status.ReadFault }
+    ensures write_fault { K.failed sink.old < K.failed sink.new → status_of result ≡ Status.WriteFault }
+{
+    let mut feed = Feed::make(alloc);
+    let mut session = Session::make(alloc, options)?;
+    let mut taken = 0;
+    'pieces: loop {
+        match ask(source, buffer) {
+            Got::Failed => {
+                drop(session);
+                return Ok(Status::ReadFault);
+            }
+            Got::End => {
+                let (session, end) = finish(alloc, session, feed, sink)?;
+                return Ok(Status::at_end(session, end));
+            }
+            Got::Bytes(count) => {
+                let within = count.min(LIMIT - taken);
+                let (next, end) = take_piece(alloc, session, &mut feed, &buffer[..within], sink)?;
+                if let End::FuelSpent = end {
+                    drop(next);
+                    return Ok(Status::Fuel);
+                }
+                if within < count {
+                    drop(next);
+                    return Ok(Status::TooLong);
+                }
+                session = next;
+                taken += count;
+            }
+        }
+    }
+}

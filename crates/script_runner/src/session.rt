@@ -1,0 +1,174 @@
+// A session: the lines of a script, one after another.
+ghost use Rattle.std.specs.Prelude.{◌≡◌, ◌+◌, ◌<◌, ◌≤◌, ◌^◌, ◌||◌, [], Ok, Err, true, IfOk, IfErr, OnErr, IsErrOf};
+ghost use Rattle.ce_base.specs.Faults.{Rose};
+ghost use Rattle.ce_base.specs.Outside.{AppendsPart};
+ghost use Rattle.rule_lines.specs.Acts.{line_of};
+ghost use Rattle.rule_script.specs.Built.{is_built};
+ghost use Rattle.rule_script.specs.Reading.{reading};
+ghost use Rattle.ce_algorithms.specs.Model.{model};
+ghost use Rattle.ce_algorithms.specs.Session.{run_line, log_of};
+ghost use Rattle.ce_events.specs.Text.{text};
+ghost use Rattle.ce_algorithms.specs.Written.{Did};
+ghost use Rattle.ce_machine.specs.Ended.{outcome_of};
+ghost use Rattle.script_runner.specs.Ran.{fresh};
+ghost use Rattle.script_runner.specs.Script.{is_bad};
+
+use crate::Options;
+use ce_base::{NoMemory, Sink, Stop};
+use ce_machine::{End, Machine};
+use rule_script::{Line, LineRefused, read_line};
+use std::alloc::Global;
+use std::marker::Model;
+
+/// A session: what has come of the lines so far.
+#[derive(Drop)]
+pub struct Session {
+    machine: Machine,
+    line: u64,
+    bad: bool,
+    trace: bool,
+}
+
+impl Model for Session {
+    ghost use Rattle.std.specs.Coded.{codes};
+    ghost use Rattle.node_trees.specs.TreesCode.{trees_code};
+    ghost use Rattle.rule_lines.specs.ActCode.{act_code};
+    ghost use Rattle.script_runner.specs.Sitting.{Sitting};
+
+    ghost Value = { Sitting };
+
+    ghost coded = { Prim.hlevel (codes, act_code, trees_code) };
+
+    ghost view = { λ s. record { state = s.machine.session; line = s.line; bad = s.bad; trace = s.trace } };
+}
+
+impl Session {
+    /// A session before its first line. NoMemory: memory was refused.
+    pub fn make(alloc: Global, options: Options) -> Result<Session, NoMemory>
+        ensures { IfOk result (λ s. s ≡ fresh options) }
+    {
+        Ok(Session {
+            machine: Machine::make(alloc, options.session.fuel)?,
+            line: 0,
+            bad: false,
+            trace: options.trace,
+        })
+    }
+
+    /// Whether some line was refused.
+    pub fn is_bad(&self) -> bool
+        ensures { result ≡ self.now.bad }
+    {
+        self.bad
+    }
+
+    // Passes over a line that says nothing.
+    pub(crate) fn pass(&mut self)
+        requires { self.old.line + 1 < 2 ^ 64 }
+        ensures { self.new ≡ record self.old { line = self.old.line + 1 } }
+    {
+        self.line += 1;
+    }
+
+    /// Reads a line, runs it, and writes what comes of it. FuelSpent exactly where the fuel is spent in it: then the
+    /// line `fuel` was written last, and the session has ended. Replied: else, also where the line was refused.
+    ///
+    /// A `Stop` leaves no session, and a front of what the line writes was written. WriteFault: a write failed, and the
+    /// sink's count of faults rose. NoMemory: memory was refused.
+    pub fn line<K: Sink>(
+        self,
+        alloc: Global,
+        bytes: &[u8],
+        sink: &mut K,
+    ) -> Result<(Session, End), Stop>
+        requires room { self.line + 1 < 2 ^ 64 }
+        ensures ran { IfOk result (λ r. Did self.trace (K.held sink.old) (K.held sink.new) (run_line model (self.line + 1) (reading bytes.now) self.state) (outcome_of r.1 r.0.state)) }
+        ensures number { IfOk result (λ r. r.0.line ≡ self.line + 1) }
+        ensures bad { IfOk result (λ r. r.0.bad ≡ (self.bad || is_bad (reading bytes.now))) }
+        ensures trace { IfOk result (λ r. r.0.trace ≡ self.trace) }
+        ensures empty { IfOk result (λ r. r.0.state.log ≡ []) }
+        ensures part { OnErr result (AppendsPart (K.held sink.old) (K.held sink.new) (text self.trace (log_of (run_line model (self.line + 1) (reading bytes.now) self.state)))) }
+        ensures later { K.failed sink.old ≤ K.failed sink.new }
+        ensures cause { IsErrOf result Stop.WriteFault → Rose (K.failed sink.old) (K.failed sink.new) }
+        ensures told { K.failed sink.old < K.failed sink.new → IsErrOf result Stop.WriteFault }
+        ensures home { K.home sink.new ≡ K.home sink.old }
+        ensures below { K.below sink.old ≤ K.below sink.new }
+    {
+        let Session {
+            machine,
+            line,
+            bad,
+            trace,
+        } = self;
+        let line = line + 1;
+        match read_line(alloc, bytes) {
+            Ok(said) => match run_said(machine, alloc, line, said, trace, sink) {
+                Ok((machine, end)) => Ok((
+                    Session {
+                        machine,
+                        line,
+                        bad,
+                        trace,
+                    },
+                    end,
+                )),
+                Err(stop) => Err(stop),
+            },
+            Err(LineRefused::Bad(fault)) => {
+                match machine.refused(alloc, line, fault, trace, sink) {
+                    Ok(machine) => Ok((
+                        Session {
+                            machine,
+                            line,
+                            bad: true,
+                            trace,
+                        },
+                        End::Replied,
+                    )),
+                    Err(stop) => Err(stop),
+                }
+            }
+            Err(LineRefused::NoMemory) => {
+                drop(machine);
+                Err(Stop::NoMemory)
+            }
+        }
+    }
+}
+
+// A part of a class is replied to by nothing.
+fn replied(done: Result<Machine, Stop>) -> Result<(Machine, End), Stop>
+    ensures done { IfOk done (λ m. result ≡ Ok (m, End.Replied)) }
+    ensures stopped { IfErr done (λ stop. result ≡ Err stop) }
+{
+    match done {
+        Ok(machine) => Ok((machine, End::Replied)),
+        Err(stop) => Err(stop),
+    }
+}
+
+// Runs what a line says.
+fn run_said<K: Sink>(
+    machine: Machine,
+    alloc: Global,
+    line: u64,
+    said: Line,
+    trace: bool,
+    sink: &mut K,
+) -> Result<(Machine, End), Stop>
+    requires { is_built (line_of said) ≡ true }
+    ensures ran { IfOk result (λ r. Did trace (K.held sink.old) (K.held sink.new) (run_line model line (Ok (line_of said)) machine.session) (outcome_of r.1 r.0.session)) }
+    ensures empty { IfOk result (λ r. r.0.session.log ≡ []) }
+    ensures part { OnErr result (AppendsPart (K.held sink.old) (K.held sink.new) (text trace (log_of (run_line model line (Ok (line_of said)) machine.session)))) }
+    ensures later { K.failed sink.old ≤ K.failed sink.new }
+    ensures cause { IsErrOf result Stop.WriteFault → Rose (K.failed sink.old) (K.failed sink.new) }
+    ensures told { K.failed sink.old < K.failed sink.new → IsErrOf result Stop.WriteFault }
+    ensures home { K.home sink.new ≡ K.home sink.old }
+    ensures below { K.below sink.old ≤ K.below sink.new }
+{
+    match said {
+        Line::Blank => Ok((machine, End::Replied)),
+        Line::Command(c) => machine.command(alloc, line, c, trace, sink),
+        Line::Part(p) => replied(machine.part(alloc, line, p, trace, sink)),
+    }
+}

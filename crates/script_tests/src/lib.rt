@@ -1,7 +1,0 @@
-//! Tests of the language: lines are read, written and copied.
-#![tactic(auto)]
-
-#[cfg(test)]
-mod values;
-#[cfg(test)]
-mod writing;
