@@ -3,13 +3,17 @@
 #![tactic(auto)]
 
 mod cuts;
-mod encoded;
 mod laws;
+mod pairs;
+mod parts;
+mod plain_text;
 mod refused;
 mod written;
 
-pub use encoded::{multipart, plain, urlencoded};
 pub use laws::{
     no_value_holds_the_boundary, only_the_frame_begins_with_the_delimiter, urlencoded_parses,
 };
+pub use pairs::urlencoded;
+pub use parts::multipart;
+pub use plain_text::plain;
 pub use refused::PartRefused;

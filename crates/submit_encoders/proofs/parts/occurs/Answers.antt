@@ -1,6 +1,6 @@
 use Rattle.std.proofs.lemmas.Str.Pattern.{contains_text}
 use Rattle.submit_encoders.proofs.Occurs.{occurs_by_search}
-use Rattle.submit_encoders.proofs.encoded.occurs.Goals as goal
+use Rattle.submit_encoders.proofs.parts.occurs.Goals as goal
 
 pub returns : goal.returns
 returns c =

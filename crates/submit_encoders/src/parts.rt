@@ -1,59 +1,12 @@
-// The three encodings.
+// Entry lists as parts of a multipart body.
 ghost use Rattle.std.specs.Prelude.{◌≡◌, ◌||◌, ◌++◌, IfOk, OnOk, codes, string_bytes};
-ghost use Rattle.form_urlencoded.specs.Form.{append_pair};
-ghost use Rattle.form_submission.specs.Encodings.{is_broken_by, occurs, multipart as multipart_body, pair_of, part, plain as plain_body, plain_line, urlencoded as urlencoded_body};
-ghost use Rattle.submit_encoders.specs.Encoded.{Encodes};
+ghost use Rattle.form_submission.specs.Encodings.{is_broken_by, multipart as multipart_body, occurs, part};
+ghost use Rattle.submit_encoders.specs.Encoded.{Encodes, part_head};
 
 use crate::refused::PartRefused;
-use crate::written::{full_text, put_name, put_text};
+use crate::written::{put_name, put_text};
 use ce_base::{Entries, Entry, NoMemory, Text};
-use form_urlencoded::Serializer;
 use std::alloc::Global;
-
-// Puts a pair behind those of a form.
-fn append_entry(alloc: Global, form: &mut Serializer, e: &Entry) -> Result<(), NoMemory>
-    ensures { OnOk result
-        (form.new ≡ record form.old { form = append_pair form.old.form (pair_of e.now).0 (pair_of e.now).1 }) }
-{
-    let name = full_text(alloc, e.name.as_str())?;
-    let value = full_text(alloc, e.value.as_str())?;
-    form.append_pair(name.as_str(), value.as_str())?;
-    Ok(())
-}
-
-/// The body of type application/x-www-form-urlencoded, which is also the query of a request by GET (URL Standard, section
-/// "application/x-www-form-urlencoded serializing").
-pub fn urlencoded(alloc: Global, list: &Entries) -> Result<Text, NoMemory>
-    ensures { IfOk result (λ body. body ≡ urlencoded_body list.now) }
-{
-    let mut form = Serializer::new(String::new(alloc));
-    for e in list.as_slice() {
-        append_entry(alloc, &mut form, e)?;
-    }
-    Ok(Text::from(form.finish()))
-}
-
-// Puts the line of an entry.
-fn put_line(body: &mut String, e: &Entry) -> Result<(), NoMemory>
-    ensures { OnOk result (string_bytes body.new ≡ string_bytes body.old ++ plain_line e.now) }
-{
-    put_text(body, e.name.as_str())?;
-    body.push_str("=")?;
-    put_text(body, e.value.as_str())?;
-    body.push_str("\r\n")?;
-    Ok(())
-}
-
-/// The body of type text/plain (HTML Standard, section "Plain text form data").
-pub fn plain(alloc: Global, list: &Entries) -> Result<Text, NoMemory>
-    ensures { IfOk result (λ body. body ≡ plain_body list.now) }
-{
-    let mut body = String::new(alloc);
-    for e in list.as_slice() {
-        put_line(&mut body, e)?;
-    }
-    Ok(Text::from(body))
-}
 
 // Puts what each line of the frame begins with.
 fn put_delimiter(body: &mut String, boundary: &str) -> Result<(), NoMemory>
@@ -64,14 +17,22 @@ fn put_delimiter(body: &mut String, boundary: &str) -> Result<(), NoMemory>
     Ok(())
 }
 
+// Puts what stands before the value in the part of an entry of this name.
+fn put_head(body: &mut String, boundary: &str, name: &str) -> Result<(), NoMemory>
+    ensures { OnOk result (string_bytes body.new ≡ string_bytes body.old ++ part_head boundary.now name.now) }
+{
+    put_delimiter(body, boundary)?;
+    body.push_str("\r\nContent-Disposition: form-data; name=\"")?;
+    put_name(body, name)?;
+    body.push_str("\"\r\n\r\n")?;
+    Ok(())
+}
+
 // Puts the part of an entry.
 fn put_part(body: &mut String, boundary: &str, e: &Entry) -> Result<(), NoMemory>
     ensures { OnOk result (string_bytes body.new ≡ string_bytes body.old ++ part boundary.now e.now) }
 {
-    put_delimiter(body, boundary)?;
-    body.push_str("\r\nContent-Disposition: form-data; name=\"")?;
-    put_name(body, e.name.as_str())?;
-    body.push_str("\"\r\n\r\n")?;
+    put_head(body, boundary, e.name.as_str())?;
     put_text(body, e.value.as_str())?;
     body.push_str("\r\n")?;
     Ok(())
