@@ -1,5 +1,5 @@
 -- A text that is cut at its first line end.
-use Rattle.std.proofs.Common.{◌≡◌, ◌<◌, ◌≤◌, ℕ, Bool, true, false, ◌&&◌, cond, List, [], ◌∷◌, ◌++◌, Some, None, length, get_or, take, drop, refl, sym, ap, ◌∙◌, subst, arith, IsUtf8, length-take, length-drop, take-append-drop, append_assoc, append-nil}
+use Rattle.std.proofs.Common.{◌≡◌, ◌+◌, ◌<◌, ◌≤◌, ℕ, Bool, true, false, ◌&&◌, cond, List, [], ◌∷◌, ◌++◌, Some, None, length, get_or, take, drop, refl, sym, ap, ◌∙◌, subst, arith, IsUtf8, length-take, length-drop, take-append-drop, append_assoc, append-nil}
 use Rattle.std.specs.Prelude.{nat_eq, nat_lt, position}
 use Rattle.std.specs.Str.{IsCharBoundary}
 use Rattle.std.specs.List.{starts_with, position_or_len}
@@ -120,16 +120,40 @@ no_line_end text none = cases (nat_lt place (length text)) refl none
     cases true is found = absurd (cc)
     cases false is found = no_end text (λ i small. fails_before_first is_newline text i 0 (omega (arith, ltb-false place (length text) is)))
 
-length-past : (text : List ℕ) → begins_with_line_end text ≡ true → length (past_line_end text) < length text
-length-past [] begins = absurd (cc)
-length-past (b ∷ rest) begins = cond_both (starts_with nat_eq (b ∷ rest) newline) (drop 2 (b ∷ rest)) rest (λ past. length past < length (b ∷ rest)) (λ _. omega (arith, length-drop 1 rest)) (λ _. omega arith)
+-- what a line end is: two bytes that are sent as they stand, or one
+record EndsBy (text rest : List ℕ) : Type 0 where
+  shorter : length rest < length text
+  full : length rest + 2 ≤ length text → text ≡ newline ++ rest
+
+newline_first : (text : List ℕ) → starts_with nat_eq text newline ≡ true → text ≡ newline ++ drop 2 text
+newline_first [] is = absurd (cc)
+newline_first (b ∷ []) is = let none : false ≡ true = (and_parts (nat_eq 13 b) false is).1 in absurd (cc)
+newline_first (b ∷ c ∷ rest) is =
+    let parts = and_parts (nat_eq 13 b) (nat_eq 10 c && true) is in
+    let feed = and_parts (nat_eq 10 c) true parts.1 in
+    rw (← eqb-true 13 b parts.0, ← eqb-true 10 c feed.0) refl
+
+ends_by : (text : List ℕ) → begins_with_line_end text ≡ true → EndsBy text (past_line_end text)
+ends_by [] begins = absurd (cc)
+ends_by (b ∷ rest) begins =
+    cond_both (starts_with nat_eq (b ∷ rest) newline) (drop 2 (b ∷ rest)) rest (EndsBy (b ∷ rest))
+    (λ is. record { shorter = omega (arith, length-drop 1 rest); full = λ _. newline_first (b ∷ rest) is })
+    (λ _. record { shorter = omega arith; full = λ long. absurd (omega (arith, long)) })
 
 pub cuts_line : (text line rest : List ℕ) (end : ℕ) → EndsLine text end → line ≡ take end text → rest ≡ past_line_end (drop end text) → CutsLine text line rest
 cuts_line text line rest end is same past =
     let parts : take end text ++ drop end text ≡ text = take-append-drop end text in
     let one : with_full_newlines text ≡ take end text ++ with_full_newlines (drop end text) = ap with_full_newlines (sym parts) ∙ full_line (take end text) (drop end text) is.line in
+    let behind = ends_by (drop end text) is.ends in
     record {
       is_line = rw same is.line;
       sent = rw (same, past) (one ∙ (ap (λ more. take end text ++ more) (sent_past (drop end text) is.ends) ∙ sym (append_assoc (take end text) newline (with_full_newlines (past_line_end (drop end text))))));
-      shorter = rw past (omega (arith, length-past (drop end text) is.ends, length-drop end text));
+      shorter = rw (same, past) (omega (arith, behind.shorter, length-take end text, length-drop end text));
+      full = λ long.
+          let long_behind : length (past_line_end (drop end text)) + 2 ≤ length (drop end text) = omega (arith, rw (same, past) at long, is.within, length-take end text, length-drop end text) in
+          rw (same, past) (sym parts ∙ (ap (λ more. take end text ++ more) (behind.full long_behind) ∙ sym (append_assoc (take end text) newline (past_line_end (drop end text)))));
     }
+
+-- a text with a full line end is sent as it stands, where what follows that is
+pub full_behind : (text line rest : List ℕ) → CutsLine text line rest → length line + length rest + 2 ≤ length text → with_full_newlines rest ≡ rest → with_full_newlines text ≡ text
+full_behind text line rest cut long is = cut.sent ∙ (ap (λ more. line ++ newline ++ more) is ∙ sym (cut.full long))

@@ -1,5 +1,5 @@
 -- Where a text is cut, so that its pieces are sent as they stand.
-use Rattle.std.specs.Prelude.{◌≡◌, ◌<◌, ◌==◌, ℕ, Bool, false, if◌then◌else◌, nat_eq, List, [], ◌∷◌, ◌++◌, drop, length}
+use Rattle.std.specs.Prelude.{◌≡◌, ◌<◌, ◌≤◌, ◌+◌, ◌==◌, ℕ, Bool, false, if◌then◌else◌, nat_eq, List, [], ◌∷◌, ◌++◌, drop, length}
 use Rattle.std.specs.List.{list_any, starts_with}
 use Rattle.form_controls.specs.Texts.{is_newline}
 use Rattle.form_submission.specs.LineEnds.{newline, with_full_newlines}
@@ -22,7 +22,8 @@ past_line_end text = if starts_with nat_eq text newline then drop 2 text else dr
 pub record CutsLine (text line rest : List ℕ) : Type 0 where
   pub is_line : has_line_end line ≡ false
   pub sent : with_full_newlines text ≡ line ++ newline ++ with_full_newlines rest
-  pub shorter : length rest < length text
+  pub shorter : length line + length rest < length text
+  pub full : length line + length rest + 2 ≤ length text → text ≡ line ++ newline ++ rest
 
 -- quotes
 

@@ -1,5 +1,5 @@
 // Writes texts as they are sent.
-ghost use Rattle.std.specs.Prelude.{◌≡◌, ◌++◌, IfOk, OnOk, false, string_bytes};
+ghost use Rattle.std.specs.Prelude.{◌≡◌, ◌++◌, IfOk, OnOk, true, false, string_bytes};
 ghost use Rattle.std.specs.Cow.{cow_str_bytes};
 ghost use Rattle.std.specs.List.{flat_map};
 ghost use Rattle.form_submission.specs.Encodings.{escaped, escaped_byte};
@@ -26,15 +26,29 @@ pub(crate) fn put_text(made: &mut String, text: &str) -> Result<(), NoMemory>
     Ok(())
 }
 
-// The text with each line end as U+000D CR U+000A LF: itself where it has none.
-#[tactic(auto, using(crate::proofs::Lines::full_one_line))]
+// Each line end of the text is U+000D CR U+000A LF, so that it is sent as it stands.
+#[tactic(auto, using(crate::proofs::Lines::full_one_line, crate::proofs::Lines::full_behind))]
+fn is_full(text: &str) -> bool
+    ensures { result ≡ true → with_full_newlines text.now ≡ text.now }
+{
+    let mut left = text;
+    while let Some((line, rest)) = cut_line(left) {
+        if left.len() - rest.len() - line.len() < 2 {
+            return false;
+        }
+        left = rest;
+    }
+    true
+}
+
+// The text with each line end as U+000D CR U+000A LF: itself where they are so.
 pub(crate) fn full_text(alloc: Global, text: &str) -> Result<CowStr<'_>, NoMemory>
     ensures { IfOk result (λ full. cow_str_bytes full ≡ with_full_newlines text.now) }
 {
-    match cut_line(text) {
-        None => Ok(CowStr::Borrowed(text)),
-        Some(_) => Ok(CowStr::Owned(full_copy(alloc, text)?)),
+    if is_full(text) {
+        return Ok(CowStr::Borrowed(text));
     }
+    Ok(CowStr::Owned(full_copy(alloc, text)?))
 }
 
 // A copy of the text with each line end as U+000D CR U+000A LF.
