@@ -1,0 +1,75 @@
+// Entry lists as bodies of requests.
+use crate::rows::{same, sides};
+use ce_base::{Entries, Entry, Text};
+use std::alloc::{AllocError, Global};
+use std::process::Abort;
+use std::test::Fail;
+use submit_encoders::{PartRefused, multipart, plain, urlencoded};
+
+// Each row is an encoding, the entries of a list, and the body. A line end is spelled ␍, ␊ or both, the empty body ∅; the
+// boundary is XX.
+const BODIES: &str =
+    r#"urlencoded full name=Ána Lee|pw=a+b=c|news=on|size=L&XL|rating=4|go=Send => full+name=%C3%81na+Lee&pw=a%2Bb%3Dc&news=on&size=L%26XL&rating=4&go=Send
+urlencoded => ∅
+plain a"␊=aXXb|u=1|v= => a"␍␊=aXXb␍␊u=1␍␊v=␍␊
+multipart => --XX--␍␊
+multipart a"␊=p␊q|u=1|v= => --XX␍␊Content-Disposition: form-data; name="a%22%0D%0A"␍␊␍␊p␍␊q␍␊--XX␍␊Content-Disposition: form-data; name="u"␍␊␍␊1␍␊--XX␍␊Content-Disposition: form-data; name="v"␍␊␍␊␍␊--XX--␍␊
+multipart a"␊=aXXb|u=1|v= => Occurs"#;
+
+// The character that a sign of the table stands for.
+fn spelled(c: char) -> char {
+    match c {
+        '␍' => '\r',
+        '␊' => '\n',
+        other => other,
+    }
+}
+
+// The text that a word spells.
+fn text_of(alloc: Global, word: &str) -> Result<Text, AllocError> {
+    let mut text = String::new(alloc);
+    for c in word.chars().filter(|c| *c != '∅') {
+        text.push(spelled(c))?;
+    }
+    Ok(Text::from(text))
+}
+
+// The list that words with bars between them spell, each a name, `=` and a value.
+fn list_of(alloc: Global, words: &str) -> Result<Entries, Fail> {
+    let mut list = Entries::make(alloc);
+    for word in words.split('|') {
+        if let Some((name, value)) = word.split_once('=') {
+            let name = text_of(alloc, name)?;
+            let value = text_of(alloc, value)?;
+            list.push(alloc, Entry { name, value })?;
+        }
+    }
+    Ok(list)
+}
+
+fn body_of(alloc: Global, encoding: &str, list: &Entries) -> Result<Text, PartRefused> {
+    match encoding {
+        "urlencoded" => Ok(urlencoded(alloc, list)?),
+        "plain" => Ok(plain(alloc, list)?),
+        _ => multipart(alloc, list, "XX"),
+    }
+}
+
+fn same_body(rt: &impl Abort, alloc: Global, row: &str) -> Result<(), Fail> {
+    let (step, want) = sides(row);
+    let (encoding, words) = step.split_once(' ').unwrap_or((step, ""));
+    match body_of(alloc, encoding, &list_of(alloc, words)?) {
+        Ok(body) => same(rt, body.as_str(), text_of(alloc, want)?.as_str(), step),
+        Err(PartRefused::Occurs) => same(rt, "Occurs", want, step),
+        Err(PartRefused::NoMemory) => same(rt, "NoMemory", want, step),
+    }
+    Ok(())
+}
+
+#[test]
+fn lists_are_sent_by_each_encoding(rt: HostRuntime) -> Result<(), Fail> {
+    for row in BODIES.lines() {
+        same_body(&rt, rt.alloc(), row)?;
+    }
+    Ok(())
+}

@@ -1,0 +1,32 @@
+// Entry lists as pairs, urlencoded.
+ghost use Rattle.std.specs.Prelude.{◌≡◌, IfOk, OnOk};
+ghost use Rattle.form_urlencoded.specs.Form.{append_pair};
+ghost use Rattle.form_submission.specs.Encodings.{pair_of, urlencoded as urlencoded_body};
+
+use crate::written::full_text;
+use ce_base::{Entries, Entry, NoMemory, Text};
+use form_urlencoded::Serializer;
+use std::alloc::Global;
+
+// Puts a pair behind those of a form.
+fn append_entry(alloc: Global, form: &mut Serializer, e: &Entry) -> Result<(), NoMemory>
+    ensures { OnOk result
+        (form.new ≡ record form.old { form = append_pair form.old.form (pair_of e.now).0 (pair_of e.now).1 }) }
+{
+    let name = full_text(alloc, e.name.as_str())?;
+    let value = full_text(alloc, e.value.as_str())?;
+    form.append_pair(name.as_str(), value.as_str())?;
+    Ok(())
+}
+
+/// The body of type application/x-www-form-urlencoded, which is also the query of a request by GET (URL Standard, section
+/// "application/x-www-form-urlencoded serializing").
+pub fn urlencoded(alloc: Global, list: &Entries) -> Result<Text, NoMemory>
+    ensures { IfOk result (λ body. body ≡ urlencoded_body list.now) }
+{
+    let mut form = Serializer::new(String::new(alloc));
+    for e in list.as_slice() {
+        append_entry(alloc, &mut form, e)?;
+    }
+    Ok(Text::from(form.finish()))
+}
