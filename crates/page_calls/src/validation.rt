@@ -31,13 +31,7 @@ pub(crate) fn flags(page: &Page, n: NodeNo) -> Result<Flags, NoMemory>
     if !page.is_settled() {
         return Err(NoMemory);
     }
-    Ok(validity::flags(
-        page.tree(),
-        page.owners(),
-        page.controls(),
-        page.inner(),
-        n,
-    ))
+    Ok(validity::flags(page.tree(), page.owners(), page.controls(), page.inner(), n))
 }
 
 /// The message of a submittable element: that of its internals, where it is a form-associated custom element, else the custom
