@@ -2,4 +2,5 @@ pub mod Asked
 pub mod Commands
 pub mod Given
 pub mod Ready
+pub mod Refusals
 pub mod Resolved
