@@ -1,5 +1,6 @@
 // A script that comes in pieces: each is run before the next is asked for.
 ghost use Rattle.std.specs.Prelude.{◌≡◌, ◌≤◌, ◌<◌, length, IfOk, vec_len};
+ghost use Rattle.script_runner.specs.declared.words.Meaning.TheVariants.{Script};
 ghost use Rattle.script_runner.specs.Table.{RunMeets, piece, status_of};
 
 use crate::answers::{finish, take_piece};
@@ -26,7 +27,7 @@ pub fn run_script<S: Source, K: Sink>(
     source: &mut S,
     sink: &mut K,
 ) -> Result<Status, Stop>
-    ensures table { RunMeets (Meaning.Script options) (status_of result) (S.left source.old) (S.left source.new) (K.held sink.old) (K.held sink.new)
+    ensures table { RunMeets (Script options) (status_of result) (S.left source.old) (S.left source.new) (K.held sink.old) (K.held sink.new)
         (S.ended source.new) (S.failed source.old) (S.failed source.new) (K.failed sink.old) (K.failed sink.new) }
     ensures later { (S.failed source.old ≤ S.failed source.new) × (K.failed sink.old ≤ K.failed sink.new) }
     ensures read_fault { S.failed source.old < S.failed source.new → status_of result ≡ Status.ReadFault }
@@ -51,7 +52,7 @@ fn run_pieces<S: Source, K: Sink>(
     sink: &mut K,
 ) -> Result<Status, Stop>
     requires { length buffer.old ≡ piece }
-    ensures table { RunMeets (Meaning.Script options) (status_of result) (S.left source.old) (S.left source.new) (K.held sink.old) (K.held sink.new)
+    ensures table { RunMeets (Script options) (status_of result) (S.left source.old) (S.left source.new) (K.held sink.old) (K.held sink.new)
         (S.ended source.new) (S.failed source.old) (S.failed source.new) (K.failed sink.old) (K.failed sink.new) }
     ensures later { (S.failed source.old ≤ S.failed source.new) × (K.failed sink.old ≤ K.failed sink.new) }
     ensures read_fault { S.failed source.old < S.failed source.new → status_of result ≡ Status.ReadFault }
