@@ -1,7 +1,6 @@
 -- Counts of faults, where each fault that is counted is told.
 use Rattle.std.proofs.Common.{◌≡◌, ◌<◌, ◌≤◌, ℕ, arith}
-use Rattle.std.specs.Prelude.{Result, Ok, Err}
-use Rattle.ce_base.specs.declared.outside.Got.{Got}
+use Rattle.std.specs.Prelude.{Ok, Err}
 use Rattle.ce_base.specs.declared.outside.Got.TheVariants.{Bytes, Failed}
 
 -- the count has not risen where the call went well

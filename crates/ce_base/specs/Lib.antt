@@ -4,3 +4,4 @@ pub mod Faults
 pub mod Outside
 pub mod Standard
 pub mod Sure
+pub mod Texts

@@ -1,5 +1,6 @@
 // A list of entries.
-ghost use Rattle.std.specs.Prelude.{◌≡◌, ◌++◌, ◌∷◌, [], length, IfOk, OnOk, option_copied, slice_get};
+ghost use Rattle.std.specs.Prelude.{◌≡◌, ◌++◌, ◌∷◌, [], length, All, IfOk, OnOk, option_copied, slice_get};
+ghost use Rattle.ce_base.specs.Texts.{HasTexts};
 
 use crate::{NoMemory, Text};
 use std::alloc::Global;
@@ -25,21 +26,32 @@ impl Entry {
             value: self.value.copy(alloc)?,
         })
     }
+
+    // Tells that the name and the value are texts. It does nothing.
+    fn has_texts(&self)
+        ensures { HasTexts self.now }
+    {
+        let _name = self.name.as_str();
+        let _value = self.value.as_str();
+    }
 }
 
-/// A list of entries.
+/// A list of entries, whose names and values are UTF-8.
 #[derive(Debug, Drop)]
 pub struct Entries {
     items: Vec<Entry>,
 }
 
 impl Model for Entries {
-    ghost use Rattle.std.specs.Prelude.{List};
+    ghost use Rattle.std.specs.Prelude.{All, List};
+    ghost use Rattle.ce_base.specs.Texts.{HasTexts};
     ghost use Rattle.ce_base.specs.declared.entries.Entry.{Entry};
 
     ghost Value = { List Entry };
 
     ghost view = { λ e. e.items.items };
+
+    ghost invariant = { λ e. All HasTexts e.items.items };
 }
 
 impl Entries {
@@ -56,6 +68,7 @@ impl Entries {
     pub fn push(&mut self, alloc: Global, e: Entry) -> Result<(), NoMemory>
         ensures { OnOk result (self.new ≡ self.old ++ e ∷ []) }
     {
+        e.has_texts();
         self.items.push(e)?;
         Ok(())
     }
@@ -76,7 +89,8 @@ impl Entries {
 
     /// The entries, borrowed.
     pub fn as_slice(&self) -> &[Entry]
-        ensures { result.now ≡ self.now }
+        ensures same { result.now ≡ self.now }
+        ensures texts { All HasTexts self.now }
     {
         self.items.as_slice()
     }

@@ -1,5 +1,5 @@
 -- The entry list of a form (HTML Standard, section "Constructing the entry list").
-use Rattle.std.specs.Prelude.{ℕ, Bool, not, ◌&&◌, ◌||◌, if◌then◌else◌, List, [], ◌∷◌, codes, map, filter, flat_map, Option, IsUtf8}
+use Rattle.std.specs.Prelude.{ℕ, Bool, not, ◌&&◌, ◌||◌, if◌then◌else◌, List, [], ◌∷◌, codes, map, filter, flat_map, Option}
 use Rattle.std.specs.Str.{str_eq_ignore_ascii_case}
 use Rattle.ce_base.specs.declared.entries.Entry.{Entry}
 use Rattle.element_names.specs.declared.natives.Native.TheVariants.{Select}
@@ -22,10 +22,6 @@ use Rattle.form_controls.specs.Barred.{is_in_datalist}
 -- "create an entry"
 abbrev pub entry : List ℕ → List ℕ → Entry
 entry name value = record { name = name; value = value }
-
--- its name and its value are texts
-abbrev pub HasTexts : Entry → Type 0
-HasTexts e = IsUtf8 e.name × IsUtf8 e.value
 
 -- who is passed over
 

@@ -4,7 +4,7 @@ use Rattle.std.proofs.lemmas.List.Elements.{All-map, All-weaker}
 use Rattle.form_urlencoded.specs.Form.{parse}
 use Rattle.form_urlencoded.proofs.FormLemmas.{IsBytePair, round_trip}
 use Rattle.ce_base.specs.declared.entries.Entry.{Entry}
-use Rattle.form_submission.specs.EntryList.{HasTexts}
+use Rattle.ce_base.specs.Texts.{HasTexts}
 use Rattle.form_submission.specs.Encodings.{pair_of, urlencoded}
 use Rattle.form_submission.specs.LineEnds.{with_full_newlines}
 use Rattle.form_submission.proofs.Characters.{bytes-IsUtf8}

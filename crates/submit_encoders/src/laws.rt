@@ -1,20 +1,11 @@
 // What holds of the encodings: statements, each proved as the contract of a function that does nothing.
-ghost use Rattle.std.specs.Prelude.{◌≡◌, ◌++◌, ◌∷◌, [], ℕ, List, All, codes, false, map};
+ghost use Rattle.std.specs.Prelude.{◌≡◌, ◌++◌, ◌∷◌, [], ℕ, List, codes, false, map};
 ghost use Rattle.std.specs.List.{list_any};
 ghost use Rattle.ce_base.specs.declared.entries.Entry.{Entry};
-ghost use Rattle.form_urlencoded.specs.Form.{parse};
-ghost use Rattle.form_submission.specs.EntryList.{HasTexts};
-ghost use Rattle.form_submission.specs.Encodings.{is_broken_by, multipart, occurs, pair_of, urlencoded};
+ghost use Rattle.form_submission.specs.Encodings.{is_broken_by, multipart, occurs};
 ghost use Rattle.form_submission.specs.LineEnds.{with_full_newlines};
 ghost use Rattle.submit_encoders.specs.Cuts.{has_line_end};
 ghost use Rattle.submit_encoders.specs.Lines.{delimiter, delimiting_lines};
-
-/// What is written urlencoded parses as the list, with the line ends of its names and values as they are sent (URL Standard,
-/// section "application/x-www-form-urlencoded parsing").
-#[tactic(auto, using(crate::proofs::Parsed::urlencoded_back))]
-pub fn urlencoded_parses()
-    ensures { (entries : List Entry) → All HasTexts entries → parse (urlencoded entries) ≡ map pair_of entries }
-{}
 
 /// A boundary of one line that stands in no name and no value, as the list has them, stands in no value as it is sent.
 #[tactic(auto, using(crate::proofs::Free::no_value_holds))]

@@ -10,9 +10,7 @@ mod plain_text;
 mod refused;
 mod written;
 
-pub use laws::{
-    no_value_holds_the_boundary, only_the_frame_begins_with_the_delimiter, urlencoded_parses,
-};
+pub use laws::{no_value_holds_the_boundary, only_the_frame_begins_with_the_delimiter};
 pub use pairs::urlencoded;
 pub use parts::multipart;
 pub use plain_text::plain;

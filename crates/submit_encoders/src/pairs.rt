@@ -1,6 +1,6 @@
 // Entry lists as pairs, urlencoded.
-ghost use Rattle.std.specs.Prelude.{◌≡◌, IfOk, OnOk};
-ghost use Rattle.form_urlencoded.specs.Form.{append_pair};
+ghost use Rattle.std.specs.Prelude.{◌≡◌, IfOk, OnOk, map};
+ghost use Rattle.form_urlencoded.specs.Form.{append_pair, parse};
 ghost use Rattle.form_submission.specs.Encodings.{pair_of, urlencoded as urlencoded_body};
 
 use crate::written::full_text;
@@ -19,14 +19,23 @@ fn append_entry(alloc: Global, form: &mut Serializer, e: &Entry) -> Result<(), N
     Ok(())
 }
 
-/// The body of type application/x-www-form-urlencoded, which is also the query of a request by GET (URL Standard, section
-/// "application/x-www-form-urlencoded serializing").
-pub fn urlencoded(alloc: Global, list: &Entries) -> Result<Text, NoMemory>
+// The pairs of these entries, as text.
+fn serialized(alloc: Global, list: &[Entry]) -> Result<Text, NoMemory>
     ensures { IfOk result (λ body. body ≡ urlencoded_body list.now) }
 {
     let mut form = Serializer::new(String::new(alloc));
-    for e in list.as_slice() {
+    for e in list {
         append_entry(alloc, &mut form, e)?;
     }
     Ok(Text::from(form.finish()))
+}
+
+/// The body of type application/x-www-form-urlencoded, which is also the query of a request by GET (URL Standard, section
+/// "application/x-www-form-urlencoded serializing"). It parses as the list, with the line ends of its names and values as
+/// they are sent (section "application/x-www-form-urlencoded parsing").
+pub fn urlencoded(alloc: Global, list: &Entries) -> Result<Text, NoMemory>
+    ensures body { IfOk result (λ body. body ≡ urlencoded_body list.now) }
+    ensures parses { IfOk result (λ body. parse body ≡ map pair_of list.now) }
+{
+    serialized(alloc, list.as_slice())
 }
