@@ -1,7 +1,6 @@
 // Who is passed over.
 ghost use Rattle.std.specs.Prelude.{◌≡◌};
 ghost use Rattle.node_trees.specs.Nodes.{IsNode};
-ghost use Rattle.form_controls.specs.Kinds.{is_button};
 ghost use Rattle.form_controls.specs.Owners.{Forms};
 ghost use Rattle.form_owner.specs.Stands.{Stands, StandsFor};
 ghost use Rattle.form_submission.specs.EntryList.{is_skipped};
@@ -9,20 +8,9 @@ ghost use Rattle.form_submission.specs.EntryList.{is_skipped};
 use ce_base::NodeNo;
 use checkedness::is_checked;
 use control_state::ControlTable;
-use element_names::InputKind;
-use form_kinds::{has_kind, is_tickable};
+use form_kinds::{is_button, is_tickable};
 use form_owner::{OwnerTable, is_in_datalist};
 use node_arena::Tree;
-
-/// Whether a node is a button (HTML Standard, section "Categories").
-fn is_button(tree: &Tree, n: NodeNo) -> bool
-    requires { IsNode tree.now n }
-    ensures { result ≡ is_button tree.now n }
-{
-    has_kind(tree, n, InputKind::Submit)
-        || has_kind(tree, n, InputKind::Reset)
-        || has_kind(tree, n, InputKind::Button)
-}
 
 /// Whether an element is passed over: it is below a datalist, disabled, a button that is not the submitter, or a checkbox or a
 /// radio button that is not checked.

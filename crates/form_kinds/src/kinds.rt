@@ -2,7 +2,7 @@
 ghost use Rattle.std.specs.Prelude.{◌≡◌, option_copied};
 ghost use Rattle.element_names.specs.InputKinds.{button_kind};
 ghost use Rattle.node_trees.specs.Nodes.{IsNode};
-ghost use Rattle.form_controls.specs.Kinds.{has_kind, is_a, is_text_control, is_tickable, kind_of, native_at};
+ghost use Rattle.form_controls.specs.Kinds.{has_kind, is_a, is_button, is_text_control, is_tickable, kind_of, native_at};
 
 use ce_base::NodeNo;
 use element_names::{InputKind, Native, input_kind, native};
@@ -74,4 +74,15 @@ pub fn is_tickable(tree: &Tree, n: NodeNo) -> bool
     ensures { result ≡ is_tickable tree.now n }
 {
     has_kind(tree, n, InputKind::Checkbox) || has_kind(tree, n, InputKind::Radio)
+}
+
+/// Whether a node is a button: one that submits, one that resets, or one that does nothing by itself (HTML Standard, section
+/// "Categories").
+pub fn is_button(tree: &Tree, n: NodeNo) -> bool
+    requires { IsNode tree.now n }
+    ensures { result ≡ is_button tree.now n }
+{
+    has_kind(tree, n, InputKind::Submit)
+        || has_kind(tree, n, InputKind::Reset)
+        || has_kind(tree, n, InputKind::Button)
 }

@@ -6,4 +6,4 @@ mod attributes;
 mod kinds;
 
 pub use attributes::{has_attribute, has_disabled, is_option_disabled, name_of};
-pub use kinds::{has_kind, is_a, is_text_control, is_tickable, kind_of, native_at};
+pub use kinds::{has_kind, is_a, is_button, is_text_control, is_tickable, kind_of, native_at};

@@ -7,7 +7,7 @@ use Rattle.std.proofs.lemmas.List.Elements.{All-map, All-filter, All-nil, All-co
 use Rattle.std.proofs.lemmas.List.FromFn.{length-range_with_len, get_or-range_with_len}
 use Rattle.element_names.specs.declared.natives.Native.TheVariants.{Form, OptionItem}
 use Rattle.node_trees.specs.Trees.{Trees, none, is_number}
-use Rattle.node_trees.specs.Nodes.{times, size, IsNode, IsTidy}
+use Rattle.node_trees.specs.Nodes.{times, size, IsNode, IsNodeOrNone, IsTidy}
 use Rattle.node_trees.specs.Orders.{tree_order_of}
 use Rattle.node_trees.specs.Paths.{is_among, root_at, connected}
 use Rattle.node_trees.specs.Ids.{first_with_id}
@@ -101,6 +101,21 @@ owner-form f n k e = by_test (is_listed f n) e
     by_test : (b : Bool) → cond b (owner_by f.forest n (attribute_at f.forest n (codes "form"))) None ≡ Some k → is_a Form f.forest k ≡ true
     by_test true i = owner-by-form f.forest n (attribute_at f.forest n (codes "form")) k i
     by_test false i = absurd cc
+
+-- so it is a node
+
+form-node : (f : Trees) (k : ℕ) → IsTidy f → is_a Form f k ≡ true → IsNode f k
+form-node f k tidy is = elim (cases_lt 0 (times k f)) [
+  | inl low ↦ tidy.only k low
+  | inr z ↦
+      let gone : facts_at f k ≡ facts_at none 0 = ap (λ v. (or_no_spot v).facts) (spot-absent None None k f (omega arith)) in
+      let no : is_a Form f k ≡ false = rw gone refl in
+      absurd cc
+]
+
+pub owner-node : (f : Forms) (n : ℕ) (o : Option ℕ) → IsTidy f.forest → o ≡ form_owner f n → IsNodeOrNone f.forest o
+owner-node f n None tidy e = tt
+owner-node f n (Some k) tidy e = form-node f.forest k tidy (owner-form f n k (sym e))
 
 -- the controls of a form are nodes
 

@@ -2,7 +2,7 @@
 ghost use Rattle.std.specs.Prelude.{◌≡◌, All, []};
 ghost use Rattle.node_trees.specs.declared.kind.NodeKind.TheVariants.{Document};
 ghost use Rattle.node_trees.specs.Facts.{blank};
-ghost use Rattle.node_trees.specs.Nodes.{IsNode, IsTidy};
+ghost use Rattle.node_trees.specs.Nodes.{IsNode, IsNodeOrNone, IsTidy};
 ghost use Rattle.node_trees.specs.Trees.{single};
 ghost use Rattle.form_controls.specs.Disabled.{is_disabled};
 ghost use Rattle.form_controls.specs.Owners.{Forms, controls_of, form_owner, is_associated, is_submittable};
@@ -45,7 +45,8 @@ impl OwnerTable {
     /// The form owner of a node (HTML Standard, section "Association of controls and forms", "form owner"). None exactly
     /// where it has none.
     pub fn owner(&self, n: NodeNo) -> Option<NodeNo>
-        ensures { (f : Forms) → Stands self.now f → IsNode f.forest n → result ≡ form_owner f n }
+        ensures owner { (f : Forms) → Stands self.now f → IsNode f.forest n → result ≡ form_owner f n }
+        ensures node { (f : Forms) → Stands self.now f → IsTidy f.forest → IsNode f.forest n → IsNodeOrNone f.forest result }
     {
         owner_in(&self.rows, n)
     }
