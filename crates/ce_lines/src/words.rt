@@ -28,7 +28,6 @@ pub(crate) fn bad_word(bad: Bad) -> &'static str
         Bad::Word => "word",
         Bad::Arity => "arity",
         Bad::Place => "place",
-        Bad::Later => "later",
     }
 }
 

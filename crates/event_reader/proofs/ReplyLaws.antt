@@ -7,7 +7,7 @@ use Rattle.std.proofs.lemmas.List.{append-nil}
 use Rattle.ce_base.specs.declared.fault.Fault.{Fault}
 use Rattle.ce_base.specs.declared.fault.Fault.TheVariants.{TypeError, ReferenceError, SyntaxError, NotSupportedError, HierarchyRequestError, NotFoundError, InvalidCharacterError, UserThrow}
 use Rattle.rule_tokens.specs.declared.refused.Bad.{Bad}
-use Rattle.rule_tokens.specs.declared.refused.Bad.TheVariants.{Long, Utf8, Quote, Escape, Word, Arity, Place, Later}
+use Rattle.rule_tokens.specs.declared.refused.Bad.TheVariants.{Long, Utf8, Quote, Escape, Word, Arity, Place}
 use Rattle.rule_tokens.specs.declared.token.Token.{Token}
 use Rattle.rule_tokens.specs.Laws.{FlagsAreNamed}
 use Rattle.rule_tokens.specs.Spaced.{AreClean, IsClean, as_line, spaced as spaced_tokens}
@@ -105,7 +105,6 @@ bad_clean Escape = word_clean (codes "escape") refl
 bad_clean Word = word_clean (codes "word") refl
 bad_clean Arity = word_clean (codes "arity") refl
 bad_clean Place = word_clean (codes "place") refl
-bad_clean Later = word_clean (codes "later") refl
 
 bad_back : (b : Bad) → bad_named (bad_word b) ≡ Some b
 bad_back Long = refl
@@ -115,7 +114,6 @@ bad_back Escape = refl
 bad_back Word = refl
 bad_back Arity = refl
 bad_back Place = refl
-bad_back Later = refl
 
 pub told_was_bad : (line : ℕ) (b : Bad) → IsNumber line → IsTold (WasBad line b)
 told_was_bad line b fits = told_reply (WasBad line b) (WasBad line b) line (bare (codes "bad") ∷ bare (bad_word b) ∷ []) (codes "bad " ++ bad_word b) fits refl

@@ -3,7 +3,7 @@ use Rattle.std.specs.Prelude.{ℕ, Bool, ◌||◌, not, codes, if◌then◌else�
 use Rattle.std.specs.Option.{option_map}
 use Rattle.std.specs.Str.{bytes_eq}
 use Rattle.rule_tokens.specs.declared.refused.Bad.{Bad}
-use Rattle.rule_tokens.specs.declared.refused.Bad.TheVariants.{Long, Utf8, Quote, Escape, Word, Arity, Place, Later}
+use Rattle.rule_tokens.specs.declared.refused.Bad.TheVariants.{Long, Utf8, Quote, Escape, Word, Arity, Place}
 use Rattle.rule_tokens.specs.declared.token.Token.{Token}
 use Rattle.ce_events.specs.declared.event.Answer.{Answer}
 use Rattle.ce_events.specs.declared.event.Answer.TheVariants.{Node as NodeAnswer}
@@ -21,8 +21,7 @@ bad_named word =
     else (if bytes_eq word (codes "word") then Some Word
     else (if bytes_eq word (codes "arity") then Some Arity
     else (if bytes_eq word (codes "place") then Some Place
-    else (if bytes_eq word (codes "later") then Some Later
-    else None)))))))
+    else None))))))
 
 abbrev pub was_bad_of : ℕ → List Token → Option Event
 was_bad_of line (word ∷ []) = option_map (WasBad line) (bad_named word.text)

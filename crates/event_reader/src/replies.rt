@@ -22,7 +22,6 @@ fn bad_named(word: &str) -> Option<Bad>
         "word" => Some(Bad::Word),
         "arity" => Some(Bad::Arity),
         "place" => Some(Bad::Place),
-        "later" => Some(Bad::Later),
         _ => None,
     }
 }

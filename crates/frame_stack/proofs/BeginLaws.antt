@@ -153,7 +153,7 @@ module _ (homes : Homes) (chains : List (List ℕ)) (frames : List Held) (k : �
       (subst (λ n. AreChained (length homes) (linked k n chains) (left ++ Body k p (taken (topmost k chains) k homes frames) ∷ [])) (left_length frames k (topmost k chains) where_it_is) more))
 
   pub begin_order : AreInOrder new_homes (linked k (length frames) chains) new_frames
-  begin_order = in_order new_homes (linked k (length frames) chains) new_frames (placed_from 0 frames homes) stands chained o.built
+  begin_order = in_order new_homes (linked k (length frames) chains) new_frames (placed_from 0 frames homes) stands chained
 
   pub begin_behaviours : behaviours_of (record { homes = new_homes; frames = new_frames }) ≡ behaviours_of (record { homes = homes; frames = frames })
   begin_behaviours = behaviours_are new_homes new_frames (placed_from 0 frames homes) stands ∙ sym (behaviours_are homes frames (placed_from 0 frames homes) o.placed)
@@ -175,7 +175,7 @@ module _ (homes : Homes) (chains : List (List ℕ)) (frames : List Held) (k : �
 
   pub unknown_order : AreInOrder homes chains (frames ++ Body k p None ∷ [])
   unknown_order = in_order homes chains (frames ++ Body k p None ∷ []) (placed_from 0 frames homes) stays
-      (chained_known (length homes) chains frames (frames ++ Body k p None ∷ []) (λ j w. unknown_indices (length homes) k j frames p None past w) o.chained) o.built
+      (chained_known (length homes) chains frames (frames ++ Body k p None ∷ []) (λ j w. unknown_indices (length homes) k j frames p None past w) o.chained)
 
   pub unknown_behaviours : behaviours_of (record { homes = homes; frames = frames ++ Body k p None ∷ [] }) ≡ behaviours_of (record { homes = homes; frames = frames })
   unknown_behaviours = behaviours_are homes (frames ++ Body k p None ∷ []) (placed_from 0 frames homes) stays ∙ sym (behaviours_are homes frames (placed_from 0 frames homes) o.placed)

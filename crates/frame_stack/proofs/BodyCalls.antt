@@ -15,12 +15,13 @@ use Rattle.body_frames.specs.Resumes.{FrameResumes, IsSameBody}
 use Rattle.frame_stack.specs.Frames.{class_in, is_body}
 use Rattle.frame_stack.specs.Moves.{frames_filled, frames_left, holding_at, homes_filled, homes_left, taken}
 use Rattle.frame_stack.specs.Order.{AreInOrder}
-use Rattle.frame_stack.specs.Resumes.{IsBuiltStop, Proceeds, Resumes}
+use Rattle.frame_stack.specs.Resumes.{IsForSession, Proceeds, Resumes}
 use Rattle.frame_stack.specs.Stacked.{Stacked, actions_at, behaviours_of, below_top, frames_of}
 use Rattle.frame_stack.proofs.BeginLaws.{begin_behaviours, begin_frames, begin_order, below_there, unknown_behaviours, unknown_frames, unknown_order}
 use Rattle.frame_stack.proofs.EndLaws.{end_behaviours, end_frames, end_order, gone_behaviours, gone_frames, gone_order, has_home, room_below}
-use Rattle.frame_stack.proofs.ResumeLaws.{resume_built, resume_order, resume_resumes}
+use Rattle.frame_stack.proofs.ResumeLaws.{resume_order, resume_resumes}
 use Rattle.frame_stack.proofs.SpendLaws.{resumes_spends}
+use Rattle.frame_stack.proofs.StopLaws.{resumes_stops}
 use Rattle.frame_stack.proofs.Tops.{AtTop, stacked}
 
 -- a body begins
@@ -84,8 +85,9 @@ module _ (homes : Homes) (chains : List (List ℕ)) (frames : List Held) (i : �
   pub has_resumed : (r : Result Next NoMemory) → IfOk r (FrameResumes f g before after) → IfOk r (Resumes now (stacked homes (slice_set frames i g)) before after)
   has_resumed r h = IfOk-weaker r (FrameResumes f g before after) (Resumes now (stacked homes (slice_set frames i g)) before after) resumes h
 
-  pub has_built : (r : Result Next NoMemory) → IfOk r (FrameResumes f g before after) → IfOk r (λ (next : Next). IsBuiltStop (stop_of next))
-  has_built r h = IfOk-weaker r (FrameResumes f g before after) (λ (next : Next). IsBuiltStop (stop_of next)) (λ next e. resume_built homes chains top.front f g before after next front_order e) h
+  pub has_stopped : (r : Result Next NoMemory) → IfOk r (FrameResumes f g before after) → IfOk r (λ (next : Next). IsForSession (stop_of next))
+  has_stopped r h = IfOk-weaker r (FrameResumes f g before after) (λ (next : Next). IsForSession (stop_of next))
+      (λ next e. resumes_stops now (stacked homes (slice_set frames i g)) before after next (resumes next e)) h
 
   pub has_spent : (r : Result Next NoMemory) → IfOk r (FrameResumes f g before after) → IfOk r (λ (next : Next). Proceeds (stop_of next) → after < before)
   has_spent r h = IfOk-weaker r (FrameResumes f g before after) (λ (next : Next). Proceeds (stop_of next) → after < before)

@@ -7,7 +7,6 @@ use Rattle.std.proofs.lemmas.List.{map-append}
 use Rattle.ce_base.specs.declared.memory.NoMemory.{NoMemory}
 use Rattle.rule_tokens.specs.declared.callback.CallName.{CallName}
 use Rattle.rule_lines.specs.Acts.{Act}
-use Rattle.rule_script.specs.Built.{is_built_act}
 use Rattle.ce_frames.specs.Places.{Behaviour, Held, Homes, Stands, home_of}
 use Rattle.ce_frames.proofs.Moves.{all_home, at_home, home_there}
 use Rattle.behaviours.specs.Behaviours.{extended, extended_at, new_behaviour, with_action}
@@ -15,7 +14,6 @@ use Rattle.frame_stack.specs.Chains.{AreChained}
 use Rattle.frame_stack.specs.Changes.{extended as extended_in}
 use Rattle.frame_stack.specs.Order.{AreInOrder}
 use Rattle.frame_stack.specs.Stacked.{Stacked, behaviour_at, behaviours_of, placed_from}
-use Rattle.frame_stack.proofs.BuiltLaws.{behaviour_built, class_built, more_built, set_built}
 use Rattle.frame_stack.proofs.Settled.{behaviours_are, in_order}
 
 -- all behaviours are at home
@@ -73,7 +71,7 @@ module _ (homes : Homes) (chains : List (List ℕ)) (frames : List Held) (o : Ar
       (subst (λ n. AreChained n (chains ++ [] ∷ []) []) (sym many) (more_chains (length homes) chains (subst (AreChained (length homes) chains) none o.chained)))
 
   pub add_order : AreInOrder (homes ++ Some new_behaviour ∷ []) (chains ++ [] ∷ []) frames
-  add_order = in_order (homes ++ Some new_behaviour ∷ []) (chains ++ [] ∷ []) frames (bs ++ new_behaviour ∷ []) more_stands more_chained (class_built bs new_behaviour o.built refl)
+  add_order = in_order (homes ++ Some new_behaviour ∷ []) (chains ++ [] ∷ []) frames (bs ++ new_behaviour ∷ []) more_stands more_chained
 
   pub add_behaviours : behaviours_of (record { homes = homes ++ Some new_behaviour ∷ []; frames = frames }) ≡ behaviours_of (record { homes = homes; frames = frames }) ++ new_behaviour ∷ []
   add_behaviours =
@@ -97,7 +95,7 @@ unfolding behaviours_of
 extend_home homes chains frames k o none within =
     ap (λ (h : Homes). is_some (home_of h k)) (homes_are homes chains frames o none) ∙ ap is_some (home_there (placed_from 0 frames homes) k ∙ behaviour_there (placed_from 0 frames homes) k within)
 
-module _ (homes : Homes) (chains : List (List ℕ)) (frames : List Held) (k : ℕ) (call : CallName) (action : Act) (o : AreInOrder homes chains frames) (none : frames ≡ []) (within : k < length (placed_from 0 frames homes)) (built : is_built_act action ≡ true) where
+module _ (homes : Homes) (chains : List (List ℕ)) (frames : List Held) (k : ℕ) (call : CallName) (action : Act) (o : AreInOrder homes chains frames) (none : frames ≡ []) (within : k < length (placed_from 0 frames homes)) where
   abbrev all : List Behaviour
   all = placed_from 0 frames homes
 
@@ -124,10 +122,8 @@ module _ (homes : Homes) (chains : List (List ℕ)) (frames : List Held) (k : �
 
   pub extend_order : AreInOrder (extended_at k call action homes) chains frames
   extend_order =
-      let b = behaviour_built all k (behaviour_at k all) o.built (behaviour_there all k within) in
       in_order (extended_at k call action homes) chains frames longer longer_stands
       (subst (λ n. AreChained n chains frames) (sym same_length) o.chained)
-      (set_built all k (with_action call action (behaviour_at k all)) o.built (more_built (behaviour_at k all).bodies (call, action) b built))
 
   pub extend_behaviours : behaviours_of (record { homes = extended_at k call action homes; frames = frames }) ≡ extended_in k call action (behaviours_of (record { homes = homes; frames = frames }))
   extend_behaviours =
@@ -136,7 +132,7 @@ module _ (homes : Homes) (chains : List (List ℕ)) (frames : List Held) (k : �
 
 -- an action comes to a class's body, unless memory is refused
 
-module _ (homes : Homes) (chains : List (List ℕ)) (frames : List Held) (k : ℕ) (call : CallName) (action : Act) (now : Stacked) (view : record { homes = homes; frames = frames } ≡ now) (o : AreInOrder homes chains frames) (empty : now.frames ≡ []) (within : k < length (behaviours_of now)) (built : is_built_act action ≡ true) where
+module _ (homes : Homes) (chains : List (List ℕ)) (frames : List Held) (k : ℕ) (call : CallName) (action : Act) (now : Stacked) (view : record { homes = homes; frames = frames } ≡ now) (o : AreInOrder homes chains frames) (empty : now.frames ≡ []) (within : k < length (behaviours_of now)) where
   none_there : frames ≡ []
   none_there = ap (λ (s : Stacked). s.frames) view ∙ empty
 
@@ -147,10 +143,10 @@ module _ (homes : Homes) (chains : List (List ℕ)) (frames : List Held) (k : �
   has_home_there = extend_home homes chains frames k o none_there (subst (λ (s : Stacked). k < length (behaviours_of s)) (sym view) within)
 
   pub extended_order : (r : Result (Unit {0}) NoMemory) (homes1 : Homes) → OnOk r (homes1 ≡ extended_at k call action homes) → OnErr r (homes1 ≡ homes) → AreInOrder homes1 chains frames
-  extended_order (Ok u) homes1 on off = subst (λ (h : Homes). AreInOrder h chains frames) (sym on) (extend_order homes chains frames k call action o none_there class_in built)
+  extended_order (Ok u) homes1 on off = subst (λ (h : Homes). AreInOrder h chains frames) (sym on) (extend_order homes chains frames k call action o none_there class_in)
   extended_order (Err e) homes1 on off = subst (λ (h : Homes). AreInOrder h chains frames) (sym off) o
 
   pub extended_behaviours : (r : Result (Unit {0}) NoMemory) (homes1 : Homes) → OnOk r (homes1 ≡ extended_at k call action homes) → OnOk r (behaviours_of (record { homes = homes1; frames = frames }) ≡ extended_in k call action (behaviours_of now))
   extended_behaviours (Ok u) homes1 on =
-      ap (λ (h : Homes). behaviours_of (record { homes = h; frames = frames })) on ∙ extend_behaviours homes chains frames k call action o none_there class_in built ∙ ap (λ (s : Stacked). extended_in k call action (behaviours_of s)) view
+      ap (λ (h : Homes). behaviours_of (record { homes = h; frames = frames })) on ∙ extend_behaviours homes chains frames k call action o none_there class_in ∙ ap (λ (s : Stacked). extended_in k call action (behaviours_of s)) view
   extended_behaviours (Err e) homes1 on = tt

@@ -93,7 +93,7 @@ module _ (homes : Homes) (chains : List (List ℕ)) (frames : List Held) (k : �
   pub end_order : AreInOrder (homes_filled below k b homes) (unlinked k chains) (frames_filled below b frames)
   end_order = in_order (homes_filled below k b homes) (unlinked k chains) (frames_filled below b frames) all stands
       (subst (λ n. AreChained n (unlinked k chains) (frames_filled below b frames)) (sym (filled_homes homes frames k b below where_it_goes))
-      (chained_as (length homes) (unlinked k chains) frames (frames_filled below b frames) (λ j. ended_indices frames k j b below where_it_goes) left_chained)) o.built
+      (chained_as (length homes) (unlinked k chains) frames (frames_filled below b frames) (λ j. ended_indices frames k j b below where_it_goes) left_chained))
 
   pub end_behaviours : behaviours_of (record { homes = homes_filled below k b homes; frames = frames_filled below b frames }) ≡ behaviours_of (record { homes = homes; frames = frames ++ Body k p (Some b) ∷ [] })
   end_behaviours = behaviours_are (homes_filled below k b homes) (frames_filled below b frames) all stands ∙ sym (behaviours_are homes (frames ++ Body k p (Some b) ∷ []) all o.placed)
@@ -117,7 +117,7 @@ module _ (homes : Homes) (chains : List (List ℕ)) (frames : List Held) (k : �
 
   pub gone_order : AreInOrder homes chains frames
   gone_order = in_order homes chains frames rest stays
-      (chained_known (length homes) chains (frames ++ Body k p None ∷ []) frames (λ j w. sym (unknown_indices (length homes) k j frames p None past w)) o.chained) o.built
+      (chained_known (length homes) chains (frames ++ Body k p None ∷ []) frames (λ j w. sym (unknown_indices (length homes) k j frames p None past w)) o.chained)
 
   pub gone_behaviours : behaviours_of (record { homes = homes; frames = frames }) ≡ behaviours_of (record { homes = homes; frames = frames ++ Body k p None ∷ [] })
   gone_behaviours = behaviours_are homes frames rest stays ∙ sym (behaviours_are homes (frames ++ Body k p None ∷ []) rest o.placed)

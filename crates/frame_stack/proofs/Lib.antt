@@ -1,8 +1,8 @@
 pub mod Settled
 pub mod ChainLaws
 pub mod TopLaws
-pub mod BuiltLaws
 pub mod SpendLaws
+pub mod StopLaws
 pub mod PushLaws
 pub mod Tops
 pub mod BeginLaws

@@ -29,7 +29,7 @@ module _ (homes : Homes) (chains : List (List ℕ)) (frames : List Held) (f : Fr
 
     pub push_order : AreInOrder homes chains (frames ++ Wait f ∷ [])
     push_order = in_order homes chains (frames ++ Wait f ∷ []) (placed_from 0 frames homes) pushed_stands
-        (chained_as (length homes) chains frames (frames ++ Wait f ∷ []) (λ k. wait_indices k frames f) o.chained) o.built
+        (chained_as (length homes) chains frames (frames ++ Wait f ∷ []) (λ k. wait_indices k frames f) o.chained)
 
     pub push_behaviours : behaviours_of (record { homes = homes; frames = frames ++ Wait f ∷ [] }) ≡ behaviours_of (record { homes = homes; frames = frames })
     push_behaviours = behaviours_are homes (frames ++ Wait f ∷ []) (placed_from 0 frames homes) pushed_stands ∙ sym (behaviours_are homes frames (placed_from 0 frames homes) o.placed)
@@ -47,7 +47,7 @@ module _ (homes : Homes) (chains : List (List ℕ)) (frames : List Held) (f : Fr
 
     pub pop_order : AreInOrder homes chains frames
     pop_order = in_order homes chains frames (placed_from 0 (frames ++ Wait f ∷ []) homes) popped_stands
-        (chained_as (length homes) chains (frames ++ Wait f ∷ []) frames (λ k. sym (wait_indices k frames f)) o.chained) o.built
+        (chained_as (length homes) chains (frames ++ Wait f ∷ []) frames (λ k. sym (wait_indices k frames f)) o.chained)
 
 -- what is on top
 

@@ -16,9 +16,8 @@ use Rattle.behaviours.specs.Next.{stop_of}
 use Rattle.behaviours.specs.Resume.{Resumed, resumed}
 use Rattle.frame_stack.specs.Order.{AreInOrder}
 use Rattle.body_frames.specs.Resumes.{Ends, FrameResumes, IsSameBody, Runs, is_guarded}
-use Rattle.frame_stack.specs.Resumes.{IsBuiltStop, Resumes}
+use Rattle.frame_stack.specs.Resumes.{Resumes}
 use Rattle.frame_stack.specs.Stacked.{Stacked, Running, behaviour_at, behaviours_of, below_top, bodies_in, frames_of, in_body, or_new, placed_from, top_of}
-use Rattle.frame_stack.proofs.BuiltLaws.{behaviour_built, body_built, set_built}
 use Rattle.frame_stack.proofs.ChainLaws.{chained_as, top_indices}
 use Rattle.frame_stack.proofs.PushLaws.{frames_are}
 use Rattle.frame_stack.proofs.EndLaws.{has_home}
@@ -58,7 +57,6 @@ module _ (homes : Homes) (chains : List (List ℕ)) (frames : List Held) (k : �
     own_order : AreInOrder homes chains (frames ++ Body k q (Some (record b { memory = m })) ∷ [])
     own_order = in_order homes chains (frames ++ Body k q (Some (record b { memory = m })) ∷ []) next_bs stands
         (chained_as (length homes) chains (frames ++ Body k p (Some b) ∷ []) (frames ++ Body k q (Some (record b { memory = m })) ∷ []) (λ j. top_indices j k frames p q (Some b) (Some (record b { memory = m }))) o.chained)
-        (set_built bs k (record b { memory = m }) o.built (behaviour_built bs k b o.built has))
 
   abbrev running : Running
   running = record { class = k; args = p.args; this = p.this; guarded = p.guarded; actions = drop p.index (actions_of p.call (or_empty (slice_get (bodies_in bs) k))) }
@@ -125,9 +123,6 @@ module _ (homes : Homes) (chains : List (List ℕ)) (frames : List Held) (k : �
       behaviours = new_behaviours;
     }
 
-    own_built : IsBuiltStop (stop_of next)
-    own_built = subst IsBuiltStop (sym (ap (λ (x : Resumed). x.stop) r.ran)) (body_built p.args p.call p.index b (behaviour_built bs k b o.built has) b.memory before)
-
 -- of a class that is not there
 module _ (homes : Homes) (chains : List (List ℕ)) (frames : List Held) (k : ℕ) (p : Place) (o : AreInOrder homes chains (frames ++ Body k p None ∷ [])) where
   abbrev cs : List Behaviour
@@ -141,7 +136,7 @@ module _ (homes : Homes) (chains : List (List ℕ)) (frames : List Held) (k : �
 
   gone_order : (q : Place) → AreInOrder homes chains (frames ++ Body k q None ∷ [])
   gone_order q = in_order homes chains (frames ++ Body k q None ∷ []) cs (stays q)
-      (chained_as (length homes) chains (frames ++ Body k p None ∷ []) (frames ++ Body k q None ∷ []) (λ j. top_indices j k frames p q None None) o.chained) o.built
+      (chained_as (length homes) chains (frames ++ Body k p None ∷ []) (frames ++ Body k q None ∷ []) (λ j. top_indices j k frames p q None None) o.chained)
 
   abbrev idle : Running
   idle = record { class = k; args = p.args; this = p.this; guarded = p.guarded; actions = drop p.index (actions_of p.call (or_empty (slice_get (bodies_in cs) k))) }
@@ -203,9 +198,6 @@ module _ (homes : Homes) (chains : List (List ℕ)) (frames : List Held) (k : �
       behaviours = behaviours_are homes (frames ++ new ∷ []) cs gone_stands ∙ sym (gone_set (record (behaviour_at k (behaviours_of before_it)) { memory = (resumed p.args idle.actions memory before).memory }));
     }
 
-    gone_built : IsBuiltStop (stop_of next)
-    gone_built = subst IsBuiltStop (sym r.stop) tt
-
 -- whichever it is
 
 pub resume_order : (homes : Homes) (chains : List (List ℕ)) (frames : List Held) (f g : Held) → AreInOrder homes chains (frames ++ f ∷ []) → IsSameBody f g → AreInOrder homes chains (frames ++ g ∷ [])
@@ -218,8 +210,3 @@ pub resume_resumes : (homes : Homes) (chains : List (List ℕ)) (frames : List H
 resume_resumes homes chains frames (Wait f) g before after next o h = absurd h
 resume_resumes homes chains frames (Body k p None) g before after next o h = gone_resumes homes chains frames k p o g before after next h
 resume_resumes homes chains frames (Body k p (Some b)) g before after next o h = own_resumes homes chains frames k p b o g before after next h
-
-pub resume_built : (homes : Homes) (chains : List (List ℕ)) (frames : List Held) (f g : Held) (before after : ℕ) (next : Next) → AreInOrder homes chains (frames ++ f ∷ []) → FrameResumes f g before after next → IsBuiltStop (stop_of next)
-resume_built homes chains frames (Wait f) g before after next o h = absurd h
-resume_built homes chains frames (Body k p None) g before after next o h = gone_built homes chains frames k p o g before after next h
-resume_built homes chains frames (Body k p (Some b)) g before after next o h = own_built homes chains frames k p b o g before after next h

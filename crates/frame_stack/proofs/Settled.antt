@@ -1,10 +1,9 @@
 -- What the classes do and remember is read off their last places.
-use Rattle.std.proofs.Common.{◌≡◌, ℕ, suc, ◌+◌, List, [], ◌∷◌, length, Option, Some, true, refl, ap, sym, ◌∙◌, subst, arith, add-zero}
+use Rattle.std.proofs.Common.{◌≡◌, ℕ, suc, ◌+◌, List, [], ◌∷◌, length, Option, Some, refl, ap, sym, ◌∙◌, subst, arith, add-zero}
 use Rattle.std.specs.Prelude.{slice_get}
-use Rattle.std.specs.List.{list_all}
 use Rattle.ce_frames.specs.Places.{Behaviour, Held, Homes, OnlyLast, Stands, home_of, places_of}
 use Rattle.frame_stack.specs.Chains.{AreChained}
-use Rattle.frame_stack.specs.Order.{AreInOrder, is_built_behaviour}
+use Rattle.frame_stack.specs.Order.{AreInOrder}
 use Rattle.frame_stack.specs.Stacked.{behaviours_of, last_of, or_new, placed_from}
 
 last_is : (b h : Option Behaviour) (ps : List (Option Behaviour)) → OnlyLast b (h ∷ ps) → last_of h ps ≡ b
@@ -29,11 +28,10 @@ settled homes frames bs s =
     settled_from 0 frames homes bs s.each (λ j. subst (λ n. OnlyLast (slice_get bs j) (home_of homes j ∷ places_of n frames)) (from j) (s.one j))
 
 -- a stack is in order, by the behaviours that stand there
-pub in_order : (homes : Homes) (chains : List (List ℕ)) (frames : List Held) (bs : List Behaviour) → Stands homes frames bs → AreChained (length homes) chains frames → list_all is_built_behaviour bs ≡ true
-    → AreInOrder homes chains frames
-in_order homes chains frames bs s c b =
+pub in_order : (homes : Homes) (chains : List (List ℕ)) (frames : List Held) (bs : List Behaviour) → Stands homes frames bs → AreChained (length homes) chains frames → AreInOrder homes chains frames
+in_order homes chains frames bs s c =
     let same = settled homes frames bs s in
-    record { placed = subst (Stands homes frames) (sym same) s; chained = c; built = ap (list_all is_built_behaviour) same ∙ b }
+    record { placed = subst (Stands homes frames) (sym same) s; chained = c }
 
 pub behaviours_are : (homes : Homes) (frames : List Held) (bs : List Behaviour) → Stands homes frames bs → behaviours_of (record { homes = homes; frames = frames }) ≡ bs
 unfolding behaviours_of

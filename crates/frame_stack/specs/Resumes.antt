@@ -1,7 +1,6 @@
 -- A body goes on, in its frame.
 use Rattle.std.specs.Prelude.{◌≡◌, ◌≤◌, ℕ, true, List, [], ◌∷◌, ◌++◌, length, Some, slice_set}
 use Rattle.rule_lines.specs.Acts.{Both, Log, Super}
-use Rattle.rule_script.specs.Built.{is_built_op}
 use Rattle.ce_frames.specs.Places.{Behaviour}
 use Rattle.class_bodies.specs.declared.next.Next.{Next}
 use Rattle.behaviours.specs.Next.{stop_of}
@@ -16,13 +15,13 @@ Proceeds (Returning value guarded) = guarded ≡ true
 Proceeds (Throwing fault guarded) = guarded ≡ true
 Proceeds OutOfFuel = ⊥
 
--- where it stops, what is next is an operation that is built, a log or a base call
-abbrev pub IsBuiltStop : Stop → Type 0
-IsBuiltStop (Doing (Both op) guarded) = is_built_op op ≡ true
-IsBuiltStop (Doing (Log vals) guarded) = Unit {0}
-IsBuiltStop (Doing Super guarded) = Unit {0}
-IsBuiltStop (Doing action guarded) = ⊥
-IsBuiltStop stop = Unit {0}
+-- where it stops at an action, that is an operation, a log or a base call: each other action the body does itself
+abbrev pub IsForSession : Stop → Type 0
+IsForSession (Doing (Both op) guarded) = Unit {0}
+IsForSession (Doing (Log vals) guarded) = Unit {0}
+IsForSession (Doing Super guarded) = Unit {0}
+IsForSession (Doing action guarded) = ⊥
+IsForSession stop = Unit {0}
 
 -- what a body comes to, by what its class does and remembers, and the fuel
 abbrev pub resumed_of : Running → List Behaviour → ℕ → Resumed

@@ -3,7 +3,7 @@ ghost use Rattle.std.specs.Prelude.{◌≡◌, ◌≤◌, ◌<◌, ◌++◌, ◌
 ghost use Rattle.ce_frames.specs.Frames.{InBody};
 ghost use Rattle.behaviours.specs.Next.{stop_of};
 ghost use Rattle.frame_stack.specs.Changes.{SetsThis};
-ghost use Rattle.frame_stack.specs.Resumes.{IsBuiltStop, Proceeds, Resumes};
+ghost use Rattle.frame_stack.specs.Resumes.{IsForSession, Proceeds, Resumes};
 ghost use Rattle.frame_stack.specs.Stacked.{HasBody, actions_at, behaviours_of, below_top, frames_of, guarded_of, owner_of, this_of, top_of};
 
 use crate::Stack;
@@ -93,7 +93,7 @@ impl Stack {
     pub fn resume(&mut self, alloc: Global, fuel: &mut Fuel) -> Result<Next, NoMemory>
         requires { HasBody (frames_of self.old) }
         ensures resumed { IfOk result (λ next. Resumes self.old self.new fuel.old fuel.new next) }
-        ensures built { IfOk result (λ next. IsBuiltStop (stop_of next)) }
+        ensures action { IfOk result (λ next. IsForSession (stop_of next)) }
         ensures spent { IfOk result (λ next. Proceeds (stop_of next) → fuel.new < fuel.old) }
         ensures less { fuel.new ≤ fuel.old }
     {

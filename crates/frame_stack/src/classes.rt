@@ -1,7 +1,6 @@
 // The classes, while no frame lies on the stack.
-ghost use Rattle.std.specs.Prelude.{◌≡◌, ◌<◌, ◌++◌, ◌∷◌, [], true, length, OnOk};
+ghost use Rattle.std.specs.Prelude.{◌≡◌, ◌<◌, ◌++◌, ◌∷◌, [], length, OnOk};
 ghost use Rattle.rule_lines.specs.Acts.{act_of};
-ghost use Rattle.rule_script.specs.Built.{is_built_act};
 ghost use Rattle.behaviours.specs.Behaviours.{new_behaviour};
 ghost use Rattle.frame_stack.specs.Changes.{extended};
 ghost use Rattle.frame_stack.specs.Stacked.{behaviours_of};
@@ -40,7 +39,6 @@ impl Stack {
     ) -> Result<(), NoMemory>
         requires frames { self.old.frames ≡ [] }
         requires class { class < length (behaviours_of self.old) }
-        requires built { is_built_act (act_of action) ≡ true }
         ensures behaviours { OnOk result (behaviours_of self.new ≡ extended class call (act_of action) (behaviours_of self.old)) }
         ensures frames { OnOk result (self.new.frames ≡ []) }
     {

@@ -5,7 +5,7 @@ use Rattle.rule_tokens.specs.declared.token.Token.{Token}
 use Rattle.rule_tokens.specs.OperandForms.{is_word}
 use Rattle.rule_grammar.specs.FixedWords.{spelling}
 use Rattle.rule_grammar.specs.Grammar.{Wants, End, One, Pick, Keys, Maybe, Many, Pairs, Inner, Rows, LastRow, Row}
-use Rattle.rule_tokens.specs.declared.refused.Bad.TheVariants.{Long, Utf8, Quote, Escape, Word as BadWord, Arity, Place, Later}
+use Rattle.rule_tokens.specs.declared.refused.Bad.TheVariants.{Long, Utf8, Quote, Escape, Word as BadWord, Arity, Place}
 use Rattle.rule_grammar.specs.Laws.{IsAnswer, FormsAreRead}
 use Rattle.rule_grammar.specs.Read.{Reads, read_within, read_tokens}
 use Rattle.rule_grammar.specs.Rows.{forms}
@@ -102,7 +102,6 @@ answer ts (Err Escape) says = absurd says
 answer ts (Err BadWord) says = says
 answer ts (Err Arity) says = says
 answer ts (Err Place) says = absurd says
-answer ts (Err Later) says = absurd says
 
 -- each reading is answered by the case that holds
 pub says_form : FormsAreRead

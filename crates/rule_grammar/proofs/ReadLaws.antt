@@ -2,7 +2,7 @@
 use Rattle.std.proofs.Common.{◌≡◌, ◌<◌, ℕ, zero, suc, length, arith, Bool, true, false, cond, ◌||◌, List, [], ◌∷◌, ◌++◌, Option, Some, None, Ok, Err, refl, sym, ap, ◌∙◌, inl, inr}
 use Rattle.std.specs.Prelude.{codes}
 use Rattle.std.proofs.lemmas.Slice.Eq.{bytes_eq-Decides}
-use Rattle.rule_tokens.specs.declared.refused.Bad.TheVariants.{Long, Utf8, Quote, Escape, Word as BadWord, Arity, Place, Later}
+use Rattle.rule_tokens.specs.declared.refused.Bad.TheVariants.{Long, Utf8, Quote, Escape, Word as BadWord, Arity, Place}
 use Rattle.rule_tokens.specs.declared.token.Token.{Token}
 use Rattle.rule_tokens.specs.Gives.{with_front}
 use Rattle.rule_tokens.specs.OperandForms.{is_word}
@@ -29,7 +29,6 @@ Says L ts (Err Escape) = ⊥
 Says L ts (Err BadWord) = HasWrongWord L ts
 Says L ts (Err Arity) = HasWrongNumber L ts
 Says L ts (Err Place) = ⊥
-Says L ts (Err Later) = ⊥
 
 -- ---- behind one more token
 
@@ -87,7 +86,6 @@ says_behind L M t behind ts (Err Escape) says = says
 says_behind L M t behind ts (Err BadWord) says = wrong_more L M t behind ts says
 says_behind L M t behind ts (Err Arity) says = number_more L M t behind ts says
 says_behind L M t behind ts (Err Place) says = says
-says_behind L M t behind ts (Err Later) says = says
 
 -- with more operands in front the case is the same
 says_front : (L : List Token → Type 0) (ts : List Token) (front : List ReadAs) (r : Reads) → Says L ts r → Says L ts (with_front front r)
@@ -99,7 +97,6 @@ says_front L ts front (Err Escape) says = says
 says_front L ts front (Err BadWord) says = says
 says_front L ts front (Err Arity) says = says
 says_front L ts front (Err Place) says = says
-says_front L ts front (Err Later) says = says
 
 says_more : (L M : List Token → Type 0) (t : Token) → Behind L M t → (g : ReadAs) (ts : List Token) (r : Reads) → Says M ts r → Says L (t ∷ ts) (with_front (g ∷ []) r)
 says_more L M t behind g ts r says = says_front L (t ∷ ts) (g ∷ []) r (says_behind L M t behind ts r says)
@@ -231,7 +228,6 @@ says_also L M t also g ts (Err Escape) says = says
 says_also L M t also g ts (Err BadWord) says = also_wrong L M t also ts says
 says_also L M t also g ts (Err Arity) says = also_number L M t also ts says
 says_also L M t also g ts (Err Place) says = says
-says_also L M t also g ts (Err Later) says = says
 
 -- ---- the keyword is there, or it is not
 

@@ -1,14 +1,13 @@
 -- The canonical line of what a line says.
-use Rattle.std.specs.Prelude.{◌≡◌, ℕ, ◌≤◌, true, List, [], length, Option, Some, Ok}
+use Rattle.std.specs.Prelude.{◌≡◌, ℕ, ◌≤◌, List, [], length, Option, Some, Ok}
 use Rattle.rule_tokens.specs.declared.token.Token.{Token}
 use Rattle.rule_tokens.specs.Spaced.{as_line}
 use Rattle.rule_lines.specs.Acts.{Said, Blank}
 use Rattle.rule_grammar.specs.Canon.{canon_tokens}
 use Rattle.rule_reader.specs.declared.pieces.Form.{Form}
 use Rattle.rule_reader.specs.AsRead.{form_as_read}
-use Rattle.rule_script.specs.Built.{is_built}
 use Rattle.rule_script.specs.Place.{said_of}
-use Rattle.rule_script.specs.Reading.{grammar_reading, longest, reading}
+use Rattle.rule_script.specs.Reading.{longest, reading}
 use Rattle.rule_script.specs.Spells.{Spells, SpellsBy}
 
 -- its operands have their forms and stand where they may: some tokens spell it
@@ -28,10 +27,6 @@ IsCanonical x text = (f : Form) → said_of f ≡ Some x → text ≡ canonical_
 abbrev pub SpellsWithin : Said → List ℕ → Type 0
 SpellsWithin x text = (limit : ℕ) → length text ≤ limit → Spells limit text x
 
--- and read as this by the whole grammar
-abbrev pub ReadsWithin : Said → List ℕ → Type 0
-ReadsWithin x text = (limit : ℕ) → length text ≤ limit → grammar_reading limit text ≡ Ok x
-
--- what is built is read where it is no longer than a line may be
-abbrev pub ReadsBuilt : Said → List ℕ → Type 0
-ReadsBuilt x text = is_built x ≡ true → length text ≤ longest → reading text ≡ Ok x
+-- and it is read as this where it is no longer than a line may be
+abbrev pub ReadsAgain : Said → List ℕ → Type 0
+ReadsAgain x text = length text ≤ longest → reading text ≡ Ok x

@@ -1,18 +1,15 @@
 -- The case of each fault of a line. The first case that holds is the one that a line is refused for.
-use Rattle.std.specs.Prelude.{◌≡◌, ℕ, true, false, List, [], ◌∷◌, Some, None, ◌⊎◌}
+use Rattle.std.specs.Prelude.{◌≡◌, ℕ, true, List, [], ◌∷◌, Some, None, ◌⊎◌}
 use Rattle.std.specs.Str.{chars}
 use Rattle.rule_tokens.specs.declared.refused.Bad.{Bad}
-use Rattle.rule_tokens.specs.declared.refused.Bad.TheVariants.{Long, Utf8, Quote, Escape, Word, Arity, Place, Later}
+use Rattle.rule_tokens.specs.declared.refused.Bad.TheVariants.{Long, Utf8, Quote, Escape, Word, Arity, Place}
 use Rattle.rule_tokens.specs.declared.token.Token.{Token}
 use Rattle.rule_tokens.specs.Cases.{SaysLine, LexicalCase, FirstOf}
-use Rattle.rule_lines.specs.Acts.{Said}
 use Rattle.rule_grammar.specs.Spells.{Spelled}
 use Rattle.rule_grammar.specs.Whole.{IsForm, HasWrongWord, HasWrongNumber}
 use Rattle.rule_reader.specs.declared.pieces.Form.{Form}
 use Rattle.rule_reader.specs.AsRead.{form_as_read}
-use Rattle.rule_script.specs.Built.{is_built}
 use Rattle.rule_script.specs.Place.{said_of, is_barred}
-use Rattle.rule_script.specs.Spells.{Spells}
 
 -- the line isn't blank, and its tokens are so
 abbrev pub HasTokens : List ℕ → (List Token → Type 0) → Type 0
@@ -37,32 +34,17 @@ WrongArity bytes = HasTokens bytes (HasWrongNumber IsForm)
 abbrev pub WrongPlace : List ℕ → Type 0
 WrongPlace bytes = HasTokens bytes IsMisplaced
 
--- what the line spells is not built yet
-pub record IsLater (limit : ℕ) (bytes : List ℕ) : Type 0 where
-  pub said : Said
-  pub spells : Spells limit bytes said
-  pub unbuilt : is_built said ≡ false
-
 -- the case of each fault of a line that may have so many bytes
 abbrev pub Case : ℕ → List ℕ → Bad → Type 0
 Case limit bytes Word = WrongWord limit bytes
 Case limit bytes Arity = WrongArity bytes
 Case limit bytes Place = WrongPlace bytes
-Case limit bytes Later = IsLater limit bytes
 Case limit bytes b = LexicalCase limit bytes b
 
--- the order in which the faults of the grammar are looked for
-abbrev pub grammar_order : List Bad
-grammar_order = Long ∷ Utf8 ∷ Quote ∷ Escape ∷ Word ∷ Arity ∷ Place ∷ []
-
--- the same, and then what is not built yet
+-- the order in which the faults are looked for
 abbrev pub order : List Bad
-order = Long ∷ Utf8 ∷ Quote ∷ Escape ∷ Word ∷ Arity ∷ Place ∷ Later ∷ []
+order = Long ∷ Utf8 ∷ Quote ∷ Escape ∷ Word ∷ Arity ∷ Place ∷ []
 
 -- it is refused for the first case that holds
 abbrev pub RefusedFor : ℕ → List ℕ → Bad → Type 0
 RefusedFor limit bytes b = FirstOf (Case limit bytes) order b
-
--- the same, by the grammar alone
-abbrev pub RefusedByGrammar : ℕ → List ℕ → Bad → Type 0
-RefusedByGrammar limit bytes b = FirstOf (Case limit bytes) grammar_order b

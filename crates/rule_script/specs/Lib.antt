@@ -1,5 +1,4 @@
 pub mod Below
-pub mod Built
 pub mod Canonical
 pub mod Cases
 pub mod Laws

@@ -1,12 +1,11 @@
 -- What a line spells.
-use Rattle.std.specs.Prelude.{◌≡◌, ℕ, true, false, List, Option, Some, None}
+use Rattle.std.specs.Prelude.{◌≡◌, ℕ, false, List, Option, Some, None}
 use Rattle.rule_tokens.specs.declared.token.Token.{Token}
 use Rattle.rule_tokens.specs.Cases.{ReadsTo}
 use Rattle.rule_lines.specs.Acts.{Said, Blank}
 use Rattle.rule_grammar.specs.Spells.{Spelled}
 use Rattle.rule_reader.specs.declared.pieces.Form.{Form}
 use Rattle.rule_reader.specs.AsRead.{form_as_read}
-use Rattle.rule_script.specs.Built.{is_built}
 use Rattle.rule_script.specs.Place.{said_of, is_barred}
 
 -- the tokens are a form of the table, the form may stand where it stands, and says this
@@ -26,8 +25,3 @@ pub record Spells (limit : ℕ) (bytes : List ℕ) (x : Said) : Type 0 where
   pub tokens : Option (List Token)
   pub laid_out : ReadsTo limit bytes tokens
   pub spelled : SpellsBy tokens x
-
--- what it spells is built
-pub record SpellsBuilt (limit : ℕ) (bytes : List ℕ) (x : Said) : Type 0 where
-  pub spells : Spells limit bytes x
-  pub built : is_built x ≡ true

@@ -1,5 +1,5 @@
 // What holds of what lines read as, as the contract of a function that does nothing.
-ghost use Rattle.rule_script.specs.Laws.{GrammarReadsSpelled, GrammarRefusesFirst, ReadsSpelled, RefusesFirst};
+ghost use Rattle.rule_script.specs.Laws.{ReadsSpelled, RefusesFirst};
 
 use crate::reading::below;
 
@@ -7,8 +7,6 @@ use crate::reading::below;
 /// other line for the first of the cases that holds. So what is said of a script by that function is said by the
 /// grammar.
 pub fn lines_read_as_they_spell()
-    ensures grammar_reads { GrammarReadsSpelled }
-    ensures grammar_refuses { GrammarRefusesFirst }
     ensures reads { ReadsSpelled }
     ensures refuses { RefusesFirst }
 {

@@ -1,18 +1,17 @@
 // Reading a line.
-ghost use Rattle.std.specs.Prelude.{◌≡◌, ℕ, List, Ok, IfOk};
+ghost use Rattle.std.specs.Prelude.{IfOk};
 ghost use Rattle.rule_tokens.specs.Gives.{GivesSeen, IfBad};
 ghost use Rattle.rule_lines.specs.Acts.{Said, line_of};
 ghost use Rattle.rule_script.specs.Below.{Below};
-ghost use Rattle.rule_script.specs.Cases.{RefusedByGrammar, RefusedFor};
-ghost use Rattle.rule_script.specs.Reading.{grammar_reading, longest, reading};
-ghost use Rattle.rule_script.specs.Spells.{Spells, SpellsBuilt};
+ghost use Rattle.rule_script.specs.Cases.{RefusedFor};
+ghost use Rattle.rule_script.specs.Reading.{longest, reading};
+ghost use Rattle.rule_script.specs.Spells.{Spells};
 
-use crate::built::is_built;
 use crate::place::placed;
 use rule_grammar::{faults_are_apart, forms_are_read, what_is_spelled_is_read};
 use rule_lines::Line;
 use rule_reader::{form_of, lines_are_read_by_the_table, operands_tell_forms};
-use rule_tokens::{Bad, LineRefused, a_line_says_one_thing, lines_are_answered, tokens_of};
+use rule_tokens::{LineRefused, a_line_says_one_thing, lines_are_answered, tokens_of};
 use std::alloc::Global;
 
 /// How many bytes a line has at most.
@@ -32,10 +31,11 @@ pub(crate) fn below()
 }
 
 // What the tokens of a line say.
-fn said(alloc: Global, limit: usize, bytes: &[u8]) -> Result<Line, LineRefused>
-    ensures { GivesSeen line_of result (grammar_reading limit bytes.now) }
+#[tactic(auto, unfolding(crate::specs::Reading::reading))]
+fn said(alloc: Global, bytes: &[u8]) -> Result<Line, LineRefused>
+    ensures { GivesSeen line_of result (reading bytes.now) }
 {
-    match tokens_of(alloc, limit, bytes)? {
+    match tokens_of(alloc, LONGEST, bytes)? {
         None => Ok(Line::Blank),
         Some(tokens) => {
             let form = form_of(alloc, tokens.as_slice())?;
@@ -44,56 +44,16 @@ fn said(alloc: Global, limit: usize, bytes: &[u8]) -> Result<Line, LineRefused>
     }
 }
 
-/// Reads a line of at most so many bytes, without its end, by the whole grammar, also what is not built yet. It is
-/// refused for the first case of `Bad` that holds, in their order; `Later` is none here. `NoMemory` comes only where
-/// memory was refused, and tells nothing of the line.
-pub fn grammar_line(alloc: Global, limit: usize, bytes: &[u8]) -> Result<Line, LineRefused>
-    // What is read is spelled so.
-    ensures found { IfOk result (λ x. Spells limit bytes.now (line_of x)) }
-
-    // What is spelled so is read, unless memory is refused: so a line spells one thing at most.
-    ensures only { (x : Said) → Spells limit bytes.now x → GivesSeen line_of result (Ok x) }
-
-    // What is wrong with the line is the first of the grammar's cases that holds.
-    ensures refused { IfBad result (RefusedByGrammar limit bytes.now) }
-
-    // Which it is, as a function that computes.
-    ensures exact { GivesSeen line_of result (grammar_reading limit bytes.now) }
-{
-    below();
-    said(alloc, limit, bytes)
-}
-
-// The refusal of a line that is not built yet.
-fn later(line: Line) -> LineRefused
-    ensures { result ≡ LineRefused.Bad Bad.Later }
-{
-    drop(line);
-    LineRefused::Bad(Bad::Later)
-}
-
-// What a line says, if it is built.
-#[tactic(auto, unfolding(crate::specs::Reading::reading))]
-fn built(alloc: Global, bytes: &[u8]) -> Result<Line, LineRefused>
-    ensures { GivesSeen line_of result (reading bytes.now) }
-{
-    let line = grammar_line(alloc, LONGEST, bytes)?;
-    if is_built(&line) {
-        return Ok(line);
-    }
-    Err(later(line))
-}
-
 /// Reads a line, without its end. It is refused for the first of these that holds: it has more than 4096
 /// bytes; it is not UTF-8; a quote is amiss; an escape is none; a word or an operand is amiss; an operand is
-/// missing or left over; the form may not stand there; it is not built yet. `NoMemory` comes only where
-/// memory was refused, and tells nothing of the line.
+/// missing or left over; the form may not stand there. `NoMemory` comes only where memory was refused, and tells
+/// nothing of the line.
 pub fn read_line(alloc: Global, bytes: &[u8]) -> Result<Line, LineRefused>
-    // What is read is spelled so, and built.
-    ensures found { IfOk result (λ x. SpellsBuilt longest bytes.now (line_of x)) }
+    // What is read is spelled so.
+    ensures found { IfOk result (λ x. Spells longest bytes.now (line_of x)) }
 
-    // What is spelled so and built is read, unless memory is refused.
-    ensures only { (x : Said) → SpellsBuilt longest bytes.now x → GivesSeen line_of result (Ok x) }
+    // What is spelled so is read, unless memory is refused: so a line spells one thing at most.
+    ensures only { (x : Said) → Spells longest bytes.now x → GivesSeen line_of result (Ok x) }
 
     // What is wrong with the line is the first of the cases that holds.
     ensures refused { IfBad result (RefusedFor longest bytes.now) }
@@ -102,5 +62,5 @@ pub fn read_line(alloc: Global, bytes: &[u8]) -> Result<Line, LineRefused>
     ensures exact { GivesSeen line_of result (reading bytes.now) }
 {
     below();
-    built(alloc, bytes)
+    said(alloc, bytes)
 }

@@ -2,7 +2,7 @@
 ghost use Rattle.std.specs.Prelude.{IfOk};
 ghost use Rattle.rule_lines.specs.Acts.{line_of};
 ghost use Rattle.rule_script.specs.Below.{BelowWriting};
-ghost use Rattle.rule_script.specs.Canonical.{CanBeSpelled, IsCanonical, ReadsBuilt, ReadsWithin, SpellsWithin};
+ghost use Rattle.rule_script.specs.Canonical.{CanBeSpelled, IsCanonical, ReadsAgain, SpellsWithin};
 
 use crate::reading::below;
 use ce_base::{NoMemory, Text};
@@ -33,14 +33,11 @@ pub fn write_line(alloc: Global, line: &Line) -> Result<Text, NoMemory>
     // The text is the canonical line.
     ensures text { IfOk result (IsCanonical (line_of line.now)) }
 
-    // It spells the line,
+    // It spells the line, under each limit that it does not pass,
     ensures spells { IfOk result (SpellsWithin (line_of line.now)) }
 
-    // and is read as it by the whole grammar, under each limit that it does not pass,
-    ensures reads { IfOk result (ReadsWithin (line_of line.now)) }
-
-    // and by `read_line`, where what it says is built.
-    ensures built { IfOk result (ReadsBuilt (line_of line.now)) }
+    // and is read as it by `read_line`, where it is no longer than a line may be.
+    ensures reads { IfOk result (ReadsAgain (line_of line.now)) }
 {
     below_writing();
     as_line(alloc, line)

@@ -24,8 +24,6 @@ pub enum Bad {
     Arity,
     /// The form stands where it is not allowed.
     Place,
-    /// The form is not built yet.
-    Later,
 }
 
 /// Why a line was not read.

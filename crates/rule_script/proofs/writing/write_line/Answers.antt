@@ -1,7 +1,7 @@
 use Rattle.rule_lines.specs.Acts.{line_of}
-use Rattle.rule_script.proofs.WriteLaws.{each_text, is_canonical, written_reads, written_reads_built, written_spells}
+use Rattle.rule_script.proofs.WriteLaws.{each_text, is_canonical, written_reads, written_spells}
 use Rattle.rule_script.proofs.writing.write_line.Goals as goal
-use Rattle.rule_script.specs.Canonical.{IsCanonical, ReadsBuilt, ReadsWithin, SpellsWithin}
+use Rattle.rule_script.specs.Canonical.{IsCanonical, ReadsAgain, SpellsWithin}
 
 pub returns-clause-text : goal.returns-clause-text
 returns-clause-text c = let x = line_of c.args.line.now in
@@ -13,8 +13,4 @@ returns-clause-spells c = let x = line_of c.args.line.now in
 
 pub returns-clause-reads : goal.returns-clause-reads
 returns-clause-reads c = let x = line_of c.args.line.now in
-    each_text (ReadsWithin x) x c.as_line.result (written_reads c.below_writing.ensures x c.requires) c.as_line.ensures.text c.as_line.ensures.utf8 c.as_line.ensures.texts
-
-pub returns-clause-built : goal.returns-clause-built
-returns-clause-built c = let x = line_of c.args.line.now in
-    each_text (ReadsBuilt x) x c.as_line.result (written_reads_built c.below_writing.ensures x c.requires) c.as_line.ensures.text c.as_line.ensures.utf8 c.as_line.ensures.texts
+    each_text (ReadsAgain x) x c.as_line.result (written_reads c.below_writing.ensures x c.requires) c.as_line.ensures.text c.as_line.ensures.utf8 c.as_line.ensures.texts

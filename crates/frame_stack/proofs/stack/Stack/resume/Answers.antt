@@ -1,5 +1,5 @@
 use Rattle.std.proofs.Common.{◌-◌, ◌∙◌, sym, arith}
-use Rattle.frame_stack.proofs.BodyCalls.{changed_order, has_built, has_resumed, has_spent}
+use Rattle.frame_stack.proofs.BodyCalls.{changed_order, has_resumed, has_spent, has_stopped}
 use Rattle.frame_stack.proofs.Tops.{at_top, has_frame, no_other}
 use Rattle.frame_stack.proofs.stack.Stack.resume.Goals as goal
 
@@ -28,8 +28,8 @@ invariant_of-self c = changed_order c.self.inside.homes c.self.inside.chains.ite
 pub returns-clause-resumed : goal.returns-clause-resumed
 returns-clause-resumed c = has_resumed c.self.inside.homes c.self.inside.chains.items c.self.inside.frames.items (c.len-last.result - 1) c.index_mut-f.result.now c.resume.new.self c.args.fuel.now c.resume.new.fuel c.args.self.now c.self.view_is c.self.invariant (at_top c.self.inside.frames.items c.len-last.result c.index_mut-f.result.now (has_frame c.self.inside.homes c.self.inside.frames.items c.args.self.now c.self.view_is c.requires) (c.len-last.ensures ∙ c.self.inside.frames.ok.0) c.index_mut-f.ensures.value) c.resume.result c.resume.ensures.resumed
 
-pub returns-clause-built : goal.returns-clause-built
-returns-clause-built c = has_built c.self.inside.homes c.self.inside.chains.items c.self.inside.frames.items (c.len-last.result - 1) c.index_mut-f.result.now c.resume.new.self c.args.fuel.now c.resume.new.fuel c.args.self.now c.self.view_is c.self.invariant (at_top c.self.inside.frames.items c.len-last.result c.index_mut-f.result.now (has_frame c.self.inside.homes c.self.inside.frames.items c.args.self.now c.self.view_is c.requires) (c.len-last.ensures ∙ c.self.inside.frames.ok.0) c.index_mut-f.ensures.value) c.resume.result c.resume.ensures.resumed
+pub returns-clause-action : goal.returns-clause-action
+returns-clause-action c = has_stopped c.self.inside.homes c.self.inside.chains.items c.self.inside.frames.items (c.len-last.result - 1) c.index_mut-f.result.now c.resume.new.self c.args.fuel.now c.resume.new.fuel c.args.self.now c.self.view_is c.self.invariant (at_top c.self.inside.frames.items c.len-last.result c.index_mut-f.result.now (has_frame c.self.inside.homes c.self.inside.frames.items c.args.self.now c.self.view_is c.requires) (c.len-last.ensures ∙ c.self.inside.frames.ok.0) c.index_mut-f.ensures.value) c.resume.result c.resume.ensures.resumed
 
 pub returns-clause-spent : goal.returns-clause-spent
 returns-clause-spent c = has_spent c.self.inside.homes c.self.inside.chains.items c.self.inside.frames.items (c.len-last.result - 1) c.index_mut-f.result.now c.resume.new.self c.args.fuel.now c.resume.new.fuel c.args.self.now c.self.view_is c.self.invariant (at_top c.self.inside.frames.items c.len-last.result c.index_mut-f.result.now (has_frame c.self.inside.homes c.self.inside.frames.items c.args.self.now c.self.view_is c.requires) (c.len-last.ensures ∙ c.self.inside.frames.ok.0) c.index_mut-f.ensures.value) c.resume.result c.resume.ensures.resumed
