@@ -1,4 +1,4 @@
--- What a form, or the button that submits it, says of the submission (HTML Standard, section "Attributes for form submission").
+-- What a form, or the button that submits it, says of the submission (HTML Standard, section "Form submission attributes").
 use Rattle.std.specs.Prelude.{ℕ, Bool, ◌||◌, if◌then◌else◌, List, [], codes, Option, is_some, unwrap_or}
 use Rattle.std.specs.Option.{option_or, option_and_then}
 use Rattle.std.specs.Str.{str_eq_ignore_ascii_case}

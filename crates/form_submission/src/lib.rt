@@ -4,9 +4,11 @@
 #![tactic(auto)]
 
 mod plan;
+mod site;
 mod worked;
 
 pub use plan::{Plan, Why};
+pub use site::Site;
 pub use worked::{
     worked_actions, worked_bodies, worked_button, worked_causes, worked_entries, worked_groups,
     worked_validation,

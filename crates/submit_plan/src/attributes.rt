@@ -10,7 +10,7 @@ use ce_base::NodeNo;
 use form_kinds::has_attribute;
 use node_arena::Tree;
 
-/// How a form is sent (HTML Standard, section "Attributes for form submission", "method").
+/// How a form is sent (HTML Standard, section "Form submission attributes", "method").
 #[derive(Clone, Copy, Debug)]
 pub(crate) enum Method {
     Get,
@@ -18,7 +18,7 @@ pub(crate) enum Method {
     Dialog,
 }
 
-/// How the body of a request is written (HTML Standard, section "Attributes for form submission", "enctype").
+/// How the body of a request is written (HTML Standard, section "Form submission attributes", "enctype").
 #[derive(Clone, Copy, Debug)]
 pub(crate) enum Encoding {
     Urlencoded,
