@@ -14,7 +14,7 @@ use Rattle.ce_registry.specs.declared.definition.Definition.{Definition}
 use Rattle.ce_registry.specs.Registry.{is_autonomous}
 use Rattle.ce_algorithms.specs.declared.deed.Deed.{Deed}
 use Rattle.ce_algorithms.specs.declared.deed.Deed.TheVariants as deeds
-use Rattle.ce_algorithms.specs.declared.deed.Deed.TheVariants.{OnPage, OnControls, OnInternals, OnForms}
+use Rattle.ce_algorithms.specs.declared.deed.Deed.TheVariants.{OnPage, OnControls, OnInternals, OnForms, Submits}
 use Rattle.ce_algorithms.specs.declared.given.Given.{Given}
 use Rattle.ce_algorithms.specs.declared.given.Given.TheVariants.{Nothing, Node, Answers, Ignored}
 use Rattle.ce_algorithms.specs.Steps.{Step}
@@ -33,6 +33,7 @@ use Rattle.ce_algorithms.specs.Perform.{create_named, define_element, gives_noth
 use Rattle.ce_algorithms.specs.Deeds.{resolve, resolve_user, is_reacting, variable}
 use Rattle.ce_algorithms.specs.Model.{level}
 use Rattle.ce_algorithms.proofs.Framed.{Framed, framed_steps, framed_bind, framed_seq, framed_give, framed_done, framed_read, framed_read_page, framed_look, framed_change_page, framed_log, framed_on_page, framed_spend, framed_set_variable, framed_list, framed_if, framed_catch, framed_finally}
+use Rattle.ce_algorithms.proofs.Submission.{framed_submit_steps}
 
 -- what calls nothing again
 
@@ -213,6 +214,7 @@ module _ (again : Again) (below : (call : Call) → Framed (again call)) where
   steps_framed (OnControls what) = framed_on_page (control_steps what)
   steps_framed (OnInternals what) = framed_on_page (internals_steps what)
   steps_framed (OnForms what) = framed_on_page (form_steps what)
+  steps_framed (Submits what) = framed_submit_steps what
   steps_framed (deeds.Ask word n name) = framed_read _ (λ events s. refl)
   steps_framed (deeds.Let var n) = framed_gives_nothing (framed_set_variable var n)
 

@@ -13,7 +13,7 @@ use Rattle.ce_registry.specs.declared.definition.Definition.{Definition}
 use Rattle.ce_registry.specs.Registry.{is_autonomous}
 use Rattle.ce_algorithms.specs.declared.deed.Deed.{Deed}
 use Rattle.ce_algorithms.specs.declared.deed.Deed.TheVariants as deeds
-use Rattle.ce_algorithms.specs.declared.deed.Deed.TheVariants.{OnPage, OnControls, OnInternals, OnForms}
+use Rattle.ce_algorithms.specs.declared.deed.Deed.TheVariants.{OnPage, OnControls, OnInternals, OnForms, Submits}
 use Rattle.ce_algorithms.specs.declared.given.Given.{Given}
 use Rattle.ce_algorithms.specs.declared.given.Given.TheVariants.{Nothing, Node, Answers, Ignored}
 use Rattle.ce_algorithms.specs.Steps.{Step, ◌>>◌, done}
@@ -31,6 +31,7 @@ use Rattle.ce_algorithms.specs.Deeds.{resolve, is_reacting, variable}
 use Rattle.ce_algorithms.specs.Model.{clock, level}
 use Rattle.ce_algorithms.proofs.PageSteps.{keeps_make_in_state, keeps_base_call, keeps_pop_construction, keeps_begin_upgrade, keeps_tell_form, keeps_define_name, keeps_control_steps, keeps_internals_steps, keeps_form_steps, keeps_page_steps}
 use Rattle.ce_algorithms.proofs.Low.{Lower, lower, with_waiting_load, light_state, light_definition, light_begun, light_ended, light_dropped}
+use Rattle.ce_algorithms.proofs.Submission.{tied_submit_steps}
 use Rattle.ce_algorithms.proofs.Tied.{Tied, Tame, tame_le, tied_steps, tied_bind, tied_seq, tied_down, tied_give, tied_done, tied_read, tied_log, tied_look, tied_set_variable, tied_page, tied_spend, tied_if, tied_catch, tied_finally}
 
 -- what calls nothing again
@@ -224,6 +225,7 @@ module _ (b : ℕ) (f g : Again) (below : (call : Call) → Tied b (f call) (g c
   steps_tied (OnControls what) = tied_page (keeps_control_steps Lower lower what)
   steps_tied (OnInternals what) = tied_page (keeps_internals_steps Lower lower what)
   steps_tied (OnForms what) = tied_page (keeps_form_steps Lower lower what)
+  steps_tied (Submits what) = tied_submit_steps what
   steps_tied (deeds.Ask word n name) = tied_read _
   steps_tied (deeds.Let var n) = tied_gives_nothing (tied_set_variable var n)
 

@@ -370,7 +370,7 @@ module _ (R : Work → Work → Type 0) (c : Closed R) where
   keeps_reset_control : (n : ℕ) → Keeps R (reset_control n)
   keeps_reset_control n = keeps_seq (keeps_clear n) (keeps_where_is (λ w. is_custom_form_associated w.page n) (keeps_enqueue_callback n FormReset))
 
-  keeps_reset_form : (form : ℕ) → Keeps R (reset_form form)
+  pub keeps_reset_form : (form : ℕ) → Keeps R (reset_form form)
   keeps_reset_form form = keeps_bind (keeps_read_page _) (λ list. keeps_each list keeps_reset_control)
 
   keeps_restore : (n : ℕ) (text : List ℕ) (mode : Mode) → Keeps R (restore n text mode)

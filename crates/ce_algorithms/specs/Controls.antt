@@ -32,7 +32,7 @@ set_message n message = change_page (with_controls (λ cs. controls.set_message 
 
 -- what the user may not do
 
-abbrev pub ignored_or : Bool → Step Work (Unit {0}) → Step Work Given
+abbrev pub ignored_or : {S : Type 0} → Bool → Step S (Unit {0}) → Step S Given
 ignored_or true step = give Ignored
 ignored_or false step = do
   step

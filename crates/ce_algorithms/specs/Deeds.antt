@@ -1,6 +1,7 @@
 -- What operations come to: deeds, once their operands were read and fit.
-use Rattle.std.specs.Prelude.{ℕ, Bool, true, false, not, List, Option, Some, None, option_map, Result, Ok}
+use Rattle.std.specs.Prelude.{ℕ, Bool, true, false, not, List, Option, Some, None, option_map, Result, Ok, Err}
 use Rattle.ce_base.specs.declared.fault.Fault.{Fault}
+use Rattle.ce_base.specs.declared.fault.Fault.TheVariants.{TypeError}
 use Rattle.reaction_queue.specs.declared.reaction.Mode.TheVariants.{Restore, Autocomplete}
 use Rattle.rule_tokens.specs.declared.operand.Val.{Val}
 use Rattle.form_controls.specs.declared.value.Value.{Value}
@@ -16,13 +17,13 @@ use Rattle.ce_algorithms.specs.declared.deed.ControlDeed.TheVariants as control_
 use Rattle.ce_algorithms.specs.declared.deed.FormDeed.{FormDeed}
 use Rattle.ce_algorithms.specs.declared.deed.FormDeed.TheVariants as form_deeds
 use Rattle.ce_algorithms.specs.declared.deed.InternalsDeed.TheVariants as internals_deeds
-use Rattle.ce_algorithms.specs.declared.deed.Deed.TheVariants.{OnPage, OnControls, OnInternals, OnForms}
+use Rattle.ce_algorithms.specs.declared.deed.SubmitDeed.TheVariants as submit_deeds
+use Rattle.ce_algorithms.specs.declared.deed.Deed.TheVariants.{OnPage, OnControls, OnInternals, OnForms, Submits}
 use Rattle.ce_algorithms.specs.declared.deed.PageDeed.{PageDeed}
 use Rattle.ce_algorithms.specs.declared.deed.PageDeed.TheVariants as page_deeds
-use Rattle.ce_algorithms.specs.declared.fit.Fit.TheVariants.{AnOption, CustomFormAssociated, ElementOrText, Form, ListedNative, TextControl, Tickable}
-use Rattle.ce_algorithms.specs.Unbuilt.{unbuilt_deed}
+use Rattle.ce_algorithms.specs.declared.fit.Fit.TheVariants.{AnOption, Button, CustomFormAssociated, ElementOrText, Form, ListedNative, TextControl, Tickable}
 use Rattle.ce_algorithms.specs.State.{View}
-use Rattle.ce_algorithms.specs.Operands.{◌>>=◌, node, node_that, element, document, document_or_page, class}
+use Rattle.ce_algorithms.specs.Operands.{◌>>=◌, node, node_or_none, node_that, element, document, document_or_page, class}
 use Rattle.ce_algorithms.specs.Values.{fixed_text}
 use Rattle.ce_algorithms.specs.Questions.{question}
 
@@ -124,9 +125,15 @@ resolve v (ops.StateClear operand) = do
 resolve v (ops.Reset operand) = do
   n ← node_that Form v operand
   Ok (OnForms (form_deeds.Reset n false))
-resolve v op = Ok unbuilt_deed
+resolve v (ops.Submit operand) = do
+  n ← node_that Form v operand
+  Ok (Submits (submit_deeds.Submit n))
+resolve v (ops.Request operand submitter) = do
+  n ← node_that Form v operand
+  b ← node_or_none v submitter
+  Ok (Submits (submit_deeds.Request n b))
 
--- the same of what the user does, where nothing is `this`
+-- the same of what the user does, where nothing is `this`; what only a script does is refused
 abbrev pub resolve_user : View → Cmd → Result Deed Fault
 resolve_user v (commands.UserEdit operand text) = do
   n ← node_that TextControl v operand
@@ -146,7 +153,10 @@ resolve_user v (commands.UserRestore operand text) = do
 resolve_user v (commands.UserAutofill operand text) = do
   n ← node_that CustomFormAssociated v operand
   Ok (OnForms (form_deeds.Restore n text Autocomplete))
-resolve_user v c = Ok unbuilt_deed
+resolve_user v (commands.UserPress operand) = do
+  n ← node_that Button v operand
+  Ok (Submits (submit_deeds.Press n))
+resolve_user v c = Err TypeError
 
 -- which deeds push an element queue ([CEReactions]; HTML Standard, section "Custom element reactions")
 
@@ -175,6 +185,7 @@ is_reacting (OnPage what) = is_reacting_on_page what
 is_reacting (OnControls what) = false
 is_reacting (OnInternals what) = false
 is_reacting (OnForms what) = is_reacting_on_forms what
+is_reacting (Submits what) = false
 is_reacting (deeds.Ask word n name) = false
 is_reacting (deeds.Let var n) = false
 

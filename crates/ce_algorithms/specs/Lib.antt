@@ -18,9 +18,9 @@ pub mod Calls
 pub mod Fits
 pub mod Operands
 pub mod Values
-pub mod Unbuilt
 pub mod Questions
 pub mod Deeds
+pub mod Submission
 pub mod Body
 pub mod Construct
 pub mod Upgrade

@@ -12,7 +12,7 @@ use Rattle.rule_lines.specs.declared.line.Cmd.{Cmd}
 use Rattle.rule_lines.specs.declared.op.Op.{Op}
 use Rattle.ce_algorithms.specs.declared.deed.Deed.{Deed}
 use Rattle.ce_algorithms.specs.declared.deed.Deed.TheVariants as deeds
-use Rattle.ce_algorithms.specs.declared.deed.Deed.TheVariants.{OnPage, OnControls, OnInternals, OnForms}
+use Rattle.ce_algorithms.specs.declared.deed.Deed.TheVariants.{OnPage, OnControls, OnInternals, OnForms, Submits}
 use Rattle.ce_algorithms.specs.declared.deed.FormDeed.{FormDeed}
 use Rattle.ce_algorithms.specs.declared.deed.FormDeed.TheVariants as form_deeds
 use Rattle.ce_algorithms.specs.declared.deed.InternalsDeed.{InternalsDeed}
@@ -33,6 +33,7 @@ use Rattle.ce_algorithms.specs.Clone.{clone}
 use Rattle.ce_algorithms.specs.Controls.{control_steps}
 use Rattle.ce_algorithms.specs.Internals.{add_state, attach_internals, clear_states, delete_state, set_form_value, set_validity}
 use Rattle.ce_algorithms.specs.Reset.{reset_form, restore}
+use Rattle.ce_algorithms.specs.Submission.{submit_steps}
 use Rattle.ce_algorithms.specs.State.{State, look, on_page, set_variable, class_of, change_class}
 use Rattle.ce_algorithms.specs.Calls.{Again}
 use Rattle.ce_algorithms.specs.Questions.{question}
@@ -145,6 +146,7 @@ steps again (OnPage what) = on_page (page_steps what)
 steps again (OnControls what) = on_page (control_steps what)
 steps again (OnInternals what) = on_page (internals_steps what)
 steps again (OnForms what) = on_page (form_steps what)
+steps again (Submits what) = submit_steps what
 steps again (deeds.Ask word n name) = read (λ (s : State). Answers ((question word name).answer s.page n))
 steps again (deeds.Let var n) = gives_nothing (set_variable var n)
 

@@ -70,7 +70,7 @@ run_lines again line (l ∷ ls) = do
 
 -- the state before the first line
 abbrev pub start : Settings → State
-start settings = record { page = blank_page; fuel = settings.fuel; classes = []; variables = []; log = [] }
+start settings = record { site = settings.site; page = blank_page; fuel = settings.fuel; classes = []; variables = []; log = [] }
 
 abbrev pub log_of : {A : Type 0} → Outcome State A → List Event
 log_of (Goes a s) = s.log

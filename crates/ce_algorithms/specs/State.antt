@@ -4,6 +4,7 @@ use Rattle.std.specs.List.{find, position}
 use Rattle.ce_base.specs.declared.fault.Fault.{Fault}
 use Rattle.rule_tokens.specs.declared.callback.CallName.{CallName}
 use Rattle.rule_lines.specs.Acts.{Act}
+use Rattle.form_submission.specs.declared.site.Site.{Site}
 use Rattle.ce_registry.specs.declared.class_facts.ClassFacts.{ClassFacts}
 use Rattle.ce_registry.specs.ClassFacts.{no_facts}
 use Rattle.ce_events.specs.declared.event.Event.{Event}
@@ -28,6 +29,7 @@ pub record Class : Type 0 where
   pub memory : Memory
 
 pub record State : Type 0 where
+  pub site : Site  -- where the page stands; no step changes it
   pub page : Page
   pub fuel : ℕ
   pub classes : List Class

@@ -163,6 +163,24 @@ impl FormDeed {
     }
 }
 
+/// What submits a form, or may. It pushes no element queue.
+#[derive(Drop)]
+pub enum SubmitDeed {
+    /// Submits a form (HTML Standard, section "The form element", `submit`).
+    Submit {
+        form: NodeNo,
+    },
+    /// Requests that a form be submitted, by a submitter or by none (`requestSubmit`).
+    Request {
+        form: NodeNo,
+        submitter: Option<NodeNo>,
+    },
+    /// Presses a button (sections "The button element", "The input element", "activation behavior").
+    Press {
+        button: NodeNo,
+    },
+}
+
 /// What an operation comes to: nodes by their numbers, classes by theirs, and texts.
 #[derive(Drop)]
 pub enum Deed {
@@ -190,6 +208,8 @@ pub enum Deed {
     OnInternals(InternalsDeed),
     /// Does something to a form, or to an element of one.
     OnForms(FormDeed),
+    /// Submits a form, or presses a button that may.
+    Submits(SubmitDeed),
     /// Asks something of a node; of an attribute by its name.
     Ask {
         word: AskWord,
@@ -213,7 +233,7 @@ impl Deed {
             Deed::OnPage(what) => what.is_reacting(),
             Deed::OnForms(what) => what.is_reacting(),
             Deed::New { .. } | Deed::Ask { .. } | Deed::Let { .. } => false,
-            Deed::OnControls(_) | Deed::OnInternals(_) => false,
+            Deed::OnControls(_) | Deed::OnInternals(_) | Deed::Submits(_) => false,
         }
     }
 }

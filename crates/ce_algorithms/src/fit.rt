@@ -27,6 +27,8 @@ pub enum Fit {
     Tickable,
     /// An `option` element.
     AnOption,
+    /// A button (section "Categories"): one that submits, one that resets, or one that does nothing by itself.
+    Button,
     /// A form-associated custom element (HTML Standard, section "Form-associated custom elements").
     FormAssociated,
     /// One whose state is "custom".

@@ -22,14 +22,12 @@ ghost use Rattle.ce_algorithms.specs.Worked.Scripts as scripts;
 ghost use Rattle.ce_algorithms.specs.Session.{command, run_line};
 ghost use Rattle.ce_algorithms.specs.State.{State};
 ghost use Rattle.ce_algorithms.specs.Steps.{GoesOn};
+ghost use Rattle.ce_algorithms.specs.Worked.Submissions as submissions;
+ghost use Rattle.ce_algorithms.specs.Worked.SubmissionLogs as submission_logs;
 ghost use Rattle.ce_algorithms.specs.Worked.Validity as validity;
 ghost use Rattle.ce_algorithms.specs.Worked.ValidityLogs as validity_logs;
 ghost use Rattle.ce_algorithms.specs.Worked.{seen, traced, worked};
-ghost use Rattle.ce_algorithms.specs.Unbuilt.{no_node, unbuilt_deed};
 ghost use Rattle.ce_algorithms.specs.Written.{behind, behind_in};
-
-use crate::Deed;
-use ce_base::NodeNo;
 
 /// Each algorithm calls the others as they are: the model is the fixed point of its algorithms, however
 /// many levels of them are counted.
@@ -49,27 +47,6 @@ pub fn no_step_reads_the_log()
 pub fn no_command_throws()
     ensures { (line : ℕ) (c : Cmd) (s : State) → GoesOn (command model line c s) }
 {}
-
-/// No code has the number that stands for what is not built yet.
-pub fn no_code_has_no_node(n: NodeNo)
-    ensures { n ≡ no_node → ⊥ }
-{
-    let _number = n;
-}
-
-/// No code has the deed that an operation, or a command of the user, which is not built comes to: no body can do it.
-pub fn no_code_has_the_unbuilt_deed(deed: &Deed)
-    ensures { deed.now ≡ unbuilt_deed → ⊥ }
-{
-    match deed {
-        Deed::Ask {
-            word: _,
-            node,
-            name: _,
-        } => no_code_has_no_node(*node),
-        _ => (),
-    }
-}
 
 /// The model computes: the first script, with nine units of fuel, which are just enough.
 #[tactic(auto, using(crate::proofs::Rows::first_enough, crate::proofs::Rows::first_logs, crate::proofs::Rows::first_spends))]
@@ -155,4 +132,10 @@ pub fn worked_resets()
 pub fn worked_validity()
     ensures texts { seen 1000 validity.texts ≡ validity_logs.texts }
     ensures internals { seen 1000 validity.internals ≡ validity_logs.internals }
+{}
+
+/// The model computes: forms that are submitted, also within a callback.
+pub fn worked_submissions()
+    ensures requests { seen 1000 submissions.requests ≡ submission_logs.requests }
+    ensures within { seen 1000 submissions.within ≡ submission_logs.within }
 {}

@@ -13,14 +13,13 @@ mod note;
 mod settings;
 
 pub use callback::same_call;
-pub use deed::{ControlDeed, Deed, FormDeed, InternalsDeed, PageDeed};
+pub use deed::{ControlDeed, Deed, FormDeed, InternalsDeed, PageDeed, SubmitDeed};
 pub use fit::Fit;
 pub use given::Given;
 pub use laws::{
-    each_calls_the_others, no_code_has_no_node, no_code_has_the_unbuilt_deed, no_command_throws,
-    no_step_reads_the_log, worked_callbacks, worked_controls, worked_corners, worked_first,
-    worked_internals, worked_owners, worked_resets, worked_traces, worked_upgrades,
-    worked_validity,
+    each_calls_the_others, no_command_throws, no_step_reads_the_log, worked_callbacks,
+    worked_controls, worked_corners, worked_first, worked_internals, worked_owners, worked_resets,
+    worked_submissions, worked_traces, worked_upgrades, worked_validity,
 };
 pub use note::Note;
 pub use settings::Settings;

@@ -1,8 +1,11 @@
 // What a session is run with.
+use form_submission::Site;
 
 /// The settings of a session.
-#[derive(Clone, Copy, Debug)]
+#[derive(Debug, Drop)]
 pub struct Settings {
     /// The units of fuel that it may spend.
     pub fuel: u32,
+    /// Where its page stands.
+    pub site: Site,
 }

@@ -1,6 +1,6 @@
 -- Steps that read nothing of what classes do and remember. One lemma for each way to make a step.
 use Rattle.std.proofs.Common.{◌≡◌, ℕ, zero, suc, Bool, true, false, List, [], ◌∷◌, length, Option, Some, None, Result, Ok, Err, refl, ap, ◌∙◌, length-set}
-use Rattle.std.specs.Prelude.{ok_or}
+use Rattle.std.specs.Prelude.{if◌then◌else◌, ok_or}
 use Rattle.ce_base.specs.declared.fault.Fault.{Fault}
 use Rattle.ce_base.specs.declared.fault.Fault.TheVariants.{TypeError}
 use Rattle.rule_lines.specs.declared.line.Cmd.{Cmd}
@@ -8,17 +8,26 @@ use Rattle.rule_lines.specs.declared.op.Op.{Op}
 use Rattle.rule_lines.specs.declared.op.Op.TheVariants as ops
 use Rattle.ce_registry.specs.declared.class_facts.ClassFacts.{ClassFacts}
 use Rattle.ce_events.specs.declared.event.Event.{Event}
+use Rattle.element_names.specs.declared.input_kinds.InputKind.{InputKind}
+use Rattle.element_names.specs.declared.input_kinds.InputKind.TheVariants.{Submit, Reset}
+use Rattle.form_controls.specs.Kinds.{is_kind, kind_of}
+use Rattle.form_submission.specs.Requests.{request_fit}
+use Rattle.ce_algorithms.specs.declared.deed.SubmitDeed.{SubmitDeed}
+use Rattle.ce_algorithms.specs.declared.deed.SubmitDeed.TheVariants as submit_deeds
 use Rattle.ce_algorithms.specs.declared.deed.Deed.{Deed}
 use Rattle.ce_algorithms.specs.declared.deed.Deed.TheVariants as deeds
-use Rattle.ce_algorithms.specs.Steps.{Step, Outcome, Goes, Throws, Spent, then_do, ◌>>=◌, ◌>>◌, give, done, throw, settle, read, throw_if, found, find_or, throw_where, for_each, attempt, attempt_in}
+use Rattle.ce_algorithms.specs.Steps.{Step, Outcome, Goes, Throws, Spent, then_do, ◌>>=◌, ◌>>◌, give, done, throw, settle, read, throw_any, throw_if, found, find_or, throw_where, for_each, attempt, attempt_in}
 use Rattle.ce_algorithms.specs.Page.{Page, Work}
 use Rattle.ce_algorithms.specs.State.{State, Class, view, log, spend, spend_from, read_page, change_page, on_page, with_outcome, work_of, set_variable, change_class, class_of}
+use Rattle.ce_algorithms.specs.Forms.{forms_of, form_owner, is_disabled}
 use Rattle.ce_algorithms.specs.Define.{define_name}
 use Rattle.ce_algorithms.specs.Calls.{Again}
 use Rattle.ce_algorithms.specs.Deeds.{resolve, resolve_user, IsStill}
 use Rattle.ce_algorithms.specs.Operands.{◌>>=◌ as then_resolve}
 use Rattle.ce_algorithms.specs.Drain.{open_queue, pop_queue}
-use Rattle.ce_algorithms.specs.Controls.{control_steps}
+use Rattle.ce_algorithms.specs.Controls.{control_steps, ignored_or}
+use Rattle.ce_algorithms.specs.Reset.{reset_form}
+use Rattle.ce_algorithms.specs.Submission.{plan, submitted, submit, request, act_on, activate_in, submit_steps}
 use Rattle.ce_algorithms.specs.Perform.{define_element, gives_nothing, form_steps, internals_steps, page_steps, steps}
 use Rattle.ce_frames.specs.Places.{Behaviour}
 use Rattle.ce_frames.specs.Whole.{joined_class, whole, whole_in, state_in, IsBlind}
@@ -199,6 +208,41 @@ define_blind name k base =
       classes = λ s. (defines_blind name k base (class_of s k).facts).classes s;
     }
 
+-- what submits a form
+
+blind_ignored_or : {f : Step State (Unit {0})} (t : Bool) → IsBlind f → IsBlind (ignored_or t f)
+blind_ignored_or true h = blind_give _
+blind_ignored_or false h = blind_gives h
+
+blind_if : {f g : Step State (Unit {0})} (t : Bool) → IsBlind f → IsBlind g → IsBlind (if t then f else g)
+blind_if true h k = h
+blind_if false h k = k
+
+blind_throw_any : (o : Option Fault) → IsBlind (throw_any o)
+blind_throw_any None = blind_done
+blind_throw_any (Some f) = blind_throw f
+
+blind_submit : (form : ℕ) (submitter : Option ℕ) (by_call : Bool) → IsBlind (submit form submitter by_call)
+blind_submit form submitter by_call = blind_bind (blind_read (λ (s : State). plan s.page s.site form submitter by_call) (λ bs s. refl)) (λ sent. blind_log (submitted form sent))
+
+blind_request : (form : ℕ) (submitter : Option ℕ) → IsBlind (request form submitter)
+blind_request form submitter = blind_seq (blind_bind (blind_read (λ (s : State). request_fit (forms_of s.page) form submitter) (λ bs s. refl)) blind_throw_any) (blind_submit form submitter false)
+
+blind_act_on : (button form : ℕ) (kind : Option InputKind) → IsBlind (act_on button form kind)
+blind_act_on button form kind =
+    blind_if (is_kind Submit kind) (blind_submit form (Some button) false) (blind_if (is_kind Reset kind) (blind_on_page (reset_form form)) blind_done)
+
+blind_activate_in : (button : ℕ) (owner : Option ℕ) → IsBlind (activate_in button owner)
+blind_activate_in button None = blind_done
+blind_activate_in button (Some form) = blind_bind (blind_read_page (λ (p : Page). kind_of p.forest button)) (blind_act_on button form)
+
+blind_submit_steps : (what : SubmitDeed) → IsBlind (submit_steps what)
+blind_submit_steps (submit_deeds.Submit form) = blind_gives (blind_submit form None true)
+blind_submit_steps (submit_deeds.Request form submitter) = blind_gives (blind_request form submitter)
+blind_submit_steps (submit_deeds.Press button) =
+    blind_bind (blind_read_page (λ (p : Page). is_disabled p button))
+    (λ ignored. blind_ignored_or ignored (blind_bind (blind_read_page (λ (p : Page). form_owner p button)) (blind_activate_in button)))
+
 -- the steps of a deed that constructs no class
 pub still_blind : (again : Again) (deed : Deed) → IsStill deed → IsBlind (steps again deed)
 still_blind again (deeds.Create local is document) still = absurd still
@@ -208,5 +252,6 @@ still_blind again (deeds.OnPage what) still = blind_on_page (page_steps what)
 still_blind again (deeds.OnControls what) still = blind_on_page (control_steps what)
 still_blind again (deeds.OnInternals what) still = blind_on_page (internals_steps what)
 still_blind again (deeds.OnForms what) still = blind_on_page (form_steps what)
+still_blind again (deeds.Submits what) still = blind_submit_steps what
 still_blind again (deeds.Ask word n name) still = blind_read _ (λ bs s. refl)
 still_blind again (deeds.Let var n) still = blind_gives (blind_set_variable var n)

@@ -151,6 +151,7 @@ deed_turn_blind (deeds.OnPage what) still = still_turn (deeds.OnPage what) still
 deed_turn_blind (deeds.OnControls what) still = still_turn (deeds.OnControls what) still
 deed_turn_blind (deeds.OnInternals what) still = still_turn (deeds.OnInternals what) still
 deed_turn_blind (deeds.OnForms what) still = still_turn (deeds.OnForms what) still
+deed_turn_blind (deeds.Submits what) still = still_turn (deeds.Submits what) still
 deed_turn_blind (deeds.Ask word n name) still = still_turn (deeds.Ask word n name) still
 deed_turn_blind (deeds.Let var n) still = still_turn (deeds.Let var n) still
 

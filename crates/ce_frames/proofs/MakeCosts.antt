@@ -12,7 +12,7 @@ use Rattle.ce_registry.specs.ClassFacts.{has_call}
 use Rattle.ce_registry.specs.Registry.{is_autonomous}
 use Rattle.ce_algorithms.specs.declared.deed.Deed.{Deed}
 use Rattle.ce_algorithms.specs.declared.deed.Deed.TheVariants as deeds
-use Rattle.ce_algorithms.specs.declared.deed.Deed.TheVariants.{OnPage, OnControls, OnInternals, OnForms}
+use Rattle.ce_algorithms.specs.declared.deed.Deed.TheVariants.{OnPage, OnControls, OnInternals, OnForms, Submits}
 use Rattle.ce_events.specs.declared.event.Event.TheVariants.{Caught, Construct, UpgradeBegun, DrainBegun}
 use Rattle.ce_algorithms.specs.declared.given.Given.{Given}
 use Rattle.ce_algorithms.specs.declared.given.Given.TheVariants.{Nothing, Node}
@@ -36,7 +36,7 @@ use Rattle.ce_frames.specs.ConstructTurns.{begin_body, constructor_turn, constru
 use Rattle.ce_frames.specs.OperateTurns.{next_turn, pop_turn, steps_turn, create_named_turn, deed_turn, named_turn, operate_turn}
 use Rattle.ce_frames.specs.BodyTurns.{guarded_step, flow_turn, act_turn, body_turn}
 use Rattle.ce_frames.proofs.Falls.{Sinks, sinks, Falls, falls_steps, falls_bind, falls_seq, falls_give, falls_read, falls_read_page, falls_log, falls_page, falls_set_variable, falls_throw_if, falls_throw_where, falls_settle, falls_look, falls_attempt, falls_state, falls_catch, logged_potential}
-use Rattle.ce_frames.proofs.StepFalls.{falls_returned, falls_define_element}
+use Rattle.ce_frames.proofs.StepFalls.{falls_returned, falls_define_element, falls_submit_steps}
 use Rattle.ce_frames.proofs.Costs.{Costs, costs_more, costs_down, costs_go_on, costs_below, costs_bind, costs_seq, costs_if, costs_when, costs_spend, popped_potential, falls_open_queue}
 
 -- constructions
@@ -128,6 +128,7 @@ deed_costs (OnInternals what) = costs_more 0 6 (omega arith) (costs_down (falls_
 deed_costs (OnForms what) =
     let h : Falls (steps no_calls (OnForms what)) = falls_page (keeps_form_steps Sinks sinks what) in
     costs_if 6 (is_reacting_on_forms what) (costs_more 1 6 (omega arith) (steps_costs h)) (costs_more 0 6 (omega arith) (costs_down h))
+deed_costs (Submits what) = costs_more 0 6 (omega arith) (costs_down (falls_submit_steps what))
 deed_costs (deeds.Ask word n name) = costs_more 0 6 (omega arith) (costs_down (falls_read _))
 deed_costs (deeds.Let var n) = costs_more 0 6 (omega arith) (costs_down (falls_gives_nothing (falls_set_variable var n)))
 

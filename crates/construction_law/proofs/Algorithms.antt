@@ -13,7 +13,9 @@ use Rattle.ce_registry.specs.declared.definition.Definition.{Definition}
 use Rattle.construction.specs.Stacks.{popped}
 use Rattle.ce_algorithms.specs.declared.deed.Deed.{Deed}
 use Rattle.ce_algorithms.specs.declared.deed.Deed.TheVariants as deeds
-use Rattle.ce_algorithms.specs.declared.deed.Deed.TheVariants.{OnPage, OnControls, OnInternals, OnForms}
+use Rattle.ce_algorithms.specs.declared.deed.Deed.TheVariants.{OnPage, OnControls, OnInternals, OnForms, Submits}
+use Rattle.ce_algorithms.specs.declared.deed.SubmitDeed.{SubmitDeed}
+use Rattle.ce_algorithms.specs.declared.deed.SubmitDeed.TheVariants as submit_deeds
 use Rattle.ce_events.specs.declared.event.Event.TheVariants.{UpgradeBegun}
 use Rattle.ce_algorithms.specs.declared.given.Given.{Given}
 use Rattle.ce_algorithms.specs.declared.given.Given.TheVariants.{Node, Answers}
@@ -28,13 +30,14 @@ use Rattle.ce_algorithms.specs.Construct.{constructor_body, construct}
 use Rattle.ce_algorithms.specs.Upgrade.{begin_upgrade, construct_for, upgrade_threw, upgrade_ends, upgrade_now, upgrade}
 use Rattle.ce_algorithms.specs.Drain.{log_call, call_defined, run_reaction, react, drain, drain_popped, drain_first, drain_backup, checkpoint}
 use Rattle.ce_algorithms.specs.Create.{create_found, create}
+use Rattle.ce_algorithms.specs.Submission.{activate_in, submit_steps}
 use Rattle.ce_algorithms.specs.Perform.{steps, perform_deed, keep, kept, operate, act_as_user}
 use Rattle.ce_algorithms.specs.Deeds.{resolve, resolve_user, variable}
 use Rattle.ce_algorithms.specs.Session.{perform, command}
 use Rattle.ce_algorithms.specs.Model.{clock, level, run, model}
 use Rattle.construction_law.proofs.StackDepths.{one_more, pop_takes_back}
 use Rattle.construction_law.proofs.Steps.{Stays, Leaves, of_session, leaves_steps, leaves_goes, leaves_give, leaves_done, leaves_read, leaves_bind, leaves_seq, leaves_list, leaves_if, leaves_catch, leaves_on_page, leaves_look, leaves_spend}
-use Rattle.construction_law.proofs.Primitives.{leaves_document, leaves_tell_form, leaves_define_name, leaves_make_in_state, leaves_control_steps, leaves_internals_steps, leaves_form_steps, leaves_page_steps, leaves_base_call, Deepens, begin_deepens}
+use Rattle.construction_law.proofs.Primitives.{leaves_document, leaves_tell_form, leaves_define_name, leaves_make_in_state, leaves_control_steps, leaves_ignored_or, leaves_internals_steps, leaves_reset_form, leaves_form_steps, leaves_page_steps, leaves_base_call, Deepens, begin_deepens}
 
 -- what calls nothing again
 
@@ -65,6 +68,17 @@ leaves_kept var h = leaves_bind h (λ given. leaves_seq (leaves_keep var given) 
 
 leaves_queues : (changed : Queues → Queues) → Leaves of_session (change_page (with_queues changed))
 leaves_queues changed = leaves_goes _ _ (λ s. refl)
+
+-- what submits a form
+
+leaves_activate_in : (button : ℕ) (owner : Option ℕ) → Leaves of_session (activate_in button owner)
+leaves_activate_in button None = leaves_done
+leaves_activate_in button (Some form) = search (leaves_steps, leaves_reset_form) depth 12
+
+leaves_submit_steps : (what : SubmitDeed) → Leaves of_session (submit_steps what)
+leaves_submit_steps (submit_deeds.Submit form) = search leaves_steps depth 12
+leaves_submit_steps (submit_deeds.Request form submitter) = search leaves_steps depth 12
+leaves_submit_steps (submit_deeds.Press button) = search (leaves_steps, leaves_ignored_or, leaves_activate_in) depth 12
 
 module _ (again : Again) (below : (call : Call) → Leaves of_session (again call)) where
   -- bodies
@@ -172,6 +186,7 @@ module _ (again : Again) (below : (call : Call) → Leaves of_session (again cal
   steps_leave (OnControls what) = leaves_on_page (leaves_control_steps what)
   steps_leave (OnInternals what) = leaves_on_page (leaves_internals_steps what)
   steps_leave (OnForms what) = leaves_on_page (leaves_form_steps what)
+  steps_leave (Submits what) = leaves_submit_steps what
   steps_leave (deeds.Create local is document) = search (leaves_steps, create_leaves) depth 14
   steps_leave (deeds.New class) = search (leaves_steps, construct_leaves) depth 12
   steps_leave (deeds.Define name class base) = search (leaves_steps, leaves_define_name) depth 14

@@ -33,11 +33,12 @@ use Rattle.ce_algorithms.specs.declared.deed.FormDeed.{FormDeed}
 use Rattle.ce_algorithms.specs.declared.deed.FormDeed.TheVariants.{Reset, Restore}
 use Rattle.ce_algorithms.specs.declared.deed.InternalsDeed.{InternalsDeed}
 use Rattle.ce_algorithms.specs.declared.deed.InternalsDeed.TheVariants.{Attach, SetValue, SetValidity, AddState, DeleteState, ClearStates}
+use Rattle.ce_algorithms.specs.Reset.{reset_form}
 use Rattle.ce_algorithms.specs.Clone.{copy_node, copy_below}
 use Rattle.ce_algorithms.specs.Construction.{make_custom, base_entry, base_call, push_construction}
 use Rattle.ce_algorithms.specs.Upgrade.{enqueue_attribute, begin_upgrade}
 use Rattle.ce_algorithms.specs.Perform.{gives_node, form_steps, internals_steps, page_steps}
-use Rattle.construction_law.proofs.StackDepths.{AreDeep, given_anew, one_more, push_deepens}
+use Rattle.construction_law.proofs.StackDepths.{Stacks, AreDeep, given_anew, one_more, push_deepens}
 use Rattle.construction_law.proofs.Steps.{Stays, Leaves, of_page, leaves_steps, leaves_done, leaves_give, leaves_bind, leaves_seq}
 
 -- what operations do on the page alone
@@ -121,7 +122,7 @@ pub leaves_page_steps : (what : PageDeed) → Leaves of_page (page_steps what)
 leaves_page_steps (deeds.Clone n whole) = search (leaves_steps, leaves_copy_node, leaves_copy_below) depth 20
 leaves_page_steps what = search deed_steps depth 20
 
-leaves_ignored_or : {f : Step Work (Unit {0})} (ignored : Bool) → Leaves of_page f → Leaves of_page (ignored_or ignored f)
+pub leaves_ignored_or : {S : Type 0} {stacks : S → Stacks} {f : Step S (Unit {0})} (ignored : Bool) → Leaves stacks f → Leaves stacks (ignored_or ignored f)
 leaves_ignored_or true h = leaves_give _
 leaves_ignored_or false h = leaves_seq h (leaves_give _)
 
@@ -141,9 +142,12 @@ leaves_internals_steps (AddState n word) = search leaves_steps depth 12
 leaves_internals_steps (DeleteState n word) = search leaves_steps depth 12
 leaves_internals_steps (ClearStates n) = search leaves_steps depth 12
 
+pub leaves_reset_form : (form : ℕ) → Leaves of_page (reset_form form)
+leaves_reset_form form = search (leaves_steps, leaves_callback) depth 16
+
 -- resets, and states that come back
 pub leaves_form_steps : (what : FormDeed) → Leaves of_page (form_steps what)
-leaves_form_steps (Reset form by_user) = search (leaves_steps, leaves_callback) depth 16
+leaves_form_steps (Reset form by_user) = search (leaves_steps, leaves_reset_form) depth 6
 leaves_form_steps (Restore n text mode) = search (leaves_steps, leaves_ignored_or, leaves_callback) depth 14
 
 -- the base call

@@ -29,6 +29,7 @@ pub mod Making
 pub mod Upgrading
 pub mod Draining
 pub mod Bodies
+pub mod Submitting
 pub mod Operations
 pub mod Sessions
 pub mod Scripts

@@ -14,8 +14,7 @@ pub fn each_script_is_lawful()
     ensures { (settings : Settings) (lines : List (List ℕ)) → Lawful (log_of (run_lines model 1 (map reading lines) (start settings))) }
 {}
 
-/// The same of all that lines may say, and nothing is assumed of it: also of operations that no line is read as yet. Where
-/// one is not built, a question stands for it, which changes nothing.
+/// The same of all that lines may say, whether some line says it or not.
 #[tactic(auto, using(crate::proofs::Model::Scripts::session_lawful))]
 pub fn each_session_is_lawful()
     ensures { (settings : Settings) (lines : List (Result Said Bad)) → Lawful (log_of (run_lines model 1 lines (start settings))) }

@@ -46,6 +46,7 @@ use Rattle.order_law.proofs.Model.Steps.{came_back, at_work, Keeps}
 use Rattle.order_law.proofs.Model.Giving.{none, one, given_nodes, maybe, AfterGives, Gives, let_go, gives_bind, gives_after, gives_seq, gives_give, gives_if, gives_catch, gives_look, gives_page, gives_keeps, keeps_gives, FoundRows}
 use Rattle.order_law.proofs.Model.Nodes.{AfterMade, made_at, state_gives}
 use Rattle.order_law.proofs.Model.PageDeeds.{page_deed_nodes, control_gives, form_gives, internals_gives, page_gives, define_gives}
+use Rattle.order_law.proofs.Model.Submitting.{submit_gives}
 use Rattle.order_law.proofs.Model.Upgrading.{upgrade_after}
 use Rattle.order_law.proofs.Model.Draining.{KeepsLaw, reacting_gives}
 use Rattle.order_law.proofs.Model.Bodies.{keeps_plain, keeps_read, keeps_read_page, keeps_class, keeps_throw_if, keeps_throw_where, view_row, construct_gives, construct_for_keeps, body_keeps}
@@ -83,6 +84,7 @@ resolved_user rows v (commands.UserChoose operand on) = search found_any depth 8
 resolved_user rows v (commands.UserReset operand) = search found_any depth 8
 resolved_user rows v (commands.UserRestore operand text) = search found_any depth 8
 resolved_user rows v (commands.UserAutofill operand text) = search found_any depth 8
+resolved_user rows v (commands.UserPress operand) = search found_any depth 8
 resolved_user rows v c = tt
 
 -- variables
@@ -215,6 +217,7 @@ module _ (again : Again) (keeps : KeepsLaw again) where
   deed_gives (deeds.OnControls deed) h held = gives_page (λ vs l. control_gives deed)
   deed_gives (deeds.OnInternals deed) h held = gives_page (λ vs l. internals_gives deed)
   deed_gives (deeds.OnForms deed) h held = gives_if (is_reacting_on_forms deed) (queue_gives h (on_page (form_steps deed)) (λ m. gives_page (λ vs l. form_gives deed))) (gives_page (λ vs l. form_gives deed))
+  deed_gives (deeds.Submits what) h held = submit_gives what
   deed_gives (deeds.Ask word n name) h held = record { at = λ s k. (k, tt) }
   deed_gives (deeds.Let var n) h held = nothing_gives (keeps_variable var n held.0)
 

@@ -41,7 +41,7 @@ use Rattle.ce_algorithms.specs.Controls.{ignored_or, control_steps}
 use Rattle.ce_algorithms.specs.Clone.{copy_node, copy_below, clone}
 use Rattle.ce_algorithms.specs.Define.{new_definition, with_defined, upgrade_candidates, define_name}
 use Rattle.ce_algorithms.specs.Perform.{upgrade_all, gives_nothing, gives_node, form_steps, internals_steps, page_steps}
-use Rattle.ce_algorithms.specs.Reset.{reset_control}
+use Rattle.ce_algorithms.specs.Reset.{reset_control, reset_form}
 use Rattle.order_law.proofs.Model.Sound.{All}
 use Rattle.order_law.proofs.Model.Invariant.{Hold}
 use Rattle.order_law.proofs.Model.Hands.{with_hands, IsHeld}
@@ -213,6 +213,9 @@ internals_gives (internals_deeds.ClearStates n) = written_gives _ (λ is. inner.
 reset_at : {h : List Hold} {l : List Event} (n : ℕ) → KeepsAt Any h l (reset_control n)
 reset_at n = at_seq (controls_at (λ p cs. reset cs p.forest n)) (at_where (λ w. is_custom_form_associated w.page n) (callback_at n FormReset))
 
+pub reset_gives : {h : List Hold} {l : List Event} (form : ℕ) → GivesAt none h l (reset_form form)
+reset_gives form = keeps_at (at_bind (at_read (λ p. controls_of p form)) (λ list. at_each list reset_at))
+
 pub form_gives : {h : List Hold} {l : List Event} (deed : FormDeed) → GivesAt given_nodes h l (form_steps deed)
-form_gives (form_deeds.Reset form by_user) = nothing_gives (keeps_at (at_bind (at_read (λ p. controls_of p form)) (λ list. at_each list reset_at)))
+form_gives (form_deeds.Reset form by_user) = nothing_gives (reset_gives form)
 form_gives (form_deeds.Restore n text mode) = give_bind_at {nodes = none} (keeps_at (at_read _)) (λ ignored. ignored_gives ignored (keeps_at (callback_at n (FormStateRestore text mode))))
