@@ -11,7 +11,7 @@ use Rattle.node_trees.specs.Trees.{Trees}
 use Rattle.reaction_queue.specs.Queues.{popped_queue, current_elements}
 use Rattle.ce_algorithms.specs.declared.deed.Deed.{Deed}
 use Rattle.ce_algorithms.specs.declared.deed.Deed.TheVariants as deeds
-use Rattle.ce_algorithms.specs.declared.deed.Deed.TheVariants.{OnPage, OnControls, OnInternals, OnForms}
+use Rattle.ce_algorithms.specs.declared.deed.Deed.TheVariants.{OnPage, OnControls, OnInternals, OnForms, Submits}
 use Rattle.ce_events.specs.declared.event.Event.TheVariants.{DrainBegun}
 use Rattle.ce_algorithms.specs.declared.given.Given.{Given}
 use Rattle.ce_algorithms.specs.Deeds.{is_reacting, resolve, resolve_user, IsStill}
@@ -87,6 +87,7 @@ deed_is (OnPage what) s h = refl
 deed_is (OnControls what) s h = refl
 deed_is (OnInternals what) s h = refl
 deed_is (OnForms what) s h = refl
+deed_is (Submits what) s h = refl
 deed_is (deeds.Ask word n name) s h = refl
 deed_is (deeds.Let var n) s h = refl
 

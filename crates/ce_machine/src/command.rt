@@ -3,7 +3,6 @@ ghost use Rattle.std.specs.Prelude.{◌≡◌, ◌≤◌, ◌<◌, [], true, IfO
 ghost use Rattle.ce_base.specs.Faults.{Rose};
 ghost use Rattle.ce_base.specs.Outside.{AppendsPart};
 ghost use Rattle.rule_lines.specs.Acts.{part_of};
-ghost use Rattle.rule_script.specs.Built.{is_built_command, is_built_part};
 ghost use Rattle.ce_algorithms.specs.Model.{model};
 ghost use Rattle.ce_algorithms.specs.Session.{command, class_part, log_of};
 ghost use Rattle.ce_algorithms.specs.Steps.{Goes};
@@ -32,7 +31,6 @@ pub(crate) fn reply_to_part(
     line: u64,
     p: ClassPart,
 ) -> Result<(), NoMemory>
-    requires built { is_built_part (part_of p) ≡ true }
     requires rest { stack.old.frames ≡ [] }
     requires paired { ArePaired stack.old state.old }
     ensures taken { OnOk result (Goes tt (session stack.new state.new) ≡ class_part line (part_of p) (session stack.old state.old)) }
@@ -62,7 +60,6 @@ pub(crate) fn run_command<K: Sink>(
     trace: bool,
     sink: &mut K,
 ) -> Result<End, Stop>
-    requires built { is_built_command c ≡ true }
     requires rest { stack.old.frames ≡ [] }
     requires paired { ArePaired stack.old state.old }
     ensures ran { IfOk result (λ end. Did trace (K.held sink.old) (K.held sink.new) (command model line c (session stack.old state.old)) (outcome_of end (session stack.new state.new))) }

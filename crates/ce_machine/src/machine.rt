@@ -3,7 +3,6 @@ ghost use Rattle.std.specs.Prelude.{◌≡◌, ◌≤◌, ◌<◌, [], Err, Ok, 
 ghost use Rattle.ce_base.specs.Faults.{Rose};
 ghost use Rattle.ce_base.specs.Outside.{AppendsPart};
 ghost use Rattle.rule_lines.specs.Acts.{part_of};
-ghost use Rattle.rule_script.specs.Built.{is_built_command, is_built_part};
 ghost use Rattle.ce_algorithms.specs.Model.{model};
 ghost use Rattle.ce_algorithms.specs.Session.{command, class_part, run_line, start, log_of};
 ghost use Rattle.ce_algorithms.specs.Steps.{Goes};
@@ -54,12 +53,12 @@ impl Model for Machine {
 }
 
 impl Machine {
-    /// The machine before the first line, with so much fuel. NoMemory: memory was refused.
-    pub fn make(alloc: Global, fuel: u32) -> Result<Machine, NoMemory>
-        ensures session { IfOk result (λ m. m.session ≡ start (record { fuel = fuel })) }
+    /// The machine before the first line, with these settings. NoMemory: memory was refused.
+    pub fn make(alloc: Global, settings: Settings) -> Result<Machine, NoMemory>
+        ensures session { IfOk result (λ m. m.session ≡ start settings) }
         ensures at_home { IfOk result AreAtHome }
     {
-        let state = State::make(alloc, Settings { fuel })?;
+        let state = State::make(alloc, settings)?;
         let state = Box::new(alloc, state)?;
         let stack = Box::new(alloc, Stack::make(alloc))?;
         Ok(rested(state, stack))
@@ -74,7 +73,6 @@ impl Machine {
         trace: bool,
         sink: &mut K,
     ) -> Result<Machine, Stop>
-        requires { is_built_part (part_of p) ≡ true }
         ensures ran { IfOk result (λ m. Did trace (K.held sink.old) (K.held sink.new) (class_part line (part_of p) self.session) (Goes tt m.session)) }
         ensures empty { IfOk result (λ m. m.session.log ≡ []) }
         ensures at_home { IfOk result AreAtHome }
@@ -132,7 +130,6 @@ impl Machine {
         trace: bool,
         sink: &mut K,
     ) -> Result<(Machine, End), Stop>
-        requires { is_built_command c ≡ true }
         ensures ran { IfOk result (λ r. Did trace (K.held sink.old) (K.held sink.new) (command model line c self.session) (outcome_of r.1 r.0.session)) }
         ensures empty { IfOk result (λ r. r.0.session.log ≡ []) }
 

@@ -1,7 +1,6 @@
 // Turns of operations: what they come to is resolved, and done; their variable waits for it.
 ghost use Rattle.std.specs.Prelude.{◌≡◌, ◌≤◌, ◌+◌, ◌++◌, ◌<◌, ◌^◌, ℕ, Option, Result, Some, true, IfOk, IfSome, OnOk};
 ghost use Rattle.node_trees.specs.Nodes.{IsNode, size};
-ghost use Rattle.rule_script.specs.Built.{is_built_command, is_built_op};
 ghost use Rattle.ce_algorithms.specs.Deeds.{variable};
 ghost use Rattle.ce_algorithms.specs.Making.{make_document};
 ghost use Rattle.ce_algorithms.specs.Perform.{gives_node};
@@ -20,7 +19,7 @@ ghost use Rattle.ce_machine.specs.Turns.{naming};
 ghost use Rattle.ce_outcomes.specs.Turns.{Turns};
 ghost use Rattle.page_calls.specs.Given.{IsThere};
 ghost use Rattle.ce_outcomes.specs.Placed.{StaysPlaced};
-ghost use Rattle.ce_operations.specs.OnControls.{IsByUser};
+ghost use Rattle.ce_operations.specs.ByUser.{IsByUser};
 ghost use Rattle.ce_operations.specs.Ready.{IsReady};
 
 use crate::react::deed_turn;
@@ -43,7 +42,6 @@ pub(crate) fn begin(
     line: u64,
     c: Cmd,
 ) -> Result<Came, NoMemory>
-    requires built { is_built_command c ≡ true }
     requires paired { ArePaired stack.old state.old }
     ensures turn { IfOk result (λ now. Turns (frames_of stack.old) (frames_of stack.new) now (session stack.new state.new) (command_turn line c (session stack.old state.old))) }
     ensures paired { OnOk result (ArePaired stack.new state.new) }
@@ -78,7 +76,6 @@ pub(crate) fn begin(
 // Performs a command.
 #[tactic(auto, unfolding(ce_frames::specs::Loop::perform_turn))]
 fn perform(state: &mut State, alloc: Global, stack: &mut Stack, c: Cmd) -> Result<Came, NoMemory>
-    requires built { is_built_command c ≡ true }
     requires paired { ArePaired stack.old state.old }
     requires room { state.old.page.queues.pushed + state.old.fuel + 1 < 2 ^ 64 }
     ensures turn { IfOk result (λ now. Turns (frames_of stack.old) (frames_of stack.new) now (session stack.new state.new) (perform_turn c (session stack.old state.old))) }
@@ -109,7 +106,6 @@ fn act_as_user(
     stack: &mut Stack,
     c: Cmd,
 ) -> Result<Came, NoMemory>
-    requires built { is_built_command c ≡ true }
     requires user { IsByUser c }
     requires paired { ArePaired stack.old state.old }
     requires room { state.old.page.queues.pushed + state.old.fuel + 1 < 2 ^ 64 }
@@ -157,7 +153,6 @@ pub(crate) fn operate(
     this: &Option<NodeNo>,
     op: Op,
 ) -> Result<Came, NoMemory>
-    requires built { is_built_op op ≡ true }
     requires there { IfSome this.now (IsNode state.old.page.forest) }
     requires paired { ArePaired stack.old state.old }
     requires room { state.old.page.queues.pushed + state.old.fuel + 1 < 2 ^ 64 }

@@ -2,12 +2,11 @@
 ghost use Rattle.std.specs.Prelude.{◌≡◌, ◌+◌, ◌<◌, ◌^◌, false, map, true, IfNone, IfOk, IfSome, OnOk};
 ghost use Rattle.node_trees.specs.Nodes.{IsNode};
 ghost use Rattle.rule_lines.specs.Acts.{Both, Super, act_of};
-ghost use Rattle.rule_script.specs.Built.{is_built_op};
 ghost use Rattle.behaviours.specs.Resume.{Doing, OutOfFuel, Returning, Throwing};
 ghost use Rattle.ce_events.specs.declared.event.Event.TheVariants.{Logged};
 ghost use Rattle.ce_algorithms.specs.State.{logged};
 ghost use Rattle.ce_algorithms.specs.Values.{fixed_text};
-ghost use Rattle.frame_stack.specs.Resumes.{IsBuiltStop};
+ghost use Rattle.frame_stack.specs.Resumes.{IsForSession};
 ghost use Rattle.frame_stack.specs.Sessions.{ArePaired, session};
 ghost use Rattle.frame_stack.specs.Stacked.{HasBody, below_top, frames_of, this_of, top_of};
 ghost use Rattle.ce_machine.specs.Bodies.{GoesOn, acting_turn, answer, based_turn, frame_on_top, running_turn, stopped_turn};
@@ -154,7 +153,7 @@ fn act(
     stack: &mut Stack,
     action: Action,
 ) -> Result<Option<Came>, NoMemory>
-    requires built { IsBuiltStop (Doing (act_of action) false) }
+    requires action { IsForSession (Doing (act_of action) false) }
     requires room { state.old.page.queues.pushed + state.old.fuel + 1 < 2 ^ 64 }
     requires body { HasBody (frames_of stack.old) }
     requires paired { ArePaired stack.old state.old }
@@ -232,7 +231,6 @@ fn take_this(state: &mut State, stack: &mut Stack, n: NodeNo) -> Result<Option<C
 
 // An operation runs above the body.
 fn operation(state: &mut State, alloc: Global, stack: &mut Stack, op: Op) -> Result<Came, NoMemory>
-    requires built { is_built_op op ≡ true }
     requires room { state.old.page.queues.pushed + state.old.fuel + 1 < 2 ^ 64 }
     requires body { HasBody (frames_of stack.old) }
     requires paired { ArePaired stack.old state.old }

@@ -3,7 +3,6 @@ ghost use Rattle.std.specs.Prelude.{◌≡◌, ◌≤◌, ◌<◌, [], Err, true
 ghost use Rattle.ce_base.specs.Faults.{Rose};
 ghost use Rattle.ce_base.specs.Outside.{AppendsPart};
 ghost use Rattle.rule_lines.specs.Acts.{part_of};
-ghost use Rattle.rule_script.specs.Built.{is_built_part};
 ghost use Rattle.ce_algorithms.specs.Model.{model};
 ghost use Rattle.ce_algorithms.specs.Session.{class_part, log_of, run_line};
 ghost use Rattle.ce_algorithms.specs.Steps.{Goes};
@@ -30,7 +29,6 @@ pub(crate) fn write_part<K: Sink>(
     trace: bool,
     sink: &mut K,
 ) -> Result<(), Stop>
-    requires built { is_built_part (part_of p) ≡ true }
     requires rest { stack.old.frames ≡ [] }
     requires paired { ArePaired stack.old state.old }
     ensures ran { OnOk result (Did trace (K.held sink.old) (K.held sink.new) (class_part line (part_of p) (session stack.old state.old)) (Goes tt (session stack.new state.new))) }

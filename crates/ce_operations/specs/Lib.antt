@@ -1,4 +1,6 @@
 pub mod Fitting
+pub mod ByUser
 pub mod OnControls
+pub mod OnForms
 pub mod OnInternals
 pub mod Ready

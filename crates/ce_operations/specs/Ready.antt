@@ -3,9 +3,9 @@ use Rattle.node_trees.specs.Nodes.{IsNode}
 use Rattle.node_trees.specs.Trees.{Trees}
 use Rattle.ce_algorithms.specs.declared.deed.Deed.{Deed}
 use Rattle.ce_algorithms.specs.declared.deed.Deed.TheVariants as deeds
-use Rattle.ce_algorithms.specs.declared.deed.Deed.TheVariants.{OnPage, OnControls, OnInternals, OnForms}
+use Rattle.ce_algorithms.specs.declared.deed.Deed.TheVariants.{OnPage, OnControls, OnInternals, OnForms, Submits}
 use Rattle.page_calls.specs.Commands.{IsReadyOnControls}
-use Rattle.page_calls.specs.Ready.{IsReadyOnForms, IsReadyOnInternals, IsReadyOnPage}
+use Rattle.page_calls.specs.Ready.{IsReadyOnForms, IsReadyOnInternals, IsReadyOnPage, IsReadyToSubmit}
 
 abbrev pub IsReady : Trees → Deed → Type 0
 IsReady f (deeds.Create local is document) = Unit {0}
@@ -15,5 +15,6 @@ IsReady f (OnPage what) = IsReadyOnPage f what
 IsReady f (OnControls what) = IsReadyOnControls f what
 IsReady f (OnInternals what) = IsReadyOnInternals f what
 IsReady f (OnForms what) = IsReadyOnForms f what
+IsReady f (Submits what) = IsReadyToSubmit f what
 IsReady f (deeds.Ask word n name) = IsNode f n
 IsReady f (deeds.Let var n) = IsNode f n

@@ -18,8 +18,8 @@ use session_state::State;
 use std::alloc::Global;
 
 /// Does the steps of a deed that constructs nothing. Refused, FuelSpent and NoMemory are those of the step of `State`
-/// that it takes: `define_element`, `on_page`, `on_controls`, `on_internals` or `on_forms`. A question, and a variable that is
-/// set, refuse nothing and want no fuel.
+/// that it takes: `define_element`, `on_page`, `on_controls`, `on_internals`, `on_forms` or `submits`. A question, and a
+/// variable that is set, refuse nothing and want no fuel.
 pub fn run(state: &mut State, alloc: Global, deed: Deed) -> Result<Given, PageStop>
     requires ready { IsReady state.old.page.forest deed }
     requires still { IsStill deed }
@@ -37,6 +37,7 @@ pub fn run(state: &mut State, alloc: Global, deed: Deed) -> Result<Given, PageSt
         Deed::OnControls(what) => state.on_controls(alloc, what),
         Deed::OnInternals(what) => state.on_internals(alloc, what),
         Deed::OnForms(what) => state.on_forms(alloc, what),
+        Deed::Submits(what) => state.submits(alloc, what),
         Deed::Ask { word, node, name } => ask(state, alloc, word, node, &name),
         Deed::Let { var, node } => set(state, var, node),
     }

@@ -1,9 +1,9 @@
 // Operands: the nodes, classes and texts that an action names, where `this` is that node or none.
 ghost use Rattle.std.specs.Prelude.{◌≡◌, map, IfOk, IfSome};
 ghost use Rattle.node_trees.specs.declared.kind.NodeKind.TheVariants.{Element as ElementKind};
-ghost use Rattle.node_trees.specs.Nodes.{IsNode};
+ghost use Rattle.node_trees.specs.Nodes.{IsNode, IsNodeOrNone};
 ghost use Rattle.node_trees.specs.Spots.{kind_at};
-ghost use Rattle.ce_algorithms.specs.Operands.{class, document_or_page, element, node, node_that};
+ghost use Rattle.ce_algorithms.specs.Operands.{class, document_or_page, element, node, node_or_none, node_that};
 ghost use Rattle.ce_algorithms.specs.State.{view};
 ghost use Rattle.ce_algorithms.specs.Values.{fixed_text};
 
@@ -95,6 +95,22 @@ pub fn document_or_page(
     match operand {
         None => Ok(NodeNo(1)),
         Some(operand) => node_that(Fit::Document, state, this, operand),
+    }
+}
+
+/// The node that an operand names, none where there is no operand: faults as `node` gives them.
+pub fn node_or_none(
+    state: &State,
+    this: &Option<NodeNo>,
+    operand: &Option<Operand>,
+) -> Result<Option<NodeNo>, Fault>
+    requires { IfSome this.now (IsNode state.now.page.forest) }
+    ensures found { result ≡ node_or_none (view this.now state.now) operand.now }
+    ensures there { IfOk result (IsNodeOrNone state.now.page.forest) }
+{
+    match operand {
+        None => Ok(None),
+        Some(operand) => Ok(Some(node(state, this, operand)?)),
     }
 }
 

@@ -1,16 +1,18 @@
 // What an operation comes to: its operands, all read before a queue is pushed.
 mod attributes;
 mod controls;
+mod forms;
 mod internals;
 mod session;
 mod tree;
+mod user;
 
 ghost use Rattle.std.specs.Prelude.{◌≡◌, true, false, IfOk, IfSome};
 ghost use Rattle.node_trees.specs.Nodes.{IsNode};
-ghost use Rattle.rule_script.specs.Built.{is_built_op};
 ghost use Rattle.ce_algorithms.specs.Deeds.{resolve};
 ghost use Rattle.ce_algorithms.specs.State.{view};
 ghost use Rattle.ce_operations.specs.OnControls.{is_on_controls};
+ghost use Rattle.ce_operations.specs.OnForms.{is_on_forms};
 ghost use Rattle.ce_operations.specs.OnInternals.{is_on_internals};
 ghost use Rattle.ce_operations.specs.Ready.{IsReady};
 ghost use Rattle.page_calls.specs.Resolved.{Resolves};
@@ -19,22 +21,22 @@ use crate::operands::{class, element, node, node_that};
 use attributes::{del_attr, set_attr};
 use ce_algorithms::{Deed, Fit, PageDeed};
 use ce_base::{NodeNo, Refused};
-pub use controls::resolve_user;
 use controls::{is_on_controls, on_controls};
+use forms::{is_on_forms, on_forms};
 use internals::{is_on_internals, on_internals};
 use rule_lines::Op;
 use session::{ask, define, let_node};
 use session_state::State;
 use std::alloc::Global;
 use tree::{adopt, append, before, create, make_text, remove};
+pub use user::resolve_user;
 
 /// The deed of an operation, or the first fault of its operands, from the left. Nothing is done yet.
 ///
 /// ReferenceError: an operand is `this`, and nothing is `this`. TypeError: a variable is not set, a node is not what it
 /// has to be, or no class has the name. NoMemory: memory was refused.
 pub fn resolve(state: &State, alloc: Global, this: &Option<NodeNo>, op: Op) -> Result<Deed, Refused>
-    requires built { is_built_op op ≡ true }
-    requires there { IfSome this.now (IsNode state.now.page.forest) }
+    requires { IfSome this.now (IsNode state.now.page.forest) }
     ensures deed { Resolves result (resolve (view this.now state.now) op) }
     ensures ready { IfOk result (IsReady state.now.page.forest) }
 {
@@ -42,21 +44,23 @@ pub fn resolve(state: &State, alloc: Global, this: &Option<NodeNo>, op: Op) -> R
         on_controls(state, alloc, this, op)
     } else if is_on_internals(&op) {
         on_internals(state, alloc, this, op)
+    } else if is_on_forms(&op) {
+        on_forms(state, this, op)
     } else {
-        beside_controls(state, alloc, this, op)
+        beside_forms(state, alloc, this, op)
     }
 }
 
-// The deed of an operation that neither sets anything on a control nor is about internals.
-fn beside_controls(
+// The deed of an operation that is neither about a control nor about internals nor about a form.
+fn beside_forms(
     state: &State,
     alloc: Global,
     this: &Option<NodeNo>,
     op: Op,
 ) -> Result<Deed, Refused>
-    requires built { is_built_op op ≡ true }
     requires no_control { is_on_controls op ≡ false }
     requires no_internals { is_on_internals op ≡ false }
+    requires no_form { is_on_forms op ≡ false }
     requires there { IfSome this.now (IsNode state.now.page.forest) }
     ensures deed { Resolves result (resolve (view this.now state.now) op) }
     ensures ready { IfOk result (IsReady state.now.page.forest) }

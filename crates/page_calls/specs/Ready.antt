@@ -10,6 +10,8 @@ use Rattle.ce_algorithms.specs.declared.deed.InternalsDeed.{InternalsDeed}
 use Rattle.ce_algorithms.specs.declared.deed.InternalsDeed.TheVariants.{Attach, SetValue, SetValidity, AddState, DeleteState, ClearStates}
 use Rattle.ce_algorithms.specs.declared.deed.PageDeed.{PageDeed}
 use Rattle.ce_algorithms.specs.declared.deed.PageDeed.TheVariants as page_deeds
+use Rattle.ce_algorithms.specs.declared.deed.SubmitDeed.{SubmitDeed}
+use Rattle.ce_algorithms.specs.declared.deed.SubmitDeed.TheVariants.{Submit, Request, Press}
 
 abbrev pub IsReadyOnPage : Trees → PageDeed → Type 0
 IsReadyOnPage f (page_deeds.MakeText chars document) = Unit {0}
@@ -34,3 +36,8 @@ IsReadyOnInternals f (ClearStates n) = IsNode f n
 abbrev pub IsReadyOnForms : Trees → FormDeed → Type 0
 IsReadyOnForms f (Reset form by_user) = IsNode f form
 IsReadyOnForms f (Restore n text mode) = IsNode f n
+
+abbrev pub IsReadyToSubmit : Trees → SubmitDeed → Type 0
+IsReadyToSubmit f (Submit form) = IsNode f form
+IsReadyToSubmit f (Request form submitter) = IsNode f form × IsNodeOrNone f submitter
+IsReadyToSubmit f (Press button) = IsNode f button

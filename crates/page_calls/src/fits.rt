@@ -9,7 +9,7 @@ use ce_algorithms::Fit;
 use ce_base::{CustomState, NodeNo};
 use ce_page::{NodeKind, Page};
 use element_names::Native;
-use form_kinds::{is_a, is_text_control, is_tickable};
+use form_kinds::{is_a, is_button, is_text_control, is_tickable};
 
 /// Whether a node is what it has to be.
 pub fn fits(what: Fit, page: &Page, n: NodeNo) -> bool
@@ -32,6 +32,7 @@ pub fn fits(what: Fit, page: &Page, n: NodeNo) -> bool
         Fit::TextControl => is_text_control(page.tree(), n),
         Fit::Tickable => is_tickable(page.tree(), n),
         Fit::AnOption => is_a(page.tree(), n, Native::OptionItem),
+        Fit::Button => is_button(page.tree(), n),
         Fit::FormAssociated => page.is_form_associated(n),
         Fit::CustomFormAssociated => is_custom_form_associated(page, n),
         Fit::WithInternals => page.inner().attached(n),

@@ -23,7 +23,7 @@ pub use controls::{choose, edit, run_on_controls, tick};
 pub use deeds::{gives_node, gives_nothing, run};
 pub use internals::run_on_internals;
 pub use outcome::Outcome;
-pub use questions::{answer, ask, asked_of};
+pub use questions::{answer, ask, asked_of, form_owner, is_disabled};
 pub use requests::request_fit;
 pub use reset::{reset_form, run_on_forms};
 pub use shadow::disables_shadow;

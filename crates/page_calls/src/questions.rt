@@ -1,7 +1,7 @@
 // Questions about nodes.
 ghost use Rattle.std.specs.Prelude.{◌≡◌, ℕ, All, List, Option, option_copied, true, IfOk};
 ghost use Rattle.std.specs.Str.{str_to_ascii_lowercase};
-ghost use Rattle.node_trees.specs.Nodes.{IsNode};
+ghost use Rattle.node_trees.specs.Nodes.{IsNode, IsNodeOrNone};
 ghost use Rattle.node_trees.specs.Spots.{attribute_at, parent_at};
 ghost use Rattle.reaction_queue.specs.Queues.{or_empty};
 ghost use Rattle.form_controls.specs.Internals.{kept_by};
@@ -108,18 +108,29 @@ fn parent(page: &Page, n: NodeNo) -> Answer
     }
 }
 
-// The form owner. A page that is not settled has no answer.
+// The form owner.
 fn owner(page: &Page, n: NodeNo) -> Result<Answer, NoMemory>
     requires { IsNode page.now.forest n }
     ensures { IfOk result (λ a. a ≡ node_answer (form_owner page.now n)) }
 {
-    if !page.is_settled() {
-        return Err(NoMemory);
-    }
-    match page.owners().owner(n) {
+    match form_owner(page, n)? {
         None => Ok(Answer::Null),
         Some(form) => Ok(Answer::Node(form)),
     }
+}
+
+/// The form owner of a node (HTML Standard, section "Association of controls and forms", "form owner"). NoMemory: the page
+/// is not settled, so it has no answer.
+pub fn form_owner(page: &Page, n: NodeNo) -> Result<Option<NodeNo>, NoMemory>
+    requires { IsNode page.now.forest n }
+    ensures owner { IfOk result (λ o. o ≡ form_owner page.now n) }
+    ensures node { IfOk result (IsNodeOrNone page.now.forest) }
+{
+    if !page.is_settled() {
+        return Err(NoMemory);
+    }
+    let _count = page.tree().count();
+    Ok(page.owners().owner(n))
 }
 
 /// The controls of a form. A page that is not settled has no answer.
@@ -196,8 +207,9 @@ fn states(alloc: Global, page: &Page, n: NodeNo) -> Result<Texts, NoMemory>
     page.inner().states(n).copy(alloc)
 }
 
-/// Whether the node is disabled. A page that is not settled has no answer.
-pub(crate) fn is_disabled(page: &Page, n: NodeNo) -> Result<bool, NoMemory>
+/// Whether the node is disabled (HTML Standard, section "Enabling and disabling form controls: the disabled attribute").
+/// NoMemory: the page is not settled, so it has no answer.
+pub fn is_disabled(page: &Page, n: NodeNo) -> Result<bool, NoMemory>
     requires { IsNode page.now.forest n }
     ensures { IfOk result (λ b. b ≡ is_disabled page.now n) }
 {

@@ -5,3 +5,4 @@ pub mod QueueLaws
 pub mod PageLaws
 pub mod PartLaws
 pub mod DropsLaws
+pub mod SubmissionLaws

@@ -6,7 +6,7 @@ ghost use Rattle.ce_algorithms.specs.Drain.{log_call};
 ghost use Rattle.ce_algorithms.specs.Page.{definition_of};
 ghost use Rattle.ce_algorithms.specs.State.{log};
 ghost use Rattle.ce_algorithms.specs.Steps.{Goes};
-ghost use Rattle.frame_stack.specs.Resumes.{IsBuiltStop, Proceeds, Resumes};
+ghost use Rattle.frame_stack.specs.Resumes.{IsForSession, Proceeds, Resumes};
 ghost use Rattle.frame_stack.specs.Stacked.{HasBody, frames_of};
 ghost use Rattle.session_state.specs.Steps.{callee, is_callback};
 
@@ -49,7 +49,7 @@ impl State {
     pub fn resume(&mut self, alloc: Global, stack: &mut Stack) -> Result<Next, NoMemory>
         requires { HasBody (frames_of stack.old) }
         ensures resumed { IfOk result (λ next. Resumes stack.old stack.new self.old.fuel self.new.fuel next) }
-        ensures built { IfOk result (λ next. IsBuiltStop (stop_of next)) }
+        ensures action { IfOk result (λ next. IsForSession (stop_of next)) }
         ensures rest { self.new ≡ record self.old { fuel = self.new.fuel } }
         ensures spent { IfOk result (λ next. Proceeds (stop_of next) → self.new.fuel < self.old.fuel) }
         ensures room { IfOk result (λ next. Proceeds (stop_of next) → self.new.page.queues.pushed + self.new.fuel + 1 < 2 ^ 64) }

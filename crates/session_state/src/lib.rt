@@ -11,6 +11,7 @@ mod making;
 mod parts;
 mod queues;
 mod state;
+mod submission;
 mod upgrade;
 mod variables;
 

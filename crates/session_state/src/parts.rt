@@ -1,7 +1,6 @@
 // The parts of classes.
-ghost use Rattle.std.specs.Prelude.{◌≡◌, ◌<◌, [], true, length, IfOk};
+ghost use Rattle.std.specs.Prelude.{◌≡◌, ◌<◌, [], length, IfOk};
 ghost use Rattle.rule_lines.specs.Acts.{act_of, part_of};
-ghost use Rattle.rule_script.specs.Built.{is_built_act, is_built_part};
 ghost use Rattle.ce_algorithms.specs.Parts.{add_class, associated, change_facts, change_open, open_class, part, with_body, with_has, with_observed, without_internals, without_shadow};
 ghost use Rattle.frame_stack.specs.Sessions.{ArePaired, session};
 ghost use Rattle.session_state.specs.Steps.{with_call_at};
@@ -22,7 +21,6 @@ impl State {
     /// class is frozen, since a definition has it. After both nothing has changed. NoMemory: memory was refused, and
     /// the state and the stack are only dropped.
     pub fn part(&mut self, alloc: Global, stack: &mut Stack, p: ClassPart) -> Result<(), Refused>
-        requires built { is_built_part (part_of p) ≡ true }
         requires rest { stack.old.frames ≡ [] }
         requires paired { ArePaired stack.old self.old }
         ensures taken { Takes result (session stack.new self.new) (part (part_of p) (session stack.old self.old)) }
@@ -101,7 +99,6 @@ impl State {
         call: CallName,
         action: Action,
     ) -> Result<(), Refused>
-        requires action { is_built_act (act_of action) ≡ true }
         requires rest { stack.old.frames ≡ [] }
         requires paired { ArePaired stack.old self.old }
         ensures taken { Takes result (session stack.new self.new) (change_open class.now (with_body call (act_of action)) (session stack.old self.old)) }

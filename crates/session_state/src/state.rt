@@ -15,11 +15,12 @@ use ce_events::Event;
 use ce_page::{Page, PageStop};
 use ce_registry::Registry;
 use class_table::Classes;
+use form_submission::Site;
 use node_arena::Tree;
 use std::alloc::Global;
 use std::marker::Model;
 
-/// The state of a session: the page and its fuel, the classes, the variables, and what was logged and not
+/// The state of a session: where it stands, the page and its fuel, the classes, the variables, and what was logged and not
 /// written out yet. Each variable holds a node of the page, and the fuel bounds what still gets a number.
 ///
 /// A step wants one unit of fuel for each node that it makes, each attribute that it clones, and each reaction that
@@ -34,6 +35,7 @@ use std::marker::Model;
 /// NoMemory: memory was refused, and the state is only dropped.
 #[derive(Drop)]
 pub struct State {
+    pub(crate) site: Site,
     pub(crate) page: Page,
     pub(crate) fuel: Fuel,
     pub(crate) classes: Classes,
@@ -53,6 +55,7 @@ impl Model for State {
     ghost coded = { Prim.hlevel (codes, act_code, trees_code) };
 
     ghost view = { λ s. record {
+      site = s.site;
       page = s.page;
       fuel = s.fuel;
       classes = s.classes;
@@ -68,8 +71,10 @@ impl State {
     pub fn make(alloc: Global, settings: Settings) -> Result<State, NoMemory>
         ensures { IfOk result (λ s. s ≡ start settings) }
     {
+        let page = Page::make(alloc)?;
         Ok(State {
-            page: Page::make(alloc)?,
+            site: settings.site,
+            page,
             fuel: Fuel::make(settings.fuel),
             classes: Classes::make(alloc),
             variables: Variables::make(alloc),
