@@ -16,17 +16,18 @@ multipart => --XX--␍␊
 multipart a"␊=p␊q|u=1|v= => --XX␍␊Content-Disposition: form-data; name="a%22%0D%0A"␍␊␍␊p␍␊q␍␊--XX␍␊Content-Disposition: form-data; name="u"␍␊␍␊1␍␊--XX␍␊Content-Disposition: form-data; name="v"␍␊␍␊␍␊--XX--␍␊
 multipart a"␊=aXXb|u=1|v= => Occurs"#;
 
-// The character that a sign of the table stands for.
+// The character that a sign of a table stands for.
 fn spelled(c: char) -> char {
     match c {
         '␍' => '\r',
         '␊' => '\n',
+        '·' => ' ',
         other => other,
     }
 }
 
 // The text that a word spells.
-fn text_of(alloc: Global, word: &str) -> Result<Text, AllocError> {
+pub(crate) fn text_of(alloc: Global, word: &str) -> Result<Text, AllocError> {
     let mut text = String::new(alloc);
     for c in word.chars().filter(|c| *c != '∅') {
         text.push(spelled(c))?;

@@ -22,7 +22,7 @@ pub(crate) fn node(rt: &impl Abort, tree: &Tree, n: u64) -> NodeNo
 }
 
 // The element of this number.
-fn element(rt: &impl Abort, tree: &Tree, n: u64) -> NodeNo
+pub(crate) fn element(rt: &impl Abort, tree: &Tree, n: u64) -> NodeNo
     ensures node { IsNode tree.now result }
     ensures kind { kind_at tree.now result ≡ ElementKind }
 {

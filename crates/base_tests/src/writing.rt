@@ -5,13 +5,11 @@ ghost use Rattle.rule_script.specs.Canonical.{CanBeSpelled};
 
 use ce_base::Text;
 use rule_lines::{Action, ClassPart, Line};
-use rule_script::{grammar_line, write_line};
+use rule_script::{read_line, write_line};
 use rule_tokens::{CallName, LineRefused};
 use std::alloc::Global;
 use std::process::Abort;
 use std::test::Fail;
-
-const LONGEST: usize = 4096;
 
 fn copy_of(
     alloc: Global,
@@ -67,7 +65,7 @@ fn copied(alloc: Global, line: &Line) -> Result<Text, Fail>
 
 // A line as it is written once it is read and its action is copied.
 fn again(alloc: Global, line: &str) -> Result<Text, Fail> {
-    let read = grammar_line(alloc, LONGEST, line.as_bytes());
+    let read = read_line(alloc, line.as_bytes());
     match &read {
         Ok(x) => copied(alloc, x),
         Err(_) => Err(Fail::from("refused")),

@@ -1,4 +1,4 @@
 pub use Rattle.line_feed.specs.Feed
 pub use Rattle.script_runner.specs.Script
-pub use Rattle.script_runner.specs.Words
+pub use Rattle.command_words.specs.Words
 pub use Rattle.script_runner.specs.Table

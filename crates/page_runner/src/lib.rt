@@ -3,6 +3,7 @@
 
 mod top;
 
+pub use command_words::{Meaning, Options};
 pub use line_feed::Feed;
-pub use script_runner::{Meaning, Options, Session, Status};
+pub use script_runner::{Session, Status};
 pub use top::run;

@@ -1,19 +1,20 @@
 // A whole run, from the words and the source to the sink and a status.
-ghost use Rattle.std.specs.Prelude.{◌≡◌, ◌≤◌, ◌<◌, ◌↔◌, length, map, string_bytes, Some, List, ℕ};
+ghost use Rattle.std.specs.Prelude.{◌≡◌, ◌≤◌, ◌<◌, ◌⊎◌, length, map, string_bytes, Some, List, ℕ};
 ghost use Rattle.ce_base.specs.Faults.{Rose};
+ghost use Rattle.command_words.specs.Words.{meaning};
 ghost use Rattle.script_runner.specs.Table.{RunMeets, RunsWhole, limit};
-ghost use Rattle.script_runner.specs.Words.{meaning};
 
-use ce_base::{Sink, Source};
-use script_runner::{Meaning, Options, Status, run_script};
+use ce_base::{NoMemory, Sink, Source};
+use command_words::{Meaning, Options};
+use script_runner::{Status, run_script};
 use std::alloc::Global;
 
-/// Runs the script that the source gives, as the words say, and writes its transcript to the sink. Words are none,
-/// `--trace`, `--fuel N`, or both in either order; others are refused, and then nothing is read or written.
+/// Runs the script that the source gives, as the words say, and writes its transcript to the sink. Words are options, as
+/// `Meaning::of` reads them; others are refused, and then nothing is read or written.
 ///
 /// All lines that were wholly read are run, and their answers written, before the source is asked again.
 ///
-/// Usage comes exactly where the words are refused. The others speak of the lines that count: all lines where the
+/// Usage comes exactly where the words are refused, unless memory is refused before that is known. The others speak of the lines that count: all lines where the
 /// source gave its end within 16,777,216 bytes, else the whole lines within them. Done: the source gave its end within
 /// them, the fuel sufficed, and no line was refused. BadLines: the same, but some line was refused. Fuel: a unit of
 /// fuel was wanted, and none was left. ReadFault: a read failed, and the source's count of faults rose. TooLong: the
@@ -27,7 +28,8 @@ pub fn run<S: Source, K: Sink>(
     source: &mut S,
     sink: &mut K,
 ) -> Status
-    ensures usage { (result ≡ Status.Usage) ↔ (meaning (map (λ w. string_bytes w) words.now.items) ≡ Meaning.Refused) }
+    ensures usage { result ≡ Status.Usage → meaning (map (λ w. string_bytes w) words.now.items) ≡ Meaning.Refused }
+    ensures refused { meaning (map (λ w. string_bytes w) words.now.items) ≡ Meaning.Refused → (result ≡ Status.Usage) ⊎ (result ≡ Status.NoMemory) }
     ensures untouched { result ≡ Status.Usage → (source.new ≡ source.old) × (sink.new ≡ sink.old) }
     ensures table { RunMeets (meaning (map (λ w. string_bytes w) words.now.items)) result (S.left source.old) (S.left source.new) (K.held sink.old) (K.held sink.new)
         (S.ended source.new) (S.failed source.old) (S.failed source.new) (K.failed sink.old) (K.failed sink.new) }
@@ -43,8 +45,9 @@ pub fn run<S: Source, K: Sink>(
         → ¬ Rose (S.failed source.old) (S.failed source.new) → ¬ Rose (K.failed sink.old) (K.failed sink.new)
         → RunsWhole set script result (K.held sink.old) (K.held sink.new) }
 {
-    match Meaning::of(words) {
-        Meaning::Refused => Status::Usage,
-        Meaning::Script(options) => Status::of(run_script(alloc, options, source, sink)),
+    match Meaning::of(alloc, words) {
+        Err(NoMemory) => Status::NoMemory,
+        Ok(Meaning::Refused) => Status::Usage,
+        Ok(Meaning::Script(options)) => Status::of(run_script(alloc, options, source, sink)),
     }
 }

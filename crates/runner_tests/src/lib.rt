@@ -9,3 +9,5 @@ mod limits;
 mod pieces;
 #[cfg(test)]
 mod script;
+#[cfg(test)]
+mod submissions;

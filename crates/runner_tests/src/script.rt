@@ -72,6 +72,24 @@ pub(crate) fn ran(alloc: Global, script: &[u8], cut: usize) -> Result<Ended, Fai
     ran_from(alloc, &mut source)
 }
 
+// Runs a script that is read in such pieces, with these words, which spaces part.
+pub(crate) fn ran_with(
+    alloc: Global,
+    words: &str,
+    script: &[u8],
+    cut: usize,
+) -> Result<Ended, Fail> {
+    let mut list = Vec::new(alloc);
+    for word in words.split(' ') {
+        list.push(String::from_str(alloc, word)?)?;
+    }
+    let mut source = source_of(alloc, script, cut)?;
+    let mut sink = SureSink::make(alloc);
+    let status = run(alloc, &list, &mut source, &mut sink);
+    let text = String::from_utf8_lossy(alloc, sink.bytes())?;
+    Ok(Ended { status, text })
+}
+
 // A class that logs its attribute's changes, its definition, an element, and a change to an equal value.
 pub(crate) const FIRST: &str = r#"> class A
 > observe A k

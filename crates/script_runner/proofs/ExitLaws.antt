@@ -1,5 +1,5 @@
 -- What is true of a run at each of its ends.
-use Rattle.std.proofs.Common.{◌≡◌, ◌≤◌, ◌<◌, ◌+◌, ◌-◌, cond, ℕ, Bool, true, false, List, [], ◌++◌, length, take, refl, sym, ap, subst, ◌∙◌, append-nil, arith, length-append}
+use Rattle.std.proofs.Common.{◌≡◌, ◌≤◌, ◌<◌, ◌+◌, ◌-◌, cond, ℕ, Bool, true, false, List, [], ◌++◌, length, take, refl, sym, ap, subst, ◌∙◌, append-nil, arith, length-append, inl, inr}
 use Rattle.std.proofs.KnownBytes.{Appends-nil, Consumes-nil, Consumes-trans}
 use Rattle.std.specs.Io.KnownBytes.{Consumes, IsAtEnd}
 use Rattle.std.specs.declared.option.Option.{Option}
@@ -20,12 +20,13 @@ use Rattle.ce_machine.specs.declared.end.End.{End}
 use Rattle.ce_machine.specs.declared.end.End.TheVariants.{Replied, FuelSpent}
 use Rattle.script_runner.specs.Ran.{Answered, answers, fresh}
 use Rattle.script_runner.specs.Sitting.{Sitting}
-use Rattle.script_runner.specs.Script.{readings}
-use Rattle.script_runner.specs.Table.{limit, piece, counted, spends_all, logged, Row, TakesOnlyNeeded, RunMeets, status_at, status_of_stop}
+use Rattle.script_runner.specs.Script.{readings, settings}
+use Rattle.script_runner.specs.Table.{limit, piece, counted, spends_all, logged, transcript, Row, TakesOnlyNeeded, RunMeets, status_at, status_of_stop}
 use Rattle.script_runner.specs.declared.status.Status.{Status}
-use Rattle.script_runner.specs.declared.status.Status.TheVariants.{Done, BadLines, Usage, Fuel, ReadFault, TooLong}
-use Rattle.script_runner.specs.declared.words.Options.{Options}
-use Rattle.script_runner.specs.declared.words.Meaning.TheVariants.{Refused, Script}
+use Rattle.script_runner.specs.declared.status.Status.TheVariants.{Done, BadLines, Usage, Fuel, NoMemory, ReadFault, TooLong}
+use Rattle.command_words.specs.declared.words.Options.{Options}
+use Rattle.command_words.specs.declared.words.Meaning.{Meaning}
+use Rattle.command_words.specs.declared.words.Meaning.TheVariants.{Refused, Script}
 use Rattle.script_runner.proofs.SittingLaws.{ran_answers}
 use Rattle.script_runner.proofs.PieceLaws.{Streamed, answered_piece, part_piece, answered_end, part_end, answered_now}
 
@@ -44,7 +45,7 @@ writes set lines end s held held' done = sym (ran_answers (fresh set) s lines en
 
 -- the log of each session keeps the law of order
 lawful : (set : Options) (lines : List (List ℕ)) → Lawful (logged set lines)
-lawful set lines = session_lawful set.session (readings lines)
+lawful set lines = session_lawful (settings set) (readings lines)
 
 -- ---- what was taken before the last piece
 
@@ -192,4 +193,19 @@ meets_end_stop stop set left mid left' held held' held'' s feed n sb sn kb kn be
 
 -- a run whose words are refused
 pub meets_refused : (left held : Option (List ℕ)) (ended : Bool) (sb sn kb kn : ℕ) → RunMeets Refused Usage left left held held ended sb sn kb kn
-meets_refused left held ended sb sn kb kn = record { taken = []; written = []; took = Consumes-nil left; wrote = Appends-nil held; as_said = (refl, refl, refl) }
+meets_refused left held ended sb sn kb kn =
+    record { taken = []; written = []; took = Consumes-nil left; wrote = Appends-nil held; as_said = (inl refl, refl, refl) }
+
+-- a run where memory was refused before its words were read
+pub meets_unread : (said : Meaning) (left held : Option (List ℕ)) (ended : Bool) (sb sn kb kn : ℕ) → RunMeets said NoMemory left left held held ended sb sn kb kn
+meets_unread Refused left held ended sb sn kb kn =
+    record { taken = []; written = []; took = Consumes-nil left; wrote = Appends-nil held; as_said = (inr refl, refl, refl) }
+meets_unread (Script set) left held ended sb sn kb kn =
+    let needed : TakesOnlyNeeded set [] = record { before = []; last = []; split = refl; short = omega arith; within = omega arith; goes = refl } in
+    record {
+      taken = [];
+      written = [];
+      took = Consumes-nil left;
+      wrote = Appends-nil held;
+      as_said = ((transcript set (counted ended []), refl), needed, lawful set (counted ended []));
+    }

@@ -6,4 +6,3 @@ pub mod GatheredLaws
 pub mod PieceLaws
 pub mod ExitLaws
 pub mod WholeLaws
-pub mod WordLaws

@@ -14,7 +14,7 @@ use Rattle.ce_machine.specs.declared.end.End.TheVariants.{Replied}
 use Rattle.script_runner.specs.Ran.{Answered, Drained, answers, fresh}
 use Rattle.script_runner.specs.Sitting.{Sitting}
 use Rattle.script_runner.specs.Table.{limit, counted}
-use Rattle.script_runner.specs.declared.words.Options.{Options}
+use Rattle.command_words.specs.declared.words.Options.{Options}
 use Rattle.line_feed.proofs.LineLaws.{whole_lines-piece, last_part-piece}
 use Rattle.script_runner.proofs.SittingLaws.{answered_more, answered_nothing, answered_part}
 

@@ -8,13 +8,13 @@ use Rattle.ce_algorithms.specs.Session.{start, log_of}
 use Rattle.ce_algorithms.specs.State.{State}
 use Rattle.ce_algorithms.specs.Steps.{Step, Outcome, Goes, Throws, Spent, then_do, is_spent}
 use Rattle.ce_events.specs.Text.{text}
-use Rattle.script_runner.specs.Script.{has_bad, session}
+use Rattle.script_runner.specs.Script.{has_bad, session, settings}
 use Rattle.script_runner.specs.Table.{limit, counted, lines_that_count, spends_all, transcript, Call, ReadsAll, WritesAll, Row, IsAsSaid, RunMeets, RunsWhole, script_status}
 use Rattle.script_runner.specs.declared.status.Status.{Status}
 use Rattle.script_runner.specs.declared.status.Status.TheVariants.{Done, BadLines, Usage, Fuel, ReadFault, WriteFault, NoMemory, TooLong}
-use Rattle.script_runner.specs.declared.words.Options.{Options}
-use Rattle.script_runner.specs.declared.words.Meaning.{Meaning}
-use Rattle.script_runner.specs.declared.words.Meaning.TheVariants.{Script}
+use Rattle.command_words.specs.declared.words.Options.{Options}
+use Rattle.command_words.specs.declared.words.Meaning.{Meaning}
+use Rattle.command_words.specs.declared.words.Meaning.TheVariants.{Script}
 use Rattle.line_feed.proofs.LineLaws.{lines_of-front}
 use Rattle.script_runner.proofs.SittingLaws.{run_from-append}
 use Rattle.script_runner.proofs.PieceLaws.{counted-within, counted-ended}
@@ -25,8 +25,8 @@ then_spent (Goes a s) next h = cc
 then_spent (Throws f s) next h = cc
 then_spent (Spent s) next h = refl
 
-session-spent : (set : Options) (xs ys : List (List ℕ)) → spends_all set xs ≡ true → session set.session (xs ++ ys) ≡ session set.session xs
-session-spent set xs ys h = run_from-append 1 xs ys (start set.session) ∙ then_spent (session set.session xs) _ h
+session-spent : (set : Options) (xs ys : List (List ℕ)) → spends_all set xs ≡ true → session (settings set) (xs ++ ys) ≡ session (settings set) xs
+session-spent set xs ys h = run_from-append 1 xs ys (start (settings set)) ∙ then_spent (session (settings set) xs) _ h
 
 -- the bytes that were taken are a front of the script
 front_taken : (script : List ℕ) (left : Option (List ℕ)) (taken : List ℕ) → Consumes (Some script) left taken → (rest : List ℕ) × (script ≡ taken ++ rest)
@@ -70,7 +70,7 @@ spent_all : (set : Options) (script taken written : List ℕ) (ended : Bool) (le
 spent_all set script taken written ended left held held' took at_end within spent all wrote =
     let lines = counted ended taken in
     let front = counted-front script taken ended left took within at_end in
-    let same : session set.session (lines_of script) ≡ session set.session lines = ap (session set.session) front.1 ∙ session-spent set lines front.0 spent in
+    let same : session (settings set) (lines_of script) ≡ session (settings set) lines = ap (session (settings set)) front.1 ∙ session-spent set lines front.0 spent in
     let P : Outcome State (Unit {0}) → Type 0 = λ o. Appends held held' (text set.trace (log_of o)) in
     let Q : List ℕ → Type 0 = λ l. Appends held held' l in
     let end : Bool → Status = λ t. cond t Fuel (cond (has_bad (lines_of script)) BadLines Done) in

@@ -10,13 +10,13 @@ use Rattle.ce_algorithms.specs.Written.{behind_in}
 use Rattle.ce_machine.specs.declared.end.End.{End}
 use Rattle.ce_machine.specs.declared.end.End.TheVariants.{Replied}
 use Rattle.ce_machine.specs.Ended.{outcome_of}
-use Rattle.script_runner.specs.Script.{has_bad, run_from}
-use Rattle.script_runner.specs.declared.words.Options.{Options}
+use Rattle.script_runner.specs.Script.{has_bad, run_from, settings}
+use Rattle.command_words.specs.declared.words.Options.{Options}
 use Rattle.script_runner.specs.Sitting.{Sitting}
 
 -- a session before its first line
 abbrev pub fresh : Options → Sitting
-fresh set = record { state = start set.session; line = 0; bad = false; trace = set.trace }
+fresh set = record { state = start (settings set); line = 0; bad = false; trace = set.trace }
 
 -- the lines were run from one sitting to another, with these events
 pub record Ran (from : Sitting) (lines : List (List ℕ)) (end : End) (to : Sitting) (events : List Event) : Type 0 where

@@ -5,6 +5,7 @@ use Rattle.rule_tokens.specs.declared.refused.Bad.{Bad}
 use Rattle.rule_lines.specs.Acts.{Said}
 use Rattle.rule_script.specs.Reading.{reading}
 use Rattle.ce_algorithms.specs.declared.settings.Settings.{Settings}
+use Rattle.command_words.specs.declared.words.Options.{Options}
 use Rattle.ce_algorithms.specs.Model.{model}
 use Rattle.ce_algorithms.specs.Session.{run_lines, start}
 use Rattle.ce_algorithms.specs.State.{State}
@@ -27,6 +28,10 @@ has_bad lines = list_any is_bad (readings lines)
 abbrev pub run_from : ℕ → List (List ℕ) → Step State (Unit {0})
 run_from number lines = run_lines model number (readings lines)
 
+-- the settings of a session that is run with these options
+abbrev pub settings : Options → Settings
+settings set = record { fuel = set.fuel; site = set.site }
+
 -- the session of the lines of a script
 abbrev pub session : Settings → List (List ℕ) → Outcome State (Unit {0})
-session settings lines = run_from 1 lines (start settings)
+session with_settings lines = run_from 1 lines (start with_settings)

@@ -16,12 +16,12 @@ use Rattle.ce_events.specs.Text.{text}
 use Rattle.order_law.specs.Law.{Lawful}
 use Rattle.ce_machine.specs.declared.end.End.{End}
 use Rattle.ce_machine.specs.declared.end.End.TheVariants.{Replied, FuelSpent}
-use Rattle.script_runner.specs.Script.{session, has_bad}
+use Rattle.script_runner.specs.Script.{session, has_bad, settings}
 use Rattle.script_runner.specs.declared.status.Status.{Status}
 use Rattle.script_runner.specs.declared.status.Status.TheVariants.{Done, BadLines, Usage, Fuel, ReadFault, WriteFault, NoMemory, TooLong}
-use Rattle.script_runner.specs.declared.words.Options.{Options}
-use Rattle.script_runner.specs.declared.words.Meaning.{Meaning}
-use Rattle.script_runner.specs.declared.words.Meaning.TheVariants.{Refused, Script}
+use Rattle.command_words.specs.declared.words.Options.{Options}
+use Rattle.command_words.specs.declared.words.Meaning.{Meaning}
+use Rattle.command_words.specs.declared.words.Meaning.TheVariants.{Refused, Script}
 
 -- how many bytes a script may have
 abbrev pub limit : ℕ
@@ -62,11 +62,11 @@ lines_that_count call = counted call.ended call.taken
 
 -- the fuel was spent in the session of these lines
 abbrev pub spends_all : Options → List (List ℕ) → Bool
-spends_all set lines = is_spent (session set.session lines)
+spends_all set lines = is_spent (session (settings set) lines)
 
 -- what the session of these lines logs, and what it writes of that
 abbrev pub logged : Options → List (List ℕ) → List Event
-logged set lines = log_of (session set.session lines)
+logged set lines = log_of (session (settings set) lines)
 
 abbrev pub transcript : Options → List (List ℕ) → List ℕ
 transcript set lines = text set.trace (logged set lines)
@@ -106,9 +106,9 @@ pub record TakesOnlyNeeded (set : Options) (taken : List ℕ) : Type 0 where
 abbrev pub KeepsOrder : Options → Call → Type 0
 KeepsOrder set call = Lawful (logged set (lines_that_count call))
 
--- the call is as its words and its status say
+-- the call is as its words and its status say; memory may be refused while the words are read
 abbrev pub IsAsSaid : Meaning → Status → Call → Type 0
-IsAsSaid Refused status call = (status ≡ Usage) × (call.taken ≡ []) × (call.written ≡ [])
+IsAsSaid Refused status call = ((status ≡ Usage) ⊎ (status ≡ NoMemory)) × (call.taken ≡ []) × (call.written ≡ [])
 IsAsSaid (Script set) status call = Row status set call × TakesOnlyNeeded set call.taken × KeepsOrder set call
 
 -- some bytes were taken and some were written, as far as both ends tell them, and the call is as its words and its status say

@@ -8,9 +8,7 @@ mod lines;
 mod pieces;
 mod session;
 mod status;
-mod words;
 
 pub use pieces::run_script;
 pub use session::Session;
 pub use status::Status;
-pub use words::{Meaning, Options};

@@ -1,13 +1,14 @@
 // A script that comes in pieces: each is run before the next is asked for.
 ghost use Rattle.std.specs.Prelude.{◌≡◌, ◌≤◌, ◌<◌, length, IfOk, vec_len};
-ghost use Rattle.script_runner.specs.declared.words.Meaning.TheVariants.{Script};
+ghost use Rattle.command_words.specs.declared.words.Meaning.TheVariants.{Script};
 ghost use Rattle.script_runner.specs.Table.{RunMeets, piece, status_of};
 
 use crate::answers::{finish, take_piece};
 use crate::ask::ask;
-use crate::{Options, Session, Status};
+use crate::{Session, Status};
 use ce_base::{Got, NoMemory, Sink, Source, Stop};
 use ce_machine::End;
+use command_words::Options;
 use line_feed::Feed;
 use std::alloc::Global;
 

@@ -3,7 +3,6 @@ ghost use Rattle.std.specs.Prelude.{◌≡◌, ◌+◌, ◌<◌, ◌≤◌, ◌^
 ghost use Rattle.ce_base.specs.Faults.{Rose};
 ghost use Rattle.ce_base.specs.Outside.{AppendsPart};
 ghost use Rattle.rule_lines.specs.Acts.{line_of};
-ghost use Rattle.rule_script.specs.Built.{is_built};
 ghost use Rattle.rule_script.specs.Reading.{reading};
 ghost use Rattle.ce_algorithms.specs.Model.{model};
 ghost use Rattle.ce_algorithms.specs.Session.{run_line, log_of};
@@ -13,9 +12,10 @@ ghost use Rattle.ce_machine.specs.Ended.{outcome_of};
 ghost use Rattle.script_runner.specs.Ran.{fresh};
 ghost use Rattle.script_runner.specs.Script.{is_bad};
 
-use crate::Options;
+use ce_algorithms::Settings;
 use ce_base::{NoMemory, Sink, Stop};
 use ce_machine::{End, Machine};
+use command_words::Options;
 use rule_script::{Line, LineRefused, read_line};
 use std::alloc::Global;
 use std::marker::Model;
@@ -47,11 +47,12 @@ impl Session {
     pub fn make(alloc: Global, options: Options) -> Result<Session, NoMemory>
         ensures { IfOk result (λ s. s ≡ fresh options) }
     {
+        let Options { fuel, site, trace } = options;
         Ok(Session {
-            machine: Machine::make(alloc, options.session.fuel)?,
+            machine: Machine::make(alloc, Settings { fuel, site })?,
             line: 0,
             bad: false,
-            trace: options.trace,
+            trace,
         })
     }
 
@@ -156,7 +157,6 @@ fn run_said<K: Sink>(
     trace: bool,
     sink: &mut K,
 ) -> Result<(Machine, End), Stop>
-    requires { is_built (line_of said) ≡ true }
     ensures ran { IfOk result (λ r. Did trace (K.held sink.old) (K.held sink.new) (run_line model line (Ok (line_of said)) machine.session) (outcome_of r.1 r.0.session)) }
     ensures empty { IfOk result (λ r. r.0.session.log ≡ []) }
     ensures part { OnErr result (AppendsPart (K.held sink.old) (K.held sink.new) (text trace (log_of (run_line model line (Ok (line_of said)) machine.session)))) }

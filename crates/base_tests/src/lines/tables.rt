@@ -59,7 +59,6 @@ fuel
 3: bad word
 3: bad arity
 3: bad place
-3: bad later
 submit #2 blocked disconnected
 submit #2 blocked invalid
 submit #2 blocked invalid #5 #4
