@@ -183,7 +183,13 @@ done <<'END'
 --fuel 2. => 2
 --fuel 2a => 2
 --fuel ٢ => 2
---fuel=2 => 2
+--fuel=2 => 0 / 1: #2
+--fuel=1 => 3 / fuel
+--fuel= => 2
+--fuel==2 => 2
+--fuel=0 => 2
+--fuel=2 --fuel=2 => 2
+--fuel 2 --fuel=2 => 2
 --fuel2 => 2
 --fuel 2 3 => 2
 --fuel --trace => 2
@@ -197,6 +203,7 @@ done <<'END'
 --trace --fuel => 2
 --trace --fuel 0 => 2
 --trace 2 => 2
+--trace= => 2
 --trace=on => 2
 --Trace => 2
 --tracé => 2
@@ -210,10 +217,39 @@ trace => 2
 '' => 2
 --trace '' => 2
 --help => 2
---url http://page.test/ => 2
---boundary XX => 2
+--url http://page.test/ => 0 / 1: #2
+--url=http://page.test/ => 0 / 1: #2
+--url 'https://user@page.test:8443/a?b=c#d' => 0 / 1: #2
+--url='http://page.test/?a=b' => 0 / 1: #2
+--url ' http://page.test ' => 0 / 1: #2
+--url http:page.test => 0 / 1: #2
+--url => 2
+--url '' => 2
+--url= => 2
+--url page.test => 2
+--url /a => 2
+--url http:// => 2
+--url http://page.test:65536/ => 2
+--url ftp://page.test/ => 2
+--url mailto:a@page.test => 2
+--url --trace => 2
+--url http://page.test/ --url http://page.test/ => 2
+--boundary XX => 0 / 1: #2
+--boundary=XX => 0 / 1: #2
+--boundary 0123456789012345678901234567890123456789012345678901234567890123456789 => 0 / 1: #2
+--boundary 01234567890123456789012345678901234567890123456789012345678901234567890 => 2
+--boundary => 2
+--boundary '' => 2
+--boundary= => 2
+--boundary X-X => 2
+--boundary 'X X' => 2
+--boundary É => 2
+--boundary --trace => 2
+--boundary XX --boundary=XX => 2
+--trace --boundary=XX --url http://page.test/ --fuel=2 => 0 / ~ open 1 / ~ drain 1 / ~ close 1 / 1: #2
+--url=http://page.test/ --fuel 1 --boundary XX => 3 / fuel
 --make 5 => 2
---fuel=5 => 2
+--make=5 => 2
 --fuel trace => 2
 END
 
