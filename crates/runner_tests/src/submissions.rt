@@ -107,5 +107,10 @@ const RELATIVE: &str = r#"> create $h html
 
 #[test]
 fn a_form_is_sent_from_the_page(rt: HostRuntime) -> Result<(), Fail> {
-    comes(&rt, rt.alloc(), "--url=https://a.test/b/c?q#d --fuel 100", RELATIVE)
+    comes(
+        &rt,
+        rt.alloc(),
+        "--url=https://a.test/b/c?q#d --fuel 100",
+        RELATIVE,
+    )
 }

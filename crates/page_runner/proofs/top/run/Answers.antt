@@ -1,4 +1,4 @@
-use Rattle.std.proofs.Common.{◌∙◌}
+use Rattle.std.proofs.Common.{◌∙◌, sym}
 use Rattle.script_runner.proofs.ExitLaws.{meets_refused, meets_unread}
 use Rattle.script_runner.proofs.WholeLaws.{runs_whole}
 use Rattle.page_runner.proofs.top.run.Goals as goal
@@ -7,8 +7,8 @@ pub returns-in-Err-clause-table : goal.returns-in-Err-clause-table
 returns-in-Err-clause-table g c = meets_unread _ _ _ _ _ _ _ _
 
 pub returns-in-Ok-Refused-clause-table : goal.returns-in-Ok-Refused-clause-table
-returns-in-Ok-Refused-clause-table g c = rw (← c.in-Ok-Refused.ensures) (meets_refused _ _ _ _ _ _ _)
+returns-in-Ok-Refused-clause-table g c = rw (← c.in-Ok-Refused.ensures, c.in-Ok-Refused.field-0-is) (meets_refused _ _ _ _ _ _ _)
 
 pub returns-in-Ok-Script-clause-complete : goal.returns-in-Ok-Script-clause-complete
 returns-in-Ok-Script-clause-complete g c = λ set script said known within calm_source calm_sink.
-    rw c.of-in-Ok-Script.ensures (runs_whole _ set script _ _ _ _ _ _ _ _ _ _ c.run_script.ensures.table (c.in-Ok-Script.ensures ∙ said) known within calm_source calm_sink)
+    rw c.of-in-Ok-Script.ensures (runs_whole _ set script _ _ _ _ _ _ _ _ _ _ c.run_script.ensures.table (sym c.in-Ok-Script.field-0-is ∙ c.in-Ok-Script.ensures ∙ said) known within calm_source calm_sink)
