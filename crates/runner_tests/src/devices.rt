@@ -72,12 +72,12 @@ const MUCH: &str = r#"> class A
 20> on A attribute : log @3
 > define x-a A
 > create $e x-a
-> setattr $e k %
+> setattr $e k …
 < 23: ok
 < construct A
 < 24: #2
-< call #2 attribute "k" null "%"
-20< log "%"
+< call #2 attribute "k" null "…"
+20< log "…"
 < 25: ok"#;
 
 // What comes before a failing write was passed on, also within a command.

@@ -1,5 +1,5 @@
 // Scripts as texts: rows that begin with "> " are lines of the script, rows that begin with "< " lines of the
-// transcript. A number before the sign says how many times they come, and `%` stands for a value of 4000 bytes.
+// transcript. A number before the sign says how many times they come, and `…` stands for a value of 4000 bytes.
 use ce_base::{Sink, Source, SureSink, SureSource};
 use page_runner::{Status, run};
 use std::alloc::Global;
@@ -9,7 +9,7 @@ use std::test::Fail;
 // What a row spells, once.
 fn spelled(alloc: Global, row: &str) -> Result<String, Fail> {
     let value = "v".repeat(alloc, 4_000)?;
-    let line = row.replace(alloc, "%", value.as_str())?;
+    let line = row.replace(alloc, "…", value.as_str())?;
     Ok(format!(in alloc; "{line}\n")?)
 }
 
