@@ -9,19 +9,19 @@ use Rattle.node_trees.specs.Trees.{Trees, tree_of, graft, cut, single, with_node
 use Rattle.node_trees.specs.Spots.{Spot, spot_of, parent_at, facts_at, kind_at, shadow_at, first_of, or_no_spot}
 use Rattle.node_trees.specs.Insertion.{may_insert}
 use Rattle.node_trees.specs.Nodes.{times, size, surplus_at, IsNode}
-use Rattle.node_arena.specs.Rows.{row_at, IsForest, Grafted, Severed, Attached, Changed}
+use Rattle.tree_laws.specs.Rows.{row_at, IsForest, Grafted, Severed, Attached, Changed}
 use Rattle.node_arena.specs.NodeRows.{rows, row, facts_of, IsLoose}
 use Rattle.node_arena.specs.Seen.{Forest}
 use Rattle.node_arena.specs.declared.node.Node.{Node}
-use Rattle.node_arena.proofs.NewReads.{spot-new-here}
+use Rattle.tree_laws.proofs.NewReads.{spot-new-here}
 use Rattle.node_arena.proofs.MakeLemmas.{row_loose}
-use Rattle.node_arena.proofs.Above.{parent-above}
-use Rattle.node_arena.proofs.AllowedCut.{parent-outside}
+use Rattle.tree_laws.proofs.Above.{parent-above}
+use Rattle.tree_laws.proofs.AllowedCut.{parent-outside}
 use Rattle.tree_laws.proofs.AtNode.{node_spot}
-use Rattle.node_arena.proofs.CutReads.{in-tree}
+use Rattle.tree_laws.proofs.CutReads.{in-tree}
 use Rattle.tree_laws.proofs.Sizes.{new-absent}
-use Rattle.node_arena.proofs.Surplus.{KeepsKind}
-use Rattle.node_arena.proofs.ForestLemmas.{graft_forest, cut_forest, change_forest, push_forest, attach_forest, stands_at}
+use Rattle.tree_laws.proofs.Surplus.{KeepsKind}
+use Rattle.tree_laws.proofs.RowForests.{graft_forest, cut_forest, change_forest, push_forest, attach_forest, stands_at}
 
 -- a vector whose slice was written
 pub written : {X : Type 0} (old now new : List X) (n : ℕ) → now ≡ old → n ≡ length old → length new ≡ length now → take n (new ++ drop (length new) old) ≡ new

@@ -8,11 +8,11 @@ use Rattle.std.specs.Option.{option_map}
 use Rattle.node_trees.specs.Facts.{Facts}
 use Rattle.node_trees.specs.Trees.{none}
 use Rattle.node_trees.specs.Spots.{Spot, spot_of}
-use Rattle.node_arena.specs.Numbers.{insert_number, remove_number}
-use Rattle.node_arena.specs.Rows.{row_at, Grafted, Severed, Attached, Changed}
+use Rattle.tree_laws.specs.Numbers.{insert_number, remove_number}
+use Rattle.tree_laws.specs.Rows.{row_at, Grafted, Severed, Attached, Changed}
 use Rattle.node_arena.specs.NodeRows.{rows, row, facts_of, IsRootOf}
 use Rattle.node_arena.specs.declared.node.Node.{Node}
-use Rattle.node_arena.proofs.GetLemmas.{slice_get-set_same, slice_get-set_other, slice_get-append_front, slice_get-append_end, slice_get-append_other}
+use Rattle.tree_laws.proofs.ByIndex.{slice_get-set_same, slice_get-set_other, slice_get-append_front, slice_get-append_end, slice_get-append_other}
 
 -- rows of which that of p, and then that of n, is replaced
 twice : (rs : List Spot) (p n i j : ℕ) (u v : Spot) → i ≡ p - 1 → j ≡ n - 1 → 0 < p → p ≤ length rs → 0 < n → n ≤ length rs → p ≢ n

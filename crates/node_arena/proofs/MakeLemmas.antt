@@ -6,7 +6,7 @@ use Rattle.node_trees.specs.Trees.{none, single}
 use Rattle.std.proofs.lemmas.Bool.Decides.{nat_tests}
 use Rattle.node_trees.specs.Nodes.{IsTidy}
 use Rattle.node_trees.specs.Spots.{Spot, spot_of}
-use Rattle.node_arena.specs.Rows.{IsForest}
+use Rattle.tree_laws.specs.Rows.{IsForest}
 use Rattle.node_arena.specs.NodeRows.{facts_of, row, rows, IsLoose}
 use Rattle.node_arena.specs.declared.node.Node.{Node}
 

@@ -2,7 +2,7 @@
 use Rattle.std.proofs.Common.{◌≡◌, ℕ, suc, ◌<◌, ◌≤◌, List, [], ◌∷◌, ◌++◌, Some, None, refl, ap, arith, length, take, drop, add-one, slice_get}
 use Rattle.std.proofs.lemmas.Bool.Decides.{nat_tests}
 use Rattle.node_trees.specs.Spots.{after}
-use Rattle.node_arena.specs.Numbers.{first_place, insert_number, remove_number}
+use Rattle.tree_laws.specs.Numbers.{first_place, insert_number, remove_number}
 
 pub insert-first_place : (b n : ℕ) (xs : List ℕ) → take (first_place b xs) xs ++ n ∷ drop (first_place b xs) xs ≡ insert_number (Some b) n xs
 insert-first_place b n [] = refl

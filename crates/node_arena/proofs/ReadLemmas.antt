@@ -7,13 +7,13 @@ use Rattle.node_trees.specs.Trees.{Trees, tree_of}
 use Rattle.node_trees.specs.Spots.{Spot, spot}
 use Rattle.node_trees.specs.Orders.{order}
 use Rattle.node_trees.specs.Nodes.{IsNode, IsNodeOrNone, IsTidy}
-use Rattle.node_arena.specs.Rows.{row_at, IsForest}
+use Rattle.tree_laws.specs.Rows.{row_at, IsForest}
 use Rattle.node_arena.specs.NodeRows.{rows, row}
-use Rattle.node_arena.specs.Walks.{AreNodes, IsUp, orders, above, parent_or}
+use Rattle.tree_laws.specs.Walks.{AreNodes, IsUp, orders, above, parent_or}
 use Rattle.node_arena.specs.declared.node.Node.{Node}
-use Rattle.node_arena.proofs.OrderLemmas.{order_step, links_are}
-use Rattle.node_arena.proofs.Above.{nothing, a_parent, a_host, row_above}
-use Rattle.node_arena.proofs.ForestLemmas.{row_is}
+use Rattle.tree_laws.proofs.NodeOrders.{order_step, links_are}
+use Rattle.tree_laws.proofs.Above.{nothing, a_parent, a_host, row_above}
+use Rattle.tree_laws.proofs.RowForests.{row_is}
 
 row_of_node : (nodes : List Node) (n : ℕ) (node : Node) → slice_get nodes (n - 1) ≡ Some node → row_at (rows nodes) n ≡ Some (row node)
 row_of_node nodes n node is = slice_get-map row nodes (n - 1) ∙ ap (option_map row) is

@@ -6,8 +6,8 @@ use Rattle.node_trees.specs.Spots.{after, first_of}
 use Rattle.node_trees.specs.Nodes.{IsNode, IsNodeOrNone}
 use Rattle.node_trees.specs.Trees.{Trees, tree_of}
 use Rattle.node_trees.specs.Orders.{order}
-use Rattle.node_arena.specs.Walks.{AreNodes, orders}
-use Rattle.node_arena.proofs.OrderLemmas.{orders-append, nodes-append}
+use Rattle.tree_laws.specs.Walks.{AreNodes, orders}
+use Rattle.tree_laws.proofs.NodeOrders.{orders-append, nodes-append}
 
 module _ (f : Trees) (m : ℕ) (links todo rest ahead : List ℕ) (next : todo ≡ m ∷ rest) (entered : ahead ≡ links ++ rest) where
   -- what was left to do is this node, and then what is left now

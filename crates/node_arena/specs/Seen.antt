@@ -5,8 +5,8 @@ use mathlib.Core.HLevel.{Σ_prop_path}
 use Rattle.node_trees.specs.Trees.{Trees}
 use Rattle.node_trees.specs.Spots.{Spot}
 use Rattle.node_trees.specs.Nodes.{size}
-use Rattle.node_arena.specs.Rows.{IsForest}
-use Rattle.node_arena.specs.OneForest.{IsForest-prop, IsForest-unique}
+use Rattle.tree_laws.specs.Rows.{IsForest}
+use Rattle.tree_laws.specs.OneForest.{IsForest-prop, IsForest-unique}
 
 -- the forest of rows, with the fact that it is theirs
 abbrev pub Forest : List Spot → Type 0

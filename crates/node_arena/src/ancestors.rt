@@ -3,7 +3,7 @@ ghost use Rattle.std.specs.Prelude.{◌≡◌};
 ghost use Rattle.node_trees.specs.Paths.{path, is_among, root_at, shadow_including_root_at, connected};
 ghost use Rattle.node_trees.specs.Nodes.{IsNode, IsTidy};
 ghost use Rattle.node_trees.specs.Orders.{order_of};
-ghost use Rattle.node_arena.specs.Walks.{IsUp};
+ghost use Rattle.tree_laws.specs.Walks.{IsUp};
 
 use crate::Tree;
 use ce_base::NodeNo;

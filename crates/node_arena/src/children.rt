@@ -1,7 +1,7 @@
 // The children of a node, as their numbers in order.
 ghost use Rattle.std.specs.Prelude.{◌≡◌, ◌≤◌, ◌<◌, ◌-◌, length, slice_get, OnOk, OnErr};
 ghost use Rattle.node_trees.specs.Spots.{after};
-ghost use Rattle.node_arena.specs.Numbers.{first_place, insert_number, remove_number};
+ghost use Rattle.tree_laws.specs.Numbers.{first_place, insert_number, remove_number};
 
 use ce_base::{NoMemory, NodeNo};
 

@@ -9,7 +9,7 @@ ghost use Rattle.node_trees.specs.Kinds.{KeepsKinds};
 ghost use Rattle.node_trees.specs.Links.{IsAlone, KeepsApart, KeepsSpots};
 ghost use Rattle.node_trees.specs.Insertion.{may_insert};
 ghost use Rattle.node_arena.specs.NodeRows.{rows};
-ghost use Rattle.node_arena.specs.Rows.{row_at, Changed};
+ghost use Rattle.tree_laws.specs.Rows.{row_at, Changed};
 
 use crate::Tree;
 use crate::children::index_of;

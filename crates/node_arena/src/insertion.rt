@@ -9,7 +9,7 @@ ghost use Rattle.node_trees.specs.Kinds.{KeepsKinds};
 ghost use Rattle.node_trees.specs.Links.{KeepsApart, KeepsSpots};
 ghost use Rattle.node_trees.specs.Paths.{connected};
 ghost use Rattle.node_arena.specs.NodeRows.{rows};
-ghost use Rattle.node_arena.specs.Rows.{Grafted};
+ghost use Rattle.tree_laws.specs.Rows.{Grafted};
 
 use crate::Tree;
 use crate::children::{add_child, index_of};

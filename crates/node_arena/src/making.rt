@@ -8,7 +8,7 @@ ghost use Rattle.node_trees.specs.Nodes.{size, surplus_at, IsNode, IsTidy};
 ghost use Rattle.node_trees.specs.Kinds.{IsElement, KeepsKinds};
 ghost use Rattle.node_trees.specs.Links.{IsAlone, KeepsApart};
 ghost use Rattle.node_arena.specs.NodeRows.{facts_of, rows, IsLoose, IsRootOf};
-ghost use Rattle.node_arena.specs.Rows.{Attached};
+ghost use Rattle.tree_laws.specs.Rows.{Attached};
 
 use crate::Tree;
 use crate::children::index_of;

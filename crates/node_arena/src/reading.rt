@@ -7,7 +7,7 @@ ghost use Rattle.node_trees.specs.Orders.{order};
 ghost use Rattle.node_trees.specs.Nodes.{size, HasOwnParts, IsNode, IsNodeOrNone, IsTidy};
 ghost use Rattle.node_trees.specs.Links.{below, AreRead};
 ghost use Rattle.node_arena.specs.NodeRows.{row, text_in};
-ghost use Rattle.node_arena.specs.Walks.{above, orders, AreNodes, IsUp};
+ghost use Rattle.tree_laws.specs.Walks.{above, orders, AreNodes, IsUp};
 
 use crate::Tree;
 use crate::children::{index_of, next_of};

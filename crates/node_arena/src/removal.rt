@@ -6,7 +6,7 @@ ghost use Rattle.node_trees.specs.Insertion.{may_insert};
 ghost use Rattle.node_trees.specs.Nodes.{size, IsNode, IsTidy};
 ghost use Rattle.node_trees.specs.Kinds.{KeepsKinds};
 ghost use Rattle.node_arena.specs.NodeRows.{rows};
-ghost use Rattle.node_arena.specs.Rows.{Severed};
+ghost use Rattle.tree_laws.specs.Rows.{Severed};
 
 use crate::Tree;
 use crate::children::{drop_child, index_of};

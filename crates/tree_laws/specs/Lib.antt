@@ -1,1 +1,5 @@
 pub mod Alike
+pub mod Numbers
+pub mod Rows
+pub mod OneForest
+pub mod Walks

@@ -1,5 +1,5 @@
 use Rattle.std.proofs.Common.{◌≡◌, ◌∙◌, ap, length}
-use Rattle.node_arena.specs.Numbers.{first_place}
+use Rattle.tree_laws.specs.Numbers.{first_place}
 use Rattle.node_arena.proofs.NumberLemmas.{insert-first_place, insert-length}
 use Rattle.node_arena.proofs.children.add_child.Goals as goal
 use Rattle.node_arena.proofs.children.add_child.Goals.{in-Some, in-None}

@@ -1,5 +1,5 @@
 use Rattle.std.proofs.Common.{◌≡◌, ◌∙◌, ap, arith}
-use Rattle.node_arena.specs.Numbers.{first_place}
+use Rattle.tree_laws.specs.Numbers.{first_place}
 use Rattle.node_arena.proofs.NumberLemmas.{remove-first_place, remove-absent}
 use Rattle.node_arena.proofs.children.drop_child.Goals as goal
 

@@ -1,5 +1,5 @@
 use Rattle.std.proofs.Common.{◌≡◌, sym, ◌∙◌, arith, add-one}
-use Rattle.node_arena.specs.Numbers.{first_place}
+use Rattle.tree_laws.specs.Numbers.{first_place}
 use Rattle.node_arena.proofs.NumberLemmas.{after-first_place, after-absent}
 use Rattle.node_arena.proofs.children.next_of.Goals as goal
 

@@ -1,5 +1,5 @@
 use Rattle.std.proofs.Common.{◌≡◌, ◌+◌, drop}
-use Rattle.node_arena.specs.Numbers.{first_place}
+use Rattle.tree_laws.specs.Numbers.{first_place}
 use Rattle.node_arena.proofs.children.place_of.Given as goal
 
 abbrev pub invariant-loop-i : goal.invariant-loop-i

@@ -4,10 +4,10 @@ use Rattle.std.proofs.lemmas.Result.{err_from_is_err_and}
 use Rattle.node_arena.specs.NodeRows.{row, facts_of}
 use Rattle.node_arena.specs.Seen.{seen_fact, seen_is, seen_size}
 use Rattle.node_arena.proofs.CallLemmas.{pushed, pushed_or_not, new_free}
-use Rattle.node_arena.proofs.KindLemmas.{kinds-same, kinds-new, kind-new}
-use Rattle.node_arena.proofs.SpotLemmas.{spots-same, spot_at-new}
-use Rattle.node_arena.proofs.AloneLemmas.{new_alone}
-use Rattle.node_arena.proofs.ApartLemmas.{apart-new, apart-same}
+use Rattle.tree_laws.proofs.NodeKinds.{kinds-same, kinds-new, kind-new}
+use Rattle.tree_laws.proofs.OtherSpots.{spots-same, spot_at-new}
+use Rattle.tree_laws.proofs.Alone.{new_alone}
+use Rattle.tree_laws.proofs.Apart.{apart-new, apart-same}
 use Rattle.node_arena.proofs.tree.Tree.add.Goals as goal
 
 pub invariant_of-self-inside : goal.invariant_of-self-inside

@@ -6,12 +6,12 @@ use Rattle.node_trees.specs.Facts.{blank, is_shadow_root}
 use Rattle.node_trees.specs.Trees.{single, with_shadow}
 use Rattle.node_trees.specs.Spots.{document_at}
 use Rattle.node_trees.specs.Nodes.{size, surplus_at}
-use Rattle.node_arena.specs.Rows.{IsForest}
+use Rattle.tree_laws.specs.Rows.{IsForest}
 use Rattle.node_arena.specs.NodeRows.{facts_of, row, rows}
 use Rattle.node_arena.specs.Seen.{seen_fact, seen_is, seen_size}
 use Rattle.node_arena.proofs.CallLemmas.{attached_forest, attached_or_not, counts}
 use Rattle.node_arena.proofs.ReadLemmas.{in_range}
-use Rattle.node_arena.proofs.KindLemmas.{by_result, kinds-same, kinds-attached}
+use Rattle.tree_laws.proofs.NodeKinds.{by_result, kinds-same, kinds-attached}
 use Rattle.node_arena.proofs.tree.Tree.attach_root.Goals as goal
 
 pub attach-requires-clause-host : goal.attach-requires-clause-host

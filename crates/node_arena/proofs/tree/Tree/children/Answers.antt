@@ -1,4 +1,4 @@
-use Rattle.node_arena.proofs.ReadBelow.{read_below, roots_below, none_below}
+use Rattle.tree_laws.proofs.ReadBelow.{read_below, roots_below, none_below}
 use Rattle.node_arena.proofs.tree.Tree.children.Goals as goal
 
 pub returns-clause-below : goal.returns-clause-below

@@ -3,9 +3,9 @@ use Rattle.node_trees.specs.Facts.{value_in, without_value}
 use Rattle.node_arena.specs.Seen.{seen_fact, seen_is, seen_size}
 use Rattle.node_arena.proofs.CallLemmas.{size_written, written, altered, own_row}
 use Rattle.node_arena.proofs.ReadLemmas.{in_range}
-use Rattle.node_arena.proofs.Surplus.{keeps-attributes}
-use Rattle.node_arena.proofs.KindLemmas.{kinds-with}
-use Rattle.node_arena.proofs.SpotLemmas.{spots-with}
+use Rattle.tree_laws.proofs.Surplus.{keeps-attributes}
+use Rattle.tree_laws.proofs.NodeKinds.{kinds-with}
+use Rattle.tree_laws.proofs.OtherSpots.{spots-with}
 use Rattle.node_arena.proofs.tree.Tree.del_attr.Goals as goal
 
 pub remove_attribute-requires : goal.remove_attribute-requires

@@ -1,5 +1,5 @@
 use Rattle.std.proofs.Common.{sym, ◌∙◌}
-use Rattle.node_arena.proofs.Seeking.{seek-start, seek-node, seek-here, seek-last, seek-on, seek-less}
+use Rattle.tree_laws.proofs.Seeking.{seek-start, seek-node, seek-here, seek-last, seek-on, seek-less}
 use Rattle.node_arena.proofs.tree.Tree.first_with_id.Goals as goal
 
 pub loop-root-init : goal.loop-root-init

@@ -1,5 +1,5 @@
 use Rattle.node_trees.specs.Nodes.{IsNode, IsTidy}
-use Rattle.node_arena.proofs.Seeking.{Seeking, left_from}
+use Rattle.tree_laws.proofs.Seeking.{Seeking, left_from}
 use Rattle.node_arena.proofs.tree.Tree.first_with_id.Given as goal
 
 abbrev pub invariant-loop-root : goal.invariant-loop-root

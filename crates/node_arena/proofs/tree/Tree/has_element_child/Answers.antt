@@ -4,7 +4,7 @@ use Rattle.std.proofs.lemmas.List.{take_all}
 use Rattle.node_trees.specs.Facts.{is_element}
 use Rattle.node_trees.specs.Spots.{kind_at}
 use Rattle.node_arena.specs.NodeRows.{row}
-use Rattle.node_arena.specs.Walks.{AreNodes}
+use Rattle.tree_laws.specs.Walks.{AreNodes}
 use Rattle.tree_laws.proofs.AtNode.{children_at-is}
 use Rattle.node_arena.proofs.WalkLemmas.{child_node}
 use Rattle.node_arena.proofs.tree.Tree.has_element_child.Goals as goal

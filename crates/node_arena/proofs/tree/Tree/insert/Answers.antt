@@ -3,9 +3,9 @@ use Rattle.std.proofs.lemmas.Result.{on_ok_weaker, on_err_weaker}
 use Rattle.node_arena.specs.Seen.{seen_fact, seen_is, seen_size}
 use Rattle.node_arena.proofs.CallLemmas.{size_written, written, regrafted, inserted, not_inserted, inserted_or_not, apart_of}
 use Rattle.node_arena.proofs.ReadLemmas.{in_range}
-use Rattle.node_arena.proofs.KindLemmas.{by_result, kinds-same, kinds-grafted}
-use Rattle.node_arena.proofs.SpotLemmas.{spots-grafted}
-use Rattle.node_arena.proofs.ApartLemmas.{apart-grafted}
+use Rattle.tree_laws.proofs.NodeKinds.{by_result, kinds-same, kinds-grafted}
+use Rattle.tree_laws.proofs.OtherSpots.{spots-grafted}
+use Rattle.tree_laws.proofs.Apart.{apart-grafted}
 use Rattle.node_arena.proofs.tree.Tree.insert.Goals as goal
 
 pub link-requires-clause-parent : goal.link-requires-clause-parent

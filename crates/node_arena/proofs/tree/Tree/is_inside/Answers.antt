@@ -1,6 +1,6 @@
 use Rattle.std.proofs.Common.{sym, ◌∙◌}
 use Rattle.tree_laws.proofs.Walked.{walked}
-use Rattle.node_arena.proofs.UpLemmas.{among_here, among_above, among_none}
+use Rattle.tree_laws.proofs.WayUp.{among_here, among_above, among_none}
 use Rattle.node_arena.proofs.tree.Tree.is_inside.Goals as goal
 
 pub returns-then-eq-clause-above : goal.returns-then-eq-clause-above

@@ -1,5 +1,5 @@
 use Rattle.std.proofs.Common.{sym, ◌∙◌}
-use Rattle.node_arena.proofs.Climbing.{climb-child, climb-start, climb-node, climb-end, climb-sibling, climb-on, climb-less, climb-parent, test-apart, test-same}
+use Rattle.tree_laws.proofs.Climbing.{climb-child, climb-start, climb-node, climb-end, climb-sibling, climb-on, climb-less, climb-parent, test-apart, test-same}
 use Rattle.tree_laws.proofs.Children.{next-inside, next-node}
 use Rattle.tree_laws.proofs.InOrder.{member_is_node}
 use Rattle.node_arena.proofs.tree.Tree.next_in_tree.Goals as goal

@@ -1,7 +1,7 @@
 use Rattle.std.proofs.Common.{length}
 use Rattle.node_trees.specs.Nodes.{IsTidy}
 use Rattle.node_trees.specs.Paths.{path}
-use Rattle.node_arena.proofs.Climbing.{Climbing}
+use Rattle.tree_laws.proofs.Climbing.{Climbing}
 use Rattle.node_arena.proofs.tree.Tree.next_in_tree.Given as goal
 
 abbrev pub invariant-loop-root : goal.invariant-loop-root

@@ -1,7 +1,7 @@
 use Rattle.std.proofs.Common.{arith}
 use Rattle.node_arena.specs.Seen.{seen_fact}
 use Rattle.node_arena.proofs.ReadLemmas.{in_range, read}
-use Rattle.node_arena.proofs.Surplus.{has-own-parts}
+use Rattle.tree_laws.proofs.Surplus.{has-own-parts}
 use Rattle.node_arena.proofs.tree.Tree.node.Goals as goal
 
 pub index-requires : goal.index-requires

@@ -2,9 +2,9 @@ use Rattle.std.proofs.Common.{◌∙◌, arith, refl}
 use Rattle.node_arena.specs.Seen.{seen_fact, seen_is, seen_size}
 use Rattle.node_arena.proofs.CallLemmas.{size_written, written, removed, parent_is}
 use Rattle.node_arena.proofs.ReadLemmas.{in_range}
-use Rattle.node_arena.proofs.CutReads.{parent_at-cut-here}
-use Rattle.node_arena.proofs.AllowedCut.{may_insert-cut, may_insert-cut-itself}
-use Rattle.node_arena.proofs.KindLemmas.{kinds-cut}
+use Rattle.tree_laws.proofs.CutReads.{parent_at-cut-here}
+use Rattle.tree_laws.proofs.AllowedCut.{may_insert-cut, may_insert-cut-itself}
+use Rattle.tree_laws.proofs.NodeKinds.{kinds-cut}
 use Rattle.node_arena.proofs.tree.Tree.remove.Goals as goal
 
 pub unlink-requires-clause-parent : goal.unlink-requires-clause-parent

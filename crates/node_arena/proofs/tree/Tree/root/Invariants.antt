@@ -1,7 +1,7 @@
 use Rattle.std.proofs.Common.{◌≡◌, length}
 use Rattle.node_trees.specs.Paths.{path}
 use Rattle.node_trees.specs.Nodes.{IsNode}
-use Rattle.node_arena.proofs.UpLemmas.{rootward}
+use Rattle.tree_laws.proofs.WayUp.{rootward}
 use Rattle.node_arena.proofs.tree.Tree.root.Given as goal
 
 abbrev pub invariant-loop-parent : goal.invariant-loop-parent

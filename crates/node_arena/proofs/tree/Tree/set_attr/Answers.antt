@@ -5,11 +5,11 @@ use Rattle.node_trees.specs.Spots.{attribute_at}
 use Rattle.node_arena.specs.Seen.{seen_fact, seen_is, seen_size}
 use Rattle.node_arena.proofs.CallLemmas.{size_written, written, altered, unaltered, altered_or_not, own_row}
 use Rattle.node_arena.proofs.ReadLemmas.{in_range}
-use Rattle.node_arena.proofs.Surplus.{keeps-attributes}
-use Rattle.node_arena.proofs.KindLemmas.{by_result, kinds-same, kinds-with}
-use Rattle.node_arena.proofs.SpotLemmas.{spots-same, spots-with}
-use Rattle.node_arena.proofs.AloneLemmas.{alone-same, alone-with}
-use Rattle.node_arena.proofs.ApartLemmas.{apart-same, apart-with}
+use Rattle.tree_laws.proofs.Surplus.{keeps-attributes}
+use Rattle.tree_laws.proofs.NodeKinds.{by_result, kinds-same, kinds-with}
+use Rattle.tree_laws.proofs.OtherSpots.{spots-same, spots-with}
+use Rattle.tree_laws.proofs.Alone.{alone-same, alone-with}
+use Rattle.tree_laws.proofs.Apart.{apart-same, apart-with}
 use Rattle.node_arena.proofs.tree.Tree.set_attr.Goals as goal
 
 pub set_attribute-requires : goal.set_attribute-requires

@@ -2,12 +2,12 @@ use Rattle.std.proofs.Common.{◌∙◌, arith, refl}
 use Rattle.node_arena.specs.Seen.{seen_fact, seen_is, seen_size}
 use Rattle.node_arena.proofs.CallLemmas.{size_written, written, altered}
 use Rattle.node_arena.proofs.ReadLemmas.{in_range}
-use Rattle.node_arena.proofs.Surplus.{keeps-document}
-use Rattle.node_arena.proofs.Allowed.{may_insert-with_document}
+use Rattle.tree_laws.proofs.Surplus.{keeps-document}
+use Rattle.tree_laws.proofs.Allowed.{may_insert-with_document}
 use Rattle.tree_laws.proofs.ChangedReads.{parent_at-with}
-use Rattle.node_arena.proofs.KindLemmas.{kinds-with}
-use Rattle.node_arena.proofs.SpotLemmas.{spots-with}
-use Rattle.node_arena.proofs.ApartLemmas.{apart-with}
+use Rattle.tree_laws.proofs.NodeKinds.{kinds-with}
+use Rattle.tree_laws.proofs.OtherSpots.{spots-with}
+use Rattle.tree_laws.proofs.Apart.{apart-with}
 use Rattle.node_arena.proofs.tree.Tree.set_document.Goals as goal
 
 pub move_to-requires : goal.move_to-requires

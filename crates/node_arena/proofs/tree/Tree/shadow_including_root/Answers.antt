@@ -1,5 +1,5 @@
 use Rattle.std.proofs.Common.{◌∙◌}
-use Rattle.node_arena.proofs.UpLemmas.{first_above}
+use Rattle.tree_laws.proofs.WayUp.{first_above}
 use Rattle.node_arena.proofs.tree.Tree.shadow_including_root.Goals as goal
 
 pub loop-next-preserved : goal.loop-next-preserved

@@ -1,7 +1,7 @@
 use Rattle.std.proofs.Common.{◌++◌, ◌∙◌, ap, arith}
 use Rattle.std.specs.Option.{option_to_list}
 use Rattle.std.proofs.lemmas.Grind.{common_steps}
-use Rattle.node_arena.proofs.ConnectedBelow.{all_connected}
+use Rattle.tree_laws.proofs.ConnectedBelow.{all_connected}
 use Rattle.node_arena.proofs.WalkLemmas.{walk_on, walk_less, walk_nodes, walk_out, all_nodes}
 use Rattle.node_arena.proofs.tree.Tree.shadow_order.Goals as goal
 

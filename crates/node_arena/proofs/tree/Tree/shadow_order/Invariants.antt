@@ -2,7 +2,7 @@ use Rattle.std.proofs.Common.{◌≡◌, ◌++◌, ◌<◌, length}
 use Rattle.node_trees.specs.Trees.{tree_of}
 use Rattle.node_trees.specs.Orders.{order}
 use Rattle.node_trees.specs.Nodes.{IsTidy}
-use Rattle.node_arena.specs.Walks.{AreNodes, orders}
+use Rattle.tree_laws.specs.Walks.{AreNodes, orders}
 use Rattle.node_arena.proofs.tree.Tree.shadow_order.Given as goal
 
 abbrev pub invariant-loop-m : goal.invariant-loop-m

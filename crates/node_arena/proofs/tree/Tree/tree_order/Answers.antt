@@ -1,5 +1,5 @@
 use Rattle.std.proofs.Common.{◌∙◌, sym, subst}
-use Rattle.node_arena.proofs.Listing.{Listing, list-start, list-last, list-on, list-less}
+use Rattle.tree_laws.proofs.Listing.{Listing, list-start, list-last, list-on, list-less}
 use Rattle.node_arena.proofs.tree.Tree.tree_order.Goals as goal
 
 pub loop-out-init : goal.loop-out-init

@@ -1,8 +1,8 @@
 use Rattle.std.proofs.Common.{length}
 use Rattle.node_trees.specs.Nodes.{IsTidy}
 use Rattle.node_trees.specs.Orders.{tree_order_of}
-use Rattle.node_arena.proofs.Onward.{onward}
-use Rattle.node_arena.proofs.Listing.{Listing}
+use Rattle.tree_laws.proofs.Onward.{onward}
+use Rattle.tree_laws.proofs.Listing.{Listing}
 use Rattle.node_arena.proofs.tree.Tree.tree_order.Given as goal
 
 abbrev pub invariant-loop-out : goal.invariant-loop-out

@@ -5,7 +5,7 @@ use Rattle.node_trees.specs.Nodes.{times, IsNode, IsTidy}
 use Rattle.node_trees.specs.Paths.{path}
 use Rattle.node_trees.specs.Spots.{Spot, spot, parent_at, host_at}
 use Rattle.tree_laws.proofs.Sums.{tidy-apart}
-use Rattle.node_arena.proofs.Up.{Under, at_root, above, step_up}
+use Rattle.tree_laws.proofs.Up.{Under, at_root, above, step_up}
 use Rattle.tree_laws.proofs.AtNode.{node_stands, parent_at-is, host_at-is, node_spot}
 
 -- the node above n: its parent, or its host

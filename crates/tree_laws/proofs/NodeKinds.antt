@@ -6,16 +6,16 @@ use Rattle.node_trees.specs.Trees.{Trees, cut, with_node, with_facts}
 use Rattle.node_trees.specs.Spots.{Spot, or_no_spot, kind_at}
 use Rattle.node_trees.specs.Nodes.{size, IsNode, IsTidy}
 use Rattle.node_trees.specs.Kinds.{KeepsKinds}
-use Rattle.node_arena.specs.Numbers.{insert_number}
-use Rattle.node_arena.specs.Rows.{row_at, IsForest, Grafted, Attached}
+use Rattle.tree_laws.specs.Numbers.{insert_number}
+use Rattle.tree_laws.specs.Rows.{row_at, IsForest, Grafted, Attached}
 use Rattle.tree_laws.proofs.AtNode.{spot_at-is}
 use Rattle.tree_laws.proofs.Changed.{size-with}
 use Rattle.tree_laws.proofs.ChangedReads.{kind_at-with}
-use Rattle.node_arena.proofs.CutReads.{kind_at-cut}
-use Rattle.node_arena.proofs.NewReads.{spot-new-here}
+use Rattle.tree_laws.proofs.CutReads.{kind_at-cut}
+use Rattle.tree_laws.proofs.NewReads.{spot-new-here}
 use Rattle.tree_laws.proofs.Sizes.{size-cut, size-with_node, new-absent}
-use Rattle.node_arena.proofs.ForestLemmas.{stands_at, row_is}
-use Rattle.node_arena.proofs.SpotLemmas.{spot_at-new}
+use Rattle.tree_laws.proofs.RowForests.{stands_at, row_is}
+use Rattle.tree_laws.proofs.OtherSpots.{spot_at-new}
 
 -- what holds of both answers
 pub by_result : {T E P Q R : Type 0} (r : Result T E) → (P → R) → (Q → R) → OnOk r P → OnErr r Q → R

@@ -9,11 +9,11 @@ use Rattle.node_trees.specs.Insertion.{may_insert, is_child_or_none, has_element
 use Rattle.node_trees.specs.Paths.{is_among}
 use Rattle.node_trees.specs.Spots.{kind_at, parent_at, children_at, next_sibling_at, next_among, after}
 use Rattle.tree_laws.proofs.Walked.{stands-outside}
-use Rattle.node_arena.proofs.Lists.{lacking, any-same, any-lacking}
-use Rattle.node_arena.proofs.CutReads.{parent_at-cut, kind_at-cut, path-cut-outside, children_at-cut-outside}
+use Rattle.tree_laws.proofs.Lists.{lacking, any-same, any-lacking}
+use Rattle.tree_laws.proofs.CutReads.{parent_at-cut, kind_at-cut, path-cut-outside, children_at-cut-outside}
 use Rattle.tree_laws.proofs.Children.{child-parent, children_at-apart, after-among}
-use Rattle.node_arena.proofs.Onward.{after-other}
-use Rattle.node_arena.proofs.Allowed.{not_inside, is_sibling, may_insert-still}
+use Rattle.tree_laws.proofs.Onward.{after-other}
+use Rattle.tree_laws.proofs.Allowed.{not_inside, is_sibling, may_insert-still}
 
 module _ (f : Trees) (p n : ℕ) (b : Option ℕ) (tidy : IsTidy f) (node : IsNode f n) (may : may_insert f p n b ≡ None) where
   -- the parent is not in the node's tree

@@ -10,12 +10,12 @@ use Rattle.node_trees.specs.Nodes.{size, times, IsNode, IsTidy}
 use Rattle.node_trees.specs.Links.{IsAlone}
 use Rattle.tree_laws.proofs.Changed.{path-with}
 use Rattle.tree_laws.proofs.ChangedReads.{parent_at-with}
-use Rattle.node_arena.proofs.NewReads.{spot-new-here}
-use Rattle.node_arena.proofs.OrderLemmas.{order_step}
+use Rattle.tree_laws.proofs.NewReads.{spot-new-here}
+use Rattle.tree_laws.proofs.NodeOrders.{order_step}
 use Rattle.tree_laws.proofs.AtNode.{parent_at-is}
 use Rattle.tree_laws.proofs.Pieces.{path-absent, path-here}
 use Rattle.tree_laws.proofs.Walked.{order-join}
-use Rattle.node_arena.proofs.CutSpots.{path-join-right}
+use Rattle.tree_laws.proofs.CutSpots.{path-join-right}
 use Rattle.tree_laws.proofs.Sizes.{new-absent, size-with_node}
 use Rattle.node_trees.proofs.Absent.{is_among-append}
 

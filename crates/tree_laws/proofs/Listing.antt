@@ -6,8 +6,8 @@ use Rattle.node_trees.specs.Orders.{tree_order_of}
 use Rattle.node_trees.specs.Paths.{is_among}
 use Rattle.node_trees.specs.Spots.{after}
 use Rattle.tree_laws.proofs.Children.{among-root, after-among, tree_order-apart}
-use Rattle.node_arena.proofs.Onward.{onward, onward-last, onward-step, onward-less}
-use Rattle.node_arena.proofs.Seeking.{onward-root}
+use Rattle.tree_laws.proofs.Onward.{onward, onward-last, onward-step, onward-less}
+use Rattle.tree_laws.proofs.Seeking.{onward-root}
 
 -- what the loop keeps: `at` is in the tree, and what is listed with all from `at` on is the whole order
 pub record Listing (f : Trees) (root at : ℕ) (out : List ℕ) : Type 0 where

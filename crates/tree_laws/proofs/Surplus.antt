@@ -9,7 +9,7 @@ use Rattle.node_trees.specs.Nodes.{weight, surplus_at, surplus, HasOwnParts, IsN
 use Rattle.node_trees.specs.Spots.{facts_at, kind_at}
 use Rattle.tree_laws.proofs.Sums.{tidy-apart}
 use Rattle.tree_laws.proofs.AtNode.{node_stands, node_spot, facts_at-is}
-use Rattle.node_arena.proofs.Fitting.{only_at, only-there}
+use Rattle.tree_laws.proofs.Fitting.{only_at, only-there}
 
 -- ---- sums over the facts alone
 

@@ -5,7 +5,7 @@ use Rattle.std.proofs.lemmas.Bool.{cases_eq}
 use Rattle.node_trees.specs.Facts.{Facts, is_element, is_text}
 use Rattle.node_trees.specs.Trees.{Trees, none, tree, join, before, put, with_shadow, with_facts}
 use Rattle.node_trees.specs.Nodes.{weight, Place, InShadow, AsChild, is_none, unless, misfits}
-use Rattle.node_arena.proofs.Fitting.{only_at, misfits-join, misfits-before}
+use Rattle.tree_laws.proofs.Fitting.{only_at, misfits-join, misfits-before}
 
 unless-or : (a c : Bool) → unless (a || c) ≤ unless c
 unless-or true c = omega arith

@@ -9,8 +9,8 @@ use Rattle.node_trees.specs.Paths.{path}
 use Rattle.node_trees.specs.Spots.{Spot, spot_in, spot, spot_at, or_no_spot, facts_at, kind_at, parent_at, children_at}
 use Rattle.tree_laws.proofs.Sums.{tidy-apart, times-without}
 use Rattle.tree_laws.proofs.Inside.{Found, found}
-use Rattle.node_arena.proofs.Lists.{lacking, spot_lacking}
-use Rattle.node_arena.proofs.CutSpots.{spot-place-in, spot-place-out, path-place-out, spot-without, path-without}
+use Rattle.tree_laws.proofs.Lists.{lacking, spot_lacking}
+use Rattle.tree_laws.proofs.CutSpots.{spot-place-in, spot-place-out, path-place-out, spot-without, path-without}
 use Rattle.tree_laws.proofs.AtNode.{node_stands}
 
 -- a spot among the roots of the forest

@@ -10,7 +10,7 @@ use Rattle.node_trees.specs.Trees.{Trees, none, tree, roots}
 use Rattle.node_trees.specs.Spots.{Spot, spot_of}
 use Rattle.node_trees.specs.TreesCode.{facts_code}
 use Rattle.node_trees.specs.Nodes.{Rises, times, IsNode, IsTidy}
-use Rattle.node_arena.specs.Rows.{Stands, IsForest, row_at}
+use Rattle.tree_laws.specs.Rows.{Stands, IsForest, row_at}
 
 -- each of these facts has one proof at most
 

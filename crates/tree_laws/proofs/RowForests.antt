@@ -7,21 +7,21 @@ use Rattle.node_trees.specs.Trees.{Trees, none, tree, roots, tree_of, without, s
 use Rattle.node_trees.specs.Spots.{Spot, spot, spot_of, parent_at, kind_at}
 use Rattle.node_trees.specs.Insertion.{may_insert}
 use Rattle.node_trees.specs.Nodes.{times, size, surplus_at, IsNode}
-use Rattle.node_arena.specs.Numbers.{remove_number}
-use Rattle.node_arena.specs.Rows.{row_at, Stands, IsForest, Grafted, Severed, Attached, Changed}
-use Rattle.node_arena.specs.OneForest.{node_of_row}
+use Rattle.tree_laws.specs.Numbers.{remove_number}
+use Rattle.tree_laws.specs.Rows.{row_at, Stands, IsForest, Grafted, Severed, Attached, Changed}
+use Rattle.tree_laws.specs.OneForest.{node_of_row}
 use Rattle.tree_laws.proofs.Sums.{tidy-apart, times-without}
 use Rattle.tree_laws.proofs.AtNode.{parent_at-is, host_at-is}
-use Rattle.node_arena.proofs.Above.{parent-above, parent-no_host}
-use Rattle.node_arena.proofs.AllowedCut.{parent-outside}
+use Rattle.tree_laws.proofs.Above.{parent-above, parent-no_host}
+use Rattle.tree_laws.proofs.AllowedCut.{parent-outside}
 use Rattle.tree_laws.proofs.Changed.{size-with}
 use Rattle.tree_laws.proofs.Sizes.{size-with_node, size-with_shadow, size-cut, new-absent}
-use Rattle.node_arena.proofs.Surplus.{KeepsKind}
-use Rattle.node_arena.proofs.Tidy.{tidy-with, tidy-with_node, tidy-with_shadow}
-use Rattle.node_arena.proofs.PlaceFits.{free-host}
-use Rattle.node_arena.proofs.AllowedGraft.{allowed-fits, allowed-size, allowed-tidy, tidy-cut-child}
-use Rattle.node_arena.proofs.StandsLemmas.{Standing, standing, Unlinked, Linked, Stands-without, Stands-put, Stands-frame, Stands-join, Stands-place, Stands-untouched, Stands-with_shadow, Stands-with_facts}
-use Rattle.node_arena.proofs.GetLemmas.{slice_get-append_front, slice_get-append_end}
+use Rattle.tree_laws.proofs.Surplus.{KeepsKind}
+use Rattle.tree_laws.proofs.Tidy.{tidy-with, tidy-with_node, tidy-with_shadow}
+use Rattle.tree_laws.proofs.PlaceFits.{free-host}
+use Rattle.tree_laws.proofs.AllowedGraft.{allowed-fits, allowed-size, allowed-tidy, tidy-cut-child}
+use Rattle.tree_laws.proofs.Stands.{Standing, standing, Unlinked, Linked, Stands-without, Stands-put, Stands-frame, Stands-join, Stands-place, Stands-untouched, Stands-with_shadow, Stands-with_facts}
+use Rattle.tree_laws.proofs.ByIndex.{slice_get-append_front, slice_get-append_end}
 
 -- the row of a node is what stands at it
 pub stands_at : (rows : List Spot) (f : Trees) (n : ℕ) → IsForest rows f → IsNode f n → Standing rows n f

@@ -3,7 +3,7 @@ use Rattle.std.proofs.Common.{◌≡◌, ℕ, Option, refl, arith}
 use Rattle.std.proofs.lemmas.Bool.Decides.{nat_tests}
 use Rattle.node_trees.specs.Facts.{Facts}
 use Rattle.node_trees.specs.Trees.{Trees, none, tree, roots, before, put}
-pub use Rattle.node_arena.specs.Numbers.{insert_number as inserted}
+pub use Rattle.tree_laws.specs.Numbers.{insert_number as inserted}
 
 pub roots-before : (b : Option ℕ) (n : ℕ) (x : Facts) (s k f : Trees) → roots (before b (tree n x s k none) f) ≡ inserted b n (roots f)
 roots-before b n x s k none = refl

@@ -11,9 +11,9 @@ use Rattle.node_trees.specs.Links.{below, AreRead}
 use Rattle.tree_laws.proofs.Sums.{tidy-apart}
 use Rattle.tree_laws.proofs.Inside.{Found, found}
 use Rattle.tree_laws.proofs.AtNode.{node_stands, facts_at-is, children_at-is}
-use Rattle.node_arena.proofs.ChildFits.{unless-true}
-use Rattle.node_arena.proofs.Fitting.{misfits-tree_of}
-use Rattle.node_arena.proofs.PartsBelow.{IsPart, part_here, part_children, part_rest, children_part}
+use Rattle.tree_laws.proofs.ChildFits.{unless-true}
+use Rattle.tree_laws.proofs.Fitting.{misfits-tree_of}
+use Rattle.tree_laws.proofs.PartsBelow.{IsPart, part_here, part_children, part_rest, children_part}
 
 empty : (k : Trees) (b : Bool) → b ≡ true → (is_none k || not b) ≡ true → k ≡ none
 empty none b e h = refl

@@ -6,7 +6,7 @@ use Rattle.node_trees.specs.Spots.{Spot, spot_of, spot_in, spot, kind_at}
 use Rattle.tree_laws.proofs.Sums.{tidy-apart, apart-shadow, apart-children, apart-rest, here, in_shadow, in_children, in_rest, stands_where}
 use Rattle.tree_laws.proofs.Pieces.{spot-here, spot-shadow, spot-children, spot-rest}
 use Rattle.tree_laws.proofs.AtNode.{node_stands, facts_at-is}
-use Rattle.node_arena.proofs.ChildFits.{unless-true, child-no_root}
+use Rattle.tree_laws.proofs.ChildFits.{unless-true, child-no_root}
 use Rattle.node_trees.proofs.Weights.{IsApart}
 
 -- the place under this parent or this host

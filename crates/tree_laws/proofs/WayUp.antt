@@ -1,15 +1,19 @@
 -- The way up, a step at a time.
-use Rattle.std.proofs.Common.{◌≡◌, ℕ, ◌<◌, List, [], ◌∷◌, ◌++◌, Option, Some, None, true, false, not, eqb, refl, arith, length}
+use Rattle.std.proofs.Common.{◌≡◌, ℕ, ◌<◌, ◌||◌, ◌==◌, List, [], ◌∷◌, ◌++◌, Option, Some, None, true, false, not, eqb, refl, arith, length}
 use Rattle.std.specs.Prelude.{reverse}
 use Rattle.std.specs.List.{find}
 use Rattle.std.proofs.lemmas.Bool.Decides.{nat_tests}
 use Rattle.node_trees.specs.Trees.{Trees}
 use Rattle.node_trees.specs.Spots.{first_of}
 use Rattle.node_trees.specs.Paths.{path, is_among, has_parent}
-use Rattle.node_arena.specs.Walks.{IsUp}
+use Rattle.tree_laws.specs.Walks.{IsUp}
 use Rattle.node_trees.specs.Nodes.{IsTidy}
 use Rattle.tree_laws.proofs.Pieces.{path-long}
-use Rattle.node_arena.proofs.Roots.{is_among-push}
+
+-- the numbers on a path
+pub is_among-push : (i n : ℕ) (xs : List ℕ) → is_among i (xs ++ (n ∷ [])) ≡ (is_among i xs || n == i)
+is_among-push i n [] = grind (arith, nat_tests)
+is_among-push i n (x ∷ xs) = grind (arith, nat_tests, is_among-push i n xs)
 
 -- a node is on its own path
 pub among_here : (f : Trees) (i n : ℕ) (o : Option ℕ) → IsUp f n o → eqb n i ≡ true → is_among i (path n f) ≡ true

@@ -7,11 +7,11 @@ use Rattle.node_trees.specs.Trees.{Trees, cut, graft}
 use Rattle.node_trees.specs.Nodes.{size, AsChild, fits, IsNode, IsTidy}
 use Rattle.node_trees.specs.Insertion.{may_insert}
 use Rattle.node_trees.specs.Spots.{kind_at, parent_at}
-use Rattle.node_arena.proofs.Allowed.{no_text, not_top}
-use Rattle.node_arena.proofs.AllowedCut.{parent-outside}
-use Rattle.node_arena.proofs.ChildFits.{child-fits, child-no_root}
+use Rattle.tree_laws.proofs.Allowed.{no_text, not_top}
+use Rattle.tree_laws.proofs.AllowedCut.{parent-outside}
+use Rattle.tree_laws.proofs.ChildFits.{child-fits, child-no_root}
 use Rattle.tree_laws.proofs.Sizes.{size-graft}
-use Rattle.node_arena.proofs.Tidy.{tidy-cut, tidy-graft}
+use Rattle.tree_laws.proofs.Tidy.{tidy-cut, tidy-graft}
 
 fits-child : (k : NodeKind) → (is_document k || is_shadow_root k) ≡ false → fits AsChild k ≡ true
 fits-child Document h = absurd cc

@@ -7,10 +7,10 @@ use Rattle.node_trees.specs.Nodes.{IsNode, IsTidy}
 use Rattle.node_trees.specs.Orders.{tree_order_of}
 use Rattle.node_trees.specs.Paths.{path, is_among}
 use Rattle.node_trees.specs.Spots.{parent_at, first_child_at, next_sibling_at, after}
-use Rattle.node_arena.proofs.Next.{or_else}
+use Rattle.tree_laws.proofs.Next.{or_else}
 use Rattle.tree_laws.proofs.InOrder.{member_is_node}
-use Rattle.node_arena.proofs.Following.{beyond_in, after-is, beyond-root, beyond-is, beyond-parent, among-parent, parent-there}
-use Rattle.node_arena.proofs.Above.{parent-above}
+use Rattle.tree_laws.proofs.Following.{beyond_in, after-is, beyond-root, beyond-is, beyond-parent, among-parent, parent-there}
+use Rattle.tree_laws.proofs.Above.{parent-above}
 
 -- What the loop keeps: `at` is in the tree, and what follows n is what is beyond `at`
 pub record Climbing (f : Trees) (root n at : ℕ) : Type 0 where

@@ -7,7 +7,7 @@ use Rattle.node_trees.specs.Nodes.{times}
 use Rattle.node_trees.specs.Orders.{tree_order}
 use Rattle.node_trees.specs.Paths.{is_among}
 use Rattle.node_trees.specs.Spots.{Spot, spot_of, spot_in, first_of, after}
-pub use Rattle.node_arena.specs.Walks.{parent_or as or_else}
+pub use Rattle.tree_laws.specs.Walks.{parent_or as or_else}
 use Rattle.tree_laws.proofs.InOrder.{order-inside}
 use Rattle.tree_laws.proofs.Sums.{apart-children, apart-rest, here, in_shadow, in_children, in_rest, stands_where}
 use Rattle.tree_laws.proofs.Pieces.{spot-here, spot-children, spot-rest}

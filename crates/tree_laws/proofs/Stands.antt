@@ -6,14 +6,14 @@ use Rattle.node_trees.specs.Facts.{Facts}
 use Rattle.node_trees.specs.Trees.{Trees, none, tree, join, roots, tree_of, without, place, before, put, is_number, single, with_shadow, with_facts}
 use Rattle.node_trees.specs.Spots.{Spot, spot_of, spot_in}
 use Rattle.node_trees.specs.Nodes.{times}
-use Rattle.node_arena.specs.Numbers.{remove_number, insert_number}
-use Rattle.node_arena.specs.Rows.{row_at, Stands, Attached, Changed}
+use Rattle.tree_laws.specs.Numbers.{remove_number, insert_number}
+use Rattle.tree_laws.specs.Rows.{row_at, Stands, Attached, Changed}
 use Rattle.tree_laws.proofs.Pieces.{spot-here, spot-shadow, spot-children, spot-rest, tree_of-shadow, tree_of-children, tree_of-rest}
 use Rattle.tree_laws.proofs.Inside.{Found, found}
 use Rattle.tree_laws.proofs.Changed.{roots-with}
-use Rattle.node_arena.proofs.PutSpots.{roots-before, roots-put}
-use Rattle.node_arena.proofs.Lists.{roots-without}
-use Rattle.node_arena.proofs.ShadowReads.{roots-shadow}
+use Rattle.tree_laws.proofs.PutSpots.{roots-before, roots-put}
+use Rattle.tree_laws.proofs.Lists.{roots-without}
+use Rattle.tree_laws.proofs.ShadowReads.{roots-shadow}
 use Rattle.node_trees.proofs.Weights.{IsApart}
 use Rattle.node_trees.proofs.Absent.{without-absent}
 

@@ -7,18 +7,18 @@ use Rattle.node_trees.specs.Spots.{Spot, spot_of, spot_at, or_no_spot, kind_at, 
 use Rattle.node_trees.specs.Paths.{path, connected, or_number}
 use Rattle.node_trees.specs.Nodes.{size, times, IsNode, IsTidy}
 use Rattle.node_trees.specs.Links.{KeepsApart}
-use Rattle.node_arena.specs.Numbers.{insert_number}
-use Rattle.node_arena.specs.Rows.{row_at, IsForest, Grafted}
-use Rattle.node_arena.proofs.Above.{IsAbove, nothing, a_parent, a_host, row_above, parent-above}
+use Rattle.tree_laws.specs.Numbers.{insert_number}
+use Rattle.tree_laws.specs.Rows.{row_at, IsForest, Grafted}
+use Rattle.tree_laws.proofs.Above.{IsAbove, nothing, a_parent, a_host, row_above, parent-above}
 use Rattle.tree_laws.proofs.AtNode.{node_stands, node_spot, parent_at-is, host_at-is, spot_at-is}
 use Rattle.tree_laws.proofs.Changed.{path-with}
 use Rattle.tree_laws.proofs.ChangedReads.{kind_at-with}
-use Rattle.node_arena.proofs.ConnectedBelow.{same_first}
-use Rattle.node_arena.proofs.ForestLemmas.{stands_at, row_is}
+use Rattle.tree_laws.proofs.ConnectedBelow.{same_first}
+use Rattle.tree_laws.proofs.RowForests.{stands_at, row_is}
 use Rattle.tree_laws.proofs.Pieces.{path-absent, path-long}
 use Rattle.tree_laws.proofs.Sizes.{size-with_node}
-use Rattle.node_arena.proofs.SpotLemmas.{spot_at-new}
-use Rattle.node_arena.proofs.UpLemmas.{first_of-append}
+use Rattle.tree_laws.proofs.OtherSpots.{spot_at-new}
+use Rattle.tree_laws.proofs.WayUp.{first_of-append}
 use Rattle.node_trees.proofs.Absent.{spot-absent}
 
 -- a root is connected where it is a document, and another node where what is above it is

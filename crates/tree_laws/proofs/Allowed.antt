@@ -9,7 +9,7 @@ use Rattle.node_trees.specs.Trees.{Trees, is_number, with_facts, with_document}
 use Rattle.node_trees.specs.Insertion.{may_insert, is_child_or_none, has_element_child}
 use Rattle.node_trees.specs.Paths.{path, is_among}
 use Rattle.node_trees.specs.Spots.{kind_at, children_at}
-use Rattle.node_arena.proofs.Lists.{any-same}
+use Rattle.tree_laws.proofs.Lists.{any-same}
 use Rattle.tree_laws.proofs.Changed.{path-with}
 use Rattle.tree_laws.proofs.ChangedReads.{parent_at-with, children_at-with, kind_at-with}
 

@@ -4,7 +4,7 @@ use Rattle.std.specs.List.{list_any}
 use Rattle.std.proofs.lemmas.Bool.Decides.{nat_tests}
 use Rattle.node_trees.specs.Trees.{Trees, none, tree, roots, without}
 use Rattle.node_trees.specs.Spots.{Spot}
-pub use Rattle.node_arena.specs.Numbers.{remove_number as lacking}
+pub use Rattle.tree_laws.specs.Numbers.{remove_number as lacking}
 
 pub roots-without : (n : ℕ) (f : Trees) → roots (without n f) ≡ lacking n (roots f)
 roots-without n none = refl

@@ -11,7 +11,7 @@ use Rattle.node_trees.specs.Paths.{is_among}
 use Rattle.node_trees.specs.Spots.{facts_at, after}
 use Rattle.tree_laws.proofs.InOrder.{member_is_node}
 use Rattle.tree_laws.proofs.Children.{order-begins, among-root, after-among, tree_order-apart}
-use Rattle.node_arena.proofs.Onward.{onward, find-here, find-last, find-step, onward-less}
+use Rattle.tree_laws.proofs.Onward.{onward, find-here, find-last, find-step, onward-less}
 
 -- the first in the list whose ID this is
 abbrev pub first_in : Trees → List ℕ → List ℕ → Option ℕ

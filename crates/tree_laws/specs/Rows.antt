@@ -4,7 +4,7 @@ use Rattle.node_trees.specs.Facts.{Facts}
 use Rattle.node_trees.specs.Trees.{Trees, none, tree}
 use Rattle.node_trees.specs.Spots.{Spot, spot_of}
 use Rattle.node_trees.specs.Nodes.{size, IsTidy}
-use Rattle.node_arena.specs.Numbers.{remove_number, insert_number}
+use Rattle.tree_laws.specs.Numbers.{remove_number, insert_number}
 
 -- the row of the node n; the first row is that of node 1
 abbrev pub row_at : List Spot → ℕ → Option Spot

@@ -6,11 +6,11 @@ use Rattle.node_trees.specs.Trees.{Trees, single, with_node, with_facts}
 use Rattle.node_trees.specs.Spots.{Spot, spot_in, spot, spot_at, or_spot, or_no_spot}
 use Rattle.node_trees.specs.Nodes.{times, IsNode, IsTidy}
 use Rattle.node_trees.specs.Links.{KeepsSpots}
-use Rattle.node_arena.specs.Rows.{IsForest, Grafted}
+use Rattle.tree_laws.specs.Rows.{IsForest, Grafted}
 use Rattle.tree_laws.proofs.AtNode.{node_spot}
 use Rattle.tree_laws.proofs.Changed.{spot-with-other}
-use Rattle.node_arena.proofs.CutSpots.{spot-join}
-use Rattle.node_arena.proofs.ForestLemmas.{stands_at, row_is}
+use Rattle.tree_laws.proofs.CutSpots.{spot-join}
+use Rattle.tree_laws.proofs.RowForests.{stands_at, row_is}
 use Rattle.node_trees.proofs.Absent.{spot-absent}
 
 pub spots-same : (f g : Trees) (m : ℕ) → g ≡ f → spot_at g m ≡ spot_at f m

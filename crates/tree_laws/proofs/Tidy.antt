@@ -9,15 +9,15 @@ use Rattle.node_trees.specs.Spots.{kind_at}
 use Rattle.tree_laws.proofs.Sums.{tidy-apart, one_at}
 use Rattle.tree_laws.proofs.Inside.{found}
 use Rattle.tree_laws.proofs.AtNode.{node_stands, node_spot, facts_at-is}
-use Rattle.node_arena.proofs.CutReads.{in-tree, not-left}
+use Rattle.tree_laws.proofs.CutReads.{in-tree, not-left}
 use Rattle.tree_laws.proofs.Changed.{roots-with, size-with, times-with}
-use Rattle.node_arena.proofs.PutSpots.{roots-put}
-use Rattle.node_arena.proofs.ShadowReads.{roots-shadow}
+use Rattle.tree_laws.proofs.PutSpots.{roots-put}
+use Rattle.tree_laws.proofs.ShadowReads.{roots-shadow}
 use Rattle.tree_laws.proofs.Sizes.{weight-cut, weight-graft, weight-with_node, weight-with_shadow, size-cut, size-graft, size-with_node, size-with_shadow, new-absent}
-use Rattle.node_arena.proofs.Rising.{rises-same, rises-without, rises-place, rises-new}
-use Rattle.node_arena.proofs.Fitting.{only_at, only-there, misfits-join, misfits-place, misfits-without, misfits-tree_of}
-use Rattle.node_arena.proofs.Surplus.{KeepsKind, surplus-with}
-use Rattle.node_arena.proofs.FittingPut.{text_is, element_is, misfits-put, misfits-shadow, misfits-with}
+use Rattle.tree_laws.proofs.Rising.{rises-same, rises-without, rises-place, rises-new}
+use Rattle.tree_laws.proofs.Fitting.{only_at, only-there, misfits-join, misfits-place, misfits-without, misfits-tree_of}
+use Rattle.tree_laws.proofs.Surplus.{KeepsKind, surplus-with}
+use Rattle.tree_laws.proofs.FittingPut.{text_is, element_is, misfits-put, misfits-shadow, misfits-with}
 use Rattle.node_trees.proofs.Weights.{weight-without}
 
 -- as many nodes, with the same numbers

@@ -6,12 +6,12 @@ use Rattle.node_trees.specs.Trees.{Trees, none, tree, roots, tree_of}
 use Rattle.node_trees.specs.Spots.{Spot, spot_of, spot}
 use Rattle.node_trees.specs.Orders.{order}
 use Rattle.node_trees.specs.Nodes.{times, IsNode, IsTidy}
-use Rattle.node_arena.specs.Walks.{AreNodes, orders}
+use Rattle.tree_laws.specs.Walks.{AreNodes, orders}
 use Rattle.tree_laws.proofs.Sums.{tidy-apart, apart-shadow, apart-children, apart-rest, times-without}
 use Rattle.tree_laws.proofs.Pieces.{tree_of-shadow, tree_of-children, tree_of-rest}
 use Rattle.tree_laws.proofs.Inside.{Found, found}
 use Rattle.tree_laws.proofs.AtNode.{node_stands}
-use Rattle.node_arena.proofs.OrderSteps.{IsPart, tree_of-inside}
+use Rattle.tree_laws.proofs.OrderSteps.{IsPart, tree_of-inside}
 use Rattle.node_trees.proofs.Weights.{IsApart}
 
 pub orders-append : (f : Trees) (ms ns : List ℕ) → orders f (ms ++ ns) ≡ orders f ms ++ orders f ns

@@ -5,7 +5,7 @@ use Rattle.node_trees.specs.Facts.{Facts}
 use Rattle.node_trees.specs.Trees.{Trees, none, single, with_node}
 use Rattle.node_trees.specs.Nodes.{times}
 use Rattle.node_trees.specs.Spots.{spot_of, spot_in, or_spot, spot}
-use Rattle.node_arena.proofs.CutSpots.{spot-join}
+use Rattle.tree_laws.proofs.CutSpots.{spot-join}
 use Rattle.node_trees.proofs.Absent.{spot-absent}
 
 -- ---- the new node and the others

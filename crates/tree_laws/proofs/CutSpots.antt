@@ -9,7 +9,7 @@ use Rattle.node_trees.specs.Paths.{path}
 use Rattle.node_trees.specs.Spots.{Spot, spot_in, or_spot}
 use Rattle.tree_laws.proofs.Sums.{apart-shadow, apart-children, apart-rest, times-join}
 use Rattle.tree_laws.proofs.Pieces.{or_spot-none, path-absent, tree_of-absent, tree_of-here}
-use Rattle.node_arena.proofs.Lists.{spot_lacking, roots-without}
+use Rattle.tree_laws.proofs.Lists.{spot_lacking, roots-without}
 use Rattle.node_trees.proofs.Weights.{IsApart}
 use Rattle.node_trees.proofs.Absent.{spot-absent, without-absent}
 

@@ -9,7 +9,7 @@ use Rattle.node_trees.specs.Spots.{spot_of, spot_in, parent_at, first_child_at, 
 use Rattle.tree_laws.proofs.InOrder.{order-inside}
 use Rattle.tree_laws.proofs.Sums.{tidy-apart}
 use Rattle.tree_laws.proofs.Inside.{Found, found, tree_apart}
-use Rattle.node_arena.proofs.Next.{or_else, beyond, next_is, Below, climb_tree}
+use Rattle.tree_laws.proofs.Next.{or_else, beyond, next_is, Below, climb_tree}
 use Rattle.tree_laws.proofs.AtNode.{node_stands, parent_at-is, first_child_at-is, next_sibling_at-is}
 use Rattle.node_trees.proofs.Weights.{IsApart}
 
