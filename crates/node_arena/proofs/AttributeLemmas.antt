@@ -70,6 +70,14 @@ names-remove xs i =
 pub names-push : (xs : List (List ℕ × List ℕ)) (name value : List ℕ) → names_of (xs ++ (name, value) ∷ []) ≡ names_of xs ++ name ∷ []
 names-push xs name value = map-append (λ (a : List ℕ × List ℕ). a.0) xs ((name, value) ∷ [])
 
+-- what stood once and was taken away is gone
+pub value_in-gone : (name : List ℕ) (xs : List (List ℕ × List ℕ)) → is_once (names_of xs) ≡ true → value_in (without_value name xs) name ≡ None
+value_in-gone name [] once = refl
+value_in-gone name (x ∷ xs) once =
+    let absent = value_in-absent name xs in
+    let same = same_name x.0 name in
+    grind (arith, nat_tests, absent, same, value_in-gone name xs, name_place-names name xs, names-length xs)
+
 -- a name that stands once stands at its place
 pub place_at : (xs : List (List ℕ × List ℕ)) (i : ℕ) (d : List ℕ × List ℕ) → is_once (names_of xs) ≡ true → i < length xs → i ≡ place (get_or xs i d).0 (names_of xs)
 place_at xs i d once lt =

@@ -1,5 +1,10 @@
+pub mod Links
+pub mod OneForest
 pub mod Seen
-pub mod NodeRows
+pub mod Writes
+pub mod NodeLinks
+pub mod Covers
+pub mod Holders
 pub mod Attributes
 pub mod Names
 pub mod Found

@@ -1,6 +1,7 @@
 // What is above a node.
-ghost use Rattle.std.specs.Prelude.{◌≡◌};
+ghost use Rattle.std.specs.Prelude.{◌≡◌, true, None};
 ghost use Rattle.node_trees.specs.Paths.{path, is_among, root_at, shadow_including_root_at, connected};
+ghost use Rattle.node_trees.specs.Spots.{shadow_at, first_child_at};
 ghost use Rattle.node_trees.specs.Nodes.{IsNode, IsTidy};
 ghost use Rattle.node_trees.specs.Orders.{order_of};
 ghost use Rattle.tree_laws.specs.Walks.{IsUp};
@@ -42,6 +43,29 @@ impl Tree {
                 Some(next) => at = next,
             }
         }
+    }
+
+    // The same of a node. One with nothing below it is above no other, whatever the depth.
+    pub(crate) fn is_above(&self, node: NodeNo, from: NodeNo) -> bool
+        requires node { IsNode self.now node }
+        requires from { IsNode self.now from }
+        ensures { result ≡ is_among node (path from self.now) }
+    {
+        if self.is_leaf(node) {
+            return node == from;
+        }
+        self.is_inside(node, from)
+    }
+
+    // Whether nothing is below the node.
+    fn is_leaf(&self, n: NodeNo) -> bool
+        requires { IsNode self.now n }
+        ensures shadow { result ≡ true → shadow_at self.now n ≡ None }
+        ensures child { result ≡ true → first_child_at self.now n ≡ None }
+        ensures tidy { IsTidy self.now }
+    {
+        let node = self.node(n);
+        node.shadow.is_none() && node.first.is_none()
     }
 
     /// The root of the node's own tree (DOM Standard, section "Trees", "root"). In a shadow tree it is the

@@ -1,5 +1,5 @@
 // An element's attributes.
-ghost use Rattle.std.specs.Prelude.{◌≡◌, ◌≤◌, ◌<◌, ◌++◌, ◌∷◌, [], Some, true, length, IfOk, OnOk, OnErr, option_copied, slice_get};
+ghost use Rattle.std.specs.Prelude.{◌≡◌, ◌≤◌, ◌<◌, ◌++◌, ◌∷◌, [], Some, None, true, length, IfOk, OnOk, OnErr, option_copied, slice_get};
 ghost use Rattle.std.specs.List.{remove};
 ghost use Rattle.node_trees.specs.Facts.{value_in, with_value, without_value};
 ghost use Rattle.node_arena.specs.Attributes.{name_place, names_of};
@@ -181,6 +181,7 @@ impl Attributes {
     pub(crate) fn remove(&mut self, name: &str) -> Option<Text>
         ensures left { self.new ≡ without_value name.now self.old }
         ensures was { result ≡ value_in self.old name.now }
+        ensures gone { value_in self.new name.now ≡ None }
     {
         let at = self.place(name);
         if at < self.items.len() {

@@ -1,5 +1,5 @@
 // Changes of one node's facts.
-ghost use Rattle.std.specs.Prelude.{◌≡◌, ◌<◌, ◌≤◌, ℕ, Option, Some, None, false, length, IfOk, OnOk, OnErr, option_copied, slice_get};
+ghost use Rattle.std.specs.Prelude.{◌≡◌, ◌<◌, ℕ, Option, Some, None, false, length, IfOk, OnOk, OnErr, option_copied, slice_get};
 ghost use Rattle.node_trees.specs.declared.kind.NodeKind.TheVariants.{Element};
 ghost use Rattle.node_trees.specs.Facts.{is_element, value_in, with_value, without_value};
 ghost use Rattle.node_trees.specs.Trees.{with_attribute, without_attribute, with_document};
@@ -8,44 +8,59 @@ ghost use Rattle.node_trees.specs.Nodes.{size, IsNode, IsTidy};
 ghost use Rattle.node_trees.specs.Kinds.{KeepsKinds};
 ghost use Rattle.node_trees.specs.Links.{IsAlone, KeepsApart, KeepsSpots};
 ghost use Rattle.node_trees.specs.Insertion.{may_insert};
-ghost use Rattle.node_arena.specs.NodeRows.{rows};
-ghost use Rattle.tree_laws.specs.Rows.{row_at, Changed};
+ghost use Rattle.node_arena.specs.Covers.{Covers};
+ghost use Rattle.node_arena.specs.Links.{Link, link_at};
+ghost use Rattle.node_arena.specs.NodeLinks.{links, IsPlace};
+ghost use Rattle.node_arena.specs.Writes.{edit_facts};
 
 use crate::Tree;
-use crate::children::index_of;
 use crate::node::Node;
+use crate::noting::{forget, note};
+use crate::siblings::index_of;
 use ce_base::{NoMemory, NodeNo, Text};
+use id_index::IdIndex;
 use std::alloc::Global;
 
+// Sets an attribute, and notes an id.
 fn set_attribute(
     alloc: Global,
     nodes: &mut [Node],
+    ids: &mut IdIndex,
     node: NodeNo,
     name: Text,
     value: Text,
 ) -> Result<Option<Text>, NoMemory>
-    requires { (0 < node) × (node ≤ length nodes.old) }
-    ensures ok { OnOk result (Changed (rows nodes.old) (rows nodes.new) node (λ x. record x { attributes = with_value name value x.attributes })) }
-    ensures was { (it : Spot) → row_at (rows nodes.old) node ≡ Some it → IfOk result (λ old. old ≡ value_in it.facts.attributes name) }
-    ensures err { OnErr result (rows nodes.new ≡ rows nodes.old) }
+    requires { IsPlace (length nodes.old) node }
+    ensures ok { OnOk result (links nodes.new ≡ edit_facts node (λ x. record x { attributes = with_value name value x.attributes }) (links nodes.old)) }
+    ensures was { (l : Link) → link_at (links nodes.old) node ≡ Some l → IfOk result (λ old. old ≡ value_in l.facts.attributes name) }
+    ensures err { OnErr result (links nodes.new ≡ links nodes.old) }
+    ensures covers { Covers ids.old (links nodes.old) → Covers ids.new (links nodes.new) }
 {
+    let is_id = name.as_str() == "id";
+    note(alloc, ids, is_id, value.as_str(), node)?;
     let at = index_of(node);
     let old = nodes[at].attributes.set(alloc, name, value)?;
+    forget(ids, is_id, &old, nodes[at].attributes.get("id"), node);
     Ok(old)
 }
 
-fn remove_attribute(nodes: &mut [Node], node: NodeNo, name: &str) -> Option<Text>
-    requires { (0 < node) × (node ≤ length nodes.old) }
-    ensures left { Changed (rows nodes.old) (rows nodes.new) node (λ x. record x { attributes = without_value name.now x.attributes }) }
-    ensures was { (it : Spot) → row_at (rows nodes.old) node ≡ Some it → result ≡ value_in it.facts.attributes name.now }
+// Takes an attribute away, and an id out of the index.
+fn remove_attribute(nodes: &mut [Node], ids: &mut IdIndex, node: NodeNo, name: &str) -> Option<Text>
+    requires { IsPlace (length nodes.old) node }
+    ensures left { links nodes.new ≡ edit_facts node (λ x. record x { attributes = without_value name.now x.attributes }) (links nodes.old) }
+    ensures was { (l : Link) → link_at (links nodes.old) node ≡ Some l → result ≡ value_in l.facts.attributes name.now }
+    ensures covers { Covers ids.old (links nodes.old) → Covers ids.new (links nodes.new) }
 {
+    let is_id = name == "id";
     let at = index_of(node);
-    nodes[at].attributes.remove(name)
+    let old = nodes[at].attributes.remove(name);
+    forget(ids, is_id, &old, None, node);
+    old
 }
 
 fn move_to(nodes: &mut [Node], node: NodeNo, document: NodeNo)
-    requires { (0 < node) × (node ≤ length nodes.old) }
-    ensures { Changed (rows nodes.old) (rows nodes.new) node (λ x. record x { document = document }) }
+    requires { IsPlace (length nodes.old) node }
+    ensures { links nodes.new ≡ edit_facts node (λ x. record x { document = document }) (links nodes.old) }
 {
     let at = index_of(node);
     nodes[at].document = document;
@@ -102,7 +117,7 @@ impl Tree {
         ensures apart { KeepsApart self.old self.new }
         ensures err { OnErr result (self.new ≡ self.old) }
     {
-        set_attribute(alloc, &mut self.nodes, node, name, value)
+        set_attribute(alloc, &mut self.nodes, &mut self.ids, node, name, value)
     }
 
     /// Takes an attribute of an element away and answers its value (DOM Standard, section "Interface
@@ -118,7 +133,7 @@ impl Tree {
         ensures kinds { KeepsKinds self.old self.new }
         ensures others { KeepsSpots node node self.old self.new }
     {
-        remove_attribute(&mut self.nodes, node, name)
+        remove_attribute(&mut self.nodes, &mut self.ids, node, name)
     }
 
     /// Sets the node document of this node alone (DOM Standard, section "Interface Node", "node document").

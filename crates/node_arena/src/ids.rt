@@ -1,7 +1,10 @@
 // Elements by their ids.
-ghost use Rattle.std.specs.Prelude.{◌≡◌};
+ghost use Rattle.std.specs.Prelude.{◌≡◌, ℕ, List, true, false};
 ghost use Rattle.node_trees.specs.Spots.{facts_at};
 ghost use Rattle.node_trees.specs.Ids.{first_with_id, has_id};
+ghost use Rattle.node_trees.specs.Orders.{tree_order_of};
+ghost use Rattle.node_trees.specs.Paths.{is_among};
+ghost use Rattle.node_arena.specs.Holders.{is_holder};
 ghost use Rattle.node_trees.specs.Nodes.{IsNode, IsNodeOrNone, IsTidy};
 
 use crate::Tree;
@@ -13,6 +16,63 @@ impl Tree {
     /// (DOM Standard, section "Mixin NonElementParentNode", `getElementById`). An empty text is no ID.
     /// None exactly where there is none.
     pub fn first_with_id(&self, root: NodeNo, id: &str) -> Option<NodeNo>
+        requires { IsNode self.now root }
+        ensures found { result ≡ first_with_id self.now root id.now }
+        ensures node { IsNodeOrNone self.now result }
+    {
+        let Some(group) = self.ids.group(id) else {
+            return None;
+        };
+        let mut found = None;
+        for holder in group {
+            let n = NodeNo(*holder);
+            if self.is_holder(n, root, id) {
+                if found.is_some() {
+                    return self.first_walked(root, id);
+                }
+                found = Some(n);
+            }
+        }
+        found
+    }
+
+    // Whether the number is that of a node with this ID in the tree of `root`.
+    fn is_holder(&self, n: NodeNo, root: NodeNo, id: &str) -> bool
+        requires { IsNode self.now root }
+        ensures is { result ≡ is_holder self.now root id.now n }
+        ensures node { result ≡ true → IsNode self.now n }
+    {
+        self.is_made(n) && self.has_id(n, id) && self.is_below(n, root)
+    }
+
+    // Whether the number is that of a node.
+    fn is_made(&self, n: NodeNo) -> bool
+        ensures made { result ≡ true → IsNode self.now n }
+        ensures not { result ≡ false → (id : List ℕ) → has_id id (facts_at self.now n) ≡ false }
+    {
+        let count = self.count();
+        n.0 >= 1 && n.0 <= count
+    }
+
+    // Whether the node is `root`, or below it in its own tree.
+    fn is_below(&self, n: NodeNo, root: NodeNo) -> bool
+        requires node { IsNode self.now n }
+        requires root { IsNode self.now root }
+        ensures { result ≡ is_among n (tree_order_of self.now root) }
+    {
+        let _count = self.count();
+        let mut at = n;
+        while at != root {
+            match self.parent(at) {
+                Some(parent) => at = parent,
+                None => return false,
+            }
+        }
+        true
+    }
+
+    // The same answer by a walk in tree order, where more than one in the tree have the ID.
+    fn first_walked(&self, root: NodeNo, id: &str) -> Option<NodeNo>
         requires { IsNode self.now root }
         ensures found { result ≡ first_with_id self.now root id.now }
         ensures node { IsNodeOrNone self.now result }
@@ -29,7 +89,7 @@ impl Tree {
         }
     }
 
-    /// Whether the node is an element whose ID this is.
+    // Whether the node is an element whose ID this is.
     fn has_id(&self, n: NodeNo, id: &str) -> bool
         requires { IsNode self.now n }
         ensures has { result ≡ has_id id.now (facts_at self.now n) }

@@ -1,42 +1,21 @@
 // Insertion.
-ghost use Rattle.std.specs.Prelude.{◌≡◌, ◌≢◌, ◌<◌, ◌≤◌, None, false, length, OnOk, OnErr};
+ghost use Rattle.std.specs.Prelude.{◌≡◌, None, true, false, OnOk, OnErr};
 ghost use Rattle.std.specs.Result.{result_err};
 ghost use Rattle.node_trees.specs.Trees.{graft};
-ghost use Rattle.node_trees.specs.Spots.{parent_at};
-ghost use Rattle.node_trees.specs.Insertion.{may_insert, has_element_child};
+ghost use Rattle.node_trees.specs.Facts.{is_element};
+ghost use Rattle.node_trees.specs.Spots.{kind_at, parent_at, children_at};
+ghost use Rattle.node_trees.specs.Insertion.{may_insert, has_element_child, is_child_or_none};
 ghost use Rattle.node_trees.specs.Nodes.{size, IsNode, IsNodeOrNone, IsTidy};
 ghost use Rattle.node_trees.specs.Kinds.{KeepsKinds};
 ghost use Rattle.node_trees.specs.Links.{KeepsApart, KeepsSpots};
 ghost use Rattle.node_trees.specs.Paths.{connected};
-ghost use Rattle.node_arena.specs.NodeRows.{rows};
-ghost use Rattle.tree_laws.specs.Rows.{Grafted};
+ghost use Rattle.tree_laws.specs.Beside.{before as preceding};
 
 use crate::Tree;
-use crate::children::{add_child, index_of};
-use crate::node::Node;
+use crate::siblings::join;
 use ce_base::{Fault, NoMemory, NodeNo};
 use node_trees::NodeKind;
 use std::alloc::Global;
-
-/// Links a node below its parent.
-fn link(
-    nodes: &mut [Node],
-    parent: NodeNo,
-    node: NodeNo,
-    before: Option<NodeNo>,
-) -> Result<(), NoMemory>
-    requires parent { (0 < parent) × (parent ≤ length nodes.old) }
-    requires node { (0 < node) × (node ≤ length nodes.old) }
-    requires apart { parent ≢ node }
-    ensures ok { OnOk result (Grafted (rows nodes.old) (rows nodes.new) parent node before) }
-    ensures err { OnErr result (rows nodes.new ≡ rows nodes.old) }
-{
-    let above = index_of(parent);
-    let below = index_of(node);
-    add_child(&mut nodes[above].children, node, before)?;
-    nodes[below].parent = Some(parent);
-    Ok(())
-}
 
 impl Tree {
     /// Whether the node may be put among the children of `parent`, before the child `before` or at the end
@@ -60,7 +39,7 @@ impl Tree {
         if place == NodeKind::TextNode {
             return Err(Fault::HierarchyRequestError);
         }
-        if self.is_inside(node, parent) {
+        if self.is_above(node, parent) {
             return Err(Fault::HierarchyRequestError);
         }
         if let Some(child) = before {
@@ -68,11 +47,13 @@ impl Tree {
                 return Err(Fault::NotFoundError);
             }
         }
-        let has_element = self.has_element_child(parent);
+        let in_document = place == NodeKind::Document;
         match self.kind(node) {
             NodeKind::Document | NodeKind::ShadowRoot => Err(Fault::HierarchyRequestError),
-            NodeKind::TextNode if place == NodeKind::Document => Err(Fault::HierarchyRequestError),
-            _ if place == NodeKind::Document && has_element => Err(Fault::HierarchyRequestError),
+            NodeKind::TextNode if in_document => Err(Fault::HierarchyRequestError),
+            _ if in_document && self.has_element_child(parent) => {
+                Err(Fault::HierarchyRequestError)
+            }
             _ => Ok(()),
         }
     }
@@ -82,13 +63,37 @@ impl Tree {
         requires { IsNode self.now n }
         ensures { result ≡ has_element_child self.now n }
     {
-        let children = self.node(n).children.as_slice();
-        for child in children {
-            if self.kind(*child) == NodeKind::Element {
+        let node = self.node(n);
+        let mut at = node.first;
+        while let Some(child) = at {
+            if self.is_element(child) {
                 return true;
             }
+            at = self.next_sibling(child);
         }
         false
+    }
+
+    // Whether the node is an element.
+    fn is_element(&self, n: NodeNo) -> bool
+        requires { IsNode self.now n }
+        ensures { result ≡ is_element (kind_at self.now n) }
+    {
+        self.kind(n) == NodeKind::Element
+    }
+
+    // The child that stands before another, or the last.
+    fn child_before(&self, parent: NodeNo, next: Option<NodeNo>) -> Option<NodeNo>
+        requires parent { IsNode self.now parent }
+        requires next { IsNodeOrNone self.now next }
+        requires child { is_child_or_none self.now parent next ≡ true }
+        ensures child { result ≡ preceding next (children_at self.now parent) }
+        ensures node { IsNodeOrNone self.now result }
+    {
+        match next {
+            Some(child) => self.node(child).previous,
+            None => self.node(parent).last,
+        }
     }
 
     /// Puts a node that has no parent, with all below it, among the children of `parent`, before the child
@@ -114,6 +119,9 @@ impl Tree {
         ensures apart { OnOk result (connected self.old parent ≡ false → KeepsApart self.old self.new) }
         ensures err { OnErr result (self.new ≡ self.old) }
     {
-        link(&mut self.nodes, parent, node, before)
+        let next = before;
+        let previous = self.child_before(parent, before);
+        join(&mut self.nodes, parent, node, previous, next);
+        Ok(())
     }
 }

@@ -5,16 +5,17 @@
 
 mod ancestors;
 mod attributes;
-mod children;
 mod facts;
 mod finder;
 mod ids;
 mod insertion;
 mod making;
 mod node;
+mod noting;
 mod orders;
 mod reading;
 mod removal;
+mod siblings;
 mod tree;
 
 pub use node_trees::NodeKind;

@@ -1,5 +1,5 @@
 // New nodes.
-ghost use Rattle.std.specs.Prelude.{◌≡◌, ℕ, ◌+◌, ◌<◌, ◌≤◌, None, false, length, IfOk, OnOk, OnErr};
+ghost use Rattle.std.specs.Prelude.{◌≡◌, ℕ, ◌+◌, ◌∷◌, ◌++◌, [], None, false, length, IfOk, OnOk, OnErr};
 ghost use Rattle.node_trees.specs.declared.kind.NodeKind.TheVariants.{Document, Element, ShadowRoot, TextNode};
 ghost use Rattle.node_trees.specs.Facts.{blank, new_element, new_text, is_shadow_root};
 ghost use Rattle.node_trees.specs.Trees.{single, with_node, with_shadow};
@@ -7,22 +7,22 @@ ghost use Rattle.node_trees.specs.Spots.{spot_at, kind_at, document_at, parent_a
 ghost use Rattle.node_trees.specs.Nodes.{size, surplus_at, IsNode, IsTidy};
 ghost use Rattle.node_trees.specs.Kinds.{IsElement, KeepsKinds};
 ghost use Rattle.node_trees.specs.Links.{IsAlone, KeepsApart};
-ghost use Rattle.node_arena.specs.NodeRows.{facts_of, rows, IsLoose, IsRootOf};
-ghost use Rattle.tree_laws.specs.Rows.{Attached};
+ghost use Rattle.node_arena.specs.NodeLinks.{facts_of, link_from, links, IsLoose, IsPlace};
+ghost use Rattle.node_arena.specs.Writes.{edit};
 
 use crate::Tree;
-use crate::children::index_of;
 use crate::node::Node;
+use crate::siblings::index_of;
 use ce_base::{NoMemory, NodeNo, Text};
+use id_index::IdIndex;
 use node_trees::NodeKind;
 use std::alloc::Global;
 
 /// Puts a shadow root at the end and links it to its host.
 fn attach(nodes: &mut Vec<Node>, host: NodeNo, root: Node) -> Result<NodeNo, NoMemory>
-    requires host { (0 < host) × (host ≤ length nodes.old.items) }
-    requires root { IsRootOf host root }
+    requires { IsPlace (length nodes.old.items) host }
     ensures number { IfOk result (λ n. n ≡ length nodes.old.items + 1) }
-    ensures ok { OnOk result (Attached (rows nodes.old.items) (rows nodes.new.items) host (length nodes.old.items + 1) (facts_of root)) }
+    ensures ok { OnOk result (links nodes.new.items ≡ edit host (λ l. record l { shadow = (length nodes.old.items + 1) ∷ [] }) (links nodes.old.items ++ link_from root ∷ [])) }
     ensures err { OnErr result (nodes.new.items ≡ nodes.old.items) }
 {
     nodes.push(root)?;
@@ -39,7 +39,8 @@ impl Tree {
     {
         let mut nodes = Vec::new(alloc);
         nodes.push(Node::blank(alloc, NodeKind::Document, NodeNo(1)))?;
-        Ok(Tree { nodes })
+        let ids = IdIndex::make(alloc);
+        Ok(Tree { nodes, ids })
     }
 
     /// Puts a node at the end, as a root.
@@ -47,6 +48,7 @@ impl Tree {
         requires loose { IsLoose node }
         requires kind { is_shadow_root node.kind ≡ false }
         requires parts { surplus_at (facts_of node) ≡ 0 }
+        requires bare { node.attributes ≡ [] }
         ensures tidy { IsTidy self.old }
         ensures number { IfOk result (λ n. n ≡ size self.old + 1) }
         ensures size { OnOk result (size self.new ≡ size self.old + 1) }

@@ -1,15 +1,15 @@
 // A node as the arena keeps it.
-ghost use Rattle.std.specs.Prelude.{◌≡◌};
+ghost use Rattle.std.specs.Prelude.{◌≡◌, []};
 ghost use Rattle.node_trees.specs.Facts.{blank};
-ghost use Rattle.node_arena.specs.NodeRows.{facts_of, IsLoose};
+ghost use Rattle.node_arena.specs.NodeLinks.{facts_of, IsLoose};
 
 use crate::attributes::Attributes;
 use ce_base::{NodeNo, Text};
 use node_trees::NodeKind;
 use std::alloc::Global;
 
-/// What is known of a node, and the numbers of those around it. A part that its kind lacks is None or
-/// empty.
+/// What is known of a node, and the numbers of those around it: its parent or its host, its shadow root, its first and last
+/// child, the siblings before and behind it. A part that its kind lacks is None or empty.
 #[derive(Drop)]
 pub(crate) struct Node {
     pub(crate) kind: NodeKind,
@@ -21,7 +21,10 @@ pub(crate) struct Node {
     pub(crate) parent: Option<NodeNo>,
     pub(crate) host: Option<NodeNo>,
     pub(crate) shadow: Option<NodeNo>,
-    pub(crate) children: Vec<NodeNo>,
+    pub(crate) first: Option<NodeNo>,
+    pub(crate) last: Option<NodeNo>,
+    pub(crate) previous: Option<NodeNo>,
+    pub(crate) next: Option<NodeNo>,
 }
 
 impl Node {
@@ -29,6 +32,7 @@ impl Node {
     pub(crate) fn blank(alloc: Global, kind: NodeKind, document: NodeNo) -> Node
         ensures facts { facts_of result ≡ blank kind document }
         ensures loose { IsLoose result }
+        ensures bare { result.attributes ≡ [] }
     {
         Node {
             kind,
@@ -40,7 +44,10 @@ impl Node {
             parent: None,
             host: None,
             shadow: None,
-            children: Vec::new(alloc),
+            first: None,
+            last: None,
+            previous: None,
+            next: None,
         }
     }
 }

@@ -1,13 +1,15 @@
 // Tree order and the shadow-including order.
-ghost use Rattle.std.specs.Prelude.{◌≡◌, true, IfOk, IfSome, All};
+ghost use Rattle.std.specs.Prelude.{◌≡◌, ◌<◌, ℕ, None, true, IfOk, IfSome, All};
 ghost use Rattle.node_trees.specs.Orders.{order_of, tree_order_of};
 ghost use Rattle.node_trees.specs.Paths.{connected, is_among};
-ghost use Rattle.node_trees.specs.Nodes.{IsNode, IsNodeOrNone};
-ghost use Rattle.node_trees.specs.Spots.{after};
+ghost use Rattle.node_trees.specs.Nodes.{IsNode, IsNodeOrNone, IsTidy, times};
+ghost use Rattle.node_trees.specs.Spots.{after, spot_at, shadow_at, first_child_at};
+ghost use Rattle.node_trees.specs.Trees.{tree_of};
+ghost use Rattle.tree_laws.specs.Walks.{parent_or};
 
 use crate::Tree;
 use ce_base::{NoMemory, NodeNo, Nodes};
-use order_walk::ToVisit;
+use order_walk::first_of;
 use std::alloc::Global;
 
 impl Tree {
@@ -57,6 +59,59 @@ impl Tree {
         }
     }
 
+    // The first thing below a node: its shadow root, or else its first child.
+    fn first_below(&self, n: NodeNo) -> Option<NodeNo>
+        requires { IsNode self.now n }
+        ensures below { result ≡ parent_or (shadow_at self.now n) (first_child_at self.now n) }
+        ensures tidy { IsTidy self.now }
+    {
+        let node = self.node(n);
+        first_of(node.shadow, node.first)
+    }
+
+    // What comes behind a node in the shadow-including tree order of `root`: what is first below it, or else the next sibling
+    // of the nearest of it and what is above it that has one, below `root`. Behind a shadow tree comes its host's first child.
+    fn next_in_order(&self, at: NodeNo, root: NodeNo) -> Option<NodeNo>
+        requires at { IsNode self.now at }
+        requires root { IsNode self.now root }
+        requires inside { IsTidy self.now → 0 < times at (tree_of root self.now) }
+        ensures next { result ≡ after at (order_of self.now root) }
+        ensures tidy { IsTidy self.now }
+    {
+        let below = self.first_below(at);
+        if below.is_some() {
+            return below;
+        }
+        let mut up = at;
+        while up != root {
+            let next = self.next_sibling(up);
+            if next.is_some() {
+                return next;
+            }
+            match self.parent(up) {
+                Some(parent) => up = parent,
+                None => {
+                    let host = self.host(up)?;
+                    let child = self.child_of_host(host);
+                    if child.is_some() {
+                        return child;
+                    }
+                    up = host;
+                }
+            }
+        }
+        None
+    }
+
+    // The first child of a host, which has one shadow root.
+    fn child_of_host(&self, host: NodeNo) -> Option<NodeNo>
+        requires { IsNode self.now host }
+        ensures child { result ≡ first_child_at self.now host }
+        ensures lone { (m : ℕ) → after m (spot_at self.now host).shadow ≡ None }
+    {
+        self.node(host).first
+    }
+
     /// The node and all below it in shadow-including tree order (DOM Standard, section "Interface ShadowRoot",
     /// "shadow-including tree order"): a node, then its shadow tree, then its children, each in this order.
     /// They are all connected, or none is.
@@ -67,12 +122,13 @@ impl Tree {
         ensures connected { IfOk result (All (λ m. connected self.now m ≡ connected self.now n)) }
     {
         let mut out = Nodes::make(alloc);
-        let mut todo = ToVisit::from(alloc, n)?;
-        while let Some(m) = todo.next() {
-            out.push(alloc, m)?;
-            let node = self.node(m);
-            todo.enter(node.shadow, &node.children)?;
+        let mut at = n;
+        loop {
+            out.push(alloc, at)?;
+            match self.next_in_order(at, n) {
+                Some(next) => at = next,
+                None => return Ok(out),
+            }
         }
-        Ok(out)
     }
 }

@@ -1,17 +1,18 @@
 // What is known of a node, and who stands next to it.
-ghost use Rattle.std.specs.Prelude.{◌≡◌, ◌∷◌, ◌++◌, [], Some, None, true, false, IfOk, option_copied};
+ghost use Rattle.std.specs.Prelude.{◌≡◌, [], ℕ, Some, None, true, false, IfOk, option_copied};
 ghost use Rattle.node_trees.specs.Facts.{is_element, is_text};
 ghost use Rattle.node_trees.specs.Trees.{none, roots, tree_of};
-ghost use Rattle.node_trees.specs.Spots.{spot, facts_at, kind_at, document_at, parent_at, host_at, shadow_at, children_at, first_child_at, next_sibling_at};
-ghost use Rattle.node_trees.specs.Orders.{order};
+ghost use Rattle.node_trees.specs.Spots.{after, spot_at, facts_at, kind_at, document_at, parent_at, host_at, shadow_at, children_at, first_child_at, next_sibling_at};
 ghost use Rattle.node_trees.specs.Nodes.{size, HasOwnParts, IsNode, IsNodeOrNone, IsTidy};
 ghost use Rattle.node_trees.specs.Links.{below, AreRead};
-ghost use Rattle.node_arena.specs.NodeRows.{row, text_in};
-ghost use Rattle.tree_laws.specs.Walks.{above, orders, AreNodes, IsUp};
+ghost use Rattle.tree_laws.specs.Beside.{before};
+ghost use Rattle.node_arena.specs.Links.{children_of, link_in};
+ghost use Rattle.node_arena.specs.NodeLinks.{facts_of, link_from, text_in};
+ghost use Rattle.tree_laws.specs.Walks.{parent_or, IsUp};
 
 use crate::Tree;
-use crate::children::{index_of, next_of};
 use crate::node::Node;
+use crate::siblings::index_of;
 use ce_base::{NoMemory, NodeNo, Nodes, Text};
 use node_trees::NodeKind;
 use std::alloc::Global;
@@ -26,17 +27,6 @@ fn text_of(part: &Option<Text>) -> &str
     }
 }
 
-/// A list of the nodes of a slice.
-fn listed(alloc: Global, nodes: &[NodeNo]) -> Result<Nodes, NoMemory>
-    ensures { IfOk result (λ ns. ns ≡ nodes.now) }
-{
-    let mut list = Nodes::make(alloc);
-    for n in nodes {
-        list.push(alloc, *n)?;
-    }
-    Ok(list)
-}
-
 impl Tree {
     /// How many nodes were made.
     pub fn count(&self) -> u64
@@ -49,12 +39,26 @@ impl Tree {
     /// A node as it is kept.
     pub(crate) fn node(&self, n: NodeNo) -> &Node
         requires { IsNode self.now n }
-        ensures row { spot self.now n ≡ Some (row result.now) }
-        ensures up { IsUp self.now n (above (row result.now)) }
-        ensures walk { order (tree_of n self.now) ≡ n ∷ orders self.now ((row result.now).shadow ++ (row result.now).children) }
-        ensures links { AreNodes self.now ((row result.now).shadow ++ (row result.now).children) }
-        ensures parent { IsNodeOrNone self.now (row result.now).parent }
-        ensures host { IsNodeOrNone self.now (row result.now).host }
+        ensures link { link_from result.now ≡ link_in self.now n }
+        ensures facts { facts_of result.now ≡ facts_at self.now n }
+        ensures parent_is { result.now.parent ≡ parent_at self.now n }
+        ensures host_is { result.now.host ≡ host_at self.now n }
+        ensures shadow_is { result.now.shadow ≡ shadow_at self.now n }
+        ensures first_is { result.now.first ≡ first_child_at self.now n }
+        ensures last_is { result.now.last ≡ before None (children_at self.now n) }
+        ensures previous_is { result.now.previous ≡ before (Some n) (children_of self.now (parent_at self.now n)) }
+        ensures next_is { result.now.next ≡ next_sibling_at self.now n }
+        ensures up { IsUp self.now n (parent_or result.now.parent result.now.host) }
+        ensures parent { IsNodeOrNone self.now result.now.parent }
+        ensures host { IsNodeOrNone self.now result.now.host }
+        ensures shadow { IsNodeOrNone self.now result.now.shadow }
+        ensures first { IsNodeOrNone self.now result.now.first }
+        ensures last { IsNodeOrNone self.now result.now.last }
+        ensures previous { IsNodeOrNone self.now result.now.previous }
+        ensures next { IsNodeOrNone self.now result.now.next }
+
+        // Two shadow roots of one host there are not.
+        ensures lone { (m : ℕ) → after m (spot_at self.now n).shadow ≡ None }
         ensures parts { HasOwnParts (facts_at self.now n) }
         ensures tidy { IsTidy self.now }
     {
@@ -149,7 +153,14 @@ impl Tree {
         ensures read { AreRead self.now (below (tree_of n self.now)) }
         ensures lacking { is_text (kind_at self.now n) ≡ true → below (tree_of n self.now) ≡ none }
     {
-        listed(alloc, &self.node(n).children)
+        let node = self.node(n);
+        let mut at = node.first;
+        let mut list = Nodes::make(alloc);
+        while let Some(child) = at {
+            list.push(alloc, child)?;
+            at = self.next_sibling(child);
+        }
+        Ok(list)
     }
 
     /// The first child (DOM Standard, section "Trees", "first child"). None exactly where there are no
@@ -159,7 +170,7 @@ impl Tree {
         ensures child { result ≡ first_child_at self.now n }
         ensures node { IsNodeOrNone self.now result }
     {
-        self.node(n).children.first().copied()
+        self.node(n).first
     }
 
     /// The next sibling (DOM Standard, section "Trees", "next sibling"). None exactly for a last child and
@@ -169,7 +180,6 @@ impl Tree {
         ensures sibling { result ≡ next_sibling_at self.now n }
         ensures node { IsNodeOrNone self.now result }
     {
-        let parent = self.parent(n)?;
-        next_of(&self.node(parent).children, n)
+        self.node(n).next
     }
 }

@@ -1,30 +1,14 @@
 // Removal.
-ghost use Rattle.std.specs.Prelude.{◌≡◌, ◌≢◌, ◌<◌, ◌≤◌, ℕ, Option, Some, None, length, IsSome};
+ghost use Rattle.std.specs.Prelude.{◌≡◌, ◌≢◌, ℕ, Option, Some, None, IsSome};
 ghost use Rattle.node_trees.specs.Trees.{cut};
 ghost use Rattle.node_trees.specs.Spots.{next_sibling_at, parent_at};
 ghost use Rattle.node_trees.specs.Insertion.{may_insert};
 ghost use Rattle.node_trees.specs.Nodes.{size, IsNode, IsTidy};
 ghost use Rattle.node_trees.specs.Kinds.{KeepsKinds};
-ghost use Rattle.node_arena.specs.NodeRows.{rows};
-ghost use Rattle.tree_laws.specs.Rows.{Severed};
 
 use crate::Tree;
-use crate::children::{drop_child, index_of};
-use crate::node::Node;
+use crate::siblings::part;
 use ce_base::NodeNo;
-
-/// Takes a node away from its parent.
-fn unlink(nodes: &mut [Node], parent: NodeNo, node: NodeNo)
-    requires parent { (0 < parent) × (parent ≤ length nodes.old) }
-    requires node { (0 < node) × (node ≤ length nodes.old) }
-    requires apart { parent ≢ node }
-    ensures { Severed (rows nodes.old) (rows nodes.new) parent node }
-{
-    let above = index_of(parent);
-    let below = index_of(node);
-    drop_child(&mut nodes[above].children, node);
-    nodes[below].parent = None;
-}
 
 impl Tree {
     /// Takes a node that has a parent, with all below it, out of its parent's children (DOM Standard,
@@ -44,8 +28,11 @@ impl Tree {
         ensures may { (p : ℕ) (b : Option ℕ) → may_insert self.old p node b ≡ None → b ≢ Some node → may_insert self.new p node b ≡ None }
         ensures may_in_place { (p : ℕ) → IsNode self.old p → may_insert self.old p node (Some node) ≡ None → may_insert self.new p node (next_sibling_at self.old node) ≡ None }
     {
-        if let Some(parent) = self.parent(node) {
-            unlink(&mut self.nodes, parent, node);
+        let kept = self.node(node);
+        let previous = kept.previous;
+        let next = kept.next;
+        if let Some(parent) = kept.parent {
+            part(&mut self.nodes, parent, node, previous, next);
         }
     }
 }

@@ -1,9 +1,10 @@
 // The tree.
 ghost use Rattle.node_arena.specs.Seen.{Forest};
 ghost use Rattle.node_arena.specs.Seen.{Forest-prop};
-ghost use Rattle.node_arena.specs.NodeRows.{rows};
+ghost use Rattle.node_arena.specs.NodeLinks.{links};
 
 use crate::node::Node;
+use id_index::IdIndex;
 use std::marker::Model;
 
 /// The nodes that were made, in their trees. A contract sees the forest: nested lists, in the order of
@@ -11,7 +12,8 @@ use std::marker::Model;
 #[derive(Drop)]
 pub struct Tree {
     pub(crate) nodes: Vec<Node>,
-    ghost forest: { Forest (rows nodes.items) } by { Forest-prop (rows nodes.items) },
+    pub(crate) ids: IdIndex,
+    ghost forest: { Forest (links nodes.items) } by { Forest-prop (links nodes.items) },
 }
 
 impl Model for Tree {
@@ -23,7 +25,11 @@ impl Model for Tree {
     ghost coded = { trees_code };
 
     ghost use Rattle.node_arena.specs.Seen.{seen};
-    ghost use Rattle.node_arena.specs.NodeRows.{rows};
+    ghost use Rattle.node_arena.specs.NodeLinks.{links};
+    ghost use Rattle.node_arena.specs.Covers.{Covers};
 
-    ghost view = { λ t. seen (rows t.nodes.items) t.forest };
+    ghost view = { λ t. seen (links t.nodes.items) t.forest };
+
+    // Who has an id is noted for it.
+    ghost invariant = { λ t. Covers t.ids (links t.nodes.items) };
 }

@@ -1,7 +1,7 @@
-//! Walks in shadow-including tree order (DOM Standard, section "Interface ShadowRoot", "shadow-including tree order"),
-//! which keep the nodes that are still to be visited on a stack, so that no recursion goes with the depth of a tree.
+//! What comes first in shadow-including tree order below a node (DOM Standard, section "Interface ShadowRoot",
+//! "shadow-including preorder, depth-first traversal"): its shadow tree comes before its children.
 #![tactic(auto)]
 
-mod to_visit;
+mod below;
 
-pub use to_visit::ToVisit;
+pub use below::first_of;

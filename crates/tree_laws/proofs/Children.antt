@@ -7,7 +7,7 @@ use Rattle.node_trees.specs.Trees.{Trees, none, tree, roots, tree_of}
 use Rattle.node_trees.specs.Nodes.{times, IsNode, IsNodeOrNone, IsTidy}
 use Rattle.node_trees.specs.Orders.{tree_order, tree_order_of}
 use Rattle.node_trees.specs.Paths.{is_among}
-use Rattle.node_trees.specs.Spots.{Spot, spot_of, spot_in, parent_at, children_at, next_sibling_at, first_of, after}
+use Rattle.node_trees.specs.Spots.{Spot, spot_of, spot_in, parent_at, children_at, first_of, after}
 use Rattle.node_trees.proofs.Weights.{IsApart}
 use Rattle.tree_laws.proofs.Sums.{tidy-apart, apart-shadow, apart-children, apart-rest, here, in_shadow, in_children, in_rest, stands_where}
 use Rattle.tree_laws.proofs.Pieces.{spot-here, spot-shadow, spot-children, spot-rest}
@@ -129,7 +129,7 @@ module _ (f : Trees) (q : ℕ) (tidy : IsTidy f) (node : IsNode f q) where
       let st = node_spot f q tidy node in
       subst AreApart (sym (children_at-is f q st.row st.is)) (children-apart None None q f st.row (tidy-apart f tidy) (node_stands f q tidy node) st.is)
 
--- ---- the children of p, at one of them
+-- ---- what follows in a list
 
 -- what follows the first n of a list that has n nowhere else
 pub after-split : (n : ℕ) (front back : List ℕ) → AreApart (front ++ (n ∷ back)) → after n (front ++ (n ∷ back)) ≡ first_of back
@@ -144,23 +144,6 @@ pub after-among : (n d : ℕ) (ms : List ℕ) → after n ms ≡ Some d → is_a
 after-among n d [] h = cc
 after-among n d (m ∷ []) h = grind (arith, nat_tests)
 after-among n d (m ∷ j ∷ ms) h = grind (arith, nat_tests, after-among n d (j ∷ ms))
-
-among-split : (n : ℕ) (front back : List ℕ) → is_among n (front ++ (n ∷ back)) ≡ true
-among-split n [] back = grind (arith, nat_tests)
-among-split n (m ∷ ms) back = grind (arith, nat_tests, among-split n ms back)
-
-module _ (f : Trees) (p n : ℕ) (front back : List ℕ) (tidy : IsTidy f) (node : IsNode f p) (are : children_at f p ≡ front ++ (n ∷ back)) where
-  child-among : is_among n (children_at f p) ≡ true
-  child-among = ap (is_among n) are ∙ among-split n front back
-
-  pub parent-split : parent_at f n ≡ Some p
-  parent-split = child-parent f p tidy node n child-among
-
-  pub sibling-split : next_sibling_at f n ≡ first_of back
-  sibling-split = rw parent-split (ap (after n) are ∙ after-split n front back (subst AreApart are (children_at-apart f p tidy node)))
-
-  pub node-split : IsNode f n
-  node-split = child-node f p tidy node n child-among
 
 -- ---- tree order
 

@@ -17,11 +17,11 @@ pub record Climbing (f : Trees) (root n at : ℕ) : Type 0 where
   pub among : is_among at (tree_order_of f root) ≡ true
   pub is : after n (tree_order_of f root) ≡ beyond_in f root at
 
-or_else-some : (a b : Option ℕ) → is_some a ≡ true → or_else a b ≡ a
+pub or_else-some : (a b : Option ℕ) → is_some a ≡ true → or_else a b ≡ a
 or_else-some None b h = absurd cc
 or_else-some (Some a) b h = refl
 
-or_else-none : (a b : Option ℕ) → is_some a ≡ false → or_else a b ≡ b
+pub or_else-none : (a b : Option ℕ) → is_some a ≡ false → or_else a b ≡ b
 or_else-none None b h = refl
 or_else-none (Some a) b h = absurd cc
 

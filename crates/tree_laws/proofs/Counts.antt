@@ -26,3 +26,7 @@ among-count n (m ∷ ms) low = grind (arith, nat_tests, among-count n ms)
 pub count-absent : (n : ℕ) (ms : List ℕ) → count n ms ≡ 0 → is_among n ms ≡ false
 count-absent n [] z = cc
 count-absent n (m ∷ ms) z = grind (arith, nat_tests, count-absent n ms)
+
+pub absent-count : (n : ℕ) (ms : List ℕ) → is_among n ms ≡ false → count n ms ≡ 0
+absent-count n [] h = cc
+absent-count n (m ∷ ms) h = grind (arith, nat_tests, absent-count n ms)

@@ -26,6 +26,7 @@ pub mod Allowed
 pub mod CutSpots
 pub mod CutReads
 pub mod AllowedCut
+pub mod CutConnected
 pub mod PutSpots
 pub mod ConnectedBelow
 pub mod NewReads
@@ -50,3 +51,15 @@ pub mod NodeKinds
 pub mod ReadBelow
 pub mod Alone
 pub mod Apart
+pub mod Parents
+pub mod Leaves
+pub mod Past
+pub mod PastIn
+pub mod OrderClimb
+pub mod OrderListing
+pub mod Siblings
+pub mod Beside
+pub mod ForestRows
+pub mod MovedSpots
+pub mod TreeMembers
+pub mod ShadowSpots

@@ -14,21 +14,21 @@ use Rattle.tree_laws.proofs.Pieces.{spot-here, spot-children, spot-rest}
 use Rattle.node_trees.proofs.Weights.{IsApart}
 use Rattle.node_trees.proofs.Absent.{is_among-append}
 
-or_else-assoc : (a b c : Option ℕ) → or_else (or_else a b) c ≡ or_else a (or_else b c)
+pub or_else-assoc : (a b c : Option ℕ) → or_else (or_else a b) c ≡ or_else a (or_else b c)
 or_else-assoc None b c = refl
 or_else-assoc (Some a) b c = refl
 
 -- ---- lists
 
-first_of-append : (xs ys : List ℕ) → first_of (xs ++ ys) ≡ or_else (first_of xs) (first_of ys)
+pub first_of-append : (xs ys : List ℕ) → first_of (xs ++ ys) ≡ or_else (first_of xs) (first_of ys)
 first_of-append [] ys = refl
 first_of-append (x ∷ xs) ys = refl
 
-after-left : (n : ℕ) (xs ys : List ℕ) → is_among n xs ≡ true → after n (xs ++ ys) ≡ or_else (after n xs) (first_of ys)
+pub after-left : (n : ℕ) (xs ys : List ℕ) → is_among n xs ≡ true → after n (xs ++ ys) ≡ or_else (after n xs) (first_of ys)
 after-left n [] ys h = cc
 after-left n (x ∷ xs) ys h = grind (arith, nat_tests, after-left n xs ys, first_of-append xs ys)
 
-after-right : (n : ℕ) (xs ys : List ℕ) → is_among n xs ≡ false → after n (xs ++ ys) ≡ after n ys
+pub after-right : (n : ℕ) (xs ys : List ℕ) → is_among n xs ≡ false → after n (xs ++ ys) ≡ after n ys
 after-right n [] ys h = refl
 after-right n (x ∷ xs) ys h = grind (arith, nat_tests, after-right n xs ys)
 

@@ -1,27 +1,24 @@
 -- Rows after a call are those of the forest after it.
-use Rattle.std.proofs.Common.{◌≡◌, ◌≢◌, ℕ, ◌+◌, ◌-◌, ◌<◌, List, [], ◌∷◌, ◌++◌, Option, Some, None, refl, ap, sym, ◌∙◌, arith, inl, inr, true, false, length-append}
+use Rattle.std.proofs.Common.{◌≡◌, ◌≢◌, ℕ, ◌+◌, ◌<◌, List, [], Option, Some, None, refl, ap, sym, ◌∙◌, arith, inl, inr, true}
 use Rattle.std.proofs.lemmas.Bool.Decides.{nat_tests}
 use Rattle.std.proofs.lemmas.Bool.{cases_eq}
 use Rattle.node_trees.specs.Facts.{Facts, is_element, is_shadow_root}
-use Rattle.node_trees.specs.Trees.{Trees, none, tree, roots, tree_of, without, single, with_node, with_shadow, with_facts, cut, graft}
+use Rattle.node_trees.specs.Trees.{Trees, none, tree, roots, tree_of, without, single, with_shadow, cut, graft}
 use Rattle.node_trees.specs.Spots.{Spot, spot, spot_of, parent_at, kind_at}
 use Rattle.node_trees.specs.Insertion.{may_insert}
 use Rattle.node_trees.specs.Nodes.{times, size, surplus_at, IsNode}
 use Rattle.tree_laws.specs.Numbers.{remove_number}
-use Rattle.tree_laws.specs.Rows.{row_at, Stands, IsForest, Grafted, Severed, Attached, Changed}
+use Rattle.tree_laws.specs.Rows.{row_at, Stands, IsForest, Grafted, Severed, Attached}
 use Rattle.tree_laws.specs.OneForest.{node_of_row}
 use Rattle.tree_laws.proofs.Sums.{tidy-apart, times-without}
 use Rattle.tree_laws.proofs.AtNode.{parent_at-is, host_at-is}
 use Rattle.tree_laws.proofs.Above.{parent-above, parent-no_host}
 use Rattle.tree_laws.proofs.AllowedCut.{parent-outside}
-use Rattle.tree_laws.proofs.Changed.{size-with}
-use Rattle.tree_laws.proofs.Sizes.{size-with_node, size-with_shadow, size-cut, new-absent}
-use Rattle.tree_laws.proofs.Surplus.{KeepsKind}
-use Rattle.tree_laws.proofs.Tidy.{tidy-with, tidy-with_node, tidy-with_shadow}
+use Rattle.tree_laws.proofs.Sizes.{size-with_shadow, size-cut, new-absent}
+use Rattle.tree_laws.proofs.Tidy.{tidy-with_shadow}
 use Rattle.tree_laws.proofs.PlaceFits.{free-host}
 use Rattle.tree_laws.proofs.AllowedGraft.{allowed-fits, allowed-size, allowed-tidy, tidy-cut-child}
-use Rattle.tree_laws.proofs.Stands.{Standing, standing, Unlinked, Linked, Stands-without, Stands-put, Stands-frame, Stands-join, Stands-place, Stands-untouched, Stands-with_shadow, Stands-with_facts}
-use Rattle.tree_laws.proofs.ByIndex.{slice_get-append_front, slice_get-append_end}
+use Rattle.tree_laws.proofs.Stands.{Standing, standing, Unlinked, Linked, Stands-without, Stands-put, Stands-frame, Stands-place, Stands-untouched, Stands-with_shadow}
 
 -- the row of a node is what stands at it
 pub stands_at : (rows : List Spot) (f : Trees) (n : ℕ) → IsForest rows f → IsNode f n → Standing rows n f
@@ -29,19 +26,6 @@ stands_at rows f n a at = standing rows n f a.stands (tidy-apart f a.tidy) (a.ti
 
 pub row_is : (rows : List Spot) (f : Trees) (n : ℕ) (row : Spot) → IsForest rows f → IsNode f n → row_at rows n ≡ Some row → spot f n ≡ Some row
 row_is rows f n row a at is = let st = stands_at rows f n a at in cc (st.row, st.it.spot_is, is)
-
--- a new node at the end
-pub push_forest : (rs : List Spot) (f : Trees) (x : Facts) → IsForest rs f → is_shadow_root x.kind ≡ false → surplus_at x ≡ 0 → IsForest (rs ++ spot_of x None None none none ∷ []) (with_node (size f + 1) x f)
-push_forest rs f x a fit own =
-    let row0 = spot_of x None None none none in
-    let last : row_at (rs ++ row0 ∷ []) (size f + 1) ≡ Some row0 = slice_get-append_end rs row0 (size f + 1 - 1) (omega (arith, a.counted)) in
-    let low : Stands (rs ++ row0 ∷ []) None None f = Stands-frame rs (rs ++ row0 ∷ []) None None f a.stands (λ m lo pos. let at = a.tidy.only m pos in slice_get-append_front rs (row0 ∷ []) (m - 1) (omega (arith, at.low, at.high, a.counted))) in
-    let top : Stands (rs ++ row0 ∷ []) None None (single (size f + 1) x) = (omega arith, last, tt, tt, tt) in
-    record {
-      stands = Stands-join _ None None f (single (size f + 1) x) low top;
-      tidy = tidy-with_node f x a.tidy fit own;
-      counted = omega (arith, size-with_node (size f + 1) x f, a.counted, length-append rs (row0 ∷ []));
-    }
 
 -- a shadow root
 pub attach_forest : (rows rows' : List Spot) (f : Trees) (h : ℕ) (x : Facts) (it : Spot) → IsForest rows f → IsNode f h → spot f h ≡ Some it → is_element (kind_at f h) ≡ true → it.shadow ≡ [] → is_shadow_root x.kind ≡ true → surplus_at x ≡ 0
@@ -54,14 +38,6 @@ attach_forest rows rows' f h x it a at is element bare fit own w =
       tidy = tidy-with_shadow f h x a.tidy at element fit own;
       counted = omega (arith, size-with_shadow h (size f + 1) x f a.tidy at, a.counted, w.length_is);
     }
-
--- facts that change
-pub change_forest : (rows rows' : List Spot) (f : Trees) (n : ℕ) (change : Facts → Facts) → IsForest rows f → IsNode f n → KeepsKind f n change → Changed rows rows' n change → IsForest rows' (with_facts n change f)
-change_forest rows rows' f n change a at keeps w = record {
-  stands = Stands-with_facts rows rows' n change w None None f (omega (arith, a.tidy.once n at)) a.stands;
-  tidy = tidy-with f n change at keeps a.tidy;
-  counted = omega (arith, size-with n change f, a.counted, w.length_is);
-}
 
 -- children of others
 

@@ -3,14 +3,13 @@ use Rattle.std.proofs.Common.{◌≡◌, ◌≢◌, ℕ, ◌<◌, ◌≤◌, Lis
 use Rattle.std.proofs.lemmas.Bool.Decides.{nat_tests}
 use Rattle.std.proofs.lemmas.Bool.{cases_lt, cases_eq}
 use Rattle.node_trees.specs.Facts.{Facts}
-use Rattle.node_trees.specs.Trees.{Trees, none, tree, join, roots, tree_of, without, place, before, put, is_number, single, with_shadow, with_facts}
+use Rattle.node_trees.specs.Trees.{Trees, none, tree, join, roots, tree_of, without, place, before, put, is_number, single, with_shadow}
 use Rattle.node_trees.specs.Spots.{Spot, spot_of, spot_in}
 use Rattle.node_trees.specs.Nodes.{times}
 use Rattle.tree_laws.specs.Numbers.{remove_number, insert_number}
-use Rattle.tree_laws.specs.Rows.{row_at, Stands, Attached, Changed}
+use Rattle.tree_laws.specs.Rows.{row_at, Stands, Attached}
 use Rattle.tree_laws.proofs.Pieces.{spot-here, spot-shadow, spot-children, spot-rest, tree_of-shadow, tree_of-children, tree_of-rest}
 use Rattle.tree_laws.proofs.Inside.{Found, found}
-use Rattle.tree_laws.proofs.Changed.{roots-with}
 use Rattle.tree_laws.proofs.PutSpots.{roots-before, roots-put}
 use Rattle.tree_laws.proofs.Lists.{roots-without}
 use Rattle.tree_laws.proofs.ShadowReads.{roots-shadow}
@@ -209,35 +208,5 @@ module _ (rows rows' : List Spot) (h n : ℕ) (y : Facts) (at : Attached rows ro
               Stands-with_shadow None (Some m) s (omega arith) (omega arith) st.2,
               Stands-with_shadow (Some m) None k (omega arith) (omega arith) st.3,
               Stands-with_shadow p q r (omega arith) (omega arith) st.4,
-            )
-      ]
-
--- the facts of one node
-
-module _ (rows rows' : List Spot) (n : ℕ) (change : Facts → Facts) (ch : Changed rows rows' n change) where
-  kept : (p q : Option ℕ) (f : Trees) → times n f ≡ 0 → Stands rows p q f → Stands rows' p q f
-  kept p q f out st = Stands-frame rows rows' p q f st (λ i lo in_f. ch.others i lo (λ j. omega (arith, ap (λ v. times v f) j)))
-
-  pub Stands-with_facts : (p q : Option ℕ) (f : Trees) → times n f ≤ 1 → Stands rows p q f → Stands rows' p q (with_facts n change f)
-  Stands-with_facts p q none one st = tt
-  Stands-with_facts p q (tree m x s k r) one st =
-      elim (cases_eq m n) [
-        | inl e ↦
-            let is : with_facts n change (tree m x s k r) ≡ tree m (change x) s k r = grind (arith, nat_tests) in
-            let row : row_at rows n ≡ Some (spot_of x p q s k) = rw e at st.1 in
-            let here : row_at rows' m ≡ Some (spot_of (change x) p q s k) = rw e (ch.there (spot_of x p q s k) row) in
-            let away_s : times n s ≡ 0 = grind (arith, nat_tests) in
-            let away_k : times n k ≡ 0 = grind (arith, nat_tests) in
-            let away_r : times n r ≡ 0 = grind (arith, nat_tests) in
-            subst (Stands rows' p q) (sym is) (st.0, here, kept None (Some m) s away_s st.2, kept (Some m) None k away_k st.3, kept p q r away_r st.4)
-        | inr ne ↦
-            let is : with_facts n change (tree m x s k r) ≡ tree m x (with_facts n change s) (with_facts n change k) (with_facts n change r) = grind (arith, nat_tests) in
-            let here = ch.others m st.0 ne in
-            subst (Stands rows' p q) (sym is) (
-              st.0,
-              rw (roots-with n change s, roots-with n change k) (here ∙ st.1),
-              Stands-with_facts None (Some m) s (omega arith) st.2,
-              Stands-with_facts (Some m) None k (omega arith) st.3,
-              Stands-with_facts p q r (omega arith) st.4,
             )
       ]

@@ -3,3 +3,4 @@ pub mod Numbers
 pub mod Rows
 pub mod OneForest
 pub mod Walks
+pub mod Beside

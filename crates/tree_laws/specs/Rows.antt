@@ -1,8 +1,8 @@
 -- Nodes that are linked by their numbers, as rows, and the forest that rows stand for.
-use Rattle.std.specs.Prelude.{◌≡◌, ◌≢◌, ℕ, ◌+◌, ◌-◌, ◌<◌, List, [], ◌∷◌, length, slice_get, Option, Some, None, ⊤}
+use Rattle.std.specs.Prelude.{◌≡◌, ◌≢◌, ℕ, zero, suc, ◌++◌, ◌+◌, ◌-◌, ◌<◌, List, [], ◌∷◌, length, slice_get, Option, Some, None, ⊤}
 use Rattle.node_trees.specs.Facts.{Facts}
 use Rattle.node_trees.specs.Trees.{Trees, none, tree}
-use Rattle.node_trees.specs.Spots.{Spot, spot_of}
+use Rattle.node_trees.specs.Spots.{Spot, spot_of, spot_at}
 use Rattle.node_trees.specs.Nodes.{size, IsTidy}
 use Rattle.tree_laws.specs.Numbers.{remove_number, insert_number}
 
@@ -46,8 +46,11 @@ pub record Attached (rows rows' : List Spot) (h n : ℕ) (x : Facts) : Type 0 wh
   pub there : (row : Spot) → row_at rows h ≡ Some row → row_at rows' h ≡ Some (record row { shadow = n ∷ [] })
   pub others : (m : ℕ) → 0 < m → m ≢ n → m ≢ h → row_at rows' m ≡ row_at rows m
 
--- the facts of n change
-pub record Changed (rows rows' : List Spot) (n : ℕ) (change : Facts → Facts) : Type 0 where
-  pub length_is : length rows' ≡ length rows
-  pub there : (row : Spot) → row_at rows n ≡ Some row → row_at rows' n ≡ Some (record row { facts = change row.facts })
-  pub others : (m : ℕ) → 0 < m → m ≢ n → row_at rows' m ≡ row_at rows m
+-- the rows of a forest, in the order of their numbers
+
+abbrev pub rows_to : Trees → ℕ → List Spot
+rows_to f zero = []
+rows_to f (suc k) = rows_to f k ++ spot_at f (suc k) ∷ []
+
+abbrev pub rows_of : Trees → List Spot
+rows_of f = rows_to f (size f)

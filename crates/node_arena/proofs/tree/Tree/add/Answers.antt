@@ -1,9 +1,9 @@
 use Rattle.std.proofs.Common.{◌∙◌, arith}
 use Rattle.std.proofs.lemmas.List.{length-map}
 use Rattle.std.proofs.lemmas.Result.{err_from_is_err_and}
-use Rattle.node_arena.specs.NodeRows.{row, facts_of}
+use Rattle.node_arena.specs.NodeLinks.{link_from, facts_of}
 use Rattle.node_arena.specs.Seen.{seen_fact, seen_is, seen_size}
-use Rattle.node_arena.proofs.CallLemmas.{pushed, pushed_or_not, new_free}
+use Rattle.node_arena.proofs.Calls.{pushed, pushed_or_not, pushed_covers, new_free}
 use Rattle.tree_laws.proofs.NodeKinds.{kinds-same, kinds-new, kind-new}
 use Rattle.tree_laws.proofs.OtherSpots.{spots-same, spot_at-new}
 use Rattle.tree_laws.proofs.Alone.{new_alone}
@@ -13,6 +13,9 @@ use Rattle.node_arena.proofs.tree.Tree.add.Goals as goal
 pub invariant_of-self-inside : goal.invariant_of-self-inside
 invariant_of-self-inside c = (pushed_or_not _ _ _ _ (seen_fact _ _ _ c.self.view_is) c.requires.loose c.requires.kind c.requires.parts _ c.push.ensures.items, tt)
 
+pub invariant_of-self-2 : goal.invariant_of-self-2
+invariant_of-self-2 c = pushed_covers _ _ _ _ _ c.requires.bare c.push.ensures.items c.self.invariant
+
 pub returns-in_err-push-clause-err : goal.returns-in_err-push-clause-err
 returns-in_err-push-clause-err c =
     let p = err_from_is_err_and c.from_residual.result c.from_residual.ensures.1 in
@@ -21,19 +24,19 @@ returns-in_err-push-clause-err c =
 pub returns-clause-number : goal.returns-clause-number
 returns-clause-number c =
     let old = (seen_fact _ _ _ c.self.view_is).counted in
-    omega (arith, c.len.ensures, c.in_ok-push.ensures.len, old, length-map c.self.inside.nodes.items row, c.self.inside.nodes.ok.0)
+    omega (arith, c.len.ensures, c.in_ok-push.ensures.len, old, length-map c.self.inside.nodes.items link_from, c.self.inside.nodes.ok.0)
 
 pub returns-clause-ok : goal.returns-clause-ok
 returns-clause-ok c = seen_is _ _ _ (pushed _ _ _ _ (seen_fact _ _ _ c.self.view_is) c.requires.loose c.requires.kind c.requires.parts c.in_ok-push.ensures.items)
 
 pub returns-clause-size : goal.returns-clause-size
 returns-clause-size c =
-    seen_size _ _ ∙ omega (arith, (seen_fact _ _ _ c.self.view_is).counted, length-map c.self.inside.nodes.items row, length-map c.push.new.self.items row, c.in_ok-push.ensures.len, c.self.inside.nodes.ok.0, c.push.new.self.ok.0)
+    seen_size _ _ ∙ omega (arith, (seen_fact _ _ _ c.self.view_is).counted, length-map c.self.inside.nodes.items link_from, length-map c.push.new.self.items link_from, c.in_ok-push.ensures.len, c.self.inside.nodes.ok.0, c.push.new.self.ok.0)
 
 pub returns-clause-free : goal.returns-clause-free
 returns-clause-free c =
     let a = seen_fact _ _ _ c.self.view_is in
-    rw (returns-clause-ok c, returns-clause-number c) (new_free _ c.args.self.now (facts_of c.args.node) a)
+    rw (returns-clause-ok c, returns-clause-number c) (new_free c.args.self.now (facts_of c.args.node) a.tidy)
 
 pub returns-in_err-push-clause-kinds : goal.returns-in_err-push-clause-kinds
 returns-in_err-push-clause-kinds c = kinds-same _ _ (seen_is _ _ _ (rw c.in_err-push.ensures.items (seen_fact _ _ _ c.self.view_is)))

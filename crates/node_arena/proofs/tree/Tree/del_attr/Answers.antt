@@ -1,40 +1,32 @@
-use Rattle.std.proofs.Common.{◌∙◌, arith, ap, sym, refl}
-use Rattle.node_trees.specs.Facts.{value_in, without_value}
-use Rattle.node_arena.specs.Seen.{seen_fact, seen_is, seen_size}
-use Rattle.node_arena.proofs.CallLemmas.{size_written, written, altered, own_row}
-use Rattle.node_arena.proofs.ReadLemmas.{in_range}
-use Rattle.tree_laws.proofs.Surplus.{keeps-attributes}
+use Rattle.std.proofs.Common.{◌∙◌, ap, refl}
+use Rattle.node_trees.specs.Facts.{without_value}
+use Rattle.node_trees.specs.Nodes.{size}
+use Rattle.tree_laws.proofs.Changed.{size-with}
 use Rattle.tree_laws.proofs.NodeKinds.{kinds-with}
 use Rattle.tree_laws.proofs.OtherSpots.{spots-with}
+use Rattle.tree_laws.proofs.Surplus.{keeps-attributes}
+use Rattle.node_arena.specs.Links.{link_in}
+use Rattle.node_arena.specs.Seen.{seen_fact, seen_is}
+use Rattle.node_arena.proofs.Calls.{written, written_covers, in_slice, altered, own_link}
 use Rattle.node_arena.proofs.tree.Tree.del_attr.Goals as goal
 
 pub remove_attribute-requires : goal.remove_attribute-requires
-remove_attribute-requires c =
-    (c.requires.node.low, omega (arith, in_range _ _ _ (seen_fact _ _ _ c.self.view_is) c.requires.node, c.deref_mut.ensures.len, c.self.inside.nodes.ok.0, c.requires.node.low))
+remove_attribute-requires c = in_slice _ _ _ (seen_fact _ _ _ c.self.view_is) c.deref_mut.ensures.value _ c.requires.node
 
 pub invariant_of-self-inside : goal.invariant_of-self-inside
-invariant_of-self-inside c = (
-  (
-    _,
-    altered _ _ _ _ _ _ _ (seen_fact _ _ _ c.self.view_is) c.requires.node (keeps-attributes _ _ (without_value c.args.name.now) (seen_fact _ _ _ c.self.view_is).tidy c.requires.node c.requires.element) c.deref_mut.ensures.value
-        (written _ _ _ _ c.deref_mut.ensures.value c.self.inside.nodes.ok.0 c.remove_attribute.auto.nodes) c.remove_attribute.ensures.left,
-  ),
-  tt,
-)
+invariant_of-self-inside c = ((_, altered _ _ _ _ _ c.args.node _ (seen_fact _ _ _ c.self.view_is) c.requires.node (keeps-attributes _ _ (without_value c.args.name.now) (seen_fact _ _ _ c.self.view_is).tidy c.requires.node c.requires.element) c.deref_mut.ensures.value (written _ _ _ _ c.deref_mut.ensures.value c.self.inside.nodes.ok.0 c.remove_attribute.auto.nodes) c.remove_attribute.ensures.left), tt)
+
+pub invariant_of-self : goal.invariant_of-self
+invariant_of-self c = written_covers _ _ _ _ _ _ c.deref_mut.ensures.value (written _ _ _ _ c.deref_mut.ensures.value c.self.inside.nodes.ok.0 c.remove_attribute.auto.nodes) c.remove_attribute.ensures.covers c.self.invariant
 
 pub returns-clause-left : goal.returns-clause-left
-returns-clause-left c =
-    seen_is _ _ _ (altered _ _ _ _ _ _ _ (seen_fact _ _ _ c.self.view_is) c.requires.node (keeps-attributes _ _ (without_value c.args.name.now) (seen_fact _ _ _ c.self.view_is).tidy c.requires.node c.requires.element) c.deref_mut.ensures.value
-    (written _ _ _ _ c.deref_mut.ensures.value c.self.inside.nodes.ok.0 c.remove_attribute.auto.nodes) c.remove_attribute.ensures.left)
+returns-clause-left c = seen_is _ _ _ (altered _ _ _ _ _ c.args.node _ (seen_fact _ _ _ c.self.view_is) c.requires.node (keeps-attributes _ _ (without_value c.args.name.now) (seen_fact _ _ _ c.self.view_is).tidy c.requires.node c.requires.element) c.deref_mut.ensures.value (written _ _ _ _ c.deref_mut.ensures.value c.self.inside.nodes.ok.0 c.remove_attribute.auto.nodes) c.remove_attribute.ensures.left)
 
 pub returns-clause-was : goal.returns-clause-was
-returns-clause-was c =
-    let it = own_row _ _ _ _ (seen_fact _ _ _ c.self.view_is) c.requires.node c.deref_mut.ensures.value in
-    c.remove_attribute.ensures.was it.0 it.1 ∙ ap (λ v. value_in v.attributes c.args.name.now) (sym it.2)
+returns-clause-was c = c.remove_attribute.ensures.was (link_in c.args.self.now c.args.node) (own_link _ _ _ _ (seen_fact _ _ _ c.self.view_is) c.requires.node c.deref_mut.ensures.value)
 
 pub returns-clause-size : goal.returns-clause-size
-returns-clause-size c =
-    seen_size _ _ ∙ size_written _ _ _ _ _ (seen_fact _ _ _ c.self.view_is) c.deref_mut.ensures.value (written _ _ _ _ c.deref_mut.ensures.value c.self.inside.nodes.ok.0 c.remove_attribute.auto.nodes) c.remove_attribute.auto.nodes
+returns-clause-size c = ap size (returns-clause-left c) ∙ size-with c.args.node (λ x. record x { attributes = without_value c.args.name.now x.attributes }) c.args.self.now
 
 pub returns-clause-kinds : goal.returns-clause-kinds
 returns-clause-kinds c = kinds-with c.args.node (λ x. record x { attributes = without_value c.args.name.now x.attributes }) _ _ (λ x. refl) (returns-clause-left c)

@@ -1,28 +1,27 @@
-use Rattle.std.proofs.Common.{sym, ◌∙◌}
-use Rattle.tree_laws.proofs.Seeking.{seek-start, seek-node, seek-here, seek-last, seek-on, seek-less}
+use Rattle.std.proofs.Common.{[], refl, sym, ◌∙◌}
+use Rattle.node_arena.specs.Seen.{seen_fact}
+use Rattle.node_arena.proofs.Calls.{covers_all}
+use Rattle.node_arena.proofs.LookUp.{any-among, look-start, look-other, look-found, look-end}
 use Rattle.node_arena.proofs.tree.Tree.first_with_id.Goals as goal
 
-pub loop-root-init : goal.loop-root-init
-loop-root-init c = record { node = c.requires; seeking = λ tidy. seek-start _ _ _ tidy c.requires }
+pub returns-in_default-clause-found : goal.returns-in_default-clause-found
+returns-in_default-clause-found c =
+    look-end _ _ _ _ [] refl (look-start _ _ _ [] [] refl (λ m has. c.in_default.ensures m ∙ covers_all _ _ _ _ (seen_fact _ _ _ c.self.view_is) c.self.invariant m has))
 
-pub returns-then-has_id-clause-found : goal.returns-then-has_id-clause-found
-returns-then-has_id-clause-found c =
-    let tidy = c.has_id.ensures.tidy in
-    seek-here _ _ _ tidy c.requires _ (c.loop-root.invariant.seeking tidy) (sym c.has_id.ensures.has ∙ c.if-has_id.true)
+pub loop-holder-init : goal.loop-holder-init
+loop-holder-init c =
+    look-start _ _ _ _ _ c.into_iter-holder-iterator.ensures.into_iter_gives.0
+    (λ m has. sym (any-among m _) ∙ c.in-Some.ensures m ∙ covers_all _ _ _ _ (seen_fact _ _ _ c.self.view_is) c.self.invariant m has)
 
-pub next_in_tree-requires-clause-inside : goal.next_in_tree-requires-clause-inside
-next_in_tree-requires-clause-inside c = let s = c.loop-root.invariant.seeking c.has_id.ensures.tidy in s.among
+pub loop-holder-preserved-then-is_holder : goal.loop-holder-preserved-then-is_holder
+loop-holder-preserved-then-is_holder c =
+    look-found _ _ _ _ _ _ _ c.in-Some-holder.ensures.steps c.loop-holder.invariant (sym c.is_holder.ensures.is ∙ c.if-is_holder.true) (c.is_holder.ensures.node c.if-is_holder.true) (sym c.is_some.ensures ∙ c.if-is_some.false)
 
-pub loop-root-smaller : goal.loop-root-smaller
-loop-root-smaller c = let tidy = c.has_id.ensures.tidy in seek-less _ _ _ tidy c.requires _ (c.loop-root.invariant.seeking tidy) _ c.in-Some.ensures.next
+pub loop-holder-preserved : goal.loop-holder-preserved
+loop-holder-preserved c = look-other _ _ _ _ _ _ _ c.in-Some-holder.ensures.steps c.loop-holder.invariant (sym c.is_holder.ensures.is ∙ c.if-is_holder.false)
 
-pub loop-root-preserved : goal.loop-root-preserved
-loop-root-preserved c =
-    let tidy = c.has_id.ensures.tidy in
-    let on = seek-on _ _ _ tidy c.requires _ (c.loop-root.invariant.seeking tidy) _ (sym c.has_id.ensures.has ∙ c.if-has_id.false) c.in-Some.ensures.next in
-    record { node = seek-node _ _ _ tidy c.requires _ on; seeking = λ again. on }
+pub returns-clause-found : goal.returns-clause-found
+returns-clause-found c = look-end _ _ _ _ _ c.in-None.ensures.steps.0 c.loop-holder.invariant
 
-pub returns-in-None-clause-found : goal.returns-in-None-clause-found
-returns-in-None-clause-found c =
-    let tidy = c.has_id.ensures.tidy in
-    seek-last _ _ _ tidy c.requires _ (c.loop-root.invariant.seeking tidy) (sym c.has_id.ensures.has ∙ c.if-has_id.false) c.in-None.ensures.next
+pub returns-clause-node : goal.returns-clause-node
+returns-clause-node c = c.loop-holder.invariant.node

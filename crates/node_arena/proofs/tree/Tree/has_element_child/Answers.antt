@@ -1,21 +1,24 @@
-use Rattle.std.proofs.Common.{◌++◌, ap, sym, ◌∙◌}
-use Rattle.std.specs.List.{list_any}
-use Rattle.std.proofs.lemmas.List.{take_all}
-use Rattle.node_trees.specs.Facts.{is_element}
-use Rattle.node_trees.specs.Spots.{kind_at}
-use Rattle.node_arena.specs.NodeRows.{row}
-use Rattle.tree_laws.specs.Walks.{AreNodes}
-use Rattle.tree_laws.proofs.AtNode.{children_at-is}
-use Rattle.node_arena.proofs.WalkLemmas.{child_node}
+use Rattle.std.proofs.Common.{refl, sym, ◌∙◌}
+use Rattle.tree_laws.proofs.Siblings.{child-is_node, children-less, seek-start, seek-found, seek-on, seek-end}
 use Rattle.node_arena.proofs.tree.Tree.has_element_child.Goals as goal
 
-pub kind-requires : goal.kind-requires
-kind-requires c =
-    let links : AreNodes c.args.self.now ((row c.node.result.now).shadow ++ c.as_slice-children.result.now) = rw c.as_slice-children.ensures.value c.node.ensures.links in
-    child_node c.args.self.now (row c.node.result.now).shadow c.as_slice-children.result.now c.loop-child.child-index c.child-item.result links c.loop-child-test.true c.child-item.is
+pub loop-at-init : goal.loop-at-init
+loop-at-init c = seek-start _ _ c.node-node.ensures.tidy c.requires _ c.node-node.ensures.first_is c.node-node.ensures.first
+
+pub is_element-requires : goal.is_element-requires
+is_element-requires c = child-is_node _ _ c.node-node.ensures.tidy c.requires _ _ c.in-Some.is c.loop-at.invariant.child
+
+pub next_sibling-at-requires : goal.next_sibling-at-requires
+next_sibling-at-requires c = child-is_node _ _ c.node-node.ensures.tidy c.requires _ _ c.in-Some.is c.loop-at.invariant.child
+
+pub loop-at-smaller : goal.loop-at-smaller
+loop-at-smaller c = children-less _ _ c.node-node.ensures.tidy c.requires _ _ c.in-Some.is c.loop-at.invariant.child _ c.next_sibling-at.ensures.sibling
+
+pub returns-then-is_element : goal.returns-then-is_element
+returns-then-is_element c = seek-found _ _ c.node-node.ensures.tidy c.requires _ _ c.in-Some.is c.loop-at.invariant _ refl (sym c.is_element.ensures ∙ c.if-is_element.true)
+
+pub loop-at-preserved : goal.loop-at-preserved
+loop-at-preserved c = seek-on _ _ c.node-node.ensures.tidy c.requires _ _ c.in-Some.is c.loop-at.invariant _ c.next_sibling-at.ensures.sibling (sym c.is_element.ensures ∙ c.if-is_element.false) c.next_sibling-at.ensures.node
 
 pub returns : goal.returns
-returns c =
-    let all = take_all c.loop-child.child-index c.as_slice-children.result.now c.loop-child-test.false in
-    let same = c.as_slice-children.ensures.value ∙ sym (children_at-is c.args.self.now c.args.n (row c.node.result.now) c.node.ensures.row) in
-    sym (ap (list_any (λ n. is_element (kind_at c.args.self.now n))) (sym same ∙ sym all) ∙ c.loop-child.invariant)
+returns c = seek-end _ _ c.node-node.ensures.tidy c.requires _ c.in_default.is c.loop-at.invariant

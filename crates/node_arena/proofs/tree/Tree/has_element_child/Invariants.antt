@@ -1,8 +1,9 @@
-use Rattle.std.proofs.Common.{◌≡◌, false, take}
-use Rattle.std.specs.List.{list_any}
-use Rattle.node_trees.specs.Facts.{is_element}
-use Rattle.node_trees.specs.Spots.{kind_at}
+use Rattle.std.proofs.Common.{length}
+use Rattle.tree_laws.proofs.Siblings.{Seeking, children_from}
 use Rattle.node_arena.proofs.tree.Tree.has_element_child.Given as goal
 
-abbrev pub invariant-loop-child : goal.invariant-loop-child
-invariant-loop-child l = list_any (λ c. is_element (kind_at l.self c)) (take l.child-index l.children) ≡ false
+abbrev pub invariant-loop-at : goal.invariant-loop-at
+invariant-loop-at l = Seeking l.self l.fn.n l.at
+
+abbrev pub decreases-loop-at : goal.decreases-loop-at
+decreases-loop-at l = length (children_from l.self l.fn.n l.at)

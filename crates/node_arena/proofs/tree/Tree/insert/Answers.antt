@@ -1,61 +1,44 @@
-use Rattle.std.proofs.Common.{◌∙◌, arith, refl}
-use Rattle.std.proofs.lemmas.Result.{on_ok_weaker, on_err_weaker}
-use Rattle.node_arena.specs.Seen.{seen_fact, seen_is, seen_size}
-use Rattle.node_arena.proofs.CallLemmas.{size_written, written, regrafted, inserted, not_inserted, inserted_or_not, apart_of}
-use Rattle.node_arena.proofs.ReadLemmas.{in_range}
-use Rattle.tree_laws.proofs.NodeKinds.{by_result, kinds-same, kinds-grafted}
-use Rattle.tree_laws.proofs.OtherSpots.{spots-grafted}
-use Rattle.tree_laws.proofs.Apart.{apart-grafted}
+use Rattle.std.proofs.Common.{refl}
+use Rattle.tree_laws.proofs.Allowed.{is_sibling}
+use Rattle.node_arena.specs.Seen.{seen_fact, seen_is}
+use Rattle.node_arena.proofs.Calls.{written, in_slice, in_slice_or_none, inserted, inserted_covers, inserted_size, inserted_kinds, inserted_spots, inserted_apart}
 use Rattle.node_arena.proofs.tree.Tree.insert.Goals as goal
 
-pub link-requires-clause-parent : goal.link-requires-clause-parent
-link-requires-clause-parent c =
-    (c.requires.parent.low, omega (arith, in_range _ _ _ (seen_fact _ _ _ c.self.view_is) c.requires.parent, c.deref_mut.ensures.len, c.self.inside.nodes.ok.0, c.requires.parent.low))
+pub child_before-previous-requires-clause-child : goal.child_before-previous-requires-clause-child
+child_before-previous-requires-clause-child c = is_sibling c.args.self.now c.args.parent c.args.node c.args.before c.requires.may
 
-pub link-requires-clause-node : goal.link-requires-clause-node
-link-requires-clause-node c =
-    (c.requires.node.low, omega (arith, in_range _ _ _ (seen_fact _ _ _ c.self.view_is) c.requires.node, c.deref_mut.ensures.len, c.self.inside.nodes.ok.0, c.requires.node.low))
+pub join-requires-clause-parent : goal.join-requires-clause-parent
+join-requires-clause-parent c = in_slice _ _ _ (seen_fact _ _ _ c.self.view_is) c.deref_mut.ensures.value _ c.requires.parent
 
-pub link-requires-clause-apart : goal.link-requires-clause-apart
-link-requires-clause-apart c = apart_of _ _ _ _ _ (seen_fact _ _ _ c.self.view_is) c.requires.parent c.requires.node c.requires.may
+pub join-requires-clause-node : goal.join-requires-clause-node
+join-requires-clause-node c = in_slice _ _ _ (seen_fact _ _ _ c.self.view_is) c.deref_mut.ensures.value _ c.requires.node
+
+pub join-requires-clause-previous : goal.join-requires-clause-previous
+join-requires-clause-previous c = in_slice_or_none _ _ _ (seen_fact _ _ _ c.self.view_is) c.deref_mut.ensures.value _ c.child_before-previous.ensures.node
+
+pub join-requires-clause-next : goal.join-requires-clause-next
+join-requires-clause-next c = in_slice_or_none _ _ _ (seen_fact _ _ _ c.self.view_is) c.deref_mut.ensures.value _ c.requires.before
 
 pub invariant_of-self-inside : goal.invariant_of-self-inside
-invariant_of-self-inside c = (
-  inserted_or_not _ _ _ _ _ _ _ _ (seen_fact _ _ _ c.self.view_is) c.requires.parent c.requires.node c.requires.may c.requires.free c.deref_mut.ensures.value
-      (written _ _ _ _ c.deref_mut.ensures.value c.self.inside.nodes.ok.0 c.link.auto.nodes) _ c.link.ensures.ok c.link.ensures.err,
-  tt,
-)
+invariant_of-self-inside c = ((_, inserted _ c.args.self.now c.args.parent c.args.node c.args.before (seen_fact _ _ _ c.self.view_is) c.requires.parent c.requires.node c.requires.may c.requires.free c.child_before-previous.result _ _ _ c.deref_mut.ensures.value (written _ _ _ _ c.deref_mut.ensures.value c.self.inside.nodes.ok.0 c.join.auto.nodes) c.join.ensures c.child_before-previous.ensures.child), tt)
+
+pub invariant_of-self : goal.invariant_of-self
+invariant_of-self c = inserted_covers _ c.args.self.now c.args.parent c.args.node c.args.before (seen_fact _ _ _ c.self.view_is) c.requires.parent c.requires.node c.requires.may c.requires.free c.child_before-previous.result _ _ _ c.deref_mut.ensures.value (written _ _ _ _ c.deref_mut.ensures.value c.self.inside.nodes.ok.0 c.join.auto.nodes) c.join.ensures _ c.child_before-previous.ensures.node c.requires.before c.self.invariant
 
 pub returns-clause-ok : goal.returns-clause-ok
-returns-clause-ok c =
-    on_ok_weaker c.link.result (λ g. seen_is _ _ _
-    (inserted _ _ _ _ _ _ _ _ (seen_fact _ _ _ c.self.view_is) c.requires.parent c.requires.node c.requires.may c.requires.free c.deref_mut.ensures.value
-    (written _ _ _ _ c.deref_mut.ensures.value c.self.inside.nodes.ok.0 c.link.auto.nodes) g)) c.link.ensures.ok
-
-pub returns-clause-err : goal.returns-clause-err
-returns-clause-err c =
-    on_err_weaker c.link.result (λ g. seen_is _ _ _
-    (not_inserted _ _ _ _ _ _ _ _ (seen_fact _ _ _ c.self.view_is) c.requires.parent c.requires.node c.requires.may c.requires.free c.deref_mut.ensures.value
-    (written _ _ _ _ c.deref_mut.ensures.value c.self.inside.nodes.ok.0 c.link.auto.nodes) g)) c.link.ensures.err
+returns-clause-ok c = seen_is _ _ _ (inserted _ c.args.self.now c.args.parent c.args.node c.args.before (seen_fact _ _ _ c.self.view_is) c.requires.parent c.requires.node c.requires.may c.requires.free c.child_before-previous.result _ _ _ c.deref_mut.ensures.value (written _ _ _ _ c.deref_mut.ensures.value c.self.inside.nodes.ok.0 c.join.auto.nodes) c.join.ensures c.child_before-previous.ensures.child)
 
 pub returns-clause-size : goal.returns-clause-size
-returns-clause-size c =
-    seen_size _ _ ∙ size_written _ _ _ _ _ (seen_fact _ _ _ c.self.view_is) c.deref_mut.ensures.value (written _ _ _ _ c.deref_mut.ensures.value c.self.inside.nodes.ok.0 c.link.auto.nodes) c.link.auto.nodes
+returns-clause-size c = inserted_size _ c.args.self.now c.args.parent c.args.node c.args.before (seen_fact _ _ _ c.self.view_is) c.requires.parent c.requires.node c.requires.may c.requires.free _ (returns-clause-ok c)
 
 pub returns-clause-kinds : goal.returns-clause-kinds
-returns-clause-kinds c =
-    by_result c.link.result (λ g. kinds-grafted _ _ _ _ _ _ _ (seen_fact _ _ _ c.self.view_is) (seen_fact _ _ _ refl)
-    (regrafted c.deref_mut.ensures.value (written _ _ _ _ c.deref_mut.ensures.value c.self.inside.nodes.ok.0 c.link.auto.nodes) g)) (kinds-same _ _) c.link.ensures.ok (returns-clause-err c)
+returns-clause-kinds c = inserted_kinds _ c.args.self.now c.args.parent c.args.node c.args.before (seen_fact _ _ _ c.self.view_is) c.requires.parent c.requires.node c.requires.may c.requires.free _ (returns-clause-ok c)
 
 pub returns-clause-others : goal.returns-clause-others
-returns-clause-others c =
-    on_ok_weaker c.link.result (λ g. spots-grafted _ _ _ _ _ _ _ (seen_fact _ _ _ c.self.view_is) (seen_fact _ _ _ refl)
-    (regrafted c.deref_mut.ensures.value (written _ _ _ _ c.deref_mut.ensures.value c.self.inside.nodes.ok.0 c.link.auto.nodes) g)) c.link.ensures.ok
+returns-clause-others c = inserted_spots _ c.args.self.now c.args.parent c.args.node c.args.before (seen_fact _ _ _ c.self.view_is) c.requires.parent c.requires.node c.requires.may c.requires.free _ (returns-clause-ok c)
 
 pub returns-clause-apart : goal.returns-clause-apart
-returns-clause-apart c =
-    on_ok_weaker c.link.result (λ g apart. apart-grafted _ _ _ _ _ _ _ (seen_fact _ _ _ c.self.view_is) (seen_fact _ _ _ refl)
-    (regrafted c.deref_mut.ensures.value (written _ _ _ _ c.deref_mut.ensures.value c.self.inside.nodes.ok.0 c.link.auto.nodes) g) c.requires.parent apart) c.link.ensures.ok
+returns-clause-apart c = inserted_apart _ c.args.self.now c.args.parent c.args.node c.args.before (seen_fact _ _ _ c.self.view_is) c.requires.parent c.requires.node c.requires.may c.requires.free _ (returns-clause-ok c)
 
 pub returns-clause-tidy : goal.returns-clause-tidy
 returns-clause-tidy c = (seen_fact _ _ _ c.self.view_is).tidy

@@ -5,7 +5,7 @@ use Rattle.node_trees.specs.Facts.{blank}
 use Rattle.node_trees.specs.Trees.{with_node}
 use Rattle.node_trees.specs.Nodes.{size}
 use Rattle.node_arena.specs.Seen.{seen_fact}
-use Rattle.node_arena.proofs.CallLemmas.{counts}
+use Rattle.node_arena.proofs.Calls.{counts}
 use Rattle.node_arena.proofs.tree.Tree.make_document.Goals as goal
 
 pub returns-clause-made : goal.returns-clause-made

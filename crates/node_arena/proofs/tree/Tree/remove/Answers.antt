@@ -1,43 +1,36 @@
-use Rattle.std.proofs.Common.{◌∙◌, arith, refl}
-use Rattle.node_arena.specs.Seen.{seen_fact, seen_is, seen_size}
-use Rattle.node_arena.proofs.CallLemmas.{size_written, written, removed, parent_is}
-use Rattle.node_arena.proofs.ReadLemmas.{in_range}
-use Rattle.tree_laws.proofs.CutReads.{parent_at-cut-here}
+use Rattle.std.proofs.Common.{refl, sym, ◌∙◌, ap}
+use Rattle.node_trees.specs.Nodes.{size}
 use Rattle.tree_laws.proofs.AllowedCut.{may_insert-cut, may_insert-cut-itself}
+use Rattle.tree_laws.proofs.CutReads.{parent_at-cut-here}
 use Rattle.tree_laws.proofs.NodeKinds.{kinds-cut}
+use Rattle.tree_laws.proofs.Sizes.{size-cut}
+use Rattle.node_arena.specs.Seen.{seen_fact, seen_is}
+use Rattle.node_arena.proofs.Calls.{written, in_slice, in_slice_or_none, its_parent, removed, removed_covers}
 use Rattle.node_arena.proofs.tree.Tree.remove.Goals as goal
 
-pub unlink-requires-clause-parent : goal.unlink-requires-clause-parent
-unlink-requires-clause-parent c =
-    let a = seen_fact _ _ _ c.self.view_is in
-    let at = (parent_is _ _ c.in-Some.parent _ a c.requires.node c.in-Some.ensures.parent).0 in
-    (at.low, omega (arith, in_range _ _ _ a at, at.low, c.deref_mut.ensures.len, c.self.inside.nodes.ok.0))
+pub part-requires-clause-parent : goal.part-requires-clause-parent
+part-requires-clause-parent c = in_slice _ _ _ (seen_fact _ _ _ c.self.view_is) c.deref_mut.ensures.value _ (its_parent _ c.args.self.now c.in-Some.parent c.args.node (seen_fact _ _ _ c.self.view_is) c.requires.node (sym c.node-kept.ensures.parent_is ∙ c.in-Some.is))
 
-pub unlink-requires-clause-node : goal.unlink-requires-clause-node
-unlink-requires-clause-node c =
-    (c.requires.node.low, omega (arith, in_range _ _ _ (seen_fact _ _ _ c.self.view_is) c.requires.node, c.deref_mut.ensures.len, c.self.inside.nodes.ok.0, c.requires.node.low))
+pub part-requires-clause-node : goal.part-requires-clause-node
+part-requires-clause-node c = in_slice _ _ _ (seen_fact _ _ _ c.self.view_is) c.deref_mut.ensures.value _ c.requires.node
 
-pub unlink-requires-clause-apart : goal.unlink-requires-clause-apart
-unlink-requires-clause-apart c = (parent_is _ _ c.in-Some.parent _ (seen_fact _ _ _ c.self.view_is) c.requires.node c.in-Some.ensures.parent).1
+pub part-requires-clause-previous : goal.part-requires-clause-previous
+part-requires-clause-previous c = in_slice_or_none _ _ _ (seen_fact _ _ _ c.self.view_is) c.deref_mut.ensures.value _ c.node-kept.ensures.previous
+
+pub part-requires-clause-next : goal.part-requires-clause-next
+part-requires-clause-next c = in_slice_or_none _ _ _ (seen_fact _ _ _ c.self.view_is) c.deref_mut.ensures.value _ c.node-kept.ensures.next
 
 pub invariant_of-self-inside : goal.invariant_of-self-inside
-invariant_of-self-inside c = (
-  (
-    _,
-    removed _ _ _ _ _ _ _ (seen_fact _ _ _ c.self.view_is) c.requires.node c.in-Some.ensures.parent c.deref_mut.ensures.value
-        (written _ _ _ _ c.deref_mut.ensures.value c.self.inside.nodes.ok.0 c.unlink.auto.nodes) c.unlink.ensures,
-  ),
-  tt,
-)
+invariant_of-self-inside c = ((_, removed _ c.args.self.now c.in-Some.parent c.args.node (seen_fact _ _ _ c.self.view_is) c.requires.node (sym c.node-kept.ensures.parent_is ∙ c.in-Some.is) _ _ _ _ _ c.deref_mut.ensures.value (written _ _ _ _ c.deref_mut.ensures.value c.self.inside.nodes.ok.0 c.part.auto.nodes) c.part.ensures c.node-kept.ensures.previous_is c.node-kept.ensures.next_is), tt)
+
+pub invariant_of-self : goal.invariant_of-self
+invariant_of-self c = removed_covers _ c.args.self.now c.in-Some.parent c.args.node (seen_fact _ _ _ c.self.view_is) c.requires.node (sym c.node-kept.ensures.parent_is ∙ c.in-Some.is) _ _ _ _ _ c.deref_mut.ensures.value (written _ _ _ _ c.deref_mut.ensures.value c.self.inside.nodes.ok.0 c.part.auto.nodes) c.part.ensures _ c.node-kept.ensures.previous c.node-kept.ensures.next c.self.invariant
 
 pub returns-in-Some-clause-cut : goal.returns-in-Some-clause-cut
-returns-in-Some-clause-cut c =
-    seen_is _ _ _ (removed _ _ _ _ _ _ _ (seen_fact _ _ _ c.self.view_is) c.requires.node c.in-Some.ensures.parent c.deref_mut.ensures.value
-    (written _ _ _ _ c.deref_mut.ensures.value c.self.inside.nodes.ok.0 c.unlink.auto.nodes) c.unlink.ensures)
+returns-in-Some-clause-cut c = seen_is _ _ _ (removed _ c.args.self.now c.in-Some.parent c.args.node (seen_fact _ _ _ c.self.view_is) c.requires.node (sym c.node-kept.ensures.parent_is ∙ c.in-Some.is) _ _ _ _ _ c.deref_mut.ensures.value (written _ _ _ _ c.deref_mut.ensures.value c.self.inside.nodes.ok.0 c.part.auto.nodes) c.part.ensures c.node-kept.ensures.previous_is c.node-kept.ensures.next_is)
 
 pub returns-in-Some-clause-size : goal.returns-in-Some-clause-size
-returns-in-Some-clause-size c =
-    seen_size _ _ ∙ size_written _ _ _ _ _ (seen_fact _ _ _ c.self.view_is) c.deref_mut.ensures.value (written _ _ _ _ c.deref_mut.ensures.value c.self.inside.nodes.ok.0 c.unlink.auto.nodes) c.unlink.auto.nodes
+returns-in-Some-clause-size c = ap size (returns-in-Some-clause-cut c) ∙ size-cut c.args.self.now c.args.node (seen_fact _ _ _ c.self.view_is).tidy
 
 pub returns-in-Some-clause-may : goal.returns-in-Some-clause-may
 returns-in-Some-clause-may c = λ p b may ne. rw (returns-in-Some-clause-cut c) (may_insert-cut c.args.self.now p c.args.node b (seen_fact _ _ _ c.self.view_is).tidy c.requires.node may ne)

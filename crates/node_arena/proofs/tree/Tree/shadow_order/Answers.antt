@@ -1,27 +1,31 @@
-use Rattle.std.proofs.Common.{◌++◌, ◌∙◌, ap, arith}
-use Rattle.std.specs.Option.{option_to_list}
-use Rattle.std.proofs.lemmas.Grind.{common_steps}
+use Rattle.std.proofs.Common.{sym, subst, ◌∙◌}
 use Rattle.tree_laws.proofs.ConnectedBelow.{all_connected}
-use Rattle.node_arena.proofs.WalkLemmas.{walk_on, walk_less, walk_nodes, walk_out, all_nodes}
+use Rattle.tree_laws.proofs.OrderListing.{Listing, list-start, list-less, list-last, list-on, listed-nodes}
+use Rattle.tree_laws.proofs.PastIn.{inside-node}
 use Rattle.node_arena.proofs.tree.Tree.shadow_order.Goals as goal
 
-pub loop-m-smaller : goal.loop-m-smaller
-loop-m-smaller c =
-    let entered = c.in_ok-enter.ensures ∙ ap (λ ns. (option_to_list c.node-node.result.now.shadow ++ ns) ++ c.next.new.self) c.deref.ensures.value in
-    walk_less _ c.in-Some.m _ _ _ c.enter.new.self c.in-Some.ensures entered c.node-node.ensures.walk
+pub loop-out-init : goal.loop-out-init
+loop-out-init c = record { node = c.requires; listing = λ tidy. rw c.make-out.ensures (list-start _ _ tidy c.requires) }
 
-pub loop-m-preserved : goal.loop-m-preserved
-loop-m-preserved c =
-    let entered = c.in_ok-enter.ensures ∙ ap (λ ns. (option_to_list c.node-node.result.now.shadow ++ ns) ++ c.next.new.self) c.deref.ensures.value in
-    record {
-      so_far = walk_on _ c.in-Some.m _ _ _ c.enter.new.self c.in-Some.ensures entered _ _ _ c.node-node.ensures.walk c.in_ok-push.ensures c.loop-m.invariant.so_far;
-      left = walk_nodes _ c.in-Some.m _ _ _ c.enter.new.self c.in-Some.ensures entered c.loop-m.invariant.left c.node-node.ensures.links;
-      out = walk_out _ c.in-Some.m _ _ _ c.enter.new.self c.in-Some.ensures entered _ _ c.loop-m.invariant.left c.in_ok-push.ensures c.loop-m.invariant.out;
-      tidy = λ some. c.node-node.ensures.tidy;
-    }
+pub next_in_order-requires-clause-inside : goal.next_in_order-requires-clause-inside
+next_in_order-requires-clause-inside c = λ tidy. (c.loop-out.invariant.listing tidy).inside
 
-pub returns-clause-nodes : goal.returns-clause-nodes
-returns-clause-nodes c = all_nodes _ _ c.loop-m.invariant.out
+pub loop-out-smaller : goal.loop-out-smaller
+loop-out-smaller c = list-less _ _ c.in-Some.ensures.tidy c.requires _ _ c.in-Some.ensures.next
 
-pub returns-clause-connected : goal.returns-clause-connected
-returns-clause-connected c = all_connected _ _ _ c.requires c.loop-m.invariant.tidy (grind (arith, common_steps))
+pub loop-out-preserved : goal.loop-out-preserved
+loop-out-preserved c =
+    let tidy = c.in-Some.ensures.tidy in
+    let on = subst (Listing _ _ _) (sym c.in_ok-push.ensures) (list-on _ _ tidy c.requires _ _ (c.loop-out.invariant.listing tidy) _ c.in-Some.ensures.next) in
+    record { node = inside-node _ _ tidy c.requires _ on.inside; listing = λ again. on }
+
+pub returns-in-None-clause-order : goal.returns-in-None-clause-order
+returns-in-None-clause-order c =
+    let tidy = c.in-None.ensures.tidy in
+    c.in_ok-push.ensures ∙ list-last _ _ tidy c.requires _ _ (c.loop-out.invariant.listing tidy) c.in-None.ensures.next
+
+pub returns-in-None-clause-nodes : goal.returns-in-None-clause-nodes
+returns-in-None-clause-nodes c = listed-nodes _ _ c.in-None.ensures.tidy c.requires _ (returns-in-None-clause-order c)
+
+pub returns-in-None-clause-connected : goal.returns-in-None-clause-connected
+returns-in-None-clause-connected c = all_connected _ _ _ c.requires (λ some. c.in-None.ensures.tidy) (returns-in-None-clause-order c)

@@ -1,17 +1,9 @@
-use Rattle.std.proofs.Common.{◌≡◌, ◌++◌, ◌<◌, length}
-use Rattle.node_trees.specs.Trees.{tree_of}
-use Rattle.node_trees.specs.Orders.{order}
-use Rattle.node_trees.specs.Nodes.{IsTidy}
-use Rattle.tree_laws.specs.Walks.{AreNodes, orders}
+use Rattle.node_trees.specs.Nodes.{IsNode, IsTidy}
+use Rattle.tree_laws.proofs.OrderListing.{Listing, left_from}
 use Rattle.node_arena.proofs.tree.Tree.shadow_order.Given as goal
 
-abbrev pub invariant-loop-m : goal.invariant-loop-m
-invariant-loop-m l = record {
-  so_far : l.out ++ orders l.self l.todo ≡ order (tree_of l.fn.n l.self);
-  left : AreNodes l.self l.todo;
-  out : AreNodes l.self l.out;
-  tidy : 0 < length l.out → IsTidy l.self;
-}
+abbrev pub invariant-loop-out : goal.invariant-loop-out
+invariant-loop-out l = record { node : IsNode l.self l.at; listing : IsTidy l.self → Listing l.self l.fn.n l.at l.out }
 
-abbrev pub decreases-loop-m : goal.decreases-loop-m
-decreases-loop-m l = length (orders l.self l.todo)
+abbrev pub decreases-loop-out : goal.decreases-loop-out
+decreases-loop-out l = left_from l.self l.fn.n l.at

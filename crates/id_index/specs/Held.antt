@@ -1,0 +1,10 @@
+-- Which nodes an index of ids has for an id.
+use Rattle.std.specs.Prelude.{ℕ, Bool, false, List}
+use Rattle.std.specs.Option.{option_map_or}
+use Rattle.std.specs.Ordering.{nat_cmp}
+use Rattle.std.specs.BTreeMap.{get_by_text}
+use Rattle.std.specs.BTreeSet.{contains}
+use Rattle.id_index.specs.declared.index.IdIndex.{IdIndex}
+
+abbrev pub is_held : IdIndex → List ℕ → ℕ → Bool
+is_held index id m = option_map_or (λ s. contains nat_cmp s m) (get_by_text index.groups id) false
