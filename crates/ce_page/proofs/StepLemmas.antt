@@ -1,5 +1,5 @@
 -- Primitives that are taken apart: a change of the page, what it changes of form owners, and whom that tells.
-use Rattle.std.proofs.Common.{◌≡◌, ℕ, Bool, true, List, Option, None, Some, Result, Ok, Err, refl, ap, subst, sym, ◌∙◌}
+use Rattle.std.proofs.Common.{◌≡◌, ℕ, Bool, true, List, ◌∷◌, Option, None, Some, Result, Ok, Err, refl, ap, subst, sym, ◌∙◌}
 use Rattle.std.specs.Prelude.{is_some, OnOk}
 use Rattle.ce_base.specs.declared.fault.Fault.{Fault}
 use Rattle.node_trees.specs.Insertion.{may_insert}
@@ -12,8 +12,9 @@ use Rattle.ce_algorithms.specs.Attributes.{set_attribute, remove_attribute, remo
 use Rattle.ce_algorithms.specs.FormChanges.{form_changes, tell_others}
 use Rattle.ce_algorithms.specs.Mutation.{adopt, insert, inserted, is_connected_parent, pre_insert, put_in, reference_child, remove, removed}
 use Rattle.ce_algorithms.specs.Page.{Page, Work, read_page, with_forest}
-use Rattle.ce_algorithms.specs.Steps.{Step, Outcome, Goes, then_do, throw_any, ◌>>=◌, ◌>>◌}
+use Rattle.ce_algorithms.specs.Steps.{Step, Outcome, Goes, for_each, then_do, throw_any, ◌>>=◌, ◌>>◌}
 use Rattle.ce_page.specs.declared.stop.PageStop.{PageStop}
+use Rattle.ce_page.specs.declared.stop.PageStop.TheVariants.{Refused, FuelSpent, NoMemory}
 use Rattle.ce_page.specs.Ends.{Does, work}
 use Rattle.ce_page.specs.Telling.{handled, told}
 
@@ -26,6 +27,23 @@ pub others_come : (result : Result (Unit {0}) PageStop) (last : Work) (cs : List
     → Goes tt gone ≡ o → seen ≡ order → Does result last (tell_others cs seen gone) → Does result last (then_do o (λ _. tell_others cs order))
 others_come result last cs seen order o gone went same h =
     subst (λ (x : Outcome Work (Unit {0})). Does result last (then_do x (λ _. tell_others cs order))) went (subst (λ v. Does result last (tell_others cs v gone)) same h)
+
+-- a step has gone, and the next one does the rest
+pub goes_on : (result : Result (Unit {0}) PageStop) (last gone : Work) (o : Outcome Work (Unit {0})) (next : Step Work (Unit {0})) → Goes tt gone ≡ o → Does result last (next gone) → Does result last (then_do o (λ _. next))
+goes_on result last gone o next went h = subst (λ (x : Outcome Work (Unit {0})). Does result last (then_do x (λ _. next))) went h
+
+-- one of a walk has had its turn
+module _ (turn : ℕ → Step Work (Unit {0})) (n : ℕ) (all rest : List ℕ) (w : Work) (begins : all ≡ n ∷ rest) where
+  pub turn_gone : (gone : Work) → Goes tt gone ≡ turn n w → for_each rest turn gone ≡ for_each all turn w
+  turn_gone gone went = ap (λ (o : Outcome Work (Unit {0})). then_do o (λ _. for_each rest turn)) went ∙ ap (λ ns. for_each ns turn w) (sym begins)
+
+  pub turn_stopped : (stop : PageStop) (last : Work) → Does {A = Unit {0}} (Err stop) last (turn n w) → Does {A = Unit {0}} (Err stop) last (for_each all turn w)
+  turn_stopped stop last does = subst (λ ns. Does {A = Unit {0}} (Err stop) last (for_each ns turn w)) (sym begins) (by_stop stop does)
+    where
+      by_stop : (s : PageStop) → Does {A = Unit {0}} (Err s) last (turn n w) → Does {A = Unit {0}} (Err s) last (for_each (n ∷ rest) turn w)
+      by_stop (Refused f) d = ap (λ (o : Outcome Work (Unit {0})). then_do o (λ _. for_each rest turn)) d
+      by_stop FuelSpent d = ap (λ (o : Outcome Work (Unit {0})). then_do o (λ _. for_each rest turn)) d
+      by_stop NoMemory d = tt
 
 -- a node that may be put among the children of a parent is adopted, and then put in
 pub pre_inserted : (result : Result (Unit {0}) PageStop) (last : Work) (old mid : Page) (parent n : ℕ) (before child : Option ℕ) (fuel after : ℕ) → may_insert old.forest parent n before ≡ None

@@ -9,3 +9,4 @@ pub mod Copies
 pub mod Settled
 pub mod Telling
 pub mod Adding
+pub mod Connected

@@ -1,24 +1,27 @@
 // Insertion.
-ghost use Rattle.std.specs.Prelude.{◌≡◌, ◌+◌, ◌<◌, ◌^◌, None, false, All, OnOk};
+ghost use Rattle.std.specs.Prelude.{◌≡◌, ◌+◌, ◌<◌, ◌^◌, None, true, false, All, OnOk};
 ghost use Rattle.node_trees.specs.Spots.{document_at, parent_at};
 ghost use Rattle.node_trees.specs.Paths.{connected};
 ghost use Rattle.node_trees.specs.Insertion.{may_insert};
 ghost use Rattle.node_trees.specs.Nodes.{IsNode, IsNodeOrNone};
 ghost use Rattle.node_trees.specs.Orders.{order_of};
-ghost use Rattle.node_trees.specs.Kinds.{KeepsKinds};
+ghost use Rattle.node_trees.specs.Kinds.{IsElement, KeepsKinds};
 ghost use Rattle.node_trees.specs.Links.{KeepsApart, KeepsSpots};
 ghost use Rattle.form_owner.specs.Told.{AreOfNodes, AreRising};
-ghost use Rattle.ce_algorithms.specs.Page.{Work, is_custom};
+ghost use Rattle.ce_algorithms.specs.Enqueue.{enqueue_upgrade};
+ghost use Rattle.ce_algorithms.specs.Page.{Work};
 ghost use Rattle.ce_algorithms.specs.Steps.{Goes, for_each, when};
-ghost use Rattle.ce_algorithms.specs.Mutation.{adopt, connected_now, inserted, pre_insert, put_in, reference_child};
+ghost use Rattle.ce_algorithms.specs.Mutation.{adopt, connected_now, inserted, is_connected, pre_insert, put_in, reference_child};
+ghost use Rattle.ce_page.specs.Connected.{is_connected_or_none, IsKnown};
 ghost use Rattle.ce_page.specs.Ends.{Does, Keeps, NeverRefuses, work};
 ghost use Rattle.ce_page.specs.Numbers.{StaysWithin, OnlyEnqueues};
 ghost use Rattle.ce_page.specs.Settled.{KeepsSettled};
 ghost use Rattle.ce_page.specs.Telling.{Tells, told};
 
+use crate::connectedness::Connectedness;
 use crate::walk::node_at;
 use crate::{NodeKind, Page, PageStop};
-use ce_base::{Fuel, NodeNo, Nodes};
+use ce_base::{DefNo, Fuel, NodeNo, Nodes};
 use form_owner::Changes;
 use reaction_queue::Reaction;
 use std::alloc::Global;
@@ -100,9 +103,9 @@ impl Page {
         ensures refused { NeverRefuses result }
     {
         let changes = self.graft(alloc, parent, node, before)?;
-        let now_connected = self.tree.is_connected(node);
         let walk = self.tree.shadow_order(alloc, node)?;
-        self.tell_insertion(alloc, node, &walk, &changes, now_connected, fuel)
+        let mut now = Connectedness::of(Some(node));
+        self.tell_insertion(alloc, node, &walk, &changes, &mut now, fuel)
     }
 
     /// Puts a node that stands nowhere at the end of a parent that is not connected. So nobody is told that it was
@@ -130,7 +133,8 @@ impl Page {
     {
         let changes = self.graft(alloc, parent, node, None)?;
         let walk = self.tree.shadow_order(alloc, node)?;
-        self.tell_insertion(alloc, node, &walk, &changes, false, fuel)
+        let mut now = Connectedness::of(None);
+        self.tell_insertion(alloc, node, &walk, &changes, &mut now, fuel)
     }
 
     /// Each node of an inserted tree has its turn, and then the others of whom something is said.
@@ -140,12 +144,14 @@ impl Page {
         node: NodeNo,
         walk: &Nodes,
         changes: &Changes,
-        now_connected: bool,
+        now: &mut Connectedness,
         fuel: &mut Fuel,
     ) -> Result<(), PageStop>
         requires node { IsNode self.old.forest node }
         requires nodes { All (IsNode self.old.forest) walk.now }
-        requires connected { All (λ m. connected self.old.forest m ≡ now_connected) walk.now }
+        requires asked { IsNodeOrNone self.old.forest now.old.node }
+        requires known { IsKnown self.old.forest now.old }
+        requires connected { All (λ m. connected self.old.forest m ≡ is_connected_or_none self.old.forest now.old.node) walk.now }
         requires changes { AreOfNodes self.old.forest changes.now }
         requires room { self.old.queues.reactions + fuel.old < 2 ^ 64 }
         ensures step { Does result (work self.new fuel.new) (told (inserted changes.now) changes.now walk.now (order_of self.old.forest node) (work self.old fuel.old)) }
@@ -153,7 +159,7 @@ impl Page {
         ensures rest { OnlyEnqueues self.old self.new }
         ensures refused { NeverRefuses result }
     {
-        self.tell_inserted(alloc, walk, changes, now_connected, fuel)?;
+        self.tell_inserted(alloc, walk, changes, now, fuel)?;
         self.tell_outside(alloc, changes, node, fuel)
     }
 
@@ -163,11 +169,13 @@ impl Page {
         alloc: Global,
         walk: &Nodes,
         changes: &Changes,
-        now_connected: bool,
+        now: &mut Connectedness,
         fuel: &mut Fuel,
     ) -> Result<(), PageStop>
         requires nodes { All (IsNode self.old.forest) walk.now }
-        requires connected { All (λ m. connected self.old.forest m ≡ now_connected) walk.now }
+        requires asked { IsNodeOrNone self.old.forest now.old.node }
+        requires known { IsKnown self.old.forest now.old }
+        requires connected { All (λ m. connected self.old.forest m ≡ is_connected_or_none self.old.forest now.old.node) walk.now }
         requires rising { AreRising changes.now }
         requires room { self.old.queues.reactions + fuel.old < 2 ^ 64 }
         ensures step { Does result (work self.new fuel.new) (for_each walk.now (inserted changes.now) (work self.old fuel.old)) }
@@ -177,7 +185,7 @@ impl Page {
     {
         for i in 0..walk.len() {
             let n = node_at(walk, i);
-            self.inserted(alloc, n, changes, now_connected, fuel)?;
+            self.inserted(alloc, n, changes, now, fuel)?;
         }
         Ok(())
     }
@@ -188,45 +196,106 @@ impl Page {
         alloc: Global,
         n: NodeNo,
         changes: &Changes,
-        now_connected: bool,
+        now: &mut Connectedness,
         fuel: &mut Fuel,
     ) -> Result<(), PageStop>
         requires node { IsNode self.old.forest n }
-        requires connected { connected self.old.forest n ≡ now_connected }
+        requires asked { IsNodeOrNone self.old.forest now.old.node }
+        requires known { IsKnown self.old.forest now.old }
+        requires connected { connected self.old.forest n ≡ is_connected_or_none self.old.forest now.old.node }
         requires rising { AreRising changes.now }
         requires room { self.old.queues.reactions + fuel.old < 2 ^ 64 }
         ensures step { Does result (work self.new fuel.new) (inserted changes.now n (work self.old fuel.old)) }
+        ensures same { now.new.node ≡ now.old.node }
+        ensures known { IsKnown self.old.forest now.new }
         ensures within { StaysWithin self.old self.new fuel.old fuel.new }
         ensures rest { OnlyEnqueues self.old self.new }
         ensures refused { NeverRefuses result }
     {
         self.tell_at_turn(alloc, changes, n, fuel)?;
-        self.connected_now(alloc, n, now_connected, fuel)
+        if self.is_custom(n) {
+            return self.custom_connected(alloc, n, now, fuel);
+        }
+        self.other_connected(alloc, n, now, fuel)
     }
 
-    /// What a node that is connected now has to hear besides.
-    fn connected_now(
+    /// What a custom element hears besides, where it is connected now.
+    fn custom_connected(
         &mut self,
         alloc: Global,
         n: NodeNo,
-        now_connected: bool,
+        now: &mut Connectedness,
         fuel: &mut Fuel,
     ) -> Result<(), PageStop>
-        requires node { IsNode self.old.forest n }
+        requires asked { IsNodeOrNone self.old.forest now.old.node }
+        requires known { IsKnown self.old.forest now.old }
+        requires connected { connected self.old.forest n ≡ is_connected_or_none self.old.forest now.old.node }
         requires room { self.old.queues.reactions + fuel.old < 2 ^ 64 }
-        ensures step { Does result (work self.new fuel.new) (when now_connected (connected_now n (is_custom self.old n)) (work self.old fuel.old)) }
+        ensures step { Does result (work self.new fuel.new) (when (is_connected self.old n) (connected_now n true) (work self.old fuel.old)) }
+        ensures same { now.new.node ≡ now.old.node }
+        ensures known { IsKnown self.old.forest now.new }
         ensures within { StaysWithin self.old self.new fuel.old fuel.new }
         ensures rest { OnlyEnqueues self.old self.new }
         ensures refused { NeverRefuses result }
     {
-        if !now_connected {
-            return Ok(());
-        }
-        if self.is_custom(n) {
+        if now.ask(&self.tree) {
             return self.enqueue_call(alloc, n, Reaction::Connected, fuel);
         }
-        if self.tree.kind(n) == NodeKind::Element {
-            return self.try_upgrade(alloc, n, fuel);
+        Ok(())
+    }
+
+    /// What a node that is not custom comes to where it is connected now: an element is tried to upgrade.
+    fn other_connected(
+        &mut self,
+        alloc: Global,
+        n: NodeNo,
+        now: &mut Connectedness,
+        fuel: &mut Fuel,
+    ) -> Result<(), PageStop>
+        requires node { IsNode self.old.forest n }
+        requires asked { IsNodeOrNone self.old.forest now.old.node }
+        requires known { IsKnown self.old.forest now.old }
+        requires connected { connected self.old.forest n ≡ is_connected_or_none self.old.forest now.old.node }
+        requires room { self.old.queues.reactions + fuel.old < 2 ^ 64 }
+        ensures step { Does result (work self.new fuel.new) (when (is_connected self.old n) (connected_now n false) (work self.old fuel.old)) }
+        ensures same { now.new.node ≡ now.old.node }
+        ensures known { IsKnown self.old.forest now.new }
+        ensures within { StaysWithin self.old self.new fuel.old fuel.new }
+        ensures rest { OnlyEnqueues self.old self.new }
+        ensures refused { NeverRefuses result }
+    {
+        if self.tree.kind(n) != NodeKind::Element {
+            return Ok(());
+        }
+        match self.lookup_for(n) {
+            None => Ok(()),
+            Some(d) => self.upgrade_connected(alloc, n, d, now, fuel),
+        }
+    }
+
+    /// An upgrade is enqueued for an element that is connected now.
+    fn upgrade_connected(
+        &mut self,
+        alloc: Global,
+        n: NodeNo,
+        d: DefNo,
+        now: &mut Connectedness,
+        fuel: &mut Fuel,
+    ) -> Result<(), PageStop>
+        requires element { IsElement self.old.forest n }
+        requires asked { IsNodeOrNone self.old.forest now.old.node }
+        requires known { IsKnown self.old.forest now.old }
+        requires connected { connected self.old.forest n ≡ is_connected_or_none self.old.forest now.old.node }
+        requires room { self.old.queues.reactions + fuel.old < 2 ^ 64 }
+        ensures step { Does result (work self.new fuel.new) (when (is_connected self.old n) (enqueue_upgrade d n) (work self.old fuel.old)) }
+        ensures same { now.new.node ≡ now.old.node }
+        ensures known { IsKnown self.old.forest now.new }
+        ensures within { StaysWithin self.old self.new fuel.old fuel.new }
+        ensures rest { OnlyEnqueues self.old self.new }
+        ensures refused { NeverRefuses result }
+    {
+        if now.ask(&self.tree) {
+            return self.enqueue(alloc, n, Reaction::Upgrade(d), fuel);
         }
         Ok(())
     }

@@ -4,6 +4,7 @@
 mod adoption;
 mod attributes;
 mod clone;
+mod connectedness;
 mod controls;
 mod copying;
 mod create;

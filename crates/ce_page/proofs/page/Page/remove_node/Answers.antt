@@ -1,17 +1,21 @@
 use Rattle.std.proofs.Common.{ap, subst, sym, ◌∙◌}
 use Rattle.node_trees.specs.Orders.{order_of}
+use Rattle.node_trees.specs.Spots.{parent_at}
 use Rattle.node_trees.specs.Trees.{Trees}
 use Rattle.ce_algorithms.specs.Page.{Page}
+use Rattle.ce_page.specs.Connected.{is_connected_or_none}
 use Rattle.ce_page.specs.Ends.{work}
 use Rattle.ce_page.specs.Loose.{IsLoosed}
+use Rattle.ce_page.proofs.ConnectedLemmas.{parent_stays}
 use Rattle.ce_page.proofs.StepLemmas.{on_ok, remove_is}
 use Rattle.ce_page.proofs.TellLemmas.{removal_tells}
 use Rattle.ce_page.proofs.page.Page.remove_node.Goals as goal
 
 pub returns-clause-step : goal.returns-clause-step
 returns-clause-step c =
-    let order = c.in_ok-walk.ensures.order ∙ ap (λ (p : Page). order_of p.forest c.args.node) c.self.view_is in
-    let steps = remove_is c.args.self.now c.cut.new.self c.args.fuel.now c.in_ok-changes.changes c.in_ok-changes.ensures.changes c.args.node c.has_connected_parent-was_connected.result c.in_ok-walk.walk c.in_ok-changes.ensures.page order c.has_connected_parent-was_connected.ensures in
+    let order = c.in_ok-walk.ensures.order ∙ ap (λ (p : Page). order_of p.forest c.args.node) c.self-2.view_is in
+    let was = ap (is_connected_or_none c.cut.new.self.forest) (c.of-was.ensures.node ∙ c.parent.ensures.parent ∙ ap (λ (p : Page). parent_at p.forest c.args.node) c.self.view_is) ∙ parent_stays c.args.self.now c.cut.new.self c.args.node c.in_ok-changes.ensures.tidy c.requires.node c.in_ok-changes.ensures.page in
+    let steps = remove_is c.args.self.now c.cut.new.self c.args.fuel.now c.in_ok-changes.changes c.in_ok-changes.ensures.changes c.args.node _ c.in_ok-walk.walk c.in_ok-changes.ensures.page order was in
     rw steps c.tell_removal.ensures.step
 
 pub returns-clause-loose : goal.returns-clause-loose
