@@ -3,8 +3,6 @@ use Rattle.std.proofs.Common.{◌≡◌, ◌≤◌, ◌+◌, ℕ, Bool, true, fa
 use mir.Val.{bool_byte}
 use Rattle.std.specs.Prelude.{codes, count_by, nat_eq}
 use Rattle.std.specs.List.{slice_split, onto_first, starts_with}
-use Rattle.std.proofs.lemmas.Grind.{common_steps}
-use Rattle.std.proofs.lemmas.Bool.Decides.{nat_tests}
 use Rattle.std.proofs.lemmas.List.Sums.{count_by-le-length, sum_by-append, sum_by-cons}
 use Rattle.run_figures.specs.Figures.{lines_in, is_call, calls_in}
 use Rattle.run_figures.specs.Wanted.{wanted_next, ends_beginning, wanted_from, wanted_after}

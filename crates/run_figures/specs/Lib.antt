@@ -1,3 +1,4 @@
 pub mod Figures
 pub mod Summary
 pub mod Wanted
+pub mod Worked

@@ -2,8 +2,10 @@
 #![tactic(auto)]
 
 mod figures;
+mod laws;
 mod report;
 mod taken;
 
 pub use figures::Figures;
+pub use laws::figures_are_worked;
 pub use report::summary;

@@ -1,5 +1,5 @@
 -- One more byte is counted.
-use Rattle.std.proofs.Common.{◌≡◌, ◌≤◌, ◌<◌, ◌+◌, ◌^◌, ◌∷◌, [], length, sym, ap, ◌∙◌, refl, arith}
+use Rattle.std.proofs.Common.{◌≤◌, ◌∷◌, [], length, sym, ap, ◌∙◌, arith}
 use Rattle.std.proofs.lemmas.List.{length-append}
 use Rattle.run_figures.specs.Wanted.{ends_beginning, wanted_next}
 use Rattle.run_figures.proofs.CountLaws.{byte_is, byte_few, lines_few, lines_more, calls_few, calls_more, wanted_more}
