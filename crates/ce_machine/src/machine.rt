@@ -64,6 +64,13 @@ impl Machine {
         Ok(rested(state, stack))
     }
 
+    /// How many units of fuel the session has left.
+    pub fn fuel_left(&self) -> u32
+        ensures { result ≡ self.now.session.fuel }
+    {
+        self.state.fuel_left()
+    }
+
     /// Takes a part of a class, and writes the reply where it is refused. WriteFault, NoMemory: see `Machine`.
     pub fn part<K: Sink>(
         self,

@@ -7,7 +7,8 @@ use Rattle.url.specs.Parser.{Parsed, parse_url}
 use Rattle.url.specs.Parts.{Parts}
 use Rattle.form_submission.specs.Plans.{is_web}
 use Rattle.command_words.specs.declared.words.Meaning.{Meaning}
-use Rattle.command_words.specs.declared.words.Meaning.TheVariants.{Refused, Script}
+use Rattle.command_words.specs.declared.words.Meaning.TheVariants.{Refused, Script, Made}
+use Rattle.command_words.specs.declared.words.Options.{Options}
 
 -- what words have chosen: each option that they set, with its value
 pub record Chosen : Type 0 where
@@ -15,9 +16,10 @@ pub record Chosen : Type 0 where
   pub boundary : Option (List ℕ)
   pub url : Option (List ℕ)
   pub trace : Bool
+  pub make : Option ℕ
 
 abbrev pub nothing : Chosen
-nothing = record { fuel = None; boundary = None; url = None; trace = false }
+nothing = record { fuel = None; boundary = None; url = None; trace = false; make = None }
 
 -- ---- values
 
@@ -29,6 +31,15 @@ as_fuel (Some n) = if nat_le 1 n && nat_le n 200000 then Some n else None
 -- one to nine ASCII digits, which say how much
 abbrev pub fuel_in : List ℕ → Option ℕ
 fuel_in value = as_fuel (number_in value)
+
+-- from 1 to 19,999
+abbrev pub as_count : Option ℕ → Option ℕ
+as_count None = None
+as_count (Some n) = if nat_le 1 n && nat_le n 19999 then Some n else None
+
+-- one to nine ASCII digits, which say of how many elements a script is made
+abbrev pub count_in : List ℕ → Option ℕ
+count_in value = as_count (number_in value)
 
 -- 1 to 70 ASCII letters and digits
 abbrev pub is_boundary : List ℕ → Bool
@@ -64,9 +75,17 @@ with_url value chosen =
 abbrev pub with_trace : Chosen → Option Chosen
 with_trace chosen = if chosen.trace then None else Some (record chosen { trace = true })
 
+-- the number, where there is one, is chosen
+abbrev pub with_count : Option ℕ → Chosen → Option Chosen
+with_count None chosen = None
+with_count (Some count) chosen = Some (record chosen { make = Some count })
+
+abbrev pub with_make : List ℕ → Chosen → Option Chosen
+with_make value chosen = if is_some chosen.make then None else with_count (count_in value) chosen
+
 -- the names of the options that have a value
 abbrev pub has_value : List ℕ → Bool
-has_value name = bytes_eq name (codes "--fuel") || bytes_eq name (codes "--boundary") || bytes_eq name (codes "--url")
+has_value name = bytes_eq name (codes "--fuel") || bytes_eq name (codes "--boundary") || bytes_eq name (codes "--url") || bytes_eq name (codes "--make")
 
 -- the option of this name with this value
 abbrev pub with_option : List ℕ → List ℕ → Chosen → Option Chosen
@@ -74,6 +93,7 @@ with_option name value chosen =
     if bytes_eq name (codes "--fuel") then with_fuel value chosen
     else if bytes_eq name (codes "--boundary") then with_boundary value chosen
     else if bytes_eq name (codes "--url") then with_url value chosen
+    else if bytes_eq name (codes "--make") then with_make value chosen
     else None
 
 -- ---- words
@@ -101,13 +121,21 @@ read (word ∷ next ∷ words) chosen =
     if has_value word then and_then (with_option word next chosen) (read words)
     else and_then (with_word word chosen) (read (next ∷ words))
 
--- a script is run with what is chosen; what no word set is as it is by default
-abbrev pub meaning_of : Chosen → Meaning
-meaning_of chosen = Script (record {
+-- what is chosen; what no word set is as it is by default
+abbrev pub options_of : Chosen → Options
+options_of chosen = record {
   fuel = unwrap_or chosen.fuel 20000;
   site = record { url = unwrap_or chosen.url (codes "http://page.test/"); boundary = unwrap_or chosen.boundary (codes "cepageboundary") };
   trace = chosen.trace;
-})
+}
+
+-- with a number a script is made, of which no trace is shown; else the script of the source is run
+abbrev pub meaning_with : Option ℕ → Chosen → Meaning
+meaning_with None chosen = Script (options_of chosen)
+meaning_with (Some count) chosen = if chosen.trace then Refused else Made count (options_of chosen)
+
+abbrev pub meaning_of : Chosen → Meaning
+meaning_of chosen = meaning_with chosen.make chosen
 
 abbrev pub meaning_by : Option Chosen → Meaning
 meaning_by None = Refused

@@ -2,10 +2,10 @@
 ghost use Rattle.std.specs.Prelude.{◌≡◌, ◌≤◌, ◌∷◌, map, length, string_bytes, option_map, false, IfOk, IfSome, MatchOption};
 ghost use Rattle.std.specs.List.{list_any};
 ghost use Rattle.command_words.specs.Choices.{Splits, chosen_of, read_on};
-ghost use Rattle.command_words.specs.Words.{and_then, has_value, is_equals_sign, meaning_of, nothing, read, with_boundary, with_fuel, with_option, with_trace, with_url, with_word};
+ghost use Rattle.command_words.specs.Words.{and_then, has_value, is_equals_sign, meaning_of, nothing, options_of, read, with_boundary, with_fuel, with_make, with_option, with_trace, with_url, with_word};
 
 use crate::page_url::is_page_url;
-use crate::values::{fuel_in, is_boundary};
+use crate::values::{count_in, fuel_in, is_boundary};
 use crate::words::{Meaning, Options};
 use ce_base::{NoMemory, Text};
 use form_submission::Site;
@@ -25,13 +25,14 @@ pub(crate) struct Choice<'a> {
     boundary: Option<&'a str>,
     url: Option<&'a str>,
     trace: bool,
+    make: Option<u32>,
 }
 
 // Whether an option of this name has a value.
 fn has_value(name: &str) -> bool
     ensures { result ≡ has_value name.now }
 {
-    name == "--fuel" || name == "--boundary" || name == "--url"
+    name == "--fuel" || name == "--boundary" || name == "--url" || name == "--make"
 }
 
 // What stands before the first `=` of a word, and what stands behind it. None where there is no `=`.
@@ -62,6 +63,7 @@ impl<'a> Choice<'a> {
             boundary: None,
             url: None,
             trace: false,
+            make: None,
         };
         let mut left = words;
         while let [word, behind @ ..] = left {
@@ -119,6 +121,7 @@ impl<'a> Choice<'a> {
             "--fuel" => Ok(self.with_fuel(value)),
             "--boundary" => Ok(self.with_boundary(value)),
             "--url" => self.with_url(alloc, value),
+            "--make" => Ok(self.with_make(value)),
             _ => Ok(None),
         }
     }
@@ -171,16 +174,39 @@ impl<'a> Choice<'a> {
         })
     }
 
+    fn with_make(self, value: &str) -> Option<Choice<'a>>
+        ensures { option_map (λ c. chosen_of c) result ≡ with_make value.now (chosen_of self.entry) }
+    {
+        match (self.make, count_in(value)) {
+            (None, Some(count)) => Some(Choice {
+                make: Some(count),
+                ..self
+            }),
+            _ => None,
+        }
+    }
+
     // What is meant where no word is left.
     pub(crate) fn meaning(self, alloc: Global) -> Result<Meaning, NoMemory>
         ensures { IfOk result (λ m. m ≡ meaning_of (chosen_of self.entry)) }
     {
+        match self.make {
+            None => Ok(Meaning::Script(self.options(alloc)?)),
+            Some(_) if self.trace => Ok(Meaning::Refused),
+            Some(count) => Ok(Meaning::Made(count, self.options(alloc)?)),
+        }
+    }
+
+    // What is chosen, and what holds where nothing is.
+    fn options(self, alloc: Global) -> Result<Options, NoMemory>
+        ensures { IfOk result (λ set. set ≡ options_of (chosen_of self.entry)) }
+    {
         let url = Text::of(alloc, self.url.unwrap_or(PAGE_URL))?;
         let boundary = Text::of(alloc, self.boundary.unwrap_or(BOUNDARY))?;
-        Ok(Meaning::Script(Options {
+        Ok(Options {
             fuel: self.fuel.unwrap_or(FUEL),
             site: Site { url, boundary },
             trace: self.trace,
-        }))
+        })
     }
 }

@@ -23,14 +23,17 @@ pub struct Options {
 pub enum Meaning {
     /// They are refused.
     Refused,
-    /// A script is run, with these options.
+    /// The script of the source is run, with these options.
     Script(Options),
+    /// A script is made, of so many elements, and run with these options.
+    Made(u32, Options),
 }
 
 impl Meaning {
     /// The meaning of these words: options in any order, each at most once, its value in the next word or behind `=`.
     /// `--fuel N` takes a number from 1 to 200,000, `--boundary T` 1 to 70 ASCII letters and digits, `--url U` at most
-    /// 4096 bytes that parse as a URL with scheme http or https (URL Standard), and `--trace` no value. All else is refused.
+    /// 4096 bytes that parse as a URL with scheme http or https (URL Standard), `--trace` no value, and `--make N`, which does
+    /// not go with `--trace`, a number from 1 to 19,999. All else is refused.
     pub fn of(alloc: Global, words: &Vec<String>) -> Result<Meaning, NoMemory>
         ensures { IfOk result (λ m. m ≡ meaning (map (λ w. string_bytes w) words.now.items)) }
     {

@@ -2,17 +2,21 @@
 ghost use Rattle.std.specs.Prelude.{◌≡◌, ◌≤◌, ◌<◌, ◌⊎◌, length, map, string_bytes, Some, List, ℕ};
 ghost use Rattle.ce_base.specs.Faults.{Rose};
 ghost use Rattle.command_words.specs.Words.{meaning};
+ghost use Rattle.script_runner.specs.Making.{RunsMade};
 ghost use Rattle.script_runner.specs.Table.{RunMeets, RunsWhole, limit};
 
 use ce_base::{NoMemory, Sink, Source};
 use command_words::{Meaning, Options};
-use script_runner::{Status, run_script};
+use script_runner::{Status, run_made, run_script};
 use std::alloc::Global;
 
 /// Runs the script that the source gives, as the words say, and writes its transcript to the sink. Words are options, as
 /// `Meaning::of` reads them; others are refused, and then nothing is read or written.
 ///
 /// All lines that were wholly read are run, and their answers written, before the source is asked again.
+///
+/// With `--make N` the source is not read: the made script of N elements is run, and in place of its transcript the summary
+/// is written. Then the status is Done or Fuel, or one of the two last ones below.
 ///
 /// Usage comes exactly where the words are refused, unless memory is refused before that is known. The others speak of the lines that count: all lines where the
 /// source gave its end within 16,777,216 bytes, else the whole lines within them. Done: the source gave its end within
@@ -39,6 +43,12 @@ pub fn run<S: Source, K: Sink>(
     ensures read_fault { S.failed source.old < S.failed source.new → result ≡ Status.ReadFault }
     ensures write_fault { K.failed sink.old < K.failed sink.new → result ≡ Status.WriteFault }
 
+    // Where a script is made, the source is not read, and the summary is written whole unless memory is refused or the sink's
+    // count of faults rises.
+    ensures unread { (n : ℕ) (set : Options) → meaning (map (λ w. string_bytes w) words.now.items) ≡ Meaning.Made n set → source.new ≡ source.old }
+    ensures made { (n : ℕ) (set : Options) → meaning (map (λ w. string_bytes w) words.now.items) ≡ Meaning.Made n set
+        → ¬ Rose (K.failed sink.old) (K.failed sink.new) → RunsMade set n result (K.held sink.old) (K.held sink.new) }
+
     // A script that ends within the limit is run whole, unless a count of faults rises or memory is refused.
     ensures complete { (set : Options) (script : List ℕ)
         → meaning (map (λ w. string_bytes w) words.now.items) ≡ Meaning.Script set → S.left source.old ≡ Some script → length script ≤ limit
@@ -49,5 +59,6 @@ pub fn run<S: Source, K: Sink>(
         Err(NoMemory) => Status::NoMemory,
         Ok(Meaning::Refused) => Status::Usage,
         Ok(Meaning::Script(options)) => Status::of(run_script(alloc, options, source, sink)),
+        Ok(Meaning::Made(count, options)) => Status::of(run_made(alloc, options, count, sink)),
     }
 }

@@ -6,6 +6,8 @@ mod devices;
 #[cfg(test)]
 mod limits;
 #[cfg(test)]
+mod made;
+#[cfg(test)]
 mod pieces;
 #[cfg(test)]
 mod script;

@@ -18,6 +18,7 @@ use Rattle.order_law.proofs.Model.Scripts.{session_lawful}
 use Rattle.ce_machine.specs.Ended.{outcome_of}
 use Rattle.ce_machine.specs.declared.end.End.{End}
 use Rattle.ce_machine.specs.declared.end.End.TheVariants.{Replied, FuelSpent}
+use Rattle.script_runner.specs.Making.{MadeMeets, made, made_summary}
 use Rattle.script_runner.specs.Ran.{Answered, answers, fresh}
 use Rattle.script_runner.specs.Sitting.{Sitting}
 use Rattle.script_runner.specs.Script.{readings, settings}
@@ -26,7 +27,7 @@ use Rattle.script_runner.specs.declared.status.Status.{Status}
 use Rattle.script_runner.specs.declared.status.Status.TheVariants.{Done, BadLines, Usage, Fuel, NoMemory, ReadFault, TooLong}
 use Rattle.command_words.specs.declared.words.Options.{Options}
 use Rattle.command_words.specs.declared.words.Meaning.{Meaning}
-use Rattle.command_words.specs.declared.words.Meaning.TheVariants.{Refused, Script}
+use Rattle.command_words.specs.declared.words.Meaning.TheVariants.{Refused, Script, Made}
 use Rattle.script_runner.proofs.SittingLaws.{ran_answers}
 use Rattle.script_runner.proofs.PieceLaws.{Streamed, answered_piece, part_piece, answered_end, part_end, answered_now}
 
@@ -209,3 +210,10 @@ meets_unread (Script set) left held ended sb sn kb kn =
       wrote = Appends-nil held;
       as_said = ((transcript set (counted ended []), refl), needed, lawful set (counted ended []));
     }
+meets_unread (Made n set) left held ended sb sn kb kn =
+    record { taken = []; written = []; took = Consumes-nil left; wrote = Appends-nil held; as_said = ((made_summary set n, refl), refl, lawful set (made n)) }
+
+-- a script that was made: nothing was taken
+pub meets_made : (set : Options) (n : ℕ) (status : Status) (left held held' : Option (List ℕ)) (ended : Bool) (sb sn kb kn : ℕ) → MadeMeets set n status held held' kb kn → RunMeets (Made n set) status left left held held' ended sb sn kb kn
+meets_made set n status left held held' ended sb sn kb kn meets =
+    record { taken = []; written = meets.written; took = Consumes-nil left; wrote = meets.wrote; as_said = (meets.row, refl, lawful set (made n)) }

@@ -2,6 +2,7 @@ pub mod GivenLaws
 pub mod BlankLaws
 pub mod SittingLaws
 pub mod LoopLaws
+pub mod MadeLaws
 pub mod GatheredLaws
 pub mod PieceLaws
 pub mod ExitLaws

@@ -17,11 +17,12 @@ use Rattle.order_law.specs.Law.{Lawful}
 use Rattle.ce_machine.specs.declared.end.End.{End}
 use Rattle.ce_machine.specs.declared.end.End.TheVariants.{Replied, FuelSpent}
 use Rattle.script_runner.specs.Script.{session, has_bad, settings}
+use Rattle.script_runner.specs.Making.{MadeRow, made_session}
 use Rattle.script_runner.specs.declared.status.Status.{Status}
 use Rattle.script_runner.specs.declared.status.Status.TheVariants.{Done, BadLines, Usage, Fuel, ReadFault, WriteFault, NoMemory, TooLong}
 use Rattle.command_words.specs.declared.words.Options.{Options}
 use Rattle.command_words.specs.declared.words.Meaning.{Meaning}
-use Rattle.command_words.specs.declared.words.Meaning.TheVariants.{Refused, Script}
+use Rattle.command_words.specs.declared.words.Meaning.TheVariants.{Refused, Script, Made}
 
 -- how many bytes a script may have
 abbrev pub limit : ℕ
@@ -110,6 +111,7 @@ KeepsOrder set call = Lawful (logged set (lines_that_count call))
 abbrev pub IsAsSaid : Meaning → Status → Call → Type 0
 IsAsSaid Refused status call = ((status ≡ Usage) ⊎ (status ≡ NoMemory)) × (call.taken ≡ []) × (call.written ≡ [])
 IsAsSaid (Script set) status call = Row status set call × TakesOnlyNeeded set call.taken × KeepsOrder set call
+IsAsSaid (Made n set) status call = MadeRow status set n call.sink_before call.sink_now call.written × (call.taken ≡ []) × Lawful (log_of (made_session set n))
 
 -- some bytes were taken and some were written, as far as both ends tell them, and the call is as its words and its status say
 pub record RunMeets (said : Meaning) (status : Status) (left left' held held' : Option (List ℕ)) (ended : Bool) (source_before source_now sink_before sink_now : ℕ) : Type 0 where

@@ -5,10 +5,12 @@ mod answers;
 mod ask;
 mod blank;
 mod lines;
+mod made;
 mod pieces;
 mod session;
 mod status;
 
+pub use made::run_made;
 pub use pieces::run_script;
 pub use session::Session;
 pub use status::Status;

@@ -63,6 +63,13 @@ impl Session {
         self.bad
     }
 
+    /// How many units of fuel are left.
+    pub fn fuel_left(&self) -> u32
+        ensures { result ≡ self.now.state.fuel }
+    {
+        self.machine.fuel_left()
+    }
+
     // Passes over a line that says nothing.
     pub(crate) fn pass(&mut self)
         requires { self.old.line + 1 < 2 ^ 64 }

@@ -130,6 +130,13 @@ impl State {
         self.classes.named(name)
     }
 
+    /// How many units of fuel are left.
+    pub fn fuel_left(&self) -> u32
+        ensures { result ≡ self.now.fuel }
+    {
+        self.fuel.left()
+    }
+
     /// Logs an event. NoMemory: see `State`.
     pub fn log(&mut self, e: Event) -> Result<(), NoMemory>
         ensures logged { OnOk result (self.new ≡ logged e self.old) }

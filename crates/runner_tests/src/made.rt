@@ -1,0 +1,47 @@
+// Scripts that are made, by words: the summary stands in place of the transcript, and the source is not read.
+use crate::script::ran_with;
+use page_runner::Status;
+use std::alloc::Global;
+use std::process::Abort;
+use std::test::Fail;
+
+const WHOLE: &str = "made 2000
+script lines 8013
+transcript lines 14007
+calls 4000
+fuel used 20008
+end done
+";
+
+// One unit less than it takes.
+const SHORT: &str = "made 2000
+script lines 8013
+transcript lines 14006
+calls 4000
+fuel used 20007
+end fuel
+";
+
+const BY_DEFAULT: &str = "fuel used 20000
+end fuel
+";
+
+#[test]
+fn a_script_is_made_and_run(rt: HostRuntime) -> Result<(), Fail> {
+    let alloc = rt.alloc();
+    let bad = "no line".as_bytes();
+    ran_with(alloc, "--make 2000 --fuel 20008", bad, 1)?.is(&rt, Status::Done, WHOLE);
+    ran_with(alloc, "--fuel=20007 --make=2000", bad, 1)?.is(&rt, Status::Fuel, SHORT);
+    let default = ran_with(alloc, "--make 2000", bad, 1)?;
+    assert_eq!(rt; default.status, Status::Fuel);
+    assert!(rt; default.text.ends_with(BY_DEFAULT));
+    refused(&rt, alloc, "--make 20000")?;
+    refused(&rt, alloc, "--make 0")?;
+    refused(&rt, alloc, "--trace --make 1")
+}
+
+// Sees that words are refused.
+fn refused(rt: &impl Abort, alloc: Global, words: &str) -> Result<(), Fail> {
+    ran_with(alloc, words, "".as_bytes(), 1)?.is(rt, Status::Usage, "");
+    Ok(())
+}
