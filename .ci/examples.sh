@@ -248,8 +248,15 @@ trace => 2
 --boundary XX --boundary=XX => 2
 --trace --boundary=XX --url http://page.test/ --fuel=2 => 0 / ~ open 1 / ~ drain 1 / ~ close 1 / 1: #2
 --url=http://page.test/ --fuel 1 --boundary XX => 3 / fuel
---make 5 => 2
---make=5 => 2
+--make 5 => 0 / made 5 / script lines 33 / transcript lines 42 / calls 10 / fuel used 58 / end done
+--fuel=57 --make=5 => 3 / made 5 / script lines 33 / transcript lines 41 / calls 10 / fuel used 57 / end fuel
+--make 0 => 2
+--make 20000 => 2
+--make => 2
+--make= => 2
+--make 5 --make=5 => 2
+--make 5 --trace => 2
+--trace --make=5 => 2
 --fuel trace => 2
 END
 
