@@ -148,12 +148,18 @@ for file in examples/*.* examples/*/*.*; do
 done
 
 # Rows of words, quoted as for a shell, and behind ` => ` what comes of `create $a div` with them: the status, and the
-# lines of the transcript. The script wants two units of fuel. Refused words write nothing.
+# lines of the transcript. The script wants two units of fuel. Refused words write nothing but the usage text, to
+# standard error, and no others write there.
 printf 'create $a div\n' >"$room/script"
 while IFS= read -r row; do
     eval "set -- ${row% => *}"
-    "$program" "$@" <"$room/script" >"$room/transcript"
+    "$program" "$@" <"$room/script" >"$room/transcript" 2>"$room/usage"
     given="$?$(sed 's,^, / ,' "$room/transcript" | tr -d '\n')"
+    options=$(grep -c -e '--fuel <N>' -e '--boundary <T>' -e '--url <U>' -e '--trace' -e '--make <N>' "$room/usage")
+    case $given in
+        2) [ "$options" -ge 5 ] || fail "the words ${row% => *}: the usage text lacks an option" ;;
+        *) [ ! -s "$room/usage" ] || fail "the words ${row% => *}: standard error has $(cat "$room/usage")" ;;
+    esac
     if [ "$given" != "${row#* => }" ]; then
         fail "the words ${row% => *}: expected ${row#* => }, got $given"
     fi

@@ -1,10 +1,15 @@
 //! Runs a script from standard input, and writes its transcript to standard output.
 #![tactic(auto)]
 
+#[cfg(test)]
+mod tests;
+mod usage;
+
 use ce_base::{StdSink, StdSource};
 use page_runner::{Status, run};
 use std::process::ExitCode;
 use std::{env, io};
+use usage::tell_usage;
 
 fn main(rt: HostRuntime) -> ExitCode {
     let status = match words(&rt) {
@@ -15,6 +20,9 @@ fn main(rt: HostRuntime) -> ExitCode {
         }
         Err(error) => status_without_words(&error),
     };
+    if status == Status::Usage {
+        tell_usage(&rt);
+    }
     ExitCode::from(status.number())
 }
 
