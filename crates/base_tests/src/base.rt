@@ -66,6 +66,32 @@ fn nodes_are_copied(rt: HostRuntime) -> Result<(), Fail> {
     Ok(())
 }
 
+#[test]
+fn entries_are_copied(rt: HostRuntime) -> Result<(), Fail> {
+    let mut entries = Entries::make(rt.alloc());
+    let entry = one_entry(rt.alloc())?;
+    let copy = entry.copy(rt.alloc())?;
+    assert!(rt; copy.name.as_str() == "city" && copy.value.as_str() == "Lyon");
+    entries.push(rt.alloc(), entry)?;
+    entries.push(rt.alloc(), copy)?;
+    let copies = entries.copy(rt.alloc())?;
+    assert!(rt; copies.len() == 2);
+    assert!(rt; copies.get(1).is_some_and(|e| e.name.as_str() == "city"));
+    Ok(())
+}
+
+#[test]
+fn texts_are_copied(rt: HostRuntime) -> Result<(), Fail> {
+    let mut texts = Texts::make(rt.alloc());
+    texts.push(rt.alloc(), Text::of(rt.alloc(), "déjà")?)?;
+    texts.push(rt.alloc(), Text::of(rt.alloc(), "vu")?)?;
+    let copy = texts.copy(rt.alloc())?;
+    assert!(rt; copy.len() == 2);
+    assert!(rt; copy.get(0).is_some_and(|text| text.as_str() == "déjà"));
+    assert!(rt; copy.get(1).is_some_and(|text| text.as_str() == "vu"));
+    Ok(())
+}
+
 fn end_word(end: Result<(), Stop>) -> &'static str {
     match end {
         Ok(()) => "ok",

@@ -1,7 +1,8 @@
 //! Tests of the crates below the page and the session: `base` has devices at the edge and lists, `kinds` what elements are
 //! for forms, `lengths` how long texts are as controls read them, `controls` and `calls` the calls that no program makes,
-//! `bodies` entry lists as bodies of requests, `plans` what forms send, `writing` lines of scripts that are read, written
-//! and copied, and `lines` lines of transcripts that are read, which no program does. `rows` has what they share.
+//! `bodies` entry lists as bodies of requests, `plans` what forms send, `made` scripts that are made as texts, `writing`
+//! lines of scripts that are read, written and copied, and `lines` lines of transcripts that are read, which no program
+//! does. `rows` has what they share.
 #![tactic(auto)]
 
 #[cfg(test)]
@@ -18,6 +19,8 @@ mod kinds;
 mod lengths;
 #[cfg(test)]
 mod lines;
+#[cfg(test)]
+mod made;
 #[cfg(test)]
 mod plans;
 #[cfg(test)]

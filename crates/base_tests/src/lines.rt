@@ -22,11 +22,17 @@ fn see(rt: &impl Abort, alloc: Global, line: &str) -> Result<(), Fail> {
     Ok(())
 }
 
+fn see_lines(rt: &impl Abort, alloc: Global, rows: &str) -> Result<(), Fail> {
+    for line in rows.lines() {
+        see(rt, alloc, line)?;
+    }
+    Ok(())
+}
+
 #[test]
 fn each_line_of_a_transcript_is_read(rt: HostRuntime) -> Result<(), Fail> {
-    for line in LINES.lines() {
-        see(&rt, rt.alloc(), line)?;
-    }
+    see_lines(&rt, rt.alloc(), LINES)?;
+    see_lines(&rt, rt.alloc(), TRACED)?;
     for line in ODD.split('|') {
         see(&rt, rt.alloc(), line)?;
     }

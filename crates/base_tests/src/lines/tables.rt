@@ -81,6 +81,67 @@ submit #2 post "http://page.test/" "text/plain" "a=\"1\""
 ~ done #2
 ~ threw #2"#;
 
+// The lines of a whole transcript, with its trace: an upgrade by a definition, and two resets.
+pub(super) const TRACED: &str = r#"~ open 1
+~ drain 1
+~ close 1
+1: #2
+~ open 2
+~ drain 2
+~ close 2
+2: ok
+~ open 3
+~ drain 3
+~ close 3
+3: #3
+~ open 4
+~ drain 4
+~ close 4
+4: ok
+~ open 5
+~ drain 5
+~ close 5
+5: #4
+~ open 6
+~ drain 6
+~ close 6
+6: ok
+~ open 7
+~ enq 1 #4 upgrade 7
+~ drain 7
+~ start 1
+~ up #4
+~ enq 2 #4 connected 0
+construct A
+~ enq 3 #4 formAssociated 0
+~ done #4
+~ finish 1
+~ start 2
+call #4 connected
+~ finish 2
+~ start 3
+call #4 formAssociated #3
+~ finish 3
+~ close 7
+~ drain 0
+~ close 0
+12: ok
+~ enq 4 #4 formReset 0
+~ drain 0
+~ start 4
+call #4 formReset
+~ finish 4
+~ close 0
+13: ok
+~ open 8
+~ enq 5 #4 formReset 8
+~ drain 8
+~ start 5
+call #4 formReset
+~ finish 5
+~ close 8
+14: ok"#;
+
 // Lines that are read although they look odd, with a bar between them.
 pub(super) const ODD: &str = concat!(
     "log|ask empty|3: empty|submit #2 blocked invalid|construct x y|construct |",
