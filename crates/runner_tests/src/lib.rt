@@ -13,3 +13,5 @@ mod pieces;
 mod script;
 #[cfg(test)]
 mod submissions;
+#[cfg(test)]
+mod worked;

@@ -1,5 +1,7 @@
-// Scripts that are made, by words: the summary stands in place of the transcript, and the source is not read.
+// Scripts that are made, by words: the summary stands in place of the transcript, and the source is not read. And one that
+// is made as a text.
 use crate::script::ran_with;
+use made_scripts::made_script;
 use page_runner::Status;
 use std::alloc::Global;
 use std::process::Abort;
@@ -43,5 +45,16 @@ fn a_script_is_made_and_run(rt: HostRuntime) -> Result<(), Fail> {
 // Sees that words are refused.
 fn refused(rt: &impl Abort, alloc: Global, words: &str) -> Result<(), Fail> {
     ran_with(alloc, words, "".as_bytes(), 1)?.is(rt, Status::Usage, "");
+    Ok(())
+}
+
+// What the summary counts are lines of its transcript.
+#[test]
+fn a_made_script_is_a_script(rt: HostRuntime) -> Result<(), Fail> {
+    let script = made_script(rt.alloc(), 2000)?;
+    let script = script.as_str().as_bytes();
+    let ended = ran_with(rt.alloc(), "--fuel 20008", script, 65_536)?;
+    assert_eq!(rt; ended.status, Status::Done);
+    assert_eq!(rt; ended.text.as_str().lines().count(), 14007);
     Ok(())
 }

@@ -80,7 +80,7 @@ pub(crate) fn ran_with(
     cut: usize,
 ) -> Result<Ended, Fail> {
     let mut list = Vec::new(alloc);
-    for word in words.split(' ') {
+    for word in words.split_whitespace() {
         list.push(String::from_str(alloc, word)?)?;
     }
     let mut source = source_of(alloc, script, cut)?;
@@ -88,6 +88,15 @@ pub(crate) fn ran_with(
     let status = run(alloc, &list, &mut source, &mut sink);
     let text = String::from_utf8_lossy(alloc, sink.bytes())?;
     Ok(Ended { status, text })
+}
+
+// Sees that a script has its transcript, with these words, in one piece and in pieces of one byte.
+pub(crate) fn comes(rt: &impl Abort, alloc: Global, words: &str, text: &str) -> Result<(), Fail> {
+    let script = script_of(alloc, text)?;
+    let transcript = transcript_of(alloc, text)?;
+    ran_with(alloc, words, script.as_bytes(), 1)?.is(rt, Status::Done, transcript.as_str());
+    ran_with(alloc, words, script.as_bytes(), 65_536)?.is(rt, Status::Done, transcript.as_str());
+    Ok(())
 }
 
 // A class that logs its attribute's changes, its definition, an element, and a change to an equal value.
