@@ -17,6 +17,7 @@ use crate::command::run_command;
 use crate::writing::{write_part, write_refused};
 use ce_algorithms::Settings;
 use ce_base::{NoMemory, Sink, Stop};
+use ce_page::Page;
 use frame_stack::Stack;
 use rule_lines::{ClassPart, Cmd};
 use rule_tokens::Bad;
@@ -69,6 +70,13 @@ impl Machine {
         ensures { result ≡ self.now.session.fuel }
     {
         self.state.fuel_left()
+    }
+
+    /// The page as the lines so far have left it.
+    pub fn page(&self) -> &Page
+        ensures { result.now ≡ self.now.session.page }
+    {
+        self.state.page()
     }
 
     /// Takes a part of a class, and writes the reply where it is refused. WriteFault, NoMemory: see `Machine`.

@@ -22,7 +22,7 @@ use Rattle.form_owner.proofs.Groups.{all_after-step, all_after-last}
 
 -- lists
 
-count-filter : (p : ℕ → Bool) (i : ℕ) (ms : List ℕ) → count i (filter p ms) ≤ count i ms
+pub count-filter : (p : ℕ → Bool) (i : ℕ) (ms : List ℕ) → count i (filter p ms) ≤ count i ms
 count-filter p i [] = omega arith
 count-filter p i (m ∷ ms) = by_test (p m) (count-filter p i ms)
   where

@@ -26,7 +26,8 @@ use Rattle.tree_laws.proofs.Changed.{size-with}
 use Rattle.form_controls.specs.Kinds.{native_at, is_a}
 use Rattle.form_controls.specs.Owners.{Forms, is_associated, is_listed_native, owner_by, form_owner, where_form, named_form, nearest_form, ancestors_below, ancestors, is_owned_by, controls_of}
 use Rattle.form_controls.specs.Disabled.{has_disabled, first_legend, is_inside, disables, is_in_disabled_fieldset, is_in_disabled_group, is_option_disabled, is_disabled}
-use Rattle.form_owner.specs.OwnerRows.{OwnerRows}
+use Rattle.form_owner.specs.OwnerRows.{OwnerRows, Seen}
+use Rattle.form_owner.specs.Attributes.{is_text}
 use Rattle.owner_reading.specs.Owners.{listed_by, owner_with}
 use Rattle.disabled_reading.specs.Disabled.{disabled_with}
 use Rattle.form_owner.specs.Stands.{Stands}
@@ -327,7 +328,13 @@ stands_alike table f made n tidy alike above_is more s = record {
   owner = λ i. s.owner i ∙ sym (owner-after f made tidy s.associated.nodes n alike above_is (i + 1));
   disabled = λ i. s.disabled i ∙ sym (disabled-after f made tidy s.associated.nodes n alike above_is (i + 1));
   controls = λ i. s.controls i ∙ sym (controls-after f made tidy s.associated.nodes n alike above_is (i + 1));
+  seen = λ i. s.seen i ∙ sym (ap seen_in (alike.attributes (i + 1)));
+  named = λ id m. s.named id m ∙ sym (ap (λ items. is_text id (value_in items (codes "form"))) (alike.attributes m));
 }
+  where
+    -- what is seen among attributes
+    seen_in : List (List ℕ × List ℕ) → Seen
+    seen_in items = record { id = value_in items (codes "id"); form = value_in items (codes "form"); disabled = is_some (value_in items (codes "disabled")) }
 
 -- a number that no node has yet
 next-free : (f : Trees) → IsTidy f → times (size f + 1) f ≡ 0

@@ -1,12 +1,13 @@
 -- What is a node, and what forms are about where there is none.
-use Rattle.std.proofs.Common.{◌≡◌, All, ℕ, ◌+◌, ◌-◌, ◌<◌, ◌≤◌, Bool, true, false, cond, List, [], ◌∷◌, Option, Some, None, refl, sym, ap, subst, arith, inl, inr}
+use Rattle.std.proofs.Common.{◌≡◌, All, ℕ, ◌+◌, ◌-◌, ◌<◌, ◌≤◌, Bool, true, false, cond, List, [], ◌∷◌, Option, Some, None, refl, sym, ap, ◌∙◌, subst, arith, inl, inr}
 use Rattle.std.specs.Prelude.{filter, find, codes}
-use Rattle.std.proofs.lemmas.Bool.{cases_lt}
+use Rattle.std.proofs.lemmas.Bool.{cases_lt, cases_eq}
 use Rattle.std.proofs.lemmas.Bool.Decides.{nat_tests}
-use Rattle.std.proofs.lemmas.List.Elements.{All-map, All-filter, All-nil, All-cons}
+use Rattle.std.proofs.lemmas.List.Elements.{All-map, All-filter, All-nil, All-cons, All-head, All-tail}
 use Rattle.std.proofs.lemmas.List.FromFn.{length-range_with_len, get_or-range_with_len}
 use Rattle.element_names.specs.declared.natives.Native.TheVariants.{Form, OptionItem}
-use Rattle.node_trees.specs.Trees.{Trees, none, is_number}
+use Rattle.node_trees.specs.Trees.{Trees, none, tree, is_number, roots}
+use Rattle.node_trees.specs.Links.{AreRead}
 use Rattle.node_trees.specs.Nodes.{times, size, IsNode, IsNodeOrNone, IsTidy}
 use Rattle.node_trees.specs.Orders.{tree_order_of}
 use Rattle.node_trees.specs.Paths.{is_among, root_at, connected}
@@ -119,9 +120,25 @@ owner-node f n (Some k) tidy e = form-node f.forest k tidy (owner-form f n k (sy
 
 -- the controls of a form are nodes
 
-all-members : (P : ℕ → Type 0) (xs : List ℕ) → ((n : ℕ) → is_among n xs ≡ true → P n) → All P xs
+pub all-members : (P : ℕ → Type 0) (xs : List ℕ) → ((n : ℕ) → is_among n xs ≡ true → P n) → All P xs
 all-members P [] h = All-nil P
 all-members P (x ∷ xs) h = All-cons P x xs (h x (grind (arith, nat_tests))) (all-members P xs (λ n e. h n (grind (arith, nat_tests))))
+
+pub all-among : (P : ℕ → Type 0) (xs : List ℕ) → All P xs → (n : ℕ) → is_among n xs ≡ true → P n
+all-among P [] all n h = absurd cc
+all-among P (x ∷ xs) all n h = elim (cases_eq x n) [
+  | inl same ↦ subst P same (All-head P x xs all)
+  | inr other ↦ all-among P xs (All-tail P x xs all) n (grind (arith, nat_tests))
+]
+
+-- so are those of an order
+pub order-nodes : (f : Trees) (root : ℕ) (ns : List ℕ) → IsTidy f → ns ≡ tree_order_of f root → All (IsNode f) ns
+order-nodes f root ns tidy is = all-members (IsNode f) ns (λ n among. member_is_node f root n tidy (sym (ap (is_among n) is) ∙ among))
+
+-- so are children that were read
+pub read-nodes : (f t : Trees) → AreRead f t → All (IsNode f) (roots t)
+read-nodes f none read = All-nil (IsNode f)
+read-nodes f (tree m x s k q) read = All-cons (IsNode f) m (roots q) read.0.node (read-nodes f q read.1.1)
 
 pub controls-nodes : (f : Forms) (form : ℕ) → IsTidy f.forest → All (IsNode f.forest) (controls_of f form)
 controls-nodes f form tidy =

@@ -1,4 +1,4 @@
--- Rows that are filled up, written and listed.
+-- Rows that are filled up and written.
 use Rattle.std.proofs.Common.{◌≡◌, ◌≢◌, ◌+◌, ◌-◌, ◌<◌, ◌≤◌, ◌==◌, ℕ, zero, suc, Bool, true, false, cond, List, [], ◌∷◌, ◌++◌, take, Option, Some, None, refl, sym, ap, ◌∙◌, subst, arith, inl, inr}
 use Rattle.std.specs.Prelude.{filter, map, slice_get, unwrap_or, nat_eq, is_some, ◌||◌}
 use Rattle.std.specs.Bool.{beq}
@@ -8,18 +8,15 @@ use Rattle.std.proofs.lemmas.Bool.{cases_eq, eqb-true, eq-eqb}
 use Rattle.std.proofs.lemmas.Bool.Decides.{nat_tests}
 use Rattle.std.proofs.lemmas.List.{take_more}
 use Rattle.std.proofs.lemmas.Option.{get_or_from_slice_get, slice_get_within}
-use Rattle.node_trees.specs.Trees.{Trees, is_number}
-use Rattle.node_trees.specs.Orders.{tree_order_of}
-use Rattle.node_trees.specs.Paths.{is_among, root_at}
-use Rattle.element_names.specs.declared.natives.Native.TheVariants.{Form}
+use Rattle.node_trees.specs.Trees.{Trees}
+use Rattle.node_trees.specs.Paths.{is_among}
 use Rattle.form_controls.specs.declared.change.Change.{Change}
 use Rattle.form_controls.specs.Changes.{where_new, is_change}
-use Rattle.form_controls.specs.Kinds.{is_a}
 use Rattle.form_owner.specs.OwnerRows.{OwnerRow, blank_row, row_in, row_of}
 use Rattle.owner_reading.specs.Owners.{owner_with}
 use Rattle.disabled_reading.specs.Disabled.{disabled_with}
-use Rattle.form_owner.specs.Reading.{change_read, changes_read, is_owned_in, controls_in}
-use Rattle.form_owner.specs.Writing.{Written, with_told, with_changes, unlisted, AreListed}
+use Rattle.form_owner.specs.Reading.{change_read, changes_read}
+use Rattle.form_owner.specs.Writing.{Written, with_told, with_changes}
 
 -- one more number
 pub range-more : (a n : ℕ) → range_with_len a (n + 1) ≡ range_with_len a n ++ (a + n) ∷ []
@@ -69,6 +66,22 @@ associated-stays [] i row = refl
 associated-stays (c ∷ cs) i row = associated-stays cs i (cond (c.node - 1 == i) (with_told c.owner c.disabled row) row) ∙ by_test (c.node - 1 == i)
   where
     by_test : (b : Bool) → (cond b (with_told c.owner c.disabled row) row).associated ≡ row.associated
+    by_test true = refl
+    by_test false = refl
+
+pub seen-stays : (cs : List Change) (i : ℕ) (row : OwnerRow) → (with_changes cs i row).seen ≡ row.seen
+seen-stays [] i row = refl
+seen-stays (c ∷ cs) i row = seen-stays cs i (cond (c.node - 1 == i) (with_told c.owner c.disabled row) row) ∙ by_test (c.node - 1 == i)
+  where
+    by_test : (b : Bool) → (cond b (with_told c.owner c.disabled row) row).seen ≡ row.seen
+    by_test true = refl
+    by_test false = refl
+
+pub controls-stay : (cs : List Change) (i : ℕ) (row : OwnerRow) → (with_changes cs i row).controls ≡ row.controls
+controls-stay [] i row = refl
+controls-stay (c ∷ cs) i row = controls-stay cs i (cond (c.node - 1 == i) (with_told c.owner c.disabled row) row) ∙ by_test (c.node - 1 == i)
+  where
+    by_test : (b : Bool) → (cond b (with_told c.owner c.disabled row) row).controls ≡ row.controls
     by_test true = refl
     by_test false = refl
 
@@ -152,7 +165,7 @@ module _ (f : Trees) (rows : List OwnerRow) (i : ℕ) where
           let here : cond (a - 1 == i) (cond (is_change (change_read f rows a)) (told a (row_in rows i)) (row_in rows i)) (row_in rows i) ≡ cond (is_change (change_read f rows a)) (told a (row_in rows i)) (row_in rows i) = grind (arith, nat_tests) in
           here ∙ silent (change_read f rows a) (row_in rows i) ∙ ap (λ n. told n (row_in rows i)) e ∙ told-here
 
--- the controls of each node are listed
+-- a test that says the same of each member finds the same
 
 pub filter-members : (p q : ℕ → Bool) (xs : List ℕ) → ((x : ℕ) → is_among x xs ≡ true → p x ≡ q x) → filter p xs ≡ filter q xs
 filter-members p q [] same = refl
@@ -168,23 +181,3 @@ filter-members p q (x ∷ xs) same = by_test (filter-members p q xs (λ y h. sam
 
     by_test : filter p xs ≡ filter q xs → p x ≡ q x → cond (p x) (x ∷ filter p xs) (filter p xs) ≡ cond (q x) (x ∷ filter q xs) (filter q xs)
     by_test more e = ap (λ v. cond v (x ∷ filter p xs) (filter p xs)) e ∙ ap (λ v. cond (q x) (x ∷ v) v) more
-
-module _ (old new : List OwnerRow) (same : (i : ℕ) → unlisted (row_in new i) ≡ unlisted (row_in old i)) where
-  pub controls-same : (f : Trees) (n : ℕ) → controls_in new f n ≡ controls_in old f n
-  controls-same f n = ap (λ v. cond (is_a Form f n) v []) (filter-members (is_owned_in new n) (is_owned_in old n) (tree_order_of f (root_at f n)) (λ m _. ap (λ (r : OwnerRow). is_number r.owner n) (same (m - 1))))
-
-  pub listed-next : (f : Trees) (place : ℕ) (newer : List OwnerRow) → ((i : ℕ) → i < place → (row_in new i).controls ≡ controls_in old f (i + 1)) →
-      Written new newer place (record (row_in new place) { controls = controls_in new f (place + 1) }) → AreListed f old newer (place + 1)
-  listed-next f place newer listed w = record { same = kept; listed = now }
-    where
-      kept : (i : ℕ) → unlisted (row_in newer i) ≡ unlisted (row_in old i)
-      kept i = elim (cases_eq i place) [
-        | inl e ↦ subst (λ p. unlisted (row_in newer p) ≡ unlisted (row_in old p)) (sym e) (ap unlisted w.here ∙ same place)
-        | inr ne ↦ ap unlisted (w.others i ne) ∙ same i
-      ]
-
-      now : (i : ℕ) → i < place + 1 → (row_in newer i).controls ≡ controls_in old f (i + 1)
-      now i lt = elim (cases_eq i place) [
-        | inl e ↦ subst (λ p. (row_in newer p).controls ≡ controls_in old f (p + 1)) (sym e) (ap (λ (r : OwnerRow). r.controls) w.here ∙ controls-same f (place + 1))
-        | inr ne ↦ ap (λ (r : OwnerRow). r.controls) (w.others i ne) ∙ listed i (omega arith)
-      ]

@@ -1,19 +1,20 @@
 -- Rows that were read off the trees anew stand for them, and what was told is what differs.
-use Rattle.std.proofs.Common.{◌≡◌, ℕ, zero, suc, ◌+◌, ◌-◌, ◌<◌, ◌≤◌, Bool, true, false, cond, List, [], ◌∷◌, length, refl, sym, ap, ◌∙◌, subst, arith, inl, inr}
+use Rattle.std.proofs.Common.{◌≡◌, ℕ, zero, suc, ◌+◌, ◌-◌, ◌≤◌, Bool, true, false, cond, List, ◌∷◌, length, refl, sym, ap, ◌∙◌, subst, arith, inl, inr}
 use Rattle.std.specs.Prelude.{filter, map, unwrap_or}
 use Rattle.std.specs.List.{range_with_len}
 use Rattle.std.proofs.lemmas.Bool.{cases_lt}
 use Rattle.std.proofs.lemmas.Option.{slice_get_past}
-use Rattle.element_names.specs.declared.natives.Native.TheVariants.{Form}
 use Rattle.node_trees.specs.Trees.{Trees, is_number}
-use Rattle.node_trees.specs.Nodes.{size, IsTidy}
+use Rattle.node_trees.specs.Nodes.{IsNode, size, IsTidy}
 use Rattle.node_trees.specs.Orders.{tree_order_of}
 use Rattle.node_trees.specs.Paths.{is_among, root_at}
 use Rattle.tree_laws.proofs.InOrder.{member_is_node}
-use Rattle.form_controls.specs.Kinds.{is_a}
 use Rattle.form_controls.specs.Owners.{Forms, is_associated, form_owner, is_owned_by, controls_of}
 use Rattle.form_controls.specs.Disabled.{is_disabled}
 use Rattle.form_controls.specs.Changes.{form_change, form_changes, is_change, numbers}
+use Rattle.id_index.specs.Held.{is_held}
+use Rattle.form_owner.specs.Attributes.{seen_at, is_naming}
+use Rattle.form_owner.specs.Candidates.{Covers}
 use Rattle.form_owner.specs.OwnerRows.{OwnerRow, OwnerRows, blank_row, row_in, row_of}
 use Rattle.owner_reading.specs.Owners.{owner_with}
 use Rattle.disabled_reading.specs.Disabled.{disabled_with}
@@ -21,22 +22,13 @@ use Rattle.form_owner.specs.Reading.{change_read, changes_read, is_owned_in, own
 use Rattle.form_owner.specs.Stands.{KnowsAssociated, Stands}
 use Rattle.form_owner.specs.declared.touch.Touch.{Touch}
 use Rattle.form_owner.specs.Touches.{IsTouched, after_touch}
-use Rattle.form_owner.specs.Writing.{AreRenewed, AreListed, Noted, with_changes}
+use Rattle.form_owner.specs.Writing.{AreNoted, AreRenewed, AreSeenBy, ListsStood, Noted, unseen}
 use Rattle.form_owner.proofs.Nodes.{past-node, not-a-form, no-owner, not-disabled, no-controls}
-use Rattle.form_owner.proofs.Touched.{known, owners-stay, states-stay}
-use Rattle.form_owner.proofs.Rows.{associated-stays, read_row, reached, filter-members, controls-same}
-
--- what the steps of a renewal leave
-pub are-renewed : (f : Trees) (old written new : List OwnerRow) → ((i : ℕ) → row_in written i ≡ with_changes (changes_read f old (numbers f)) i (row_in old i)) → AreListed f written new (size f) → AreRenewed f old new
-are-renewed f old written new is listed = record {
-  associated = λ i. ap (λ (r : OwnerRow). r.associated) (listed.same i) ∙ ap (λ (r : OwnerRow). r.associated) (is i) ∙ associated-stays (changes_read f old (numbers f)) i (row_in old i);
-  owner = λ i lt. ap (λ (r : OwnerRow). r.owner) (listed.same i) ∙ ap (λ (r : OwnerRow). r.owner) (read i lt);
-  disabled = λ i lt. ap (λ (r : OwnerRow). r.disabled) (listed.same i) ∙ ap (λ (r : OwnerRow). r.disabled) (read i lt);
-  controls = λ i lt. listed.listed i lt ∙ sym (controls-same written new listed.same f (i + 1));
-}
-  where
-    read : (i : ℕ) → i < size f → row_in written i ≡ read_row f old i
-    read i lt = is i ∙ reached f old i 1 (size f) (omega arith) (omega arith) (omega arith)
+use Rattle.form_owner.proofs.Touched.{known, noted-keeps, size-stays}
+use Rattle.form_owner.proofs.Touching.{order-stays, tidy-before}
+use Rattle.form_owner.proofs.Sights.{noted-before, sees-now}
+use Rattle.form_owner.proofs.Standing.{lists-stand}
+use Rattle.form_owner.proofs.Rows.{filter-members}
 
 -- the rows stand
 
@@ -56,8 +48,8 @@ module _ (f : Forms) (tidy : IsTidy f.forest) (old new : List OwnerRow) (long : 
     | inr past ↦ ap (λ (r : OwnerRow). r.disabled) (row-past i past) ∙ sym (not-disabled f tidy knows.nodes (i + 1) (past-node f.forest i past))
   ]
 
-  owned-same : (n : ℕ) → owned_in new f.forest n ≡ controls_of f n
-  owned-same n = filter-members (is_owned_in new n) (is_owned_by f n) (tree_order_of f.forest (root_at f.forest n)) (λ m h. ap (λ o. is_number o n) (member m h))
+  owned-now : (n : ℕ) → owned_in new f.forest n ≡ controls_of f n
+  owned-now n = filter-members (is_owned_in new n) (is_owned_by f n) (tree_order_of f.forest (root_at f.forest n)) (λ m h. ap (λ o. is_number o n) (member m h))
     where
       member : (m : ℕ) → is_among m (tree_order_of f.forest (root_at f.forest n)) ≡ true → (row_of new m).owner ≡ form_owner f m
       member m h =
@@ -67,28 +59,20 @@ module _ (f : Forms) (tidy : IsTidy f.forest) (old new : List OwnerRow) (long : 
 
   controls-at : (i : ℕ) → (row_in new i).controls ≡ controls_of f (i + 1)
   controls-at i = elim (cases_lt i (size f.forest)) [
-    | inl lt ↦ are.controls i lt ∙ by_test (is_a Form f.forest (i + 1)) refl
+    | inl lt ↦ are.controls i lt ∙ owned-now (i + 1)
     | inr past ↦ ap (λ (r : OwnerRow). r.controls) (row-past i past) ∙ sym (no-controls f (i + 1) (not-a-form f tidy knows.nodes (i + 1) (past-node f.forest i past)))
   ]
-    where
-      by_test : (b : Bool) → is_a Form f.forest (i + 1) ≡ b → cond b (owned_in new f.forest (i + 1)) [] ≡ controls_of f (i + 1)
-      by_test true e = owned-same (i + 1)
-      by_test false e = sym (no-controls f (i + 1) e)
 
-  pub stands-now : (table : OwnerRows) → table.rows ≡ new → Stands table f
-  stands-now table is = stands
-    where
-      at : (i : ℕ) → row_in table.rows i ≡ row_in new i
-      at i = ap (λ rows. row_in rows i) is
-
-      stands : Stands table f
-      stands = record {
-        within = omega (arith, ap length is, long);
-        associated = record { flags = λ i. ap (λ (r : OwnerRow). r.associated) (at i) ∙ are.associated i ∙ knows.flags i; nodes = knows.nodes };
-        owner = λ i. ap (λ (r : OwnerRow). r.owner) (at i) ∙ owner-at i;
-        disabled = λ i. ap (λ (r : OwnerRow). r.disabled) (at i) ∙ disabled-at i;
-        controls = λ i. ap (λ (r : OwnerRow). r.controls) (at i) ∙ controls-at i;
-      }
+  pub stands-now : (table : OwnerRows) → length table.rows ≤ size f.forest → ((i : ℕ) → unseen (row_in table.rows i) ≡ unseen (row_in new i)) → ((i : ℕ) → (row_in table.rows i).seen ≡ seen_at f.forest (i + 1)) → ((id : List ℕ) (n : ℕ) → is_held table.named id n ≡ is_naming f.forest id n) → Stands table f
+  stands-now table within at seen named = record {
+    within = within;
+    associated = record { flags = λ i. ap (λ (r : OwnerRow). r.associated) (at i) ∙ are.associated i ∙ knows.flags i; nodes = knows.nodes };
+    owner = λ i. ap (λ (r : OwnerRow). r.owner) (at i) ∙ owner-at i;
+    disabled = λ i. ap (λ (r : OwnerRow). r.disabled) (at i) ∙ disabled-at i;
+    controls = λ i. ap (λ (r : OwnerRow). r.controls) (at i) ∙ controls-at i;
+    seen = seen;
+    named = named;
+  }
 
 -- what was told
 
@@ -102,32 +86,63 @@ made-same f g says a (suc n) same = by_test (made-same f g says (a + 1) n (λ k 
     by_test more here false e = let t : says (f a) ≡ false = ap says here ∙ e in rw (t, e) more
 
 -- rows with the owners and states of before, and who is a form-associated custom element now, tell what differs
-pub told-is : (before f : Forms) (rows : List OwnerRow) → KnowsAssociated rows f → ((i : ℕ) → (row_in rows i).owner ≡ form_owner before (i + 1)) → ((i : ℕ) → (row_in rows i).disabled ≡ is_disabled before (i + 1)) →
-    changes_read f.forest rows (numbers f.forest) ≡ form_changes before f
-told-is before f rows knows owners states = made-same (change_read f.forest rows) (form_change before f) is_change 1 (size f.forest) same
-  where
-    same : (n : ℕ) → 1 ≤ n → change_read f.forest rows n ≡ form_change before f n
-    same n low =
-        let e : (n - 1) + 1 ≡ n = omega arith in
-        let a : (row_of rows n).owner ≡ form_owner before n = owners (n - 1) ∙ ap (form_owner before) e in
-        let b : (row_of rows n).disabled ≡ is_disabled before n = states (n - 1) ∙ ap (is_disabled before) e in
-        let c : (row_of rows n).associated ≡ is_associated f n = knows.flags (n - 1) ∙ ap (is_associated f) e in
-        rw (a, b, c) refl
 
--- the rows were filled up, lent, marked, lent again and read anew
+module _ (before f : Forms) (rows : List OwnerRow) (knows : KnowsAssociated rows f) (owners : (i : ℕ) → (row_in rows i).owner ≡ form_owner before (i + 1)) (states : (i : ℕ) → (row_in rows i).disabled ≡ is_disabled before (i + 1)) where
+  told-of : (n : ℕ) → 1 ≤ n → change_read f.forest rows n ≡ form_change before f n
+  told-of n low =
+      let e : (n - 1) + 1 ≡ n = omega arith in
+      let a : (row_of rows n).owner ≡ form_owner before n = owners (n - 1) ∙ ap (form_owner before) e in
+      let b : (row_of rows n).disabled ≡ is_disabled before n = states (n - 1) ∙ ap (is_disabled before) e in
+      let c : (row_of rows n).associated ≡ is_associated f n = knows.flags (n - 1) ∙ ap (is_associated f) e in
+      rw (a, b, c) refl
+
+  told-is : changes_read f.forest rows (numbers f.forest) ≡ form_changes before f
+  told-is = made-same (change_read f.forest rows) (form_change before f) is_change 1 (size f.forest) told-of
+
+-- the rows were filled up, lent, marked and lent again
 
 module _ (touch : Touch) (before : Forms) (now : Trees) (tidy : IsTidy now) (table : OwnerRows) (filled lent marked given : List OwnerRow) (stood : Stands table before)
     (touched : IsTouched touch before.forest now) (same : (i : ℕ) → row_in filled i ≡ row_in table.rows i) (same_lent : lent ≡ filled) (same_given : given ≡ marked) (noted : Noted touch lent marked) where
   is-noted : Noted touch filled given
   is-noted = subst (λ rows. Noted touch rows given) same_lent (subst (Noted touch lent) (sym same_given) noted)
 
-  knows-now : KnowsAssociated given (after_touch touch before now)
+  -- what a mark isn't about is as it was in the table
+  as-before : {A : Type 0} (read : OwnerRow → A) → ((row : OwnerRow) (on : Bool) → read (record row { associated = on }) ≡ read row) → (i : ℕ) → read (row_in given i) ≡ read (row_in table.rows i)
+  as-before read keeps i = noted-keeps read keeps touch filled given is-noted i ∙ ap read (same i)
+
+  pub knows-now : KnowsAssociated given (after_touch touch before now)
   knows-now = known before now filled given (record { flags = λ i. ap (λ (r : OwnerRow). r.associated) (same i) ∙ stood.associated.flags i; nodes = stood.associated.nodes }) touch touched is-noted
 
-  pub settled : (new : List OwnerRow) → length new ≡ size now → AreRenewed now given new → (after : OwnerRows) → after.rows ≡ new → Stands after (after_touch touch before now)
-  settled new long are = stands-now (after_touch touch before now) tidy given new long knows-now are
+  owners : (i : ℕ) → (row_in given i).owner ≡ form_owner before (i + 1)
+  owners i = as-before (λ (r : OwnerRow). r.owner) (λ row on. refl) i ∙ stood.owner i
+
+  states : (i : ℕ) → (row_in given i).disabled ≡ is_disabled before (i + 1)
+  states i = as-before (λ (r : OwnerRow). r.disabled) (λ row on. refl) i ∙ stood.disabled i
+
+  pub seen-before : (i : ℕ) → (row_in given i).seen ≡ seen_at before.forest (i + 1)
+  seen-before i = as-before (λ (r : OwnerRow). r.seen) (λ row on. refl) i ∙ stood.seen i
+
+  -- the lists of before, as the rows and the trees are now
+  pub lists-now : ListsStood now given
+  lists-now =
+      lists-stand before (after_touch touch before now) (tidy-before touch before.forest now touched tidy) tidy (size-stays touch before.forest now touched) given owners
+      (λ i. as-before (λ (r : OwnerRow). r.controls) (λ row on. refl) i ∙ stood.controls i) knows-now.flags (order-stays touch before.forest now touched)
+
+  -- who is not among the candidates is one of whom nothing is to be told
+  pub covers-now : (candidates : List ℕ) → Covers candidates before (after_touch touch before now) → (n : ℕ) → IsNode now n → is_among n candidates ≡ false → is_change (change_read now given n) ≡ false
+  covers-now candidates covers n node out = ap is_change (told-of before (after_touch touch before now) given knows-now owners states n node.low) ∙ covers n node out
 
   pub settled-changes : changes_read now given (numbers now) ≡ form_changes before (after_touch touch before now)
-  settled-changes = told-is before (after_touch touch before now) given knows-now
-      (λ i. owners-stay touch filled given is-noted i ∙ ap (λ (r : OwnerRow). r.owner) (same i) ∙ stood.owner i)
-      (λ i. states-stay touch filled given is-noted i ∙ ap (λ (r : OwnerRow). r.disabled) (same i) ∙ stood.disabled i)
+  settled-changes = told-is before (after_touch touch before now) given knows-now owners states
+
+  read-seen : (read : List OwnerRow) → AreRenewed now given read → (i : ℕ) → (row_in read i).seen ≡ seen_at before.forest (i + 1)
+  read-seen read are i = are.seen i ∙ seen-before i
+
+  -- each element is noted for its `form` attribute as it was
+  pub noted-now : (read : List OwnerRow) → AreRenewed now given read → AreNoted read (is_held table.named)
+  noted-now read are = noted-before before.forest read (is_held table.named) (read-seen read are) stood.named
+
+  pub settled : (read : List OwnerRow) → length read ≡ size now → AreRenewed now given read → (final : OwnerRows) → length final.rows ≡ size now → AreSeenBy touch now read final.rows (is_held table.named) (is_held final.named) → Stands final (after_touch touch before now)
+  settled read long are final final_long by =
+      let sees = sees-now before.forest now read final.rows (is_held table.named) (is_held final.named) (read-seen read are) stood.named touch touched by in
+      stands-now (after_touch touch before now) tidy given read long knows-now are final (omega (arith, final_long)) sees.rest sees.rows sees.index

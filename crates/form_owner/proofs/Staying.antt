@@ -27,6 +27,8 @@ module _ (f : Forms) (other : List ℕ) (same : (n : ℕ) → is_among n other �
     owner = λ i. s.owner i ∙ sym (owner-renamed (i + 1));
     disabled = λ i. s.disabled i ∙ sym (ap (disabled_with f.forest (i + 1)) (same (i + 1)));
     controls = λ i. s.controls i ∙ sym (controls-renamed (i + 1));
+    seen = s.seen;
+    named = s.named;
   }
 
 pub stands_renamed : (table : OwnerRows) (f : Forms) (other : List ℕ) → ((n : ℕ) → is_among n other ≡ is_among n f.associated) → Stands table f → Stands table (record f { associated = other })

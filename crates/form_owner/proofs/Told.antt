@@ -29,12 +29,12 @@ none_of n (c ∷ cs) other =
 
 -- each is said of a node behind that of the one before
 
-behind : (c : Change) (cs : List Change) → AreRising (c ∷ cs) → AreRising cs
+pub behind : (c : Change) (cs : List Change) → AreRising (c ∷ cs) → AreRising cs
 behind c cs rising k lt =
     let more : suc k + 1 ≡ suc (k + 1) = omega arith in
     subst (λ i. get_or (map (λ (x : Change). x.node) cs) k 0 < get_or (c.node ∷ map (λ (x : Change). x.node) cs) i 0) more (rising (suc k) (omega (arith, lt)))
 
-rises : (c : Change) (cs : List Change) → AreRising (c ∷ cs) → (k : ℕ) (d : Change) → k < length cs → c.node < (get_or cs k d).node
+pub rises : (c : Change) (cs : List Change) → AreRising (c ∷ cs) → (k : ℕ) (d : Change) → k < length cs → c.node < (get_or cs k d).node
 rises c [] rising k d lt = absurd (omega (arith, lt))
 rises c (e ∷ cs) rising zero d lt = rising 0 (omega arith)
 rises c (e ∷ cs) rising (suc k) d lt =

@@ -32,7 +32,7 @@ is-placed (Associated n on) old new count touched e =
 
 -- the rows know them after it
 
-among-with : (n m : ℕ) (on : Bool) (ns : List ℕ) → is_among m (with_associated n on ns) ≡ cond (n == m) on (is_among m ns)
+pub among-with : (n m : ℕ) (on : Bool) (ns : List ℕ) → is_among m (with_associated n on ns) ≡ cond (n == m) on (is_among m ns)
 among-with n m true ns = by_test (n == m)
   where
     by_test : (b : Bool) → (b || is_among m ns) ≡ cond b true (is_among m ns)
@@ -81,22 +81,12 @@ module _ (before : Forms) (now : Trees) (old new : List OwnerRow) (knows : Knows
             subst (λ f. IsNode f m) (sym touched.is) (knows.nodes m was)
       ]
 
--- form owners and disabled states in the rows stay
-
-pub owners-stay : (touch : Touch) (old new : List OwnerRow) → Noted touch old new → (i : ℕ) → (row_in new i).owner ≡ (row_in old i).owner
-owners-stay (Inserted n) old new noted i = ap (λ rows. (row_in rows i).owner) noted
-owners-stay (Removed n parent) old new noted i = ap (λ rows. (row_in rows i).owner) noted
-owners-stay (Attr n) old new noted i = ap (λ rows. (row_in rows i).owner) noted
-owners-stay (Associated n on) old new noted i = elim (cases_eq i (n - 1)) [
-  | inl e ↦ subst (λ k. (row_in new k).owner ≡ (row_in old k).owner) (sym e) (ap (λ (r : OwnerRow). r.owner) noted.here)
-  | inr ne ↦ ap (λ (r : OwnerRow). r.owner) (noted.others i ne)
-]
-
-pub states-stay : (touch : Touch) (old new : List OwnerRow) → Noted touch old new → (i : ℕ) → (row_in new i).disabled ≡ (row_in old i).disabled
-states-stay (Inserted n) old new noted i = ap (λ rows. (row_in rows i).disabled) noted
-states-stay (Removed n parent) old new noted i = ap (λ rows. (row_in rows i).disabled) noted
-states-stay (Attr n) old new noted i = ap (λ rows. (row_in rows i).disabled) noted
-states-stay (Associated n on) old new noted i = elim (cases_eq i (n - 1)) [
-  | inl e ↦ subst (λ k. (row_in new k).disabled ≡ (row_in old k).disabled) (sym e) (ap (λ (r : OwnerRow). r.disabled) noted.here)
-  | inr ne ↦ ap (λ (r : OwnerRow). r.disabled) (noted.others i ne)
+-- what a mark isn't about stays in the rows
+pub noted-keeps : {A : Type 0} (read : OwnerRow → A) → ((row : OwnerRow) (on : Bool) → read (record row { associated = on }) ≡ read row) → (touch : Touch) (old new : List OwnerRow) → Noted touch old new → (i : ℕ) → read (row_in new i) ≡ read (row_in old i)
+noted-keeps read keeps (Inserted n) old new noted i = ap (λ rows. read (row_in rows i)) noted
+noted-keeps read keeps (Removed n parent) old new noted i = ap (λ rows. read (row_in rows i)) noted
+noted-keeps read keeps (Attr n) old new noted i = ap (λ rows. read (row_in rows i)) noted
+noted-keeps read keeps (Associated n on) old new noted i = elim (cases_eq i (n - 1)) [
+  | inl e ↦ subst (λ k. read (row_in new k) ≡ read (row_in old k)) (sym e) (ap read noted.here ∙ keeps (row_in old (n - 1)) on)
+  | inr ne ↦ ap read (noted.others i ne)
 ]

@@ -1,7 +1,10 @@
 pub mod OwnerRows
+pub mod Attributes
 pub mod Touches
 pub mod Stands
 pub mod Reading
 pub mod Writing
+pub mod Moves
+pub mod Candidates
 pub mod Told
 pub mod Groups

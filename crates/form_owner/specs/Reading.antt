@@ -1,13 +1,11 @@
 -- What is read of one node, beside its row.
-use Rattle.std.specs.Prelude.{ℕ, Bool, if◌then◌else◌, nat_eq, List, [], map, filter}
+use Rattle.std.specs.Prelude.{ℕ, Bool, nat_eq, List, map, filter}
 use Rattle.std.specs.Bool.{beq}
 use Rattle.std.specs.Option.{option_eq}
-use Rattle.element_names.specs.declared.natives.Native.TheVariants.{Form}
 use Rattle.node_trees.specs.Trees.{Trees, is_number}
 use Rattle.node_trees.specs.Paths.{root_at}
 use Rattle.node_trees.specs.Orders.{tree_order_of}
 use Rattle.form_controls.specs.declared.change.Change.{Change}
-use Rattle.form_controls.specs.Kinds.{is_a}
 use Rattle.form_controls.specs.Changes.{where_new, is_change}
 use Rattle.owner_reading.specs.Owners.{owner_with}
 use Rattle.disabled_reading.specs.Disabled.{disabled_with}
@@ -32,7 +30,3 @@ is_owned_in rows form n = is_number (row_of rows n).owner form
 
 abbrev pub owned_in : List OwnerRow → Trees → ℕ → List ℕ
 owned_in rows forest form = filter (is_owned_in rows form) (tree_order_of forest (root_at forest form))
-
--- another node has none
-abbrev pub controls_in : List OwnerRow → Trees → ℕ → List ℕ
-controls_in rows forest n = if is_a Form forest n then owned_in rows forest n else []

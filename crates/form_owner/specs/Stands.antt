@@ -8,6 +8,8 @@ use Rattle.form_controls.specs.Disabled.{is_disabled}
 use Rattle.form_controls.specs.Checkedness.{group_of}
 use Rattle.form_owner.specs.declared.touch.Touch.{Touch}
 use Rattle.form_owner.specs.OwnerRows.{OwnerRow, OwnerRows, row_in}
+use Rattle.id_index.specs.Held.{is_held}
+use Rattle.form_owner.specs.Attributes.{seen_at, is_naming}
 use Rattle.form_owner.specs.Touches.{IsTouched}
 
 -- the rows say who is a form-associated custom element, and those are nodes
@@ -22,6 +24,8 @@ pub record Stands (table : OwnerRows) (f : Forms) : Type 0 where
   pub owner : (i : ℕ) → (row_in table.rows i).owner ≡ form_owner f (i + 1)
   pub disabled : (i : ℕ) → (row_in table.rows i).disabled ≡ is_disabled f (i + 1)
   pub controls : (i : ℕ) → (row_in table.rows i).controls ≡ controls_of f (i + 1)
+  pub seen : (i : ℕ) → (row_in table.rows i).seen ≡ seen_at f.forest (i + 1)
+  pub named : (id : List ℕ) (n : ℕ) → is_held table.named id n ≡ is_naming f.forest id n
 
 -- the table stood for trees that this touch made what they are now
 pub record StoodBefore (table : OwnerRows) (touch : Touch) (now : Trees) : Type 0 where

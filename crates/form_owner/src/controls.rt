@@ -1,14 +1,13 @@
-// The controls of each form.
-ghost use Rattle.std.specs.Prelude.{◌≡◌, ◌<◌, ◌+◌, ◌++◌, ◌∷◌, [], Some, filter, if◌then◌else◌, length, slice_get, IfOk, OnOk};
+// The controls of forms.
+ghost use Rattle.std.specs.Prelude.{◌≡◌, ◌<◌, ◌-◌, ◌++◌, ◌∷◌, [], All, Some, filter, if◌then◌else◌, length, slice_get, IfOk, OnOk};
 ghost use Rattle.node_trees.specs.Nodes.{IsNode, size};
-ghost use Rattle.form_owner.specs.OwnerRows.{row_in};
-ghost use Rattle.form_owner.specs.Reading.{controls_in, is_owned_in, owned_in};
+ghost use Rattle.form_owner.specs.OwnerRows.{row_of};
+ghost use Rattle.form_owner.specs.Reading.{is_owned_in, owned_in};
 ghost use Rattle.form_owner.specs.Writing.{Written, AreListed};
 
-use crate::row::{Row, owner_in};
+use crate::row::{Row, owner_in, place_of};
 use ce_base::{NoMemory, NodeNo, Nodes};
-use element_names::Native;
-use form_kinds::is_a;
+use disabled_reading::node_at;
 use node_arena::Tree;
 use std::alloc::Global;
 
@@ -67,37 +66,31 @@ fn owned(alloc: Global, tree: &Tree, rows: &[Row], form: NodeNo) -> Result<Vec<N
     owned_among(alloc, rows, &order, form)
 }
 
-/// The controls of a node: of a form those that it owns, of another node none.
-fn controls_of(alloc: Global, tree: &Tree, rows: &[Row], n: NodeNo) -> Result<Vec<NodeNo>, NoMemory>
-    requires { IsNode tree.now n }
-    ensures { IfOk result (λ ns. ns.items ≡ controls_in rows.now tree.now n) }
+/// Lists the controls of a form anew.
+fn list_of(alloc: Global, tree: &Tree, rows: &mut [Row], form: NodeNo) -> Result<(), NoMemory>
+    requires node { IsNode tree.now form }
+    requires within { form - 1 < length rows.old }
+    ensures { OnOk result (Written rows.old rows.new (form - 1) (record (row_of rows.old form) { controls = owned_in rows.old tree.now form })) }
 {
-    if is_a(tree, n, Native::Form) {
-        return owned(alloc, tree, rows, n);
-    }
-    Ok(Vec::new(alloc))
-}
-
-/// Lists the controls of the node at a place.
-fn list_at(alloc: Global, tree: &Tree, rows: &mut [Row], place: u64) -> Result<(), NoMemory>
-    requires node { place < size tree.now }
-    requires within { place < length rows.old }
-    ensures { OnOk result (Written rows.old rows.new place (record (row_in rows.old place) { controls = controls_in rows.old tree.now (place + 1) })) }
-{
-    let _count = tree.count();
-    let controls = controls_of(alloc, tree, rows, NodeNo(place + 1))?;
-    let row = &mut rows[place as usize];
+    let controls = owned(alloc, tree, rows, form)?;
+    let row = &mut rows[place_of(form)];
     row.set_controls(controls);
     Ok(())
 }
 
-/// Lists the controls of each node.
-pub(crate) fn list_controls(alloc: Global, tree: &Tree, rows: &mut [Row]) -> Result<(), NoMemory>
-    requires { length rows.old ≡ size tree.now }
-    ensures { OnOk result (AreListed tree.now rows.old rows.new (size tree.now)) }
+/// Lists the controls of these forms anew.
+pub(crate) fn list_controls(
+    alloc: Global,
+    tree: &Tree,
+    rows: &mut [Row],
+    forms: &Nodes,
+) -> Result<(), NoMemory>
+    requires rows { length rows.old ≡ size tree.now }
+    requires nodes { All (IsNode tree.now) forms.now }
+    ensures { OnOk result (AreListed tree.now forms.now rows.old rows.new) }
 {
-    for place in 0..tree.count() {
-        list_at(alloc, tree, rows, place)?;
+    for i in 0..forms.len() {
+        list_of(alloc, tree, rows, node_at(tree, forms, i))?;
     }
     Ok(())
 }

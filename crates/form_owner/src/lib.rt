@@ -2,15 +2,24 @@
 //! sections "Association of controls and forms", "Enabling and disabling form controls: the disabled attribute").
 #![tactic(auto)]
 
+mod candidates;
 mod changes;
+mod control_list;
 mod controls;
 mod group;
+mod involved;
 mod laws;
+mod moving;
+mod reach;
 mod reading;
+mod renewal;
 mod row;
+mod seeing;
+mod seen;
 mod settle;
 mod table;
 mod touch;
+mod writing;
 
 pub use changes::Changes;
 pub use form_controls::Change;

@@ -1,8 +1,14 @@
 // What the table keeps of a node.
-ghost use Rattle.std.specs.Prelude.{◌≡◌, ◌-◌, unwrap_or};
+ghost use Rattle.std.specs.Prelude.{◌≡◌, ◌-◌, filter, unwrap_or, OnOk};
+ghost use Rattle.std.specs.Option.{option_copied};
+ghost use Rattle.tree_laws.specs.Numbers.{insert_number};
+ghost use Rattle.tree_laws.proofs.Counts.{AreApart};
+ghost use Rattle.form_owner.specs.Moves.{is_other};
 ghost use Rattle.form_owner.specs.OwnerRows.{blank_row, row_of};
 
-use ce_base::NodeNo;
+use crate::control_list::{put_in, take_out};
+use crate::seen::Seen;
+use ce_base::{NoMemory, NodeNo};
 use std::alloc::Global;
 use std::marker::Model;
 
@@ -13,6 +19,7 @@ pub(crate) struct Row {
     disabled: bool,
     associated: bool,
     controls: Vec<NodeNo>,
+    seen: Seen,
 }
 
 impl Model for Row {
@@ -20,7 +27,7 @@ impl Model for Row {
 
     ghost Value = { OwnerRow };
 
-    ghost view = { λ r. record { owner = r.owner; disabled = r.disabled; associated = r.associated; controls = r.controls.items } };
+    ghost view = { λ r. record { owner = r.owner; disabled = r.disabled; associated = r.associated; controls = r.controls.items; seen = r.seen } };
 }
 
 impl Row {
@@ -33,6 +40,7 @@ impl Row {
             disabled: false,
             associated: false,
             controls: Vec::new(alloc),
+            seen: Seen::blank(),
         }
     }
 
@@ -60,6 +68,12 @@ impl Row {
         &self.controls
     }
 
+    pub(crate) fn seen(&self) -> &Seen
+        ensures { result.now ≡ self.now.seen }
+    {
+        &self.seen
+    }
+
     pub(crate) fn set_associated(&mut self, on: bool)
         ensures { self.new ≡ record self.old { associated = on } }
     {
@@ -70,6 +84,27 @@ impl Row {
         ensures { self.new ≡ record self.old { controls = controls.items } }
     {
         self.controls = controls;
+    }
+
+    /// Takes a node out of the list.
+    pub(crate) fn take_out(&mut self, n: NodeNo)
+        ensures { self.new ≡ record self.old { controls = filter (is_other n) self.old.controls } }
+    {
+        take_out(&mut self.controls, n);
+    }
+
+    /// Puts a node into the list, before another or at the end.
+    pub(crate) fn put_in(&mut self, n: NodeNo, before: Option<NodeNo>) -> Result<(), NoMemory>
+        requires apart { AreApart self.old.controls }
+        ensures { OnOk result (self.new ≡ record self.old { controls = insert_number before n self.old.controls }) }
+    {
+        put_in(&mut self.controls, n, before)
+    }
+
+    pub(crate) fn set_seen(&mut self, seen: Seen)
+        ensures { self.new ≡ record self.old { seen = seen } }
+    {
+        self.seen = seen;
     }
 
     /// Takes over what is told; the rest stays.
@@ -125,5 +160,35 @@ pub(crate) fn controls_in(rows: &[Row], n: NodeNo) -> &[NodeNo]
     match rows.get(place_of(n)) {
         None => &[],
         Some(row) => row.controls(),
+    }
+}
+
+/// The ID that was last seen of a node.
+pub(crate) fn id_seen_in(rows: &[Row], n: NodeNo) -> Option<&str>
+    ensures { option_copied result ≡ (row_of rows.now n).seen.id }
+{
+    match rows.get(place_of(n)) {
+        None => None,
+        Some(row) => row.seen().id(),
+    }
+}
+
+/// The text of the `form` attribute that was last seen of a node.
+pub(crate) fn form_seen_in(rows: &[Row], n: NodeNo) -> Option<&str>
+    ensures { option_copied result ≡ (row_of rows.now n).seen.form }
+{
+    match rows.get(place_of(n)) {
+        None => None,
+        Some(row) => row.seen().form(),
+    }
+}
+
+/// Whether a node was last seen with the `disabled` attribute.
+pub(crate) fn disabled_seen_in(rows: &[Row], n: NodeNo) -> bool
+    ensures { result ≡ (row_of rows.now n).seen.disabled }
+{
+    match rows.get(place_of(n)) {
+        None => false,
+        Some(row) => row.seen().disabled(),
     }
 }

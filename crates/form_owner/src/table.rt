@@ -12,6 +12,7 @@ use crate::row::{Row, associated_in, controls_in, disabled_in, owner_in};
 use ce_base::NodeNo;
 use element_names::Native;
 use form_kinds::is_a;
+use id_index::IdIndex;
 use node_arena::Tree;
 use owner_reading::is_listed;
 use std::alloc::Global;
@@ -22,6 +23,7 @@ use std::marker::Model;
 #[derive(Drop)]
 pub struct OwnerTable {
     pub(crate) rows: Vec<Row>,
+    pub(crate) named: IdIndex,
 }
 
 impl Model for OwnerTable {
@@ -29,7 +31,12 @@ impl Model for OwnerTable {
 
     ghost Value = { OwnerRows };
 
-    ghost view = { λ t. record { rows = t.rows.items } };
+    ghost use Rattle.id_index.specs.contracts.index.IdIndex as index;
+    ghost use Rattle.std.specs.Coded.{codes};
+
+    ghost coded = { Prim.hlevel (codes, index.the_row.coded) };
+
+    ghost view = { λ t. record { rows = t.rows.items; named = t.named } };
 }
 
 impl OwnerTable {
@@ -39,6 +46,7 @@ impl OwnerTable {
     {
         OwnerTable {
             rows: Vec::new(alloc),
+            named: IdIndex::make(alloc),
         }
     }
 

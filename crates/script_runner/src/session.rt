@@ -15,6 +15,7 @@ ghost use Rattle.script_runner.specs.Script.{is_bad};
 use ce_algorithms::Settings;
 use ce_base::{NoMemory, Sink, Stop};
 use ce_machine::{End, Machine};
+use ce_page::Page;
 use command_words::Options;
 use rule_script::{Line, LineRefused, read_line};
 use std::alloc::Global;
@@ -68,6 +69,13 @@ impl Session {
         ensures { result ≡ self.now.state.fuel }
     {
         self.machine.fuel_left()
+    }
+
+    /// The page as the lines so far have left it.
+    pub fn page(&self) -> &Page
+        ensures { result.now ≡ self.now.state.page }
+    {
+        self.machine.page()
     }
 
     // Passes over a line that says nothing.

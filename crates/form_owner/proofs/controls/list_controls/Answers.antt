@@ -1,5 +1,6 @@
-use Rattle.form_owner.proofs.Rows.{listed-next}
+use Rattle.form_owner.proofs.Listing.{listed-next}
 use Rattle.form_owner.proofs.controls.list_controls.Goals as goal
 
-pub loop-place-preserved : goal.loop-place-preserved
-loop-place-preserved c = listed-next _ _ c.loop-place.invariant.same _ c.loop-place.place _ c.loop-place.invariant.listed c.in_ok-list_at.ensures
+pub loop-i-preserved : goal.loop-i-preserved
+loop-i-preserved c =
+    listed-next c.args.tree.now c.args.forms.now c.loop-i.i c.node_at.result c.node_at.ensures.here c.node_at.ensures.node c.args.rows.now c.loop-i.rows c.list_of.new.rows c.loop-i.invariant c.in_ok-list_of.ensures

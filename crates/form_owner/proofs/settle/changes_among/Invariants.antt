@@ -1,6 +1,0 @@
-use Rattle.std.proofs.Common.{◌≡◌, take}
-use Rattle.form_owner.specs.Reading.{changes_read}
-use Rattle.form_owner.proofs.settle.changes_among.Given as goal
-
-abbrev pub invariant-loop-i : goal.invariant-loop-i
-invariant-loop-i l = l.changes ≡ changes_read l.tree l.rows (take l.i l.candidates)

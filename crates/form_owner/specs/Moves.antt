@@ -1,0 +1,45 @@
+-- Controls that go from list to list.
+use Rattle.std.specs.Prelude.{◌≡◌, ◌<◌, ◌+◌, ℕ, Bool, true, not, ◌&&◌, ◌==◌, List, filter, is_some, Option, Some}
+use Rattle.std.specs.List.{list_any}
+use Rattle.node_trees.specs.Trees.{Trees}
+use Rattle.node_trees.specs.Nodes.{IsNode, size}
+use Rattle.node_trees.specs.Orders.{tree_order_of}
+use Rattle.node_trees.specs.Paths.{is_among, root_at}
+use Rattle.form_controls.specs.declared.change.Change.{Change}
+use Rattle.form_owner.specs.OwnerRows.{OwnerRow, row_in, row_of}
+use Rattle.form_owner.specs.Reading.{is_owned_in}
+use Rattle.form_owner.specs.Writing.{unlisted}
+
+-- a change gives m a new form owner, or takes its owner from it
+abbrev pub is_moving : ℕ → Change → Bool
+is_moving m c = is_some c.owner && c.node == m
+
+abbrev pub is_moved_by : List Change → ℕ → Bool
+is_moved_by cs m = list_any (is_moving m) cs
+
+-- no change moves m
+abbrev pub stays : List Change → ℕ → Bool
+stays cs m = not (is_moved_by cs m)
+
+-- m is another than n
+abbrev pub is_other : ℕ → ℕ → Bool
+is_other n m = not (m == n)
+
+-- m is in the list of a form that owns it
+abbrev pub is_listed_in : List OwnerRow → ℕ → ℕ → Bool
+is_listed_in rows form m = is_owned_in rows form m && is_among m (row_of rows form).controls
+
+-- what a change tells of its node stands in the node's row, and the node stands in the tree of its new form owner
+pub record IsTold (forest : Trees) (rows : List OwnerRow) (c : Change) : Type 0 where
+  pub owner : (o : Option ℕ) → c.owner ≡ Some o → (row_of rows c.node).owner ≡ o
+  pub form : (g : ℕ) → c.owner ≡ Some (Some g) → IsNode forest g
+  pub inside : (g : ℕ) → c.owner ≡ Some (Some g) → is_among c.node (tree_order_of forest (root_at forest g)) ≡ true
+
+-- the form owns m, and no change that is left moves m
+abbrev pub is_settled : List OwnerRow → List Change → ℕ → ℕ → Bool
+is_settled rows cs form m = is_owned_in rows form m && stays cs m
+
+-- each list is of those that its form owns, without those that a change that is left moves
+pub record AreEntered (forest : Trees) (cs : List Change) (old new : List OwnerRow) : Type 0 where
+  pub same : (i : ℕ) → unlisted (row_in new i) ≡ unlisted (row_in old i)
+  pub lists : (i : ℕ) → i < size forest → (row_in new i).controls ≡ filter (is_settled old cs (i + 1)) (tree_order_of forest (root_at forest (i + 1)))

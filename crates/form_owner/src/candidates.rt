@@ -1,0 +1,119 @@
+// Which nodes a touch may change.
+ghost use Rattle.std.specs.Prelude.{◌≡◌, ◌==◌, ◌&&◌, ◌||◌, ℕ, List, All, IfOk, OnOk};
+ghost use Rattle.std.specs.Option.{option_copied};
+ghost use Rattle.element_names.specs.declared.natives.Native.TheVariants.{Fieldset, Legend, Optgroup};
+ghost use Rattle.node_trees.specs.Nodes.{IsNode, IsTidy, size};
+ghost use Rattle.node_trees.specs.Orders.{order_of, tree_order_of};
+ghost use Rattle.node_trees.specs.Paths.{is_among};
+ghost use Rattle.node_trees.specs.Spots.{children_at};
+ghost use Rattle.form_controls.specs.Disabled.{has_disabled};
+ghost use Rattle.form_controls.specs.Kinds.{is_a};
+ghost use Rattle.id_index.specs.Held.{is_held};
+ghost use Rattle.form_owner.specs.Candidates.{Considers, is_concerned, is_named_among, is_named_by};
+ghost use Rattle.form_owner.specs.OwnerRows.{row_of};
+ghost use Rattle.form_owner.specs.Attributes.{seen_at};
+
+use crate::row::{Row, associated_in};
+use ce_base::{NoMemory, NodeNo, Nodes};
+use disabled_reading::node_at;
+use element_names::Native;
+use form_kinds::is_a;
+use id_index::IdIndex;
+use node_arena::Tree;
+use node_set::NodeSet;
+use owner_reading::is_listed;
+
+/// Whether forms are about a node: it is listed, or an option.
+fn is_concerned(tree: &Tree, rows: &[Row], n: NodeNo) -> bool
+    requires { IsNode tree.now n }
+    ensures { result ≡ is_concerned tree.now rows.now n }
+{
+    is_listed(tree, n, associated_in(rows, n)) || is_a(tree, n, Native::OptionItem)
+}
+
+/// Puts a node into a set where forms are about it.
+pub(crate) fn consider(
+    tree: &Tree,
+    rows: &[Row],
+    n: NodeNo,
+    found: &mut NodeSet,
+) -> Result<(), NoMemory>
+    requires { IsNode tree.now n }
+    ensures { OnOk result (Considers tree.now (is_concerned tree.now rows.now) (λ m. n == m) found.old found.new) }
+{
+    if is_concerned(tree, rows, n) {
+        found.add(n)?;
+    }
+    Ok(())
+}
+
+/// The same of each of some nodes.
+pub(crate) fn consider_all(
+    tree: &Tree,
+    rows: &[Row],
+    nodes: &Nodes,
+    found: &mut NodeSet,
+) -> Result<(), NoMemory>
+    requires { All (IsNode tree.now) nodes.now }
+    ensures { OnOk result (Considers tree.now (is_concerned tree.now rows.now) (λ m. is_among m nodes.now) found.old found.new) }
+{
+    for i in 0..nodes.len() {
+        consider(tree, rows, node_at(tree, nodes, i), found)?;
+    }
+    Ok(())
+}
+
+/// The same of what has this number, if there is such a node.
+fn consider_number(
+    tree: &Tree,
+    rows: &[Row],
+    number: u64,
+    found: &mut NodeSet,
+) -> Result<(), NoMemory>
+    ensures { OnOk result (Considers tree.now (is_concerned tree.now rows.now) (λ m. number == m) found.old found.new) }
+{
+    if number >= 1 && number <= tree.count() {
+        consider(tree, rows, NodeNo(number), found)?;
+    }
+    Ok(())
+}
+
+/// The same of those whose `form` attribute was seen to be this text, if there is one.
+pub(crate) fn consider_named(
+    tree: &Tree,
+    rows: &[Row],
+    named: &IdIndex,
+    id: Option<&str>,
+    found: &mut NodeSet,
+) -> Result<(), NoMemory>
+    ensures { OnOk result (Considers tree.now (is_concerned tree.now rows.now) (is_named_by (is_held named.now) (option_copied id.entry)) found.old found.new) }
+{
+    let Some(id) = id else {
+        return Ok(());
+    };
+    let Some(group) = named.group(id) else {
+        return Ok(());
+    };
+    for number in group {
+        consider_number(tree, rows, *number, found)?;
+    }
+    Ok(())
+}
+
+/// The same of those whose `form` attribute was seen to be the ID of one of some nodes.
+pub(crate) fn consider_named_among(
+    tree: &Tree,
+    rows: &[Row],
+    named: &IdIndex,
+    nodes: &Nodes,
+    found: &mut NodeSet,
+) -> Result<(), NoMemory>
+    requires { All (IsNode tree.now) nodes.now }
+    ensures { OnOk result (Considers tree.now (is_concerned tree.now rows.now) (is_named_among tree.now (is_held named.now) nodes.now) found.old found.new) }
+{
+    for i in 0..nodes.len() {
+        let id = tree.attr(node_at(tree, nodes, i), "id");
+        consider_named(tree, rows, named, id, found)?;
+    }
+    Ok(())
+}

@@ -1,0 +1,141 @@
+// Rows that are read off the tree anew.
+ghost use Rattle.std.specs.Prelude.{◌≡◌, ◌<◌, ◌-◌, ◌++◌, ◌∷◌, [], All, ℕ, false, if◌then◌else◌, length, IfOk, OnOk};
+ghost use Rattle.std.specs.List.Sorted.{IsStrictlyIncreasing};
+ghost use Rattle.node_trees.specs.Nodes.{IsNode, IsTidy, size};
+ghost use Rattle.node_trees.specs.Paths.{is_among};
+ghost use Rattle.form_controls.specs.Changes.{is_change, numbers};
+ghost use Rattle.form_controls.specs.declared.change.Change.{Change};
+ghost use Rattle.form_owner.specs.OwnerRows.{row_in, row_of};
+ghost use Rattle.form_owner.specs.Reading.{change_read, changes_read};
+ghost use Rattle.form_owner.specs.Writing.{AreRenewed, ListsStood, Written, with_changes, with_told};
+
+use crate::controls::list_controls;
+use crate::involved::involved;
+use crate::moving::move_each;
+use crate::row::{Row, associated_in, disabled_in, owner_in};
+use crate::writing::write_all;
+use crate::{Change, Changes};
+use ce_base::{NoMemory, NodeNo, Nodes};
+use disabled_reading::{disabled_of, node_at};
+use node_arena::Tree;
+use owner_reading::owner_of;
+use std::alloc::Global;
+
+/// How many changes are few: with more of them a form's list is made anew by a walk of its tree, since each that comes to a
+/// long list shifts what is behind it.
+const FEW: usize = 16;
+
+/// What differs for a node between its row and the tree.
+fn change_at(tree: &Tree, rows: &[Row], n: NodeNo) -> Change
+    requires tidy { IsTidy tree.now }
+    requires node { IsNode tree.now n }
+    ensures { result ≡ change_read tree.now rows.now n }
+{
+    let associated = associated_in(rows, n);
+    let disabled = disabled_of(tree, n, associated);
+    let owner = owner_of(tree, n, associated);
+    let new_owner = if owner_in(rows, n) == owner {
+        None
+    } else {
+        Some(owner)
+    };
+    let new_disabled = if disabled_in(rows, n) == disabled {
+        None
+    } else {
+        Some(disabled)
+    };
+    Change {
+        node: n,
+        owner: new_owner,
+        disabled: new_disabled,
+    }
+}
+
+/// Puts a change behind others, where it says something.
+fn keep(changes: &mut Changes, change: Change) -> Result<(), NoMemory>
+    ensures { OnOk result (changes.new ≡ changes.old ++ (if is_change change then change ∷ [] else [])) }
+{
+    if change.owner.is_some() || change.disabled.is_some() {
+        changes.push(change.node, change.owner, change.disabled)?;
+    }
+    Ok(())
+}
+
+/// What differs for these nodes between their rows and the tree.
+fn changes_among(
+    alloc: Global,
+    tree: &Tree,
+    rows: &[Row],
+    candidates: &Nodes,
+) -> Result<Changes, NoMemory>
+    requires tidy { IsTidy tree.now }
+    requires nodes { All (IsNode tree.now) candidates.now }
+    ensures { IfOk result (λ cs. cs ≡ changes_read tree.now rows.now candidates.now) }
+{
+    let mut changes = Changes::make(alloc);
+    for i in 0..candidates.len() {
+        let n = node_at(tree, candidates, i);
+        let change = change_at(tree, rows, n);
+        keep(&mut changes, change)?;
+    }
+    Ok(changes)
+}
+
+/// Writes what was read into the rows, and lists the controls of each form that gains or loses some anew.
+fn take_over(
+    alloc: Global,
+    tree: &Tree,
+    rows: &mut [Row],
+    changes: &Changes,
+) -> Result<(), NoMemory>
+    requires rows { length rows.old ≡ size tree.now }
+    requires changes { changes.now ≡ changes_read tree.now rows.old (numbers tree.now) }
+    requires lists { ListsStood tree.now rows.old }
+    ensures { OnOk result (AreRenewed tree.now rows.old rows.new) }
+{
+    let _count = tree.count();
+    let forms = involved(alloc, tree, rows, changes)?.list(alloc)?;
+    write_all(rows, changes);
+    list_controls(alloc, tree, rows, &forms)
+}
+
+/// Writes what was read into the rows, with the lists of controls that change: where few nodes change in place, and else
+/// anew.
+fn write_read(
+    alloc: Global,
+    tree: &Tree,
+    rows: &mut [Row],
+    changes: &Changes,
+) -> Result<(), NoMemory>
+    requires rows { length rows.old ≡ size tree.now }
+    requires changes { changes.now ≡ changes_read tree.now rows.old (numbers tree.now) }
+    requires lists { ListsStood tree.now rows.old }
+    ensures { OnOk result (AreRenewed tree.now rows.old rows.new) }
+{
+    if changes.len() <= FEW {
+        return move_each(tree, rows, changes);
+    }
+    take_over(alloc, tree, rows, changes)
+}
+
+/// Reads the rows of these nodes off the tree anew, with the lists of controls that change, and says what has changed.
+pub(crate) fn renew(
+    alloc: Global,
+    tree: &Tree,
+    rows: &mut [Row],
+    candidates: &Nodes,
+) -> Result<Changes, NoMemory>
+    requires rows { length rows.old ≡ size tree.now }
+    requires nodes { All (IsNode tree.now) candidates.now }
+    requires rising { IsStrictlyIncreasing candidates.now }
+    requires covers { (n : ℕ) → IsNode tree.now n → is_among n candidates.now ≡ false → is_change (change_read tree.now rows.old n) ≡ false }
+    requires lists { ListsStood tree.now rows.old }
+    ensures rows { OnOk result (AreRenewed tree.now rows.old rows.new) }
+    ensures changes { IfOk result (λ cs. cs ≡ changes_read tree.now rows.old (numbers tree.now)) }
+    ensures tidy { IsTidy tree.now }
+{
+    let _count = tree.count();
+    let changes = changes_among(alloc, tree, rows, candidates)?;
+    write_read(alloc, tree, rows, &changes)?;
+    Ok(changes)
+}
