@@ -14,4 +14,6 @@ mod script;
 #[cfg(test)]
 mod submissions;
 #[cfg(test)]
+mod tables;
+#[cfg(test)]
 mod worked;

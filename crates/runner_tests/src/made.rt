@@ -24,6 +24,15 @@ fuel used 20007
 end fuel
 ";
 
+// The greatest, with all the fuel that it takes.
+const GREATEST: &str = "made 19999
+script lines 80009
+transcript lines 140000
+calls 39998
+fuel used 199998
+end done
+";
+
 const BY_DEFAULT: &str = "fuel used 20000
 end fuel
 ";
@@ -40,6 +49,13 @@ fn a_script_is_made_and_run(rt: HostRuntime) -> Result<(), Fail> {
     refused(&rt, alloc, "--make 20000")?;
     refused(&rt, alloc, "--make 0")?;
     refused(&rt, alloc, "--trace --make 1")
+}
+
+#[test]
+fn the_greatest_script_is_made_and_run(rt: HostRuntime) -> Result<(), Fail> {
+    let words = "--make 19999 --fuel 199998";
+    ran_with(rt.alloc(), words, b"", 1)?.is(&rt, Status::Done, GREATEST);
+    Ok(())
 }
 
 // Sees that words are refused.

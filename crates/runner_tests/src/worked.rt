@@ -1,6 +1,6 @@
 // Worked scripts with their transcripts, by subject.
-mod associated;
-mod controls;
-mod forms;
+pub(crate) mod associated;
+pub(crate) mod controls;
+pub(crate) mod forms;
 mod reactions;
 mod upgrades;

@@ -3,7 +3,7 @@ use crate::script::comes;
 use std::test::Fail;
 
 // The form owner: the form around an element, or the one that its attribute `form` names, whatever changes which that is.
-const OWNERS: &str = r#"> create $h html
+pub(crate) const OWNERS: &str = r#"> create $h html
 > append doc $h
 > create $f form
 > append $h $f
@@ -54,7 +54,7 @@ const OWNERS: &str = r#"> create $h html
 < 22: ok"#;
 
 // A fieldset disables what it has, but for what its first legend has.
-const DISABLED: &str = r#"> class A
+pub(crate) const DISABLED: &str = r#"> class A
 > associate A
 > has A formDisabled
 > define x-a A

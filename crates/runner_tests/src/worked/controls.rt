@@ -107,7 +107,7 @@ const VALIDITY: &str = r#"> create $f form
 
 // Controls that are invalid block a request for submission; those that are readonly, disabled or below a datalist are barred.
 // A submitter may say that nothing is validated, and must be a submit button.
-const INVALID: &str = r#"> create $h html
+pub(crate) const INVALID: &str = r#"> create $h html
 > append doc $h
 > create $f form
 > append $h $f

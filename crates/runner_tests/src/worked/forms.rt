@@ -3,7 +3,7 @@ use crate::script::comes;
 use std::test::Fail;
 
 // A button sends what was typed, checked and chosen, what a custom element gave its internals, and the button itself.
-const SUBMITTED: &str = r#"> class Rating
+pub(crate) const SUBMITTED: &str = r#"> class Rating
 > associate Rating
 > observe Rating stars
 > on Rating constructor : super

@@ -1,0 +1,151 @@
+// The table of form owners that a page keeps, compared after each line of a script with what is read off its tree anew.
+ghost use Rattle.std.specs.Prelude.{◌≡◌, IfOk};
+ghost use Rattle.node_trees.specs.Nodes.{IsNode, IsTidy};
+
+use crate::script::script_of;
+use crate::worked::associated::{DISABLED, OWNERS};
+use crate::worked::controls::INVALID;
+use crate::worked::forms::SUBMITTED;
+use ce_base::{NodeNo, SureSink};
+use ce_page::Page;
+use command_words::Meaning;
+use disabled_reading::disabled_of;
+use node_arena::Tree;
+use owner_reading::owner_of;
+use script_runner::Session;
+use std::alloc::Global;
+use std::process::Abort;
+use std::test::Fail;
+
+// Moves below and out of forms and fieldsets, and attributes that come and go.
+const MOVES: &str = r#"> class A
+> associate A
+> has A formAssociated
+> has A formDisabled
+> define x-a A
+> create $h html
+> append doc $h
+> create $d div
+> append $h $d
+> create $f form
+> setattr $f id g
+> append $d $f
+> create $e x-a
+> setattr $e form g
+> append $h $e
+> detach $d
+> append $d $e
+> append $f $e
+> append $h $d
+> setattr $f id k
+> delattr $e form
+> create $o fieldset
+> setattr $o disabled ""
+> append $f $o
+> append $o $e
+> detach $f
+> ask owner $e
+> ask disabled $e"#;
+
+// The node of this number.
+fn node(rt: &impl Abort, tree: &Tree, number: u64) -> NodeNo
+    ensures node { IsNode tree.now result }
+    ensures tidy { IsTidy tree.now }
+{
+    assert!(rt; number >= 1 && number <= tree.count());
+    NodeNo(number)
+}
+
+// The form owner of a node, read off the tree.
+fn plain_owner(rt: &impl Abort, page: &Page, number: u64) -> Option<NodeNo> {
+    let n = node(rt, page.tree(), number);
+    owner_of(page.tree(), n, page.is_form_associated(n))
+}
+
+// The controls of a form, by a walk of its tree.
+fn plain_controls(
+    rt: &impl Abort,
+    alloc: Global,
+    page: &Page,
+    form: NodeNo,
+) -> Result<Vec<NodeNo>, Fail> {
+    let tree = page.tree();
+    let form = node(rt, tree, form.0);
+    let order = tree.tree_order(alloc, tree.root(form))?;
+    let mut controls = Vec::new(alloc);
+    for i in 0..order.len() {
+        if let Some(n) = order.get(i) {
+            if plain_owner(rt, page, n.0) == Some(form) {
+                controls.push(n)?;
+            }
+        }
+    }
+    Ok(controls)
+}
+
+// Sees that the table has of a node what is read off the tree.
+fn same_node(
+    rt: &impl Abort,
+    alloc: Global,
+    page: &Page,
+    number: u64,
+    line: &str,
+) -> Result<(), Fail> {
+    let (tree, owners) = (page.tree(), page.owners());
+    let n = node(rt, tree, number);
+    let associated = page.is_form_associated(n);
+    assert_eq!(rt; owners.associated(n), associated, "of {number} at {line}");
+    assert_eq!(rt;
+        owners.owner(n),
+        plain_owner(rt, page, number),
+        "of {number} at {line}"
+    );
+    assert_eq!(rt;
+        owners.disabled(n),
+        disabled_of(tree, n, associated),
+        "of {number} at {line}"
+    );
+    let controls = plain_controls(rt, alloc, page, n)?;
+    assert!(rt; owners.controls(n) == controls.as_slice());
+    Ok(())
+}
+
+fn same_page(rt: &impl Abort, alloc: Global, page: &Page, line: &str) -> Result<(), Fail> {
+    assert!(rt; page.is_settled());
+    for i in 0..page.tree().count() {
+        same_node(rt, alloc, page, i + 1, line)?;
+    }
+    Ok(())
+}
+
+// A session before its first line, without words.
+fn begun(alloc: Global) -> Result<Session, Fail>
+    ensures { IfOk result (λ s. s.line ≡ 0) }
+{
+    match Meaning::of(alloc, &Vec::new(alloc))? {
+        Meaning::Script(options) => Ok(Session::make(alloc, options)?),
+        _ => Err(Fail::from("no script")),
+    }
+}
+
+// Sees it after each line of a script.
+fn stands(rt: &impl Abort, alloc: Global, text: &str) -> Result<(), Fail> {
+    let script = script_of(alloc, text)?;
+    let lines = script.lines().collect::<Vec<&str>>(alloc)?;
+    let mut sink = SureSink::make(alloc);
+    let mut session = begun(alloc)?;
+    for i in 0..lines.len() {
+        let (next, _) = session.line(alloc, lines[i].as_bytes(), &mut sink)?;
+        session = next;
+        same_page(rt, alloc, session.page(), lines[i])?;
+    }
+    Ok(())
+}
+
+#[test]
+fn the_table_is_what_is_read_off_the_tree(rt: HostRuntime) -> Result<(), Fail> {
+    for text in [OWNERS, DISABLED, SUBMITTED, INVALID, MOVES] {
+        stands(&rt, rt.alloc(), text)?;
+    }
+    Ok(())
+}
