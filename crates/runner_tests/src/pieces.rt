@@ -35,3 +35,34 @@ fn odd_lines_are_refused_and_the_next_ones_run(rt: HostRuntime) -> Result<(), Fa
     ran(rt.alloc(), script, 3)?.is(&rt, Status::BadLines, wanted);
     Ok(())
 }
+
+// A line for each cause of a refusal, but that it is too long or no UTF-8.
+const BAD: &str = r#"> create $a
+> frob
+> setattr this k v
+> log x
+> text $t "a\q"
+> text $t "a"b
+> text $t "\u{D800}"
+> on A connected : super
+> text $t a b
+< 1: bad arity
+< 2: bad word
+< 3: bad place
+< 4: bad place
+< 5: bad escape
+< 6: bad quote
+< 7: bad escape
+< 8: bad place
+< 9: bad arity"#;
+
+#[test]
+fn a_bad_line_says_what_is_wrong(rt: HostRuntime) -> Result<(), Fail> {
+    let alloc = rt.alloc();
+    let script = script_of(alloc, BAD)?;
+    let transcript = transcript_of(alloc, BAD)?;
+    ran(alloc, script.as_bytes(), 1)?.is(&rt, Status::BadLines, transcript.as_str());
+    let open = r#"text $t "ab"#;
+    ran(alloc, open.as_bytes(), 1)?.is(&rt, Status::BadLines, "1: bad quote\n");
+    Ok(())
+}

@@ -4,6 +4,7 @@ ghost use Rattle.node_trees.specs.Nodes.{IsNode, IsTidy};
 
 use crate::script::script_of;
 use crate::worked::associated::{DISABLED, OWNERS};
+use crate::worked::bodies::MOVED;
 use crate::worked::controls::INVALID;
 use crate::worked::forms::SUBMITTED;
 use ce_base::{NodeNo, SureSink};
@@ -16,36 +17,6 @@ use script_runner::Session;
 use std::alloc::Global;
 use std::process::Abort;
 use std::test::Fail;
-
-// Moves below and out of forms and fieldsets, and attributes that come and go.
-const MOVES: &str = r#"> class A
-> associate A
-> has A formAssociated
-> has A formDisabled
-> define x-a A
-> create $h html
-> append doc $h
-> create $d div
-> append $h $d
-> create $f form
-> setattr $f id g
-> append $d $f
-> create $e x-a
-> setattr $e form g
-> append $h $e
-> detach $d
-> append $d $e
-> append $f $e
-> append $h $d
-> setattr $f id k
-> delattr $e form
-> create $o fieldset
-> setattr $o disabled ""
-> append $f $o
-> append $o $e
-> detach $f
-> ask owner $e
-> ask disabled $e"#;
 
 // The node of this number.
 fn node(rt: &impl Abort, tree: &Tree, number: u64) -> NodeNo
@@ -144,7 +115,7 @@ fn stands(rt: &impl Abort, alloc: Global, text: &str) -> Result<(), Fail> {
 
 #[test]
 fn the_table_is_what_is_read_off_the_tree(rt: HostRuntime) -> Result<(), Fail> {
-    for text in [OWNERS, DISABLED, SUBMITTED, INVALID, MOVES] {
+    for text in [OWNERS, DISABLED, SUBMITTED, INVALID, MOVED] {
         stands(&rt, rt.alloc(), text)?;
     }
     Ok(())
