@@ -1,3 +1,9 @@
 pub mod PlaceLemmas
 pub mod TrimmedLemmas
 pub mod StackLemmas
+pub mod LinkLemmas
+pub mod PutLemmas
+pub mod TakeLemmas
+pub mod SideLemmas
+pub mod WaitingLemmas
+pub mod CellLemmas

@@ -3,3 +3,4 @@ pub mod Queues
 pub mod Trimmed
 pub mod ElementQueues
 pub mod Changes
+pub mod Chains

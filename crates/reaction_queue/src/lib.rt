@@ -1,7 +1,9 @@
 //! The reactions of custom elements that wait, and the element queues.
 #![tactic(auto)]
 
+mod chain;
 mod element_queue;
+mod laws;
 mod queues;
 mod reaction;
 mod stack;

@@ -101,7 +101,7 @@ impl Queues {
     {
         let number = self.count();
         let queue = self.append(node)?;
-        self.waiting.append(alloc, node, number, r)?;
+        self.waiting.append(node, number, r)?;
         Ok((number, queue))
     }
 

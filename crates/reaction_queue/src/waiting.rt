@@ -1,70 +1,34 @@
 // The reaction queues of all nodes.
-ghost use Rattle.std.specs.Prelude.{◌≡◌, ◌-◌, ◌<◌, ◌++◌, ◌∷◌, [], vec_len, IfNone, MatchOption, OnOk, OnErr};
+ghost use Rattle.std.specs.Prelude.{◌≡◌, ◌-◌, ◌<◌, ◌++◌, ◌∷◌, [], ℕ, None, vec_len, IfNone, MatchOption, OnOk, OnErr};
 ghost use Rattle.reaction_queue.specs.Queues.{list_at, with_list};
-ghost use Rattle.reaction_queue.specs.Trimmed.{trimmed};
+ghost use Rattle.reaction_queue.specs.Chains.{padded};
 
 use crate::Reaction;
+use crate::chain::{Cell, Ends, put_last, take_first};
 use ce_base::{NoMemory, NodeNo, ReactionNo};
+use slab::Slab;
 use std::alloc::Global;
-use std::collections::VecDeque;
 use std::marker::Model;
 
-/// The reaction queue of one node: the reactions with their numbers, the oldest first.
-#[derive(Drop)]
-struct ReactionQueue {
-    reactions: VecDeque<(ReactionNo, Reaction)>,
-}
-
-impl Model for ReactionQueue {
-    ghost use Rattle.std.specs.Prelude.{ℕ, List};
-    ghost use Rattle.reaction_queue.specs.declared.reaction.Reaction.{Reaction};
-
-    ghost Value = { List (ℕ × Reaction) };
-
-    ghost view = { λ q. q.reactions.items };
-}
-
-impl ReactionQueue {
-    /// A queue without reactions.
-    fn make(alloc: Global) -> ReactionQueue
-        ensures { result ≡ [] }
-    {
-        ReactionQueue {
-            reactions: VecDeque::new(alloc),
-        }
-    }
-
-    /// Appends a reaction.
-    fn append(&mut self, number: ReactionNo, r: Reaction) -> Result<(), NoMemory>
-        ensures ok { OnOk result (self.new ≡ self.old ++ (number, r) ∷ []) }
-        ensures err { OnErr result (self.new ≡ self.old) }
-    {
-        self.reactions.push_back((number, r))?;
-        Ok(())
-    }
-
-    /// Takes the first reaction. None exactly where none waits.
-    fn take(&mut self) -> Option<(ReactionNo, Reaction)>
-        ensures { MatchOption result ((self.old ≡ []) × (self.new ≡ [])) (λ w. self.old ≡ w ∷ self.new) }
-    {
-        self.reactions.pop_front()
-    }
-}
-
-/// The reaction queues of all nodes, that of node 1 first. A contract sees them as far as reactions wait.
+/// The reaction queues of all nodes, as chains of cells of one slab; the ends of the chain of node 1 stand first. A
+/// contract sees them as far as reactions wait.
 #[derive(Drop)]
 pub(crate) struct Waiting {
-    queues: Vec<ReactionQueue>,
+    cells: Slab<Cell>,
+    ends: Vec<Option<Ends>>,
 }
 
 impl Model for Waiting {
-    ghost use Rattle.std.specs.Prelude.{ℕ, List};
+    ghost use Rattle.std.specs.Prelude.{ℕ, List, map};
     ghost use Rattle.reaction_queue.specs.declared.reaction.Reaction.{Reaction};
     ghost use Rattle.reaction_queue.specs.Trimmed.{trimmed};
+    ghost use Rattle.reaction_queue.specs.Chains.{AreChains, links_of, waiting_in};
 
     ghost Value = { List (List (ℕ × Reaction)) };
 
-    ghost view = { λ w. trimmed w.queues.items };
+    ghost view = { λ w. trimmed (map waiting_in (links_of w.cells w.ends.items)) };
+
+    ghost invariant = { λ w. AreChains w.cells w.ends.items (links_of w.cells w.ends.items) };
 }
 
 impl Waiting {
@@ -73,14 +37,14 @@ impl Waiting {
         ensures { result ≡ [] }
     {
         Waiting {
-            queues: Vec::new(alloc),
+            cells: Slab::new(alloc),
+            ends: Vec::new(alloc),
         }
     }
 
     /// Appends a reaction to a node's reaction queue.
     pub(crate) fn append(
         &mut self,
-        alloc: Global,
         node: NodeNo,
         number: ReactionNo,
         r: Reaction,
@@ -89,9 +53,9 @@ impl Waiting {
         ensures err { OnErr result (self.new ≡ self.old) }
     {
         let i = place_of(node);
-        grow(alloc, &mut self.queues, i)?;
-        let q = &mut self.queues[i];
-        q.append(number, r)?;
+        grow(&mut self.ends, i)?;
+        let ends = put_last(&mut self.cells, i, self.ends[i], number, r)?;
+        self.ends[i] = Some(ends);
         Ok(())
     }
 
@@ -102,28 +66,32 @@ impl Waiting {
         ensures empty { IfNone result (with_list (node - 1) [] self.old ≡ self.old) }
     {
         let i = place_of(node);
-        if i >= self.queues.len() {
+        if i >= self.ends.len() {
             return None;
         }
-        let q = &mut self.queues[i];
-        q.take()
+        let Some(ends) = self.ends[i] else {
+            return None;
+        };
+        let (first, rest) = take_first(&mut self.cells, ends);
+        self.ends[i] = rest;
+        Some(first)
     }
 }
 
-// The place of a node's reaction queue.
+// The place of a node among the ends.
 fn place_of(node: NodeNo) -> usize
     ensures { result ≡ node - 1 }
 {
     node.0.saturating_sub(1) as usize
 }
 
-// Adds empty queues until there is one in the place.
-fn grow(alloc: Global, queues: &mut Vec<ReactionQueue>, place: usize) -> Result<(), NoMemory>
-    ensures within { OnOk result (place < vec_len queues.new) }
-    ensures waiting { trimmed queues.new.items ≡ trimmed queues.old.items }
+// Adds ends of empty chains until there are some in the place.
+fn grow(ends: &mut Vec<Option<Ends>>, place: usize) -> Result<(), NoMemory>
+    ensures within { OnOk result (place < vec_len ends.new) }
+    ensures empty { (n : ℕ) × (ends.new.items ≡ padded None ends.old.items n) }
 {
-    while queues.len() <= place {
-        queues.push(ReactionQueue::make(alloc))?;
+    while ends.len() <= place {
+        ends.push(None)?;
     }
     Ok(())
 }

@@ -1,8 +1,6 @@
-use Rattle.std.proofs.Common.{◌∷◌, [], ◌++◌, ap, ◌∙◌}
-use Rattle.reaction_queue.specs.Trimmed.{trimmed}
-use Rattle.reaction_queue.proofs.TrimmedLemmas.{trimmed-push}
+use Rattle.std.proofs.Common.{◌++◌, ◌∷◌, [], ap, ◌∙◌, None, suc}
 use Rattle.reaction_queue.proofs.waiting.grow.Goals as goal
 
-pub loop-alloc-preserved : goal.loop-alloc-preserved
-loop-alloc-preserved c =
-    ap trimmed (c.in_ok-push.ensures.items ∙ ap (λ l. c.loop-alloc.queues.items ++ l ∷ []) c.make.ensures) ∙ trimmed-push c.loop-alloc.queues.items ∙ c.loop-alloc.invariant
+pub loop-ends-preserved : goal.loop-ends-preserved
+loop-ends-preserved c =
+    (suc c.loop-ends.invariant.0, c.in_ok-push.ensures.items ∙ ap (λ ends. ends ++ None ∷ []) c.loop-ends.invariant.1)

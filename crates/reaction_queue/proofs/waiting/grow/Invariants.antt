@@ -1,9 +1,9 @@
-use Rattle.std.proofs.Common.{◌≡◌, ◌+◌, ◌-◌, vec_len}
-use Rattle.reaction_queue.specs.Trimmed.{trimmed}
+use Rattle.std.proofs.Common.{◌≡◌, ◌+◌, ◌-◌, ℕ, vec_len, None}
+use Rattle.reaction_queue.specs.Chains.{padded}
 use Rattle.reaction_queue.proofs.waiting.grow.Given as goal
 
-abbrev pub invariant-loop-alloc : goal.invariant-loop-alloc
-invariant-loop-alloc l = trimmed l.queues.items ≡ trimmed l.fn.queues.items
+abbrev pub invariant-loop-ends : goal.invariant-loop-ends
+invariant-loop-ends l = (n : ℕ) × (l.ends.items ≡ padded None l.fn.ends.items n)
 
-abbrev pub decreases-loop-alloc : goal.decreases-loop-alloc
-decreases-loop-alloc l = l.place + 1 - vec_len l.queues
+abbrev pub decreases-loop-ends : goal.decreases-loop-ends
+decreases-loop-ends l = l.place + 1 - vec_len l.ends
