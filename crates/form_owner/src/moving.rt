@@ -106,7 +106,7 @@ fn put_into(
     Ok(())
 }
 
-/// Puts a node into a form's list, where it stands in tree order.
+/// Puts a node into a form's list, where it stands in tree order. Into a list of none it is put without a look at the tree.
 fn enter(tree: &Tree, rows: &mut [Row], form: NodeNo, n: NodeNo) -> Result<(), NoMemory>
     requires form { IsNode tree.now form }
     requires within { form - 1 < length rows.old }
@@ -115,6 +115,9 @@ fn enter(tree: &Tree, rows: &mut [Row], form: NodeNo, n: NodeNo) -> Result<(), N
     ensures { OnOk result (Written rows.old rows.new (form - 1) (record (row_of rows.old form) { controls = insert_number (find (is_listed_in rows.old form) (all_after n (tree_order_of tree.now (root_at tree.now form)))) n (row_of rows.old form).controls })) }
 {
     let _count = tree.count();
+    if controls_in(rows, form).is_empty() {
+        return put_into(rows, form, n, None);
+    }
     let before = listed_behind(rows, tree, form, tree.root(form), n);
     put_into(rows, form, n, before)
 }
