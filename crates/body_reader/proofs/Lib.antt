@@ -1,0 +1,10 @@
+pub mod SplitLaws
+pub mod UrlLaws
+pub mod TextLaws
+pub mod WrittenUrl
+pub mod PlainLaws
+pub mod WrittenPlain
+pub mod TextCuts
+pub mod PartCuts
+pub mod MultiLaws
+pub mod WrittenMulti
