@@ -15,3 +15,8 @@ pub record FailingStore : Type 0 where
   pub fails : List ℕ
   pub calls : ℕ
   pub failures : ℕ
+
+-- what a sink holds that takes at most so many bytes a call
+pub record ShortStore : Type 0 where
+  pub store : FailingStore
+  pub cut : ℕ

@@ -5,3 +5,4 @@ pub mod Outside
 pub mod Standard
 pub mod Sure
 pub mod Texts
+pub mod Whole

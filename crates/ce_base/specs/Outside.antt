@@ -57,3 +57,14 @@ IsPrefix part whole = (more : List ℕ) × (part ++ more ≡ whole)
 -- some front of these bytes was put behind those that the sink held
 abbrev pub AppendsPart : Option (List ℕ) → Option (List ℕ) → List ℕ → Type 0
 AppendsPart old new bytes = (part : List ℕ) × IsPrefix part bytes × Appends old new part
+
+-- bytes came, and how many: at least one, and no more than there is room for
+abbrev pub IsSomeBytes : Got → ℕ → Type 0
+IsSomeBytes (Bytes n) room = (0 < n) × (n ≤ room)
+IsSomeBytes End room = ⊤
+IsSomeBytes Failed room = ⊤
+
+abbrev pub is_end : Got → Bool
+is_end (Bytes n) = false
+is_end End = true
+is_end Failed = false

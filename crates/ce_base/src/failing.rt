@@ -1,49 +1,14 @@
 // A source and a sink in memory that fail at the calls whose numbers they are given.
-ghost use Rattle.std.specs.Prelude.{◌≡◌, ◌≢◌, ◌≤◌, ◌<◌, ◌↔◌, ◌⊎◌, Some, [], false, true, length, IsTrue, MatchBool, Contains};
+ghost use Rattle.std.specs.Prelude.{◌≡◌, ◌≢◌, ◌≤◌, ◌<◌, ◌↔◌, ◌⊎◌, Some, [], false, true, length, Contains};
 ghost use Rattle.std.specs.Io.KnownBytes.{Consumes, Appends, IsAtEnd};
 ghost use Rattle.ce_base.specs.Faults.{Rose, next_count};
 ghost use Rattle.ce_base.specs.Outside.{bytes_got, IsWithin, gave_end, faults_got, bytes_put, TakesSome, faults_put};
 ghost use Rattle.ce_base.specs.Sure.{sure_got};
 
+use crate::calls::Calls;
 use crate::{Got, Put, Sink, Source, SureSink, SureSource};
 use std::alloc::Global;
 use std::marker::Model;
-
-// The calls that fail, how many calls there were, and how many of those failed.
-#[derive(Drop)]
-struct Calls {
-    fails: Vec<u64>,
-    made: u64,
-    failures: u64,
-}
-
-impl Calls {
-    fn make(fails: Vec<u64>) -> Calls
-        ensures { result ≡ record { fails = fails; made = 0; failures = 0 } }
-    {
-        Calls {
-            fails,
-            made: 0,
-            failures: 0,
-        }
-    }
-
-    // Counts one more call, and says whether it fails.
-    fn next_fails(&mut self) -> bool
-        ensures number { self.new.made ≡ next_count self.old.made }
-        ensures fails { IsTrue result ↔ Contains self.old.fails.items self.new.made }
-        ensures count { MatchBool result (self.new.failures ≡ next_count self.old.failures) (self.new.failures ≡ self.old.failures) }
-        ensures later { self.old.failures ≤ self.new.failures }
-        ensures list { self.new.fails ≡ self.old.fails }
-    {
-        self.made = self.made.saturating_add(1);
-        let fails = self.fails.contains(&self.made);
-        if fails {
-            self.failures = self.failures.saturating_add(1);
-        }
-        fails
-    }
-}
 
 /// A source over bytes in memory that gives at most `cut` bytes a call, and fails at exactly the calls
 /// whose numbers, from 1, are in its list.

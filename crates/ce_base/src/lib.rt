@@ -2,7 +2,9 @@
 #![tactic(auto)]
 
 mod bytes;
+mod calls;
 mod custom_state;
+mod endless;
 mod entries;
 mod failing;
 mod fault;
@@ -14,14 +16,17 @@ mod nodes;
 mod numbers;
 mod outside;
 mod pending;
+mod short;
 mod standard;
 mod stop;
 mod sure;
 mod text;
 mod texts;
+mod whole;
 
 pub use bytes::Bytes;
 pub use custom_state::CustomState;
+pub use endless::EndlessSource;
 pub use entries::{Entries, Entry};
 pub use failing::{MemSink, MemSource};
 pub use fault::{Fault, Refused};
@@ -33,8 +38,10 @@ pub use nodes::Nodes;
 pub use numbers::{ClassNo, DefNo, NodeNo, QueueNo, ReactionNo};
 pub use outside::{Got, Put, Sink, Source, write_all};
 pub use pending::Pending;
+pub use short::ShortSink;
 pub use standard::{StdSink, StdSource};
 pub use stop::Stop;
 pub use sure::{SureSink, SureSource};
 pub use text::Text;
 pub use texts::Texts;
+pub use whole::{Read, ask, make_buffer, read_all};

@@ -22,7 +22,8 @@ use Rattle.script_runner.specs.Making.{MadeMeets, made, made_summary}
 use Rattle.script_runner.specs.Ran.{Answered, answers, fresh}
 use Rattle.script_runner.specs.Sitting.{Sitting}
 use Rattle.script_runner.specs.Script.{readings, settings}
-use Rattle.script_runner.specs.Table.{limit, piece, counted, spends_all, logged, transcript, Row, TakesOnlyNeeded, RunMeets, status_at, status_of_stop}
+use Rattle.ce_base.specs.Whole.{piece}
+use Rattle.script_runner.specs.Table.{limit, counted, spends_all, logged, transcript, Row, TakesOnlyNeeded, RunMeets, status_at, status_of_stop}
 use Rattle.script_runner.specs.declared.status.Status.{Status}
 use Rattle.script_runner.specs.declared.status.Status.TheVariants.{Done, BadLines, Usage, Fuel, NoMemory, ReadFault, TooLong}
 use Rattle.command_words.specs.declared.words.Options.{Options}

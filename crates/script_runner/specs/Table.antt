@@ -4,10 +4,9 @@ use Rattle.std.specs.Io.KnownBytes.{Consumes, Appends, IsAtEnd}
 use Rattle.std.specs.declared.option.Option.{Option}
 use Rattle.ce_base.specs.Faults.{Rose}
 use Rattle.ce_base.specs.Outside.{IsPrefix}
+use Rattle.ce_base.specs.Whole.{piece}
 use Rattle.ce_base.specs.declared.stop.Stop.{Stop}
 use Rattle.ce_base.specs.declared.stop.Stop.TheVariants.{NoMemory as StopMemory, WriteFault as StopWrite}
-use Rattle.ce_base.specs.declared.outside.Got.{Got}
-use Rattle.ce_base.specs.declared.outside.Got.TheVariants.{Bytes, End as GotEnd, Failed}
 use Rattle.ce_events.specs.declared.event.Event.{Event}
 use Rattle.ce_algorithms.specs.Lines.{whole_lines, lines_of}
 use Rattle.ce_algorithms.specs.Steps.{is_spent}
@@ -27,10 +26,6 @@ use Rattle.command_words.specs.declared.words.Meaning.TheVariants.{Refused, Scri
 -- how many bytes a script may have
 abbrev pub limit : ℕ
 limit = 16777216
-
--- how many bytes are asked for at a time
-abbrev pub piece : ℕ
-piece = 65536
 
 -- the number of each status
 abbrev pub number_of : Status → ℕ
@@ -142,14 +137,3 @@ status_of_stop StopWrite = WriteFault
 abbrev pub status_of : Result Status Stop → Status
 status_of (Ok status) = status
 status_of (Err stop) = status_of_stop stop
-
--- bytes came, and how many: at least one, and no more than there is room for
-abbrev pub IsSomeBytes : Got → ℕ → Type 0
-IsSomeBytes (Bytes n) room = (0 < n) × (n ≤ room)
-IsSomeBytes GotEnd room = Unit {0}
-IsSomeBytes Failed room = Unit {0}
-
-abbrev pub is_end : Got → Bool
-is_end (Bytes n) = false
-is_end GotEnd = true
-is_end Failed = false

@@ -2,7 +2,6 @@
 #![tactic(auto)]
 
 mod answers;
-mod ask;
 mod blank;
 mod lines;
 mod made;

@@ -1,19 +1,16 @@
 // A script that comes in pieces: each is run before the next is asked for.
-ghost use Rattle.std.specs.Prelude.{◌≡◌, ◌≤◌, ◌<◌, length, IfOk, vec_len};
+ghost use Rattle.std.specs.Prelude.{◌≡◌, ◌≤◌, ◌<◌, length};
+ghost use Rattle.ce_base.specs.Whole.{piece};
 ghost use Rattle.command_words.specs.declared.words.Meaning.TheVariants.{Script};
-ghost use Rattle.script_runner.specs.Table.{RunMeets, piece, status_of};
+ghost use Rattle.script_runner.specs.Table.{RunMeets, status_of};
 
 use crate::answers::{finish, take_piece};
-use crate::ask::ask;
 use crate::{Session, Status};
-use ce_base::{Got, NoMemory, Sink, Source, Stop};
+use ce_base::{Got, Sink, Source, Stop, ask, make_buffer};
 use ce_machine::End;
 use command_words::Options;
 use line_feed::Feed;
 use std::alloc::Global;
-
-// How many bytes are asked for at a time.
-const BUFFER: usize = 65_536;
 
 // How many bytes a script may have.
 const LIMIT: usize = 16_777_216;
@@ -36,12 +33,6 @@ pub fn run_script<S: Source, K: Sink>(
 {
     let mut buffer = make_buffer(alloc)?;
     run_pieces(alloc, options, &mut buffer, source, sink)
-}
-
-fn make_buffer(alloc: Global) -> Result<Vec<u8>, NoMemory>
-    ensures { IfOk result (λ buffer. vec_len buffer ≡ piece) }
-{
-    Ok(vec![in alloc; 0u8; BUFFER]?)
 }
 
 // Asks for a piece after the other, and runs each before it asks again.

@@ -1,7 +1,8 @@
 use Rattle.std.proofs.Common.{◌≡◌, ◌≤◌, ◌-◌, ◌∙◌, ap, take, length, length-take-le, arith, Err, refl}
 use Rattle.std.proofs.lemmas.Result.{err_from_is_err_and}
 use Rattle.ce_base.proofs.Counts.{no_bytes_where_it_rose, unrisen}
-use Rattle.script_runner.specs.Table.{limit, piece}
+use Rattle.ce_base.specs.Whole.{piece}
+use Rattle.script_runner.specs.Table.{limit}
 use Rattle.script_runner.proofs.PieceLaws.{streamed_first, streamed_piece, within_limit}
 use Rattle.script_runner.proofs.ExitLaws.{meets_read_fault, meets_end, meets_end_stop, meets_stop, meets_fuel, meets_too_long, rose_since}
 use Rattle.script_runner.proofs.pieces.run_pieces.Goals as goal
