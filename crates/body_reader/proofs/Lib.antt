@@ -8,3 +8,7 @@ pub mod TextCuts
 pub mod PartCuts
 pub mod MultiLaws
 pub mod WrittenMulti
+pub mod ListingLaws
+pub mod GatheredLaws
+pub mod RunLaws
+pub mod AskedLaws
