@@ -11,4 +11,3 @@ pub mod WrittenMulti
 pub mod ListingLaws
 pub mod GatheredLaws
 pub mod RunLaws
-pub mod AskedLaws

@@ -1,5 +1,5 @@
 -- The parts of a multipart body, one by one.
-use Rattle.std.proofs.Common.{◌≡◌, ◌<◌, ℕ, ◌+◌, ◌-◌, suc, zero, true, false, cond, List, [], length, Option, Some, None, Err, refl, sym, ap, ◌∙◌, arith}
+use Rattle.std.proofs.Common.{◌≡◌, ◌<◌, ℕ, ◌+◌, ◌-◌, suc, zero, true, false, cond, List, [], ◌∷◌, ◌++◌, append_assoc, length, Option, Some, None, Err, refl, sym, ap, ◌∙◌, arith}
 use Rattle.ce_base.specs.declared.entries.Entry.{Entry}
 use Rattle.body_reader.specs.declared.refused.BodyRefused.{BodyRefused}
 use Rattle.body_reader.specs.declared.refused.BodyRefused.TheVariants.{NotABody, NoMemory}
@@ -33,3 +33,12 @@ pub part_stopped : (e : BodyRefused) (most i : ℕ) (old new : List Entry) (boun
 part_stopped NotABody most i old new boundary rest bytes small same end none =
     sym same ∙ ap (with_front old) (tail_more most i boundary rest small end ∙ ap (λ (o : Option (Entry × List ℕ)). then_parts o (read_tail (most - (i + 1)) boundary)) none)
 part_stopped NoMemory most i old new boundary rest bytes small same end none = tt
+
+with_front-one : (old : List Entry) (e : Entry) (o : Option (List Entry)) → with_front old (with_front (e ∷ []) o) ≡ with_front (old ++ e ∷ []) o
+with_front-one old e None = refl
+with_front-one old e (Some rest) = ap Some (sym (append_assoc old (e ∷ []) rest))
+
+-- the entry of a part was put behind the old ones
+pub part_added : (old new : List Entry) (e : Entry) (boundary bytes rest : List ℕ) (more : List ℕ → Option (List Entry)) → read_part boundary bytes ≡ Some (e, rest) → new ≡ old ++ e ∷ []
+    → with_front old (then_parts (read_part boundary bytes) more) ≡ with_front new (more rest)
+part_added old new e boundary bytes rest more is put = rw (is, put) (with_front-one old e (more rest))

@@ -1,18 +1,15 @@
 -- What a run has done at each of its ends.
-use Rattle.std.proofs.Common.{◌≡◌, ◌≤◌, ◌<◌, ℕ, Bool, true, List, [], ◌++◌, length, Option, Some, None, Result, Ok, Err, refl, sym, ap, subst, ◌∙◌, append-nil, arith, length-append, inl, inr}
+use Rattle.std.proofs.Common.{◌≡◌, ◌≤◌, ℕ, Bool, List, [], ◌++◌, length, Option, Some, None, Result, Ok, Err, refl, sym, ap, subst, ◌∙◌, append-nil, arith, length-append, inl, inr}
 use Rattle.std.proofs.KnownBytes.{Appends-nil, Consumes-nil}
-use Rattle.std.specs.Prelude.{◌⊎◌, IsErrOf, OnErr, OnOk}
+use Rattle.std.specs.Prelude.{IsErrOf, OnErr, OnOk}
 use Rattle.std.specs.Io.KnownBytes.{Appends, Consumes, IsAtEnd}
 use Rattle.ce_base.specs.Faults.{Rose}
 use Rattle.ce_base.specs.Outside.{AppendsPart, IsPrefix}
-use Rattle.ce_base.specs.Whole.{ReadMeets}
 use Rattle.ce_base.specs.declared.entries.Entry.{Entry}
-use Rattle.ce_base.specs.declared.memory.NoMemory.{NoMemory as no_memory}
 use Rattle.ce_base.specs.declared.stop.Stop.{Stop}
 use Rattle.ce_base.specs.declared.stop.Stop.TheVariants.{NoMemory as StopMemory, WriteFault as StopWrite}
-use Rattle.ce_base.specs.declared.whole.Read.TheVariants.{Whole, Failed as ReadFailed, TooLong as ReadTooLong}
 use Rattle.body_reader.specs.Listing.{listing, refused_line}
-use Rattle.body_reader.specs.Table.{AnswerMeets, AnswerRow, Call, IsAsSaid, IsBody, IsFront, IsListed, IsRefused, ReadsAll, Row, RunMeets, RunsWhole, limit, status_after}
+use Rattle.body_reader.specs.Table.{AnswerMeets, AnswerRow, Call, IsAsSaid, IsBody, IsFront, IsListed, IsRefused, Row, RunMeets, RunsWhole, limit, status_after}
 use Rattle.body_reader.specs.declared.body_type.BodyType.{BodyType}
 use Rattle.body_reader.specs.declared.status.ReadStatus.{ReadStatus}
 use Rattle.body_reader.specs.declared.status.ReadStatus.TheVariants.{Done, Refused, Usage, ReadFault, WriteFault, NoMemory, TooLong}
@@ -38,42 +35,6 @@ pub refused_after : (t : BodyType) (bytes : List ℕ) (r : Result (Unit {0}) Sto
     → AnswerMeets t bytes (status_after r Refused) held held' before now
 refused_after t bytes r held held' before now none = written_after t bytes refused_line Refused r held held' before now (none, refl) (λ part front. (refused_line, inr (none, refl), front))
 
-pub nothing_answered : (t : BodyType) (bytes : List ℕ) (held : Option (List ℕ)) (before now : ℕ) → AnswerMeets t bytes NoMemory held held before now
-nothing_answered t bytes held before now = record { written = []; wrote = Appends-nil held; row = inl refl }
-
--- ---- the source was read
-
-row_of : (t : BodyType) (status : ReadStatus) (call : Call) → ReadsAll call → AnswerRow status t call.taken call.written call.sink_before call.sink_now → Row status t call
-row_of t Done call all row = (all, row)
-row_of t Refused call all row = (all, row)
-row_of t Usage call all row = row
-row_of t ReadFault call all row = absurd row
-row_of t WriteFault call all row = (all, row.0, row.1)
-row_of t NoMemory call all (inl none) = (all.2, inl none)
-row_of t NoMemory call all (inr front) = (all.2, inr (all, front))
-row_of t TooLong call all row = absurd row
-
-pub meets_whole : (t : BodyType) (status : ReadStatus) (bytes : List ℕ) (left left' held held' : Option (List ℕ)) (ended : Bool) (sb sn kb kn : ℕ)
-    → ReadMeets limit (Ok (Whole bytes)) left left' ended sb sn → AnswerMeets t bytes status held held' kb kn → RunMeets (Some t) status left left' held held' ended sb sn kb kn
-meets_whole t status bytes left left' held held' ended sb sn kb kn read answer =
-    let call : Call = record { taken = read.taken; written = answer.written; ended = ended; left = left'; source_before = sb; source_now = sn; sink_before = kb; sink_now = kn } in
-    record {
-      taken = read.taken;
-      written = answer.written;
-      took = read.took;
-      wrote = answer.wrote;
-      as_said = row_of t status call (read.row.1, read.row.2, read.row.3) (subst (λ (l : List ℕ). AnswerRow status t l answer.written kb kn) read.row.0 answer.row);
-    }
-
-pub meets_failed : (t : BodyType) (left left' held : Option (List ℕ)) (ended : Bool) (sb sn kb kn : ℕ) → ReadMeets limit (Ok ReadFailed) left left' ended sb sn → RunMeets (Some t) ReadFault left left' held held ended sb sn kb kn
-meets_failed t left left' held ended sb sn kb kn read = record { taken = read.taken; written = []; took = read.took; wrote = Appends-nil held; as_said = (read.row.0, read.row.1, refl) }
-
-pub meets_too_long : (t : BodyType) (left left' held : Option (List ℕ)) (ended : Bool) (sb sn kb kn : ℕ) → ReadMeets limit (Ok ReadTooLong) left left' ended sb sn → RunMeets (Some t) TooLong left left' held held ended sb sn kb kn
-meets_too_long t left left' held ended sb sn kb kn read = record { taken = read.taken; written = []; took = read.took; wrote = Appends-nil held; as_said = (read.row, refl) }
-
-pub meets_no_memory : (t : BodyType) (e : no_memory) (left left' held : Option (List ℕ)) (ended : Bool) (sb sn kb kn : ℕ) → ReadMeets limit (Err e) left left' ended sb sn → RunMeets (Some t) NoMemory left left' held held ended sb sn kb kn
-meets_no_memory t e left left' held ended sb sn kb kn read = record { taken = read.taken; written = []; took = read.took; wrote = Appends-nil held; as_said = (read.row, inl refl) }
-
 -- ---- nothing was read
 
 pub meets_usage : (left held : Option (List ℕ)) (ended : Bool) (sb sn kb kn : ℕ) → RunMeets None Usage left left held held ended sb sn kb kn
@@ -83,10 +44,6 @@ meets_usage left held ended sb sn kb kn = record { taken = []; written = []; too
 pub meets_unread : (said : Option BodyType) (left held : Option (List ℕ)) (ended : Bool) (sb sn kb kn : ℕ) → (said ≡ None → ⊥) → RunMeets said NoMemory left left held held ended sb sn kb kn
 meets_unread None left held ended sb sn kb kn some = absurd (some refl)
 meets_unread (Some t) left held ended sb sn kb kn some = record { taken = []; written = []; took = Consumes-nil left; wrote = Appends-nil held; as_said = (omega arith, inl refl) }
-
--- a body of some type was asked for, so the words were not refused
-pub not_usage : (t : BodyType) (status : ReadStatus) (left left' held held' : Option (List ℕ)) (ended : Bool) (sb sn kb kn : ℕ) → RunMeets (Some t) status left left' held held' ended sb sn kb kn → status ≡ Usage → ⊥
-not_usage t status left left' held held' ended sb sn kb kn meets is = subst (λ (s : ReadStatus). Row s t (record { taken = meets.taken; written = meets.written; ended = ended; left = left'; source_before = sb; source_now = sn; sink_before = kb; sink_now = kn })) is meets.as_said
 
 -- ---- a run that nothing disturbed
 
