@@ -1,6 +1,5 @@
 pub mod SplitLaws
 pub mod UrlLaws
-pub mod TextLaws
 pub mod WrittenUrl
 pub mod PlainLaws
 pub mod WrittenPlain
@@ -11,3 +10,6 @@ pub mod WrittenMulti
 pub mod ListingLaws
 pub mod GatheredLaws
 pub mod RunLaws
+pub mod FrontLaws
+pub mod FirstCuts
+pub mod PartLaws

@@ -9,6 +9,7 @@ use Rattle.std.proofs.lemmas.List.Elements.{All-from_recursion, recursion_from_A
 use Rattle.std.proofs.lemmas.List.Splits.{join_with_byte-slice_split}
 use Rattle.std.proofs.lemmas.Str.{IsUtf8-append, IsUtf8-nil, IsUtf8-take, IsUtf8-drop, IsCharBoundary-before_ascii, IsCharBoundary-after_ascii, is_utf8-from_IsUtf8}
 use Rattle.ce_base.specs.declared.entries.Entry.{Entry}
+use Rattle.form_submission.proofs.Characters.{IsUtf8-ascii}
 use Rattle.body_reader.specs.declared.refused.BodyRefused.{BodyRefused}
 use Rattle.body_reader.specs.declared.refused.BodyRefused.TheVariants.{NotABody, NoMemory}
 use Rattle.body_reader.specs.Bodies.{HasNo, IsPlain, line, PlainText}
@@ -18,7 +19,6 @@ use Rattle.body_reader.specs.ReadPlain.{read_line, read_line_cut, read_lines, re
 use Rattle.body_reader.specs.Reads.{Reads}
 use Rattle.ce_base.specs.Texts.{HasTexts}
 use Rattle.body_reader.proofs.SplitLaws.{lines_step, split_has_one}
-use Rattle.body_reader.proofs.TextLaws.{ascii_utf8}
 use Rattle.body_reader.proofs.UrlLaws.{Free, Joined, cut_again, cut_joined, free_both, one_some, paired_some, split_at, utf8_some}
 
 -- ---- a text around an ASCII byte
@@ -183,8 +183,8 @@ lines_again (e ∷ list) plain texts =
 line_utf8 : (e : Entry) → HasTexts e → IsUtf8 (line e)
 line_utf8 e texts =
     IsUtf8-append ((e.name ++ 61 ∷ []) ++ e.value) (13 ∷ 10 ∷ [])
-    (IsUtf8-append (e.name ++ 61 ∷ []) e.value (IsUtf8-append e.name (61 ∷ []) texts.0 (ascii_utf8 61 (omega arith))) texts.1)
-    (IsUtf8-append (13 ∷ []) (10 ∷ []) (ascii_utf8 13 (omega arith)) (ascii_utf8 10 (omega arith)))
+    (IsUtf8-append (e.name ++ 61 ∷ []) e.value (IsUtf8-append e.name (61 ∷ []) texts.0 (IsUtf8-ascii 61 (omega arith))) texts.1)
+    (IsUtf8-append (13 ∷ []) (10 ∷ []) (IsUtf8-ascii 13 (omega arith)) (IsUtf8-ascii 10 (omega arith)))
 
 pub lines_utf8 : (list : List Entry) → AllByRecursion HasTexts list → IsUtf8 (flat_map line list)
 lines_utf8 [] texts = IsUtf8-nil

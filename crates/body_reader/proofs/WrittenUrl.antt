@@ -1,6 +1,6 @@
 -- What is written urlencoded is read back as the list, with its line ends as they are sent.
 use Rattle.std.proofs.Common.{◌≡◌, ◌<◌, ℕ, ◌/◌, ◌%◌, Bool, true, false, not, ◌||◌, List, [], ◌∷◌, ◌++◌, map, length, refl, sym, ap, subst, ◌∙◌, append_assoc, inl, inr, arith}
-use Rattle.std.specs.Prelude.{All, nat_eq}
+use Rattle.std.specs.Prelude.{All, IsUtf8, nat_eq}
 use Rattle.std.specs.Char.{digit_value}
 use Rattle.std.specs.Fmt.{digit_glyph}
 use Rattle.std.specs.List.{AllByRecursion, join_with_byte}
@@ -9,12 +9,13 @@ use Rattle.std.proofs.lemmas.List.Elements.{recursion_from_All}
 use Rattle.percent_encoding.specs.Percent.{percent_encode_byte}
 use Rattle.form_urlencoded.specs.Form.{is_unchanged, serialize_byte, byte_serialize, serialize_pair, separator, extend_pairs}
 use Rattle.ce_base.specs.declared.entries.Entry.{Entry}
+use Rattle.form_submission.proofs.Characters.{bytes-IsUtf8}
+use Rattle.form_submission.proofs.Texts.{IsUtf8-with_full_newlines}
 use Rattle.form_submission.specs.Encodings.{pair_of, urlencoded}
 use Rattle.form_submission.specs.LineEnds.{with_full_newlines}
 use Rattle.body_reader.specs.Bodies.{is_bare, IsSpelling, Spells, IsPair, ArePairs, UrlText}
 use Rattle.ce_base.specs.Texts.{HasTexts}
 use Rattle.body_reader.specs.Written.{as_sent}
-use Rattle.body_reader.proofs.TextLaws.{AreBytes, utf8_bytes, full_utf8}
 
 -- ---- a byte as it is written
 
@@ -42,22 +43,25 @@ byte_spelling b small =
     cond_both (is_unchanged b) _ _ (IsSpelling b) (λ is. inl (unchanged_bare b small is, refl))
     (λ _. cond_both (nat_eq b 32) _ _ (IsSpelling b) (λ is. inr (inl (eqb-true b 32 is, refl))) (λ _. percent_spelling b small))
 
-text_spells : (text : List ℕ) → AreBytes text → Spells text (byte_serialize text)
+bytes_spell : (text : List ℕ) → AllByRecursion (λ b. b < 256) text → Spells text (byte_serialize text)
 unfolding byte_serialize
-text_spells [] are = refl
-text_spells (b ∷ text) are = (serialize_byte b, byte_serialize text, byte_spelling b are.0, text_spells text are.1, refl)
+bytes_spell [] are = refl
+bytes_spell (b ∷ text) are = (serialize_byte b, byte_serialize text, byte_spelling b are.0, bytes_spell text are.1, refl)
+
+text_spells : (text : List ℕ) → IsUtf8 text → Spells text (byte_serialize text)
+text_spells text is = bytes_spell text (recursion_from_All (λ b. b < 256) text (bytes-IsUtf8 text is))
 
 -- ---- pairs
 
 written_pair : (e : Entry) → HasTexts e → IsPair (as_sent e) (serialize_pair (pair_of e))
 written_pair e is =
-    let name = full_utf8 e.name is.0 in
-    let value = full_utf8 e.value is.1 in
+    let name = IsUtf8-with_full_newlines e.name is.0 in
+    let value = IsUtf8-with_full_newlines e.value is.1 in
     record {
       name = byte_serialize (with_full_newlines e.name);
       value = byte_serialize (with_full_newlines e.value);
-      spells_name = text_spells (with_full_newlines e.name) (utf8_bytes (with_full_newlines e.name) name);
-      spells_value = text_spells (with_full_newlines e.value) (utf8_bytes (with_full_newlines e.value) value);
+      spells_name = text_spells (with_full_newlines e.name) name;
+      spells_value = text_spells (with_full_newlines e.value) value;
       name_utf8 = name;
       value_utf8 = value;
       joined = append_assoc (byte_serialize (with_full_newlines e.name)) (61 ∷ []) (byte_serialize (with_full_newlines e.value));

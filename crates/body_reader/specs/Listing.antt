@@ -2,7 +2,7 @@
 use Rattle.std.specs.Prelude.{ℕ, List, [], ◌∷◌, ◌++◌, codes, flat_map}
 use Rattle.ce_base.specs.declared.entries.Entry.{Entry}
 use Rattle.form_controls.specs.Texts.{line_feed}
-use Rattle.rule_tokens.specs.Quoted.{in_quotes}
+use Rattle.ce_lines.specs.Quoted.{in_quotes}
 
 -- the name and the value of an entry, in quotes as in a transcript
 abbrev pub entry_line : Entry → List ℕ

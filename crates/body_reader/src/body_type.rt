@@ -45,11 +45,7 @@ fn asked_by_one(word: &str) -> Option<BodyType>
 }
 
 // The type that two words ask for.
-fn asked_by_two(
-    alloc: Global,
-    word: &str,
-    boundary: &str,
-) -> Result<Option<BodyType>, NoMemory>
+fn asked_by_two(alloc: Global, word: &str, boundary: &str) -> Result<Option<BodyType>, NoMemory>
     ensures asked { IfOk result (λ t. t ≡ asked_by_two word.now boundary.now) }
     ensures refused { asked_by_two word.now boundary.now ≡ None → IsOk result }
 {

@@ -21,9 +21,7 @@ mod worked;
 
 pub use body_type::BodyType;
 pub use boundary::is_boundary;
-pub use laws::{
-    multipart_is_read_back, one_list, plain_is_read_back, urlencoded_is_read_back,
-};
+pub use laws::{multipart_is_read_back, one_list, plain_is_read_back, urlencoded_is_read_back};
 pub use multipart::read_multipart;
 pub use plain::read_plain;
 pub use refused::BodyRefused;

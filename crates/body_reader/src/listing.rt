@@ -6,7 +6,7 @@ ghost use Rattle.ce_base.specs.Outside.{AppendsPart};
 ghost use Rattle.body_reader.specs.Listing.{entry_line, listing};
 
 use ce_base::{Entry, Gathering, NoMemory, Pending, Sink, Stop, write_all};
-use rule_tokens::quoted;
+use ce_lines::quoted;
 use std::alloc::Global;
 
 // The line of an entry.

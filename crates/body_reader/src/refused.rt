@@ -3,7 +3,7 @@ ghost use Rattle.std.specs.Prelude.{◌≡◌};
 ghost use Rattle.body_reader.specs.declared.refused.BodyRefused.TheVariants.{NoMemory as IsNoMemory};
 
 use ce_base::NoMemory;
-use std::alloc::{AllocFailed};
+use std::alloc::AllocFailed;
 use thiserror::Error;
 
 /// Why no entry list was read.

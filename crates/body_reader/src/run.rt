@@ -81,12 +81,7 @@ fn run_typed<S: Source, K: Sink>(
 }
 
 // Reads the bytes as a body of this type, and writes what comes of it.
-fn answer<K: Sink>(
-    alloc: Global,
-    body_type: &BodyType,
-    bytes: &[u8],
-    sink: &mut K,
-) -> ReadStatus
+fn answer<K: Sink>(alloc: Global, body_type: &BodyType, bytes: &[u8], sink: &mut K) -> ReadStatus
     requires { IsReadable body_type.now }
     ensures meets { AnswerMeets body_type.now bytes.now result (K.held sink.old) (K.held sink.new) (K.failed sink.old) (K.failed sink.new) }
     ensures later { K.failed sink.old ≤ K.failed sink.new }
@@ -100,11 +95,7 @@ fn answer<K: Sink>(
 }
 
 // The entry list whose body of this type the bytes are.
-fn read_body(
-    alloc: Global,
-    body_type: &BodyType,
-    bytes: &[u8],
-) -> Result<Entries, BodyRefused>
+fn read_body(alloc: Global, body_type: &BodyType, bytes: &[u8]) -> Result<Entries, BodyRefused>
     requires { IsReadable body_type.now }
     ensures { Reads (λ (list : List Entry). IsBody body_type.now list bytes.now) result }
 {
