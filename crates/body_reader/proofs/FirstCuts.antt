@@ -1,10 +1,10 @@
 -- Where a boundary occurs first.
-use Rattle.std.proofs.Common.{◌≡◌, ℕ, ◌+◌, ◌-◌, Bool, true, false, ◌&&◌, List, [], ◌∷◌, ◌++◌, length, drop, Option, Some, None, refl, sym, ap, ◌∙◌, append_assoc, arith}
-use Rattle.std.specs.Prelude.{nat_eq}
+use Rattle.std.proofs.Common.{◌≡◌, ℕ, Bool, true, false, ◌&&◌, List, [], ◌∷◌, ◌++◌, length, drop, Option, Some, None, refl, sym, ap, ◌∙◌, append_assoc, arith}
+use Rattle.std.proofs.lemmas.Bool.{ne_eqb, or_parts}
 use Rattle.std.specs.List.{AllByRecursion, starts_with}
-use Rattle.std.proofs.lemmas.Bool.{or_parts, ne_eqb}
+use Rattle.std.specs.Prelude.{nat_eq}
 use Rattle.form_submission.specs.Encodings.{occurs}
-use Rattle.body_reader.specs.Cuts.{behind, cut_here, cut_text, onto}
+use Rattle.body_reader.specs.Cuts.{behind, onto, cut_text, cut_here}
 use Rattle.body_reader.specs.ReadParts.{dashes}
 use Rattle.body_reader.proofs.FrontLaws.{starts_said, behind_said, behind_again, behind_not, HasSome, IsBound}
 
@@ -29,7 +29,7 @@ abbrev pub TextFree : List ℕ → Option (List ℕ × List ℕ) → Type 0
 TextFree text None = Unit {0}
 TextFree text (Some (before, rest)) = (value more : List ℕ) → before ≡ value ++ more → occurs text value ≡ false
 
-pub none_in_none : (text : List ℕ) → HasSome text → occurs text [] ≡ false
+none_in_none : (text : List ℕ) → HasSome text → occurs text [] ≡ false
 none_in_none [] is = absurd (omega arith)
 none_in_none (c ∷ text) is = ne_eqb (length (c ∷ text)) 0 (λ e. omega (arith, e))
 

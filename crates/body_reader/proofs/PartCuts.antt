@@ -1,17 +1,17 @@
 -- The parts of a multipart body, one by one.
-use Rattle.std.proofs.Common.{◌≡◌, ◌<◌, ℕ, ◌+◌, ◌-◌, suc, zero, true, false, cond, List, [], ◌∷◌, ◌++◌, append_assoc, length, Option, Some, None, Err, refl, sym, ap, ◌∙◌, arith}
+use Rattle.std.proofs.Common.{◌≡◌, ◌<◌, ℕ, ◌+◌, ◌-◌, zero, suc, true, false, cond, List, [], ◌∷◌, ◌++◌, length, Option, Some, None, Err, refl, sym, ap, ◌∙◌, append_assoc, arith}
 use Rattle.ce_base.specs.declared.entries.Entry.{Entry}
-use Rattle.body_reader.specs.declared.refused.BodyRefused.{BodyRefused}
-use Rattle.body_reader.specs.declared.refused.BodyRefused.TheVariants.{NotABody, NoMemory}
 use Rattle.body_reader.specs.Cuts.{behind}
 use Rattle.body_reader.specs.Gives.{Gives, with_front}
-use Rattle.body_reader.specs.ReadParts.{IsAddedPart, closing, is_end, read_part, read_tail, then_parts}
+use Rattle.body_reader.specs.ReadParts.{closing, is_end, read_part, read_tail, then_parts, IsAddedPart}
+use Rattle.body_reader.specs.declared.refused.BodyRefused.{BodyRefused}
+use Rattle.body_reader.specs.declared.refused.BodyRefused.TheVariants.{NotABody, NoMemory}
 
 pub tail_opens : (n : ℕ) (boundary rest : List ℕ) → read_tail (suc n) boundary rest ≡ cond (is_end (behind closing rest)) (Some []) (then_parts (read_part boundary rest) (read_tail n boundary))
 unfolding read_tail
 tail_opens n boundary rest = refl
 
-pub tail_at : (most i : ℕ) (boundary rest : List ℕ) → i < most → read_tail (most - i) boundary rest ≡ cond (is_end (behind closing rest)) (Some []) (then_parts (read_part boundary rest) (read_tail (most - (i + 1)) boundary))
+tail_at : (most i : ℕ) (boundary rest : List ℕ) → i < most → read_tail (most - i) boundary rest ≡ cond (is_end (behind closing rest)) (Some []) (then_parts (read_part boundary rest) (read_tail (most - (i + 1)) boundary))
 tail_at most i boundary rest small =
     let next : most - i ≡ suc (most - (i + 1)) = omega arith in
     ap (λ (n : ℕ). read_tail n boundary rest) next ∙ tail_opens (most - (i + 1)) boundary rest

@@ -1,49 +1,24 @@
 -- A part of a multipart body is read to the entry for which the relation holds.
-use Rattle.std.proofs.Common.{◌≡◌, ℕ, ◌+◌, ◌-◌, Bool, true, false, ◌&&◌, cond, List, [], ◌∷◌, ◌++◌, length, take, drop, Option, Some, None, refl, sym, ap, subst, ◌∙◌, append_assoc, arith}
-use Rattle.std.specs.Prelude.{nat_eq, IsUtf8}
-use Rattle.std.specs.List.{AllByRecursion}
-use Rattle.std.specs.Str.{is_utf8}
+use Rattle.std.proofs.Common.{◌≡◌, ℕ, ◌+◌, ◌-◌, Bool, true, false, ◌&&◌, cond, List, [], ◌∷◌, ◌++◌, length, drop, Option, Some, None, refl, sym, ap, subst, ◌∙◌, append_assoc, arith, take, length-append}
 use Rattle.std.proofs.lemmas.Bool.{and_parts}
-use Rattle.std.proofs.lemmas.List.{take_at, drop_at, length-append, length-drop, take-append-drop}
+use Rattle.std.proofs.lemmas.List.{take_at, drop_at, length-drop, take-append-drop}
 use Rattle.std.proofs.lemmas.Str.{is_utf8-from_IsUtf8}
+use Rattle.std.specs.List.{AllByRecursion}
+use Rattle.std.specs.Prelude.{IsUtf8}
+use Rattle.std.specs.Str.{is_utf8}
+use Rattle.ce_base.specs.Texts.{HasTexts}
 use Rattle.ce_base.specs.declared.entries.Entry.{Entry}
 use Rattle.form_submission.specs.Encodings.{occurs}
-use Rattle.body_reader.specs.Bodies.{HasNo, FitsPart, part}
-use Rattle.body_reader.specs.Cuts.{behind, cut_at, cut_text, lacks, no_cut, onto, only_utf8}
+use Rattle.body_reader.specs.Bodies.{FitsPart, HasNo}
+use Rattle.body_reader.specs.Cuts.{behind, cut_at, only_utf8, cut_text, lacks}
 use Rattle.body_reader.specs.Gives.{paired}
-use Rattle.body_reader.specs.ReadParts.{and_rest, before_dashes, before_name, behind_name, cut_boundary, cut_dashes, cut_quote, dashes, entry_and, kept_if, name_cut, name_text, part_of_name, part_of_value, read_part, value_cut}
-use Rattle.ce_base.specs.Texts.{HasTexts}
-use Rattle.body_reader.proofs.PlainLaws.{Before, cut_before, no_from_free, free_from_no}
-use Rattle.body_reader.proofs.UrlLaws.{Free, Joined, cut_again, cut_joined, paired_some, utf8_some}
-use Rattle.body_reader.proofs.FrontLaws.{behind_said, behind_again, HasSome, IsBound}
+use Rattle.body_reader.specs.ReadParts.{before_name, behind_name, dashes, read_part, and_rest, before_dashes, cut_boundary, cut_dashes, cut_quote, entry_and, kept_if, name_cut, name_text, part_of_name, part_of_value, value_cut}
+use Rattle.body_reader.proofs.CutLaws.{Free, cut_again, Joined, cut_joined, no_from_free, free_from_no, Before, cut_before, lacks_free, free_lacks}
 use Rattle.body_reader.proofs.FirstCuts.{TextJoined, text_joined, TextFree, text_free, cut_value}
+use Rattle.body_reader.proofs.FrontLaws.{behind_said, behind_again, HasSome, IsBound}
+use Rattle.body_reader.proofs.GivesLaws.{utf8_some, paired_some}
 
 -- ---- a name without CR and LF
-
-cut_none_free : (c : ℕ) (text : List ℕ) → cut_at c text ≡ None → Free c text
-unfolding cut_at
-cut_none_free c [] is = tt
-cut_none_free c (b ∷ text) is = none_step c b text (nat_eq b c) (cut_at c text) refl (cut_none_free c text) refl is
-  where
-    none_step : (c b : ℕ) (text : List ℕ) (t : Bool) (o : Option (List ℕ × List ℕ)) → nat_eq b c ≡ t → (cut_at c text ≡ None → Free c text) → cut_at c text ≡ o → cond t (Some ([], text)) (onto (b ∷ []) o) ≡ None → Free c (b ∷ text)
-    none_step c b text true o same more at is = absurd cc
-    none_step c b text false None differ more at is = (differ, more at)
-    none_step c b text false (Some x) differ more at is = absurd cc
-
-free_cut_none : (c : ℕ) (text : List ℕ) → Free c text → cut_at c text ≡ None
-unfolding cut_at
-free_cut_none c [] free = refl
-free_cut_none c (b ∷ text) free = rw (free.0, free_cut_none c text free.1) refl
-
-lacks_free : (c : ℕ) (text : List ℕ) → lacks c text ≡ true → Free c text
-lacks_free c text is = cut_none_free c text (no_cut_none (cut_at c text) is)
-  where
-    no_cut_none : (o : Option (List ℕ × List ℕ)) → no_cut o ≡ true → o ≡ None
-    no_cut_none None is = refl
-    no_cut_none (Some x) is = absurd cc
-
-free_lacks : (c : ℕ) (text : List ℕ) → Free c text → lacks c text ≡ true
-free_lacks c text free = ap no_cut (free_cut_none c text free)
 
 name_step : (name text : List ℕ) (t : Bool) → (lacks 13 name && lacks 10 name) ≡ t → cond t (only_utf8 name) None ≡ Some text → (name ≡ text) × IsUtf8 text × Free 13 name × Free 10 name
 name_step name text true is e =
@@ -66,7 +41,7 @@ named_step : (bytes : List ℕ) (h : Option (List ℕ)) → behind before_name b
 named_step bytes None is = tt
 named_step bytes (Some more) is = named_at bytes more (cut_at 34 more) (behind_said before_name bytes more is) (cut_joined 34 more) (cut_before 34 more)
 
-pub named : (bytes : List ℕ) → IsNamed bytes (name_cut bytes)
+name_said : (bytes : List ℕ) → IsNamed bytes (name_cut bytes)
 name_said bytes = named_step bytes (behind before_name bytes) refl
 
 dashes_step : (text value : List ℕ) (h : Option (List ℕ)) → behind dashes (drop (length text - 4) text) ≡ h → kept_if h (take (length text - 4) text) ≡ Some value → text ≡ value ++ dashes
@@ -106,7 +81,7 @@ valued_step : (boundary bytes : List ℕ) (h : Option (List ℕ)) → HasSome bo
 valued_step boundary bytes None some is = tt
 valued_step boundary bytes (Some more) some is = valued_at boundary bytes more (cut_text boundary more) (behind_said behind_name bytes more is) (text_joined boundary more) (text_free boundary more some)
 
-pub valued : (boundary bytes : List ℕ) → HasSome boundary → IsValued boundary bytes (value_cut boundary bytes)
+value_said : (boundary bytes : List ℕ) → HasSome boundary → IsValued boundary bytes (value_cut boundary bytes)
 value_said boundary bytes some = valued_step boundary bytes (behind behind_name bytes) some refl
 
 -- ---- a part

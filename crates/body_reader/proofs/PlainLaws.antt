@@ -1,99 +1,26 @@
 -- A plain text body is read to the list for which the relation holds, and no other.
-use Rattle.std.proofs.Common.{◌≡◌, ◌≢◌, ◌<◌, ℕ, ◌+◌, ◌-◌, Bool, true, false, cond, List, [], ◌∷◌, ◌++◌, length, drop, slice_index_or, Option, Some, None, Result, Ok, Err, refl, sym, ap, subst, ◌∙◌, append_assoc, arith}
-use Rattle.std.specs.Prelude.{nat_eq, IsUtf8, flat_map}
-use Rattle.std.specs.List.{slice_split, onto_first, join_with_byte, AllByRecursion}
-use Rattle.std.specs.Str.{is_utf8}
-use Rattle.std.proofs.lemmas.Bool.{eqb-false, ne_eqb}
-use Rattle.std.proofs.lemmas.List.{take_at, drop_at, length-append, get_or-append_right}
+use Rattle.std.proofs.Common.{◌≡◌, ℕ, List, [], ◌∷◌, ◌++◌, Option, Some, None, Result, Ok, Err, refl, sym, ap, subst, ◌∙◌, append_assoc, arith}
 use Rattle.std.proofs.lemmas.List.Elements.{All-from_recursion, recursion_from_All}
 use Rattle.std.proofs.lemmas.List.Splits.{join_with_byte-slice_split}
-use Rattle.std.proofs.lemmas.Str.{IsUtf8-append, IsUtf8-nil, IsUtf8-take, IsUtf8-drop, IsCharBoundary-before_ascii, IsCharBoundary-after_ascii, is_utf8-from_IsUtf8}
+use Rattle.std.proofs.lemmas.Str.{IsUtf8-append, IsUtf8-nil, is_utf8-from_IsUtf8}
+use Rattle.std.specs.List.{AllByRecursion, join_with_byte, slice_split}
+use Rattle.std.specs.Prelude.{IsUtf8, flat_map}
+use Rattle.std.specs.Str.{is_utf8}
+use Rattle.ce_base.specs.Texts.{HasTexts}
 use Rattle.ce_base.specs.declared.entries.Entry.{Entry}
 use Rattle.form_submission.proofs.Characters.{IsUtf8-ascii}
+use Rattle.form_submission.specs.Encodings.{plain}
+use Rattle.body_reader.specs.Bodies.{part, HasNo, IsPlain, line, PlainText}
+use Rattle.body_reader.specs.Cuts.{behind, cut_at, is_byte, only_utf8}
+use Rattle.body_reader.specs.Gives.{Gives}
+use Rattle.body_reader.specs.ReadPlain.{read_line, read_line_cut, read_lines, plain_entries, read_whole_line}
+use Rattle.body_reader.specs.Reads.{Reads}
 use Rattle.body_reader.specs.declared.refused.BodyRefused.{BodyRefused}
 use Rattle.body_reader.specs.declared.refused.BodyRefused.TheVariants.{NotABody, NoMemory}
-use Rattle.body_reader.specs.Bodies.{HasNo, IsPlain, line, PlainText}
-use Rattle.body_reader.specs.Cuts.{cut_at, is_byte, onto, only_utf8}
-use Rattle.body_reader.specs.Gives.{Gives}
-use Rattle.body_reader.specs.ReadPlain.{read_line, read_line_cut, read_lines, read_plain, read_whole_line}
-use Rattle.body_reader.specs.Reads.{Reads}
-use Rattle.ce_base.specs.Texts.{HasTexts}
-use Rattle.body_reader.proofs.SplitLaws.{lines_step, split_has_one}
-use Rattle.body_reader.proofs.UrlLaws.{Free, Joined, cut_again, cut_joined, free_both, one_some, paired_some, split_at, utf8_some}
-
--- ---- a text around an ASCII byte
-
-pub utf8_around : (c : ℕ) (xs ys : List ℕ) → c < 128 → IsUtf8 (xs ++ c ∷ ys) → IsUtf8 xs × IsUtf8 ys
-utf8_around c xs ys low is =
-    let bs = xs ++ c ∷ ys in
-    let at : slice_index_or bs (length xs) 0 ≡ c = get_or-append_right xs (c ∷ ys) (length xs) (length xs) 0 refl (omega arith) ∙ ap (λ (n : ℕ). slice_index_or (c ∷ ys) n 0) (zero_of (length xs)) in
-    let within : length xs < length bs = simp length-append (omega arith) in
-    let small : slice_index_or bs (length xs) 0 < 128 = subst (λ (x : ℕ). x < 128) (sym at) low in
-    let long : length (xs ++ c ∷ []) ≡ length xs + 1 = simp length-append refl in (
-      subst IsUtf8 (take_at xs (c ∷ ys) (length xs) refl) (IsUtf8-take bs (length xs) is (IsCharBoundary-before_ascii bs (length xs) within small)),
-      subst IsUtf8 (ap (drop (length xs + 1)) (sym (append_assoc xs (c ∷ []) ys)) ∙ drop_at (xs ++ c ∷ []) ys (length xs + 1) long) (IsUtf8-drop bs (length xs + 1) is (IsCharBoundary-after_ascii bs (length xs) is within small)),
-    )
-  where
-    zero_of : (n : ℕ) → n - n ≡ 0
-    zero_of n = omega arith
-
--- ---- a byte that stands nowhere
-
--- the same, by recursion
-abbrev pub NoneIs : ℕ → List ℕ → Type 0
-NoneIs c text = AllByRecursion (λ b. b ≢ c) text
-
-none_from_free : (c : ℕ) (text : List ℕ) → Free c text → NoneIs c text
-none_from_free c [] free = tt
-none_from_free c (b ∷ text) free = (eqb-false b c free.0, none_from_free c text free.1)
-
-free_from_none : (c : ℕ) (text : List ℕ) → NoneIs c text → Free c text
-free_from_none c [] none = tt
-free_from_none c (b ∷ text) none = (ne_eqb b c none.0, free_from_none c text none.1)
-
-pub no_from_free : (c : ℕ) (text : List ℕ) → Free c text → HasNo c text
-no_from_free c text free = All-from_recursion (λ b. b ≢ c) text (none_from_free c text free)
-
-pub free_from_no : (c : ℕ) (text : List ℕ) → HasNo c text → Free c text
-free_from_no c text none = free_from_none c text (recursion_from_All (λ b. b ≢ c) text none)
-
-free_parts : (c : ℕ) (xs ys : List ℕ) → Free c (xs ++ ys) → Free c xs × Free c ys
-free_parts c [] ys free = (tt, free)
-free_parts c (x ∷ xs) ys free = let more = free_parts c xs ys free.1 in ((free.0, more.0), more.1)
-
--- ---- cuts and parts are free of the byte
-
-abbrev pub Before : ℕ → Option (List ℕ × List ℕ) → Type 0
-Before c None = Unit {0}
-Before c (Some (before, behind)) = Free c before
-
-before_onto : (c b : ℕ) (o : Option (List ℕ × List ℕ)) → nat_eq b c ≡ false → Before c o → Before c (onto (b ∷ []) o)
-before_onto c b None differ free = tt
-before_onto c b (Some (before, behind)) differ free = (differ, free)
-
-before_step : (c b : ℕ) (bytes : List ℕ) (t : Bool) → nat_eq b c ≡ t → Before c (cut_at c bytes) → Before c (cond t (Some ([], bytes)) (onto (b ∷ []) (cut_at c bytes)))
-before_step c b bytes true same free = tt
-before_step c b bytes false differ free = before_onto c b (cut_at c bytes) differ free
-
-pub cut_before : (c : ℕ) (bytes : List ℕ) → Before c (cut_at c bytes)
-unfolding cut_at
-cut_before c [] = tt
-cut_before c (b ∷ bytes) = before_step c b bytes (nat_eq b c) refl (cut_before c bytes)
-
-abbrev AreFree : ℕ → List (List ℕ) → Type 0
-AreFree c parts = AllByRecursion (Free c) parts
-
-frees_onto : (c b : ℕ) (parts : List (List ℕ)) → nat_eq b c ≡ false → AreFree c parts → AreFree c (onto_first b parts)
-frees_onto c b [] differ are = ((differ, tt), tt)
-frees_onto c b (x ∷ xs) differ are = ((differ, are.0), are.1)
-
-frees_step : (c b : ℕ) (parts : List (List ℕ)) (t : Bool) → nat_eq b c ≡ t → AreFree c parts → AreFree c (cond t ([] ∷ parts) (onto_first b parts))
-frees_step c b parts true same are = (tt, are)
-frees_step c b parts false differ are = frees_onto c b parts differ are
-
-split_frees : (c : ℕ) (bytes : List ℕ) → AreFree c (slice_split (is_byte c) bytes)
-split_frees c [] = (tt, tt)
-split_frees c (b ∷ bytes) = frees_step c b (slice_split (is_byte c) bytes) (nat_eq b c) refl (split_frees c bytes)
+use Rattle.body_reader.proofs.CutLaws.{Free, free_both, cut_again, Joined, cut_joined, no_from_free, free_from_no, free_parts, Before, cut_before}
+use Rattle.body_reader.proofs.GivesLaws.{one_some, utf8_some, paired_some}
+use Rattle.body_reader.proofs.SplitLaws.{split_at, AreFree, split_frees, split_has_one, lines_step}
+use Rattle.body_reader.proofs.TextLaws.{utf8_around}
 
 -- ---- a line
 
@@ -151,8 +78,8 @@ record AreLines (list : List Entry) (bytes : List ℕ) : Type 0 where
   pub texts : AllByRecursion HasTexts list
   pub joined : bytes ≡ flat_map line list
 
-one_more : (e : Entry) (list : List Entry) (part rest : List ℕ) → IsLine e part → AreLines list rest → AreLines (e ∷ list) (part ++ 10 ∷ rest)
-one_more e list part rest one more = record {
+one_line_more : (e : Entry) (list : List Entry) (part rest : List ℕ) → IsLine e part → AreLines list rest → AreLines (e ∷ list) (part ++ 10 ∷ rest)
+one_line_more e list part rest one more = record {
   plain = (one.plain, more.plain);
   texts = (one.texts, more.texts);
   joined = ap (λ (p : List ℕ). p ++ 10 ∷ rest) one.joined ∙ (ap (λ (r : List ℕ). core e ++ 10 ∷ r) more.joined ∙ sym (core_line e (flat_map line list)));
@@ -168,7 +95,7 @@ lines_said ((b ∷ part) ∷ []) list are is = absurd cc
 lines_said (part ∷ next ∷ parts) list are is =
     let (e, rest, is_e, is_rest, joined) = one_some (read_line part) (read_lines (next ∷ parts)) list (sym (lines_step part (next ∷ parts) tt) ∙ is) in
     subst (λ (l : List Entry). AreLines l (part ++ 10 ∷ join_with_byte 10 (next ∷ parts))) (sym joined)
-    (one_more e rest part (join_with_byte 10 (next ∷ parts)) (line_said part e are.0 is_e) (lines_said (next ∷ parts) rest are.1 is_rest))
+    (one_line_more e rest part (join_with_byte 10 (next ∷ parts)) (line_said part e are.0 is_e) (lines_said (next ∷ parts) rest are.1 is_rest))
 
 lines_again : (list : List Entry) → AllByRecursion IsPlain list → AllByRecursion HasTexts list → read_lines (slice_split (is_byte 10) (flat_map line list)) ≡ Some list
 lines_again [] plain texts = refl
@@ -200,23 +127,23 @@ texts_of (e ∷ list) is =
 
 -- ---- bodies
 
-pub plain_said : (bytes : List ℕ) (list : List Entry) → read_plain bytes ≡ Some list → PlainText list bytes
-unfolding read_plain
+plain_said : (bytes : List ℕ) (list : List Entry) → plain_entries bytes ≡ Some list → PlainText list bytes
+unfolding plain_entries
 plain_said bytes list is =
     let are = lines_said (slice_split (is_byte 10) bytes) list (split_frees 10 bytes) is in
     let joined = sym (join_with_byte-slice_split 10 bytes) ∙ are.joined in
     (subst IsUtf8 (sym joined) (lines_utf8 list are.texts), All-from_recursion IsPlain list are.plain, joined)
 
-pub plain_again : (list : List Entry) (bytes : List ℕ) → PlainText list bytes → read_plain bytes ≡ Some list
-unfolding read_plain
+plain_again : (list : List Entry) (bytes : List ℕ) → PlainText list bytes → plain_entries bytes ≡ Some list
+unfolding plain_entries
 plain_again list bytes (utf8, plain, joined) = ap (λ (b : List ℕ). read_lines (slice_split (is_byte 10) b)) joined ∙ lines_again list (recursion_from_All IsPlain list plain) (texts_of list (subst IsUtf8 joined utf8))
 
-none_of : (bytes : List ℕ) (list : List Entry) → read_plain bytes ≡ None → PlainText list bytes → ⊥
-none_of bytes list none is = let both : None ≡ Some list = sym none ∙ plain_again list bytes is in absurd cc
+no_plain : (bytes : List ℕ) (list : List Entry) → plain_entries bytes ≡ None → PlainText list bytes → ⊥
+no_plain bytes list none is = let both : None ≡ Some list = sym none ∙ plain_again list bytes is in absurd cc
 
-pub plain_reads : (r : Result (List Entry) BodyRefused) (bytes : List ℕ) → Gives r (read_plain bytes) → Reads (λ (list : List Entry). PlainText list bytes) r
+pub plain_reads : (r : Result (List Entry) BodyRefused) (bytes : List ℕ) → Gives r (plain_entries bytes) → Reads (λ (list : List Entry). PlainText list bytes) r
 plain_reads (Ok list) bytes gives = plain_said bytes list gives
-plain_reads (Err NotABody) bytes gives = λ list is. none_of bytes list gives is
+plain_reads (Err NotABody) bytes gives = λ list is. no_plain bytes list gives is
 plain_reads (Err NoMemory) bytes gives = tt
 
 pub plain_one : (bytes : List ℕ) (a b : List Entry) → PlainText a bytes → PlainText b bytes → a ≡ b

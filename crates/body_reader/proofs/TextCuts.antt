@@ -1,19 +1,19 @@
 -- Bytes cut at a text.
-use Rattle.std.proofs.Common.{◌≡◌, ◌<◌, ◌≤◌, ℕ, ◌+◌, ◌-◌, zero, suc, List, [], ◌∷◌, ◌++◌, length, take, drop, Option, Some, None, refl, sym, ap, subst, ◌∙◌, append-nil, append_assoc, arith}
+use Rattle.std.proofs.Common.{◌≡◌, ◌<◌, ◌≤◌, ℕ, ◌+◌, ◌-◌, zero, suc, List, [], ◌∷◌, ◌++◌, length, drop, Option, Some, None, refl, sym, ap, subst, ◌∙◌, append_assoc, append-nil, arith, take}
 use Rattle.std.proofs.lemmas.List.{length-drop, take_all}
-use Rattle.body_reader.specs.Cuts.{behind, cut_text, onto}
+use Rattle.body_reader.specs.Cuts.{behind, onto, cut_text}
 
 onto_onto : (xs ys : List ℕ) (o : Option (List ℕ × List ℕ)) → onto xs (onto ys o) ≡ onto (xs ++ ys) o
 onto_onto xs ys None = refl
 onto_onto xs ys (Some (before, behind)) = ap (λ (l : List ℕ). Some (l, behind)) (sym (append_assoc xs ys before))
 
-pub cut_some : (text bytes rest : List ℕ) (i : ℕ) → i < length bytes → Some rest ≡ behind text (drop i bytes) → cut_text text (drop i bytes) ≡ Some ([], rest)
+cut_some : (text bytes rest : List ℕ) (i : ℕ) → i < length bytes → Some rest ≡ behind text (drop i bytes) → cut_text text (drop i bytes) ≡ Some ([], rest)
 unfolding cut_text
 cut_some text [] rest i small is = absurd (omega arith)
 cut_some text (b ∷ bytes) rest zero small is = rw (sym is) refl
 cut_some text (b ∷ bytes) rest (suc i) small is = cut_some text bytes rest i (omega arith) is
 
-pub cut_none : (text bytes : List ℕ) (i : ℕ) → i < length bytes → None ≡ behind text (drop i bytes) → onto (take i bytes) (cut_text text (drop i bytes)) ≡ onto (take (suc i) bytes) (cut_text text (drop (suc i) bytes))
+cut_none : (text bytes : List ℕ) (i : ℕ) → i < length bytes → None ≡ behind text (drop i bytes) → onto (take i bytes) (cut_text text (drop i bytes)) ≡ onto (take (suc i) bytes) (cut_text text (drop (suc i) bytes))
 unfolding cut_text
 cut_none text [] i small is = absurd (omega arith)
 cut_none text (b ∷ bytes) zero small is = rw (sym is) (onto_onto [] (b ∷ []) (cut_text text bytes))

@@ -1,15 +1,15 @@
 -- What is written as plain text is read back, where no name has = and no name or value has CR or LF.
 use Rattle.std.proofs.Common.{◌≡◌, ℕ, Bool, false, List, [], ◌∷◌, refl, sym, subst}
-use Rattle.std.specs.Prelude.{All, IsUtf8, flat_map}
-use Rattle.std.specs.List.{AllByRecursion}
 use Rattle.std.proofs.lemmas.List.Elements.{recursion_from_All}
+use Rattle.std.specs.List.{AllByRecursion}
+use Rattle.std.specs.Prelude.{IsUtf8, flat_map, All}
+use Rattle.ce_base.specs.Texts.{HasTexts}
 use Rattle.ce_base.specs.declared.entries.Entry.{Entry}
 use Rattle.form_submission.specs.Encodings.{plain, plain_line}
 use Rattle.form_submission.specs.LineEnds.{full_from}
-use Rattle.body_reader.specs.Bodies.{HasNo, IsPlain, PlainText, line}
-use Rattle.ce_base.specs.Texts.{HasTexts}
-use Rattle.body_reader.proofs.PlainLaws.{free_from_no, lines_utf8}
-use Rattle.body_reader.proofs.UrlLaws.{Free}
+use Rattle.body_reader.specs.Bodies.{HasNo, IsPlain, line, PlainText}
+use Rattle.body_reader.proofs.CutLaws.{Free, free_from_no}
+use Rattle.body_reader.proofs.PlainLaws.{lines_utf8}
 
 full_free : (p : Bool) (text : List ℕ) → Free 13 text → Free 10 text → full_from p text ≡ text
 full_free p [] cr lf = refl

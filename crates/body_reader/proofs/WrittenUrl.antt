@@ -1,21 +1,22 @@
 -- What is written urlencoded is read back as the list, with its line ends as they are sent.
-use Rattle.std.proofs.Common.{◌≡◌, ◌<◌, ℕ, ◌/◌, ◌%◌, Bool, true, false, not, ◌||◌, List, [], ◌∷◌, ◌++◌, map, length, refl, sym, ap, subst, ◌∙◌, append_assoc, inl, inr, arith}
-use Rattle.std.specs.Prelude.{All, IsUtf8, nat_eq}
+use Rattle.std.proofs.Common.{◌≡◌, ◌<◌, ℕ, Bool, true, false, List, [], ◌∷◌, ◌++◌, length, refl, sym, ap, subst, ◌∙◌, append_assoc, arith, ◌/◌, ◌%◌, not, ◌||◌, map, inl, inr}
+use Rattle.std.proofs.lemmas.Bool.{agree_below_at, cond_both, cond-true, eqb-true, lt-ltb}
+use Rattle.std.proofs.lemmas.List.Elements.{recursion_from_All}
 use Rattle.std.specs.Char.{digit_value}
 use Rattle.std.specs.Fmt.{digit_glyph}
 use Rattle.std.specs.List.{AllByRecursion, join_with_byte}
-use Rattle.std.proofs.lemmas.Bool.{agree_below_at, cond_both, cond-true, eqb-true, lt-ltb}
-use Rattle.std.proofs.lemmas.List.Elements.{recursion_from_All}
+use Rattle.std.specs.Prelude.{IsUtf8, All, nat_eq}
 use Rattle.percent_encoding.specs.Percent.{percent_encode_byte}
 use Rattle.form_urlencoded.specs.Form.{is_unchanged, serialize_byte, byte_serialize, serialize_pair, separator, extend_pairs}
+use Rattle.ce_base.specs.Texts.{HasTexts}
 use Rattle.ce_base.specs.declared.entries.Entry.{Entry}
 use Rattle.form_submission.proofs.Characters.{bytes-IsUtf8}
 use Rattle.form_submission.proofs.Texts.{IsUtf8-with_full_newlines}
 use Rattle.form_submission.specs.Encodings.{pair_of, urlencoded}
 use Rattle.form_submission.specs.LineEnds.{with_full_newlines}
-use Rattle.body_reader.specs.Bodies.{is_bare, IsSpelling, Spells, IsPair, ArePairs, UrlText}
-use Rattle.ce_base.specs.Texts.{HasTexts}
+use Rattle.body_reader.specs.Bodies.{part, is_bare, IsSpelling, Spells, IsPair, ArePairs, UrlText}
 use Rattle.body_reader.specs.Written.{as_sent}
+use Rattle.body_reader.proofs.UrlLaws.{NotEmpty, front_not_empty}
 
 -- ---- a byte as it is written
 
@@ -76,23 +77,14 @@ written_pairs (e ∷ entries) are = (written_pair e are.0, written_pairs entries
 
 -- ---- joined by &
 
--- bytes that are not empty
-abbrev HasSome : List ℕ → Type 0
-HasSome [] = ⊥
-HasSome (b ∷ bytes) = Unit {0}
+end_not_empty : (xs ys : List ℕ) → NotEmpty ys → NotEmpty (xs ++ ys)
+end_not_empty [] ys is = is
+end_not_empty (x ∷ xs) ys is = tt
 
-some_first : (xs ys : List ℕ) → HasSome xs → HasSome (xs ++ ys)
-some_first [] ys is = absurd is
-some_first (x ∷ xs) ys is = tt
+written_not_empty : (pair : List ℕ × List ℕ) → NotEmpty (serialize_pair pair)
+written_not_empty (name, value) = front_not_empty (byte_serialize name ++ 61 ∷ []) (byte_serialize value) (end_not_empty (byte_serialize name) (61 ∷ []) tt)
 
-some_last : (xs ys : List ℕ) → HasSome ys → HasSome (xs ++ ys)
-some_last [] ys is = is
-some_last (x ∷ xs) ys is = tt
-
-pair_has_some : (pair : List ℕ × List ℕ) → HasSome (serialize_pair pair)
-pair_has_some (name, value) = some_first (byte_serialize name ++ 61 ∷ []) (byte_serialize value) (some_last (byte_serialize name) (61 ∷ []) tt)
-
-joined_some : (form : List ℕ) → HasSome form → separator form ≡ 38 ∷ []
+joined_some : (form : List ℕ) → NotEmpty form → separator form ≡ 38 ∷ []
 joined_some [] is = absurd is
 joined_some (b ∷ form) is = cond-true _ _ _ (lt-ltb 0 (length (b ∷ form)) (omega arith))
 
@@ -102,16 +94,16 @@ join_step part e (f ∷ entries) =
     let tail = 38 ∷ join_with_byte 38 (written_parts (f ∷ entries)) in
     sym (append_assoc (part ++ 38 ∷ []) (serialize_pair (pair_of e)) tail ∙ append_assoc part (38 ∷ []) (serialize_pair (pair_of e) ++ tail))
 
-extended : (form : List ℕ) (entries : List Entry) → HasSome form → extend_pairs form (map pair_of entries) ≡ join_with_byte 38 (form ∷ written_parts entries)
+extended : (form : List ℕ) (entries : List Entry) → NotEmpty form → extend_pairs form (map pair_of entries) ≡ join_with_byte 38 (form ∷ written_parts entries)
 extended form [] is = refl
 extended form (e ∷ entries) is =
     let next = (form ++ 38 ∷ []) ++ serialize_pair (pair_of e) in
     ap (λ (s : List ℕ). extend_pairs ((form ++ s) ++ serialize_pair (pair_of e)) (map pair_of entries)) (joined_some form is)
-    ∙ (extended next entries (some_last (form ++ 38 ∷ []) (serialize_pair (pair_of e)) (pair_has_some (pair_of e))) ∙ sym (join_step form e entries))
+    ∙ (extended next entries (end_not_empty (form ++ 38 ∷ []) (serialize_pair (pair_of e)) (written_not_empty (pair_of e))) ∙ sym (join_step form e entries))
 
 back_by_recursion : (entries : List Entry) → AllByRecursion HasTexts entries → UrlText (map as_sent entries) (urlencoded entries)
 back_by_recursion [] are = refl
-back_by_recursion (e ∷ entries) are = (written_parts (e ∷ entries), written_pairs (e ∷ entries) are, extended (serialize_pair (pair_of e)) entries (pair_has_some (pair_of e)))
+back_by_recursion (e ∷ entries) are = (written_parts (e ∷ entries), written_pairs (e ∷ entries) are, extended (serialize_pair (pair_of e)) entries (written_not_empty (pair_of e)))
 
 pub urlencoded_back : (entries : List Entry) → All HasTexts entries → UrlText (map as_sent entries) (urlencoded entries)
 urlencoded_back entries are = back_by_recursion entries (recursion_from_All HasTexts entries are)

@@ -1,6 +1,7 @@
 -- Of which entry lists bytes are the body, one relation for each type (URL Standard, section
 -- "application/x-www-form-urlencoded"; HTML Standard, section "Plain text form data"; RFC 7578).
-use Rattle.std.specs.Prelude.{◌≡◌, ◌≢◌, ◌<◌, ℕ, ◌+◌, ◌*◌, ◌⊎◌, Bool, true, false, not, ◌&&◌, ◌==◌, nat_le, List, [], ◌∷◌, ◌++◌, All, length, IsUtf8, codes, flat_map}
+use Rattle.std.specs.Prelude.{◌≡◌, ◌≢◌, ◌<◌, ◌⊎◌, ℕ, ◌+◌, ◌*◌, ◌==◌, nat_le, Bool, true, false, not, ◌&&◌}
+use Rattle.std.specs.Prelude.{List, [], ◌∷◌, ◌++◌, All, length, IsUtf8, codes, flat_map}
 use Rattle.std.specs.Char.{digit_value, is_ascii_alphanumeric}
 use Rattle.std.specs.List.{join_with_byte, list_all}
 use Rattle.ce_base.specs.declared.entries.Entry.{Entry}

@@ -1,5 +1,5 @@
 -- Bytes cut in two, at a byte or at a text.
-use Rattle.std.specs.Prelude.{ℕ, ◌+◌, Bool, ◌==◌, nat_eq, drop, if◌then◌else◌, List, [], ◌∷◌, ◌++◌, Option, Some, None, length, true, false}
+use Rattle.std.specs.Prelude.{ℕ, Bool, ◌==◌, nat_eq, drop, if◌then◌else◌, List, [], ◌∷◌, ◌++◌, Option, Some, None, length, true, false}
 use Rattle.std.specs.Borrow.{Bor}
 use Rattle.std.specs.List.{starts_with}
 use Rattle.std.specs.Str.{is_utf8}

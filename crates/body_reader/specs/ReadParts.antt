@@ -1,5 +1,6 @@
 -- A multipart body, read.
-use Rattle.std.specs.Prelude.{◌≡◌, ℕ, ◌+◌, Bool, ◌&&◌, drop, if◌then◌else◌, List, [], ◌∷◌, ◌++◌, Option, Some, None, Result, Ok, Err, length, true, false, ◌-◌, zero, suc, take, codes}
+use Rattle.std.specs.Prelude.{◌≡◌, ℕ, ◌+◌, ◌-◌, zero, suc, Bool, true, false, ◌&&◌, if◌then◌else◌, Option, Some, None, Result, Ok, Err}
+use Rattle.std.specs.Prelude.{List, [], ◌∷◌, ◌++◌, codes, drop, length, take}
 use Rattle.std.specs.Borrow.{Bor}
 use Rattle.form_submission.specs.LineEnds.{newline}
 use Rattle.ce_base.specs.declared.entries.Entry.{Entry}
@@ -95,8 +96,8 @@ abbrev pub behind_dashes : List ℕ → Option (List ℕ) → Option (List ℕ)
 behind_dashes boundary None = None
 behind_dashes boundary (Some rest) = behind boundary rest
 
-abbrev pub read_multi : List ℕ → List ℕ → Option (List Entry)
-read_multi boundary bytes = tail_behind boundary (behind_dashes boundary (behind (codes "--") bytes))
+abbrev pub multipart_entries : List ℕ → List ℕ → Option (List Entry)
+multipart_entries boundary bytes = tail_behind boundary (behind_dashes boundary (behind (codes "--") bytes))
 
 -- a step of the loop
 abbrev pub see_part : {A : Type 0} → A × Bor (List ℕ) → A × List ℕ

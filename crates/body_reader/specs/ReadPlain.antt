@@ -1,10 +1,8 @@
 -- A plain text body, read.
-use Rattle.std.specs.Prelude.{◌≡◌, ℕ, List, [], ◌∷◌, Option, Some, None, Result, Ok, Err}
+use Rattle.std.specs.Prelude.{ℕ, List, [], ◌∷◌, Option, Some, None}
 use Rattle.std.specs.List.{slice_split}
 use Rattle.ce_base.specs.declared.entries.Entry.{Entry}
-use Rattle.body_reader.specs.declared.refused.BodyRefused.{BodyRefused}
-use Rattle.body_reader.specs.declared.refused.BodyRefused.TheVariants.{NotABody, NoMemory}
-use Rattle.body_reader.specs.Gives.{with_front, then_one, paired}
+use Rattle.body_reader.specs.Gives.{then_one, paired}
 use Rattle.body_reader.specs.Cuts.{is_byte, cut_at, behind, only_utf8}
 
 -- what stands before the first =, and behind it up to a CR at the end
@@ -27,5 +25,5 @@ read_lines ([] ∷ []) = Some []
 read_lines ((b ∷ part) ∷ []) = None
 read_lines (part ∷ next ∷ parts) = then_one (read_line part) (read_lines (next ∷ parts))
 
-unfoldable pub read_plain : List ℕ → Option (List Entry)
-read_plain bytes = read_lines (slice_split (is_byte 10) bytes)
+unfoldable pub plain_entries : List ℕ → Option (List Entry)
+plain_entries bytes = read_lines (slice_split (is_byte 10) bytes)

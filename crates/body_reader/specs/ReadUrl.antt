@@ -25,6 +25,6 @@ unfoldable pub read_parts : List ℕ → Option (List Entry)
 read_parts bytes = read_pairs (slice_split (is_byte 38) bytes)
 
 -- a body: nothing, or pairs
-abbrev pub read_url : List ℕ → Option (List Entry)
-read_url [] = Some []
-read_url (b ∷ bytes) = read_parts (b ∷ bytes)
+abbrev pub urlencoded_entries : List ℕ → Option (List Entry)
+urlencoded_entries [] = Some []
+urlencoded_entries (b ∷ bytes) = read_parts (b ∷ bytes)

@@ -4,7 +4,7 @@ ghost use Rattle.ce_base.specs.declared.entries.Entry.{Entry};
 ghost use Rattle.body_reader.specs.Bodies.{IsBoundary, PartText};
 ghost use Rattle.body_reader.specs.Cuts.{behind};
 ghost use Rattle.body_reader.specs.Gives.{Gives};
-ghost use Rattle.body_reader.specs.ReadParts.{IsAddedPart, closing, is_end, read_multi, read_tail};
+ghost use Rattle.body_reader.specs.ReadParts.{IsAddedPart, closing, is_end, multipart_entries, read_tail};
 ghost use Rattle.body_reader.specs.Reads.{Reads};
 
 use crate::BodyRefused;
@@ -54,8 +54,8 @@ fn read_tail(alloc: Global, bytes: &[u8], boundary: &[u8]) -> Result<Entries, Bo
 }
 
 // The entries of a body.
-fn read_multi(alloc: Global, bytes: &[u8], boundary: &[u8]) -> Result<Entries, BodyRefused>
-    ensures { Gives result (read_multi boundary.now bytes.now) }
+fn multipart_entries(alloc: Global, bytes: &[u8], boundary: &[u8]) -> Result<Entries, BodyRefused>
+    ensures { Gives result (multipart_entries boundary.now bytes.now) }
 {
     match behind(bytes, b"--") {
         None => Err(BodyRefused::NotABody),
@@ -72,5 +72,5 @@ pub fn read_multipart(alloc: Global, bytes: &[u8], boundary: &str) -> Result<Ent
     requires { IsBoundary boundary.now }
     ensures { Reads (λ (list : List Entry). PartText list boundary.now bytes.now) result }
 {
-    read_multi(alloc, bytes, boundary.as_bytes())
+    multipart_entries(alloc, bytes, boundary.as_bytes())
 }

@@ -4,7 +4,7 @@ ghost use Rattle.ce_base.specs.declared.entries.Entry.{Entry};
 ghost use Rattle.body_reader.specs.Bodies.{PlainText};
 ghost use Rattle.body_reader.specs.Cuts.{cut_at, only_utf8};
 ghost use Rattle.body_reader.specs.Gives.{Gives, IsAdded, paired};
-ghost use Rattle.body_reader.specs.ReadPlain.{read_line, read_line_cut, read_plain};
+ghost use Rattle.body_reader.specs.ReadPlain.{plain_entries, read_line, read_line_cut};
 ghost use Rattle.body_reader.specs.Reads.{Reads};
 
 use crate::BodyRefused;
@@ -59,7 +59,7 @@ fn add_line(alloc: Global, entries: &mut Entries, part: &[u8]) -> Result<(), Bod
 // The entries of the lines.
 #[tactic(auto, using(crate::proofs::SplitLaws::lines_some, crate::proofs::SplitLaws::lines_none))]
 fn read_lines(alloc: Global, bytes: &[u8]) -> Result<Entries, BodyRefused>
-    ensures { Gives result (read_plain bytes.now) }
+    ensures { Gives result (plain_entries bytes.now) }
 {
     let mut entries = Entries::make(alloc);
     let mut rest = bytes;

@@ -37,8 +37,9 @@ pub fn read_run<S: Source, K: Sink>(
 ) -> ReadStatus
     ensures usage { (result ≡ ReadStatus.Usage) ↔ (asked (map (λ w. string_bytes w) words.now.items) ≡ None) }
     ensures untouched { result ≡ ReadStatus.Usage → (source.new ≡ source.old) × (sink.new ≡ sink.old) }
-    ensures table { RunMeets (asked (map (λ w. string_bytes w) words.now.items)) result (S.left source.old) (S.left source.new) (K.held sink.old) (K.held sink.new)
-        (S.ended source.new) (S.failed source.old) (S.failed source.new) (K.failed sink.old) (K.failed sink.new) }
+    ensures table { RunMeets (asked (map (λ w. string_bytes w) words.now.items)) result
+        (S.left source.old) (S.left source.new) (K.held sink.old) (K.held sink.new) (S.ended source.new)
+        (S.failed source.old) (S.failed source.new) (K.failed sink.old) (K.failed sink.new) }
     ensures later { (S.failed source.old ≤ S.failed source.new) × (K.failed sink.old ≤ K.failed sink.new) }
 
     // A fault that was counted is the status: a read that failed is not tried again, nor a failed write told as want of memory.

@@ -4,7 +4,7 @@ ghost use Rattle.ce_base.specs.declared.entries.Entry.{Entry};
 ghost use Rattle.body_reader.specs.Bodies.{UrlText};
 ghost use Rattle.body_reader.specs.Escapes.{read_text};
 ghost use Rattle.body_reader.specs.Gives.{Gives, IsAdded, paired};
-ghost use Rattle.body_reader.specs.ReadUrl.{read_pair, read_parts, read_url};
+ghost use Rattle.body_reader.specs.ReadUrl.{read_pair, read_parts, urlencoded_entries};
 ghost use Rattle.body_reader.specs.Reads.{Reads};
 
 use crate::BodyRefused;
@@ -57,8 +57,8 @@ fn read_parts(alloc: Global, bytes: &[u8]) -> Result<Entries, BodyRefused>
 }
 
 // The entries of a body, which may be empty.
-fn read_url(alloc: Global, bytes: &[u8]) -> Result<Entries, BodyRefused>
-    ensures { Gives result (read_url bytes.now) }
+fn urlencoded_entries(alloc: Global, bytes: &[u8]) -> Result<Entries, BodyRefused>
+    ensures { Gives result (urlencoded_entries bytes.now) }
 {
     if bytes.is_empty() {
         return Ok(Entries::make(alloc));
@@ -71,5 +71,5 @@ fn read_url(alloc: Global, bytes: &[u8]) -> Result<Entries, BodyRefused>
 pub fn read_urlencoded(alloc: Global, bytes: &[u8]) -> Result<Entries, BodyRefused>
     ensures { Reads (λ (list : List Entry). UrlText list bytes.now) result }
 {
-    read_url(alloc, bytes)
+    urlencoded_entries(alloc, bytes)
 }

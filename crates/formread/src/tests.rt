@@ -105,8 +105,10 @@ fn plain_bodies_are_read(rt: HostRuntime) -> Result<(), Fail> {
     refuses(&rt, rt.alloc(), "plain", "a=1\n")
 }
 
-const PARTS: &str =
-    "--XX\r\nContent-Disposition: form-data; name=\"a%22%0D%0A\"\r\n\r\np\r\nq\r\n--XX\r\nContent-Disposition: form-data; name=\"u\"\r\n\r\n1\r\n--XX\r\nContent-Disposition: form-data; name=\"v\"\r\n\r\n\r\n--XX--\r\n";
+const PARTS: &str = "--XX\r\nContent-Disposition: form-data; name=\"a%22%0D%0A\"\r\n\r\np\r\nq\r\n\
+    --XX\r\nContent-Disposition: form-data; name=\"u\"\r\n\r\n1\r\n\
+    --XX\r\nContent-Disposition: form-data; name=\"v\"\r\n\r\n\r\n\
+    --XX--\r\n";
 
 const PARTS_LISTED: &str = r#""a%22%0D%0A" "p\r\nq"
 "u" "1"

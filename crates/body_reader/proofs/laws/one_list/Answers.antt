@@ -1,4 +1,4 @@
-use Rattle.body_reader.proofs.MultiLaws.{multi_one}
+use Rattle.body_reader.proofs.MultipartLaws.{multipart_one}
 use Rattle.body_reader.proofs.PlainLaws.{plain_one}
 use Rattle.body_reader.proofs.UrlLaws.{url_one}
 use Rattle.body_reader.proofs.laws.one_list.Goals as goal
@@ -10,4 +10,4 @@ pub returns-clause-plain : goal.returns-clause-plain
 returns-clause-plain c = plain_one
 
 pub returns-clause-multipart : goal.returns-clause-multipart
-returns-clause-multipart c = multi_one
+returns-clause-multipart c = multipart_one

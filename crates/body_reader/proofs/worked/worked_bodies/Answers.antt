@@ -4,7 +4,7 @@ use Rattle.std.proofs.Math.Utf8.{encode}
 use Rattle.body_reader.specs.Cuts.{behind, cut_at, cut_text}
 use Rattle.body_reader.specs.Escapes.{unspell}
 use Rattle.body_reader.specs.ReadParts.{read_part, read_tail}
-use Rattle.body_reader.specs.ReadPlain.{read_plain}
+use Rattle.body_reader.specs.ReadPlain.{plain_entries}
 use Rattle.body_reader.specs.ReadUrl.{read_parts}
 use Rattle.body_reader.proofs.worked.worked_bodies.Goals as goal
 
@@ -17,7 +17,7 @@ unfolding cut_at read_parts unspell is_utf8 chars encode
 returns-clause-not_utf8 c = refl
 
 pub returns-clause-plain : goal.returns-clause-plain
-unfolding cut_at read_plain is_utf8 chars encode
+unfolding cut_at plain_entries is_utf8 chars encode
 returns-clause-plain c = refl
 
 pub returns-clause-multipart : goal.returns-clause-multipart

@@ -1,26 +1,26 @@
 -- A multipart body is read to the list for which the relation holds, and no other.
-use Rattle.std.proofs.Common.{◌≡◌, ◌<◌, ◌≤◌, ℕ, ◌+◌, ◌-◌, zero, suc, Bool, true, false, ◌&&◌, cond, List, [], ◌∷◌, ◌++◌, length, drop, Option, Some, None, Result, Ok, Err, refl, sym, ap, subst, ◌∙◌, append_assoc, append-nil, arith, codes}
-use Rattle.std.specs.Prelude.{nat_lt, IsUtf8, flat_map}
-use Rattle.std.specs.List.{AllByRecursion}
+use Rattle.std.proofs.Common.{◌≡◌, ◌<◌, ◌≤◌, ℕ, ◌+◌, zero, suc, Bool, true, false, ◌&&◌, cond, List, [], ◌∷◌, ◌++◌, length, drop, Option, Some, None, Result, Ok, Err, refl, sym, ap, subst, ◌∙◌, append_assoc, append-nil, arith, codes}
 use Rattle.std.proofs.lemmas.Bool.{and_parts, ltb-true}
 use Rattle.std.proofs.lemmas.List.Elements.{All-from_recursion, recursion_from_All}
 use Rattle.std.proofs.lemmas.Str.{IsUtf8-append, IsUtf8-nil}
+use Rattle.std.specs.List.{AllByRecursion}
+use Rattle.std.specs.Prelude.{nat_lt, IsUtf8, flat_map}
+use Rattle.ce_base.specs.Texts.{HasTexts}
 use Rattle.ce_base.specs.declared.entries.Entry.{Entry}
 use Rattle.form_submission.proofs.Characters.{IsUtf8-ascii}
 use Rattle.form_submission.specs.LineEnds.{newline}
-use Rattle.body_reader.specs.declared.refused.BodyRefused.{BodyRefused}
-use Rattle.body_reader.specs.declared.refused.BodyRefused.TheVariants.{NotABody, NoMemory}
 use Rattle.body_reader.specs.Bodies.{FitsPart, part, PartText, IsBoundary}
 use Rattle.body_reader.specs.Cuts.{behind}
 use Rattle.body_reader.specs.Gives.{Gives}
-use Rattle.body_reader.specs.ReadParts.{before_name, behind_dashes, behind_name, closing, dashes, is_end, read_multi, read_part, read_tail, tail_behind, then_parts}
+use Rattle.body_reader.specs.ReadParts.{before_name, behind_dashes, behind_name, closing, dashes, is_end, multipart_entries, read_part, read_tail, tail_behind, then_parts}
 use Rattle.body_reader.specs.Reads.{Reads}
-use Rattle.ce_base.specs.Texts.{HasTexts}
-use Rattle.body_reader.proofs.PartCuts.{tail_opens, no_tail}
-use Rattle.body_reader.proofs.PlainLaws.{utf8_around}
-use Rattle.body_reader.proofs.UrlLaws.{one_some}
+use Rattle.body_reader.specs.declared.refused.BodyRefused.{BodyRefused}
+use Rattle.body_reader.specs.declared.refused.BodyRefused.TheVariants.{NotABody, NoMemory}
 use Rattle.body_reader.proofs.FrontLaws.{behind_said, behind_again, behind_not, HasSome, IsBound, boundary_bounds, boundary_some}
-use Rattle.body_reader.proofs.PartLaws.{named, valued, part_text, IsPart, part_said, part_again}
+use Rattle.body_reader.proofs.GivesLaws.{one_some}
+use Rattle.body_reader.proofs.PartCuts.{tail_opens, no_tail}
+use Rattle.body_reader.proofs.PartLaws.{part_text, IsPart, part_said, part_again}
+use Rattle.body_reader.proofs.TextLaws.{utf8_around}
 
 -- ---- all parts
 
@@ -90,7 +90,7 @@ tail_long : (boundary : List ℕ) (list : List Entry) → length list ≤ length
 tail_long boundary [] = omega arith
 tail_long boundary (e ∷ list) = let one = part_longer boundary e (tail_text boundary list) in let more = tail_long boundary list in omega (arith, one, more)
 
--- ---- the whole_body body
+-- ---- the whole body
 
 abbrev end_of : List ℕ → List ℕ → List ℕ
 end_of boundary front = front ++ codes "--" ++ boundary ++ codes "--" ++ newline
@@ -107,7 +107,7 @@ whole_body boundary (e ∷ list) = end_more boundary (part boundary e) (flat_map
 
 -- ---- UTF-8
 
-abbrev pub AreAscii : List ℕ → Type 0
+abbrev AreAscii : List ℕ → Type 0
 AreAscii bs = AllByRecursion (λ b. b < 128) bs
 
 pub bound_ascii : (boundary : List ℕ) → AllByRecursion IsBound boundary → AreAscii boundary
@@ -122,7 +122,7 @@ behind_utf8 : (front rest : List ℕ) → AreAscii front → IsUtf8 (front ++ re
 behind_utf8 [] rest are is = is
 behind_utf8 (b ∷ front) rest are is = behind_utf8 front rest are.1 (utf8_around b [] (front ++ rest) are.0 is).1
 
-abbrev pub all_low : List ℕ → Bool
+abbrev all_low : List ℕ → Bool
 all_low [] = true
 all_low (b ∷ bs) = nat_lt b 128 && all_low bs
 
@@ -156,14 +156,14 @@ tail_texts boundary (e ∷ list) are is = let both = part_texts boundary e (tail
 
 -- ---- bodies
 
-multi_behind : (boundary rest : List ℕ) (h : Option (List ℕ)) (list : List Entry) → HasSome boundary → behind boundary rest ≡ h → tail_behind boundary h ≡ Some list → (bytes : List ℕ) × (rest ≡ boundary ++ bytes) × AreParts boundary list bytes
-multi_behind boundary rest None list some is e = absurd cc
-multi_behind boundary rest (Some bytes) list some is e = (bytes, behind_said boundary rest bytes is, tail_said (length bytes + 1) boundary some bytes list e)
+multipart_behind : (boundary rest : List ℕ) (h : Option (List ℕ)) (list : List Entry) → HasSome boundary → behind boundary rest ≡ h → tail_behind boundary h ≡ Some list → (bytes : List ℕ) × (rest ≡ boundary ++ bytes) × AreParts boundary list bytes
+multipart_behind boundary rest None list some is e = absurd cc
+multipart_behind boundary rest (Some bytes) list some is e = (bytes, behind_said boundary rest bytes is, tail_said (length bytes + 1) boundary some bytes list e)
 
-multi_open : (boundary bytes : List ℕ) (h : Option (List ℕ)) (list : List Entry) → HasSome boundary → AllByRecursion IsBound boundary → behind (codes "--") bytes ≡ h → tail_behind boundary (behind_dashes boundary h) ≡ Some list → PartText list boundary bytes
-multi_open boundary bytes None list some are is e = absurd cc
-multi_open boundary bytes (Some rest) list some are is e =
-    let (after, opened, parts) = multi_behind boundary rest (behind boundary rest) list some refl e in
+multipart_open : (boundary bytes : List ℕ) (h : Option (List ℕ)) (list : List Entry) → HasSome boundary → AllByRecursion IsBound boundary → behind (codes "--") bytes ≡ h → tail_behind boundary (behind_dashes boundary h) ≡ Some list → PartText list boundary bytes
+multipart_open boundary bytes None list some are is e = absurd cc
+multipart_open boundary bytes (Some rest) list some are is e =
+    let (after, opened, parts) = multipart_behind boundary rest (behind boundary rest) list some refl e in
     let joined : bytes ≡ codes "--" ++ (boundary ++ tail_text boundary list) =
     behind_said (codes "--") bytes rest is ∙ (ap (λ (l : List ℕ). codes "--" ++ l) opened ∙ ap (λ (l : List ℕ). codes "--" ++ (boundary ++ l)) parts.joined) in
     let ascii = bound_ascii boundary are in (
@@ -172,29 +172,29 @@ multi_open boundary bytes (Some rest) list some are is e =
       joined ∙ sym (whole_body boundary list),
     )
 
-pub multi_said : (boundary bytes : List ℕ) (list : List Entry) → IsBoundary boundary → read_multi boundary bytes ≡ Some list → PartText list boundary bytes
-multi_said boundary bytes list is e = multi_open boundary bytes (behind (codes "--") bytes) list (boundary_some boundary is) (boundary_bounds boundary is) refl e
+multipart_said : (boundary bytes : List ℕ) (list : List Entry) → IsBoundary boundary → multipart_entries boundary bytes ≡ Some list → PartText list boundary bytes
+multipart_said boundary bytes list is e = multipart_open boundary bytes (behind (codes "--") bytes) list (boundary_some boundary is) (boundary_bounds boundary is) refl e
 
-pub multi_again : (boundary bytes : List ℕ) (list : List Entry) → IsBoundary boundary → PartText list boundary bytes → read_multi boundary bytes ≡ Some list
-multi_again boundary bytes list is (utf8, fit, joined) =
+multipart_again : (boundary bytes : List ℕ) (list : List Entry) → IsBoundary boundary → PartText list boundary bytes → multipart_entries boundary bytes ≡ Some list
+multipart_again boundary bytes list is (utf8, fit, joined) =
     let are = boundary_bounds boundary is in
     let ascii = bound_ascii boundary are in
     let opened : bytes ≡ codes "--" ++ (boundary ++ tail_text boundary list) = joined ∙ whole_body boundary list in
     let rest = behind_utf8 boundary (tail_text boundary list) ascii (behind_utf8 (codes "--") (boundary ++ tail_text boundary list) (ascii_by (codes "--") refl) (subst IsUtf8 opened utf8)) in
     let long = tail_long boundary list in
     let small : length list < length (tail_text boundary list) + 1 = omega (arith, long) in
-    ap (read_multi boundary) opened
+    ap (multipart_entries boundary) opened
     ∙ (ap (λ (h : Option (List ℕ)). tail_behind boundary (behind_dashes boundary h)) (behind_again (codes "--") (boundary ++ tail_text boundary list))
     ∙ (ap (tail_behind boundary) (behind_again boundary (tail_text boundary list))
     ∙ tail_again (length (tail_text boundary list) + 1) boundary list (boundary_some boundary is) are (recursion_from_All (FitsPart boundary) list fit) (tail_texts boundary list ascii rest) small))
 
-none_of : (boundary bytes : List ℕ) (list : List Entry) → IsBoundary boundary → read_multi boundary bytes ≡ None → PartText list boundary bytes → ⊥
-none_of boundary bytes list is none body = let both : None ≡ Some list = sym none ∙ multi_again boundary bytes list is body in absurd cc
+no_multipart : (boundary bytes : List ℕ) (list : List Entry) → IsBoundary boundary → multipart_entries boundary bytes ≡ None → PartText list boundary bytes → ⊥
+no_multipart boundary bytes list is none body = let both : None ≡ Some list = sym none ∙ multipart_again boundary bytes list is body in absurd cc
 
-pub multi_reads : (r : Result (List Entry) BodyRefused) (boundary bytes : List ℕ) → IsBoundary boundary → Gives r (read_multi boundary bytes) → Reads (λ (list : List Entry). PartText list boundary bytes) r
-multi_reads (Ok list) boundary bytes is gives = multi_said boundary bytes list is gives
-multi_reads (Err NotABody) boundary bytes is gives = λ list body. none_of boundary bytes list is gives body
-multi_reads (Err NoMemory) boundary bytes is gives = tt
+pub multipart_reads : (r : Result (List Entry) BodyRefused) (boundary bytes : List ℕ) → IsBoundary boundary → Gives r (multipart_entries boundary bytes) → Reads (λ (list : List Entry). PartText list boundary bytes) r
+multipart_reads (Ok list) boundary bytes is gives = multipart_said boundary bytes list is gives
+multipart_reads (Err NotABody) boundary bytes is gives = λ list body. no_multipart boundary bytes list is gives body
+multipart_reads (Err NoMemory) boundary bytes is gives = tt
 
-pub multi_one : (boundary bytes : List ℕ) (a b : List Entry) → IsBoundary boundary → PartText a boundary bytes → PartText b boundary bytes → a ≡ b
-multi_one boundary bytes a b is one two = let same : Some a ≡ Some b = sym (multi_again boundary bytes a is one) ∙ multi_again boundary bytes b is two in (cc)
+pub multipart_one : (boundary bytes : List ℕ) (a b : List Entry) → IsBoundary boundary → PartText a boundary bytes → PartText b boundary bytes → a ≡ b
+multipart_one boundary bytes a b is one two = let same : Some a ≡ Some b = sym (multipart_again boundary bytes a is one) ∙ multipart_again boundary bytes b is two in (cc)

@@ -1,22 +1,21 @@
 -- What is written multipart is read back as the list, with its names escaped and the line ends of its values as they are sent.
-use Rattle.std.proofs.Common.{◌≡◌, ℕ, Bool, true, false, not, ◌&&◌, List, [], ◌∷◌, ◌++◌, map, refl, sym, ap, subst, ◌∙◌, arith, codes}
-use Rattle.std.specs.Prelude.{All, nat_eq, IsUtf8, flat_map}
-use Rattle.std.specs.List.{AllByRecursion, starts_with}
-use Rattle.std.proofs.lemmas.Bool.{and_parts, cond_both, eqb-true, or_parts}
+use Rattle.std.proofs.Common.{◌≡◌, ℕ, false, List, [], ◌∷◌, ◌++◌, refl, sym, ap, subst, ◌∙◌, codes, map}
+use Rattle.std.proofs.lemmas.Bool.{cond_both, or_parts}
 use Rattle.std.proofs.lemmas.List.Elements.{All-from_recursion, recursion_from_All}
-use Rattle.ce_base.specs.declared.entries.Entry.{Entry}
-use Rattle.form_submission.proofs.Texts.{IsUtf8-escaped, IsUtf8-with_full_newlines}
-use Rattle.form_submission.specs.Encodings.{escaped_byte, is_broken_by, multipart, occurs, part as part_sent}
-use Rattle.form_submission.specs.LineEnds.{begins_with_line_feed, full_byte, full_from, newline, with_full_newlines}
-use Rattle.submit_encoders.specs.Cuts.{has_line_end}
-use Rattle.submit_encoders.proofs.Free.{occurs-with_full_newlines}
-use Rattle.body_reader.specs.Bodies.{FitsPart, part, PartText, IsBoundary}
+use Rattle.std.specs.List.{AllByRecursion}
+use Rattle.std.specs.Prelude.{IsUtf8, flat_map, All, nat_eq}
 use Rattle.ce_base.specs.Texts.{HasTexts}
+use Rattle.ce_base.specs.declared.entries.Entry.{Entry}
+use Rattle.form_submission.proofs.Texts.{IsUtf8-with_full_newlines, IsUtf8-escaped}
+use Rattle.form_submission.specs.Encodings.{escaped_byte, is_broken_by, multipart, part as part_sent}
+use Rattle.form_submission.specs.LineEnds.{newline, with_full_newlines}
+use Rattle.submit_encoders.proofs.Free.{occurs-with_full_newlines}
+use Rattle.submit_encoders.specs.Cuts.{has_line_end}
+use Rattle.body_reader.specs.Bodies.{FitsPart, part, PartText, IsBoundary}
 use Rattle.body_reader.specs.Written.{as_part}
+use Rattle.body_reader.proofs.CutLaws.{Free, free_both, no_from_free}
 use Rattle.body_reader.proofs.FrontLaws.{IsBound, boundary_bounds}
-use Rattle.body_reader.proofs.MultiLaws.{ascii_by, bound_ascii, front_utf8, tail_text, tail_utf8, whole_body}
-use Rattle.body_reader.proofs.PlainLaws.{no_from_free}
-use Rattle.body_reader.proofs.UrlLaws.{Free, free_both}
+use Rattle.body_reader.proofs.MultipartLaws.{tail_text, whole_body, bound_ascii, front_utf8, ascii_by, tail_utf8}
 
 -- ---- names
 
@@ -63,8 +62,8 @@ parts_same : (boundary : List ℕ) (entries : List Entry) → flat_map (part_sen
 parts_same boundary [] = refl
 parts_same boundary (e ∷ entries) = ap (λ (l : List ℕ). part_sent boundary e ++ l) (parts_same boundary entries)
 
-pub multi_back : (entries : List Entry) (boundary : List ℕ) → IsBoundary boundary → All HasTexts entries → is_broken_by entries boundary ≡ false → PartText (map as_part entries) boundary (multipart entries boundary)
-multi_back entries boundary is texts free =
+pub multipart_back : (entries : List Entry) (boundary : List ℕ) → IsBoundary boundary → All HasTexts entries → is_broken_by entries boundary ≡ false → PartText (map as_part entries) boundary (multipart entries boundary)
+multipart_back entries boundary is texts free =
     let are = boundary_bounds boundary is in
     let ascii = bound_ascii boundary are in
     let list = map as_part entries in
