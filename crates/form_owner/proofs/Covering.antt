@@ -18,8 +18,9 @@ use Rattle.id_index.specs.declared.index.IdIndex.{IdIndex}
 use Rattle.owner_laws.specs.Locality.{IsAsideOfMove, IsUnchanged}
 use Rattle.owner_laws.proofs.Moves.{covers-graft, covers-cut}
 use Rattle.owner_laws.proofs.PutBack.{graft-up}
+use Rattle.owner_rows.specs.OwnerRow.{OwnerRow, row_of}
 use Rattle.form_owner.specs.Candidates.{Considers, Covers, is_concerned, is_named_among, is_of_legend, is_of_move}
-use Rattle.form_owner.specs.OwnerRows.{OwnerRow, OwnerRows, row_of}
+use Rattle.form_owner.specs.OwnerRows.{OwnerRows}
 use Rattle.form_owner.specs.Stands.{Stands}
 use Rattle.form_owner.specs.Touches.{IsInserted, IsRemoved}
 use Rattle.form_owner.proofs.Naming.{none-named}

@@ -25,9 +25,10 @@ use Rattle.id_index.specs.Held.{is_held}
 use Rattle.owner_laws.specs.Locality.{IsAsideOfAttribute, IsUnchanged}
 use Rattle.owner_laws.proofs.Attributes.{covers-with}
 use Rattle.owner_laws.proofs.SameReads.{unchanged-marked}
-use Rattle.form_owner.specs.Attributes.{seen_at}
+use Rattle.owner_rows.specs.OwnerRow.{Seen, row_of}
+use Rattle.owner_rows.specs.Attributes.{seen_at}
 use Rattle.form_owner.specs.Candidates.{Considers, Covers, is_concerned, is_named_by, is_of_change, is_of_group, is_of_ids}
-use Rattle.form_owner.specs.OwnerRows.{OwnerRows, Seen, row_of}
+use Rattle.form_owner.specs.OwnerRows.{OwnerRows}
 use Rattle.form_owner.specs.Stands.{Stands}
 use Rattle.form_owner.specs.Touches.{IsChanged, IsDefined, with_associated}
 use Rattle.form_owner.proofs.Covering.{left-out}

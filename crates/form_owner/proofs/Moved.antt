@@ -10,8 +10,8 @@ use Rattle.tree_laws.proofs.InOrder.{member_is_node}
 use Rattle.form_controls.specs.declared.change.Change.{Change}
 use Rattle.form_controls.specs.Changes.{is_change, numbers}
 use Rattle.owner_reading.specs.Owners.{owner_with}
+use Rattle.owner_rows.specs.OwnerRow.{OwnerRow, row_in, row_of}
 use Rattle.form_owner.specs.Moves.{AreEntered, IsTold, is_settled, stays}
-use Rattle.form_owner.specs.OwnerRows.{OwnerRow, row_in, row_of}
 use Rattle.form_owner.specs.Reading.{change_read, changes_read, is_owned_in}
 use Rattle.form_owner.specs.Writing.{AreRenewed, IsKept, ListsStood, unlisted, with_changes, with_told}
 use Rattle.form_owner.proofs.Changed.{new-is, owner-has-it, owner-is-node, unmoved}

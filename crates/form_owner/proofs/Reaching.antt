@@ -7,8 +7,8 @@ use Rattle.node_trees.specs.Orders.{order_of}
 use Rattle.node_trees.specs.Paths.{is_among}
 use Rattle.node_trees.specs.Spots.{attribute_at}
 use Rattle.form_controls.specs.Disabled.{has_disabled}
+use Rattle.owner_rows.specs.OwnerRow.{OwnerRow, row_of}
 use Rattle.form_owner.specs.Candidates.{Considers, is_named_among, is_of_change, is_of_group, is_of_ids, is_of_legend, is_of_move}
-use Rattle.form_owner.specs.OwnerRows.{OwnerRow, row_of}
 use Rattle.form_owner.proofs.Considering.{both, from_none, less, nothing}
 
 module _ (forest : Trees) (about : ℕ → Bool) (named : List ℕ → ℕ → Bool) (n : ℕ) where

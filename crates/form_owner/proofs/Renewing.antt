@@ -12,8 +12,8 @@ use Rattle.tree_laws.proofs.InOrder.{member_is_node}
 use Rattle.form_controls.specs.declared.change.Change.{Change}
 use Rattle.form_controls.specs.Changes.{is_change, where_new, numbers}
 use Rattle.owner_reading.specs.Owners.{owner_with}
+use Rattle.owner_rows.specs.OwnerRow.{OwnerRow, row_in, row_of}
 use Rattle.form_owner.specs.Candidates.{Considers}
-use Rattle.form_owner.specs.OwnerRows.{OwnerRow, row_in, row_of}
 use Rattle.form_owner.specs.Reading.{change_read, changes_read, is_owned_in, owned_in}
 use Rattle.form_owner.specs.Writing.{AreListed, AreRenewed, ListsStood, is_moved, is_moved_among, with_changes}
 use Rattle.form_owner.proofs.Listing.{owned-same}

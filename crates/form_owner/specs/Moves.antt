@@ -6,7 +6,7 @@ use Rattle.node_trees.specs.Nodes.{IsNode, size}
 use Rattle.node_trees.specs.Orders.{tree_order_of}
 use Rattle.node_trees.specs.Paths.{is_among, root_at}
 use Rattle.form_controls.specs.declared.change.Change.{Change}
-use Rattle.form_owner.specs.OwnerRows.{OwnerRow, row_in, row_of}
+use Rattle.owner_rows.specs.OwnerRow.{OwnerRow, row_in, row_of}
 use Rattle.form_owner.specs.Reading.{is_owned_in}
 use Rattle.form_owner.specs.Writing.{unlisted}
 
@@ -20,10 +20,6 @@ is_moved_by cs m = list_any (is_moving m) cs
 -- no change moves m
 abbrev pub stays : List Change → ℕ → Bool
 stays cs m = not (is_moved_by cs m)
-
--- m is another than n
-abbrev pub is_other : ℕ → ℕ → Bool
-is_other n m = not (m == n)
 
 -- m is in the list of a form that owns it
 abbrev pub is_listed_in : List OwnerRow → ℕ → ℕ → Bool

@@ -6,10 +6,11 @@ use Rattle.node_trees.specs.Nodes.{IsNode, size}
 use Rattle.node_trees.specs.Orders.{tree_order_of}
 use Rattle.node_trees.specs.Paths.{is_among, root_at}
 use Rattle.form_controls.specs.declared.change.Change.{Change}
+use Rattle.owner_rows.specs.OwnerRow.{OwnerRow, blank_seen, row_in, row_of}
+use Rattle.owner_rows.specs.Attributes.{seen_at}
 use Rattle.form_owner.specs.declared.touch.Touch.{Touch}
 use Rattle.form_owner.specs.declared.touch.Touch.TheVariants.{Inserted, Removed, Attr, Associated}
-use Rattle.form_owner.specs.Attributes.{seen_at, is_naming, is_text}
-use Rattle.form_owner.specs.OwnerRows.{OwnerRow, blank_seen, row_in, row_of}
+use Rattle.form_owner.specs.Attributes.{is_naming, is_text}
 use Rattle.owner_reading.specs.Owners.{owner_with}
 use Rattle.disabled_reading.specs.Disabled.{disabled_with}
 use Rattle.form_owner.specs.Reading.{is_owned_in, owned_in}

@@ -7,19 +7,18 @@ ghost use Rattle.tree_laws.specs.Numbers.{insert_number};
 ghost use Rattle.tree_laws.proofs.Counts.{AreApart};
 ghost use Rattle.form_controls.specs.Changes.{numbers};
 ghost use Rattle.form_controls.specs.declared.change.Change.{Change};
+ghost use Rattle.owner_rows.specs.OwnerRow.{is_other, row_in, row_of};
 ghost use Rattle.form_owner.specs.Groups.{all_after};
-ghost use Rattle.form_owner.specs.Moves.{AreEntered, IsTold, is_listed_in, is_other, stays};
-ghost use Rattle.form_owner.specs.OwnerRows.{row_in, row_of};
+ghost use Rattle.form_owner.specs.Moves.{AreEntered, IsTold, is_listed_in, stays};
 ghost use Rattle.form_owner.specs.Reading.{changes_read, is_owned_in};
 ghost use Rattle.form_owner.specs.Told.{AreRising};
 ghost use Rattle.form_owner.specs.Writing.{AreRenewed, ListsStood, Written, with_changes, with_told};
 
 use crate::Changes;
-use crate::control_list::is_in;
-use crate::row::{Row, controls_in, owner_in, place_of};
 use crate::writing::write_all;
 use ce_base::{NoMemory, NodeNo};
 use node_arena::Tree;
+use owner_rows::{Row, controls_in, is_in, owner_in, place_of};
 
 /// Takes a node out of a form's list.
 fn take_from(rows: &mut [Row], form: NodeNo, n: NodeNo)

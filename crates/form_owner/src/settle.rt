@@ -3,8 +3,8 @@ ghost use Rattle.std.specs.Prelude.{◌≡◌, ◌<◌, ◌≤◌, ◌-◌, All,
 ghost use Rattle.node_trees.specs.Nodes.{IsNode};
 ghost use Rattle.form_controls.specs.Changes.{form_changes};
 ghost use Rattle.form_controls.specs.Owners.{Forms};
+ghost use Rattle.owner_rows.specs.OwnerRow.{row_in, row_of};
 ghost use Rattle.form_owner.specs.Candidates.{Covers};
-ghost use Rattle.form_owner.specs.OwnerRows.{row_in, row_of};
 ghost use Rattle.form_owner.specs.Stands.{Stands, StoodBefore};
 ghost use Rattle.form_owner.specs.Told.{AreOfNodes};
 ghost use Rattle.form_owner.specs.Touches.{IsTouched, after_touch};
@@ -12,12 +12,12 @@ ghost use Rattle.form_owner.specs.Writing.{IsPlaced, Noted, Written};
 
 use crate::reach::{of_change, of_mark, of_move};
 use crate::renewal::renew;
-use crate::row::{Row, place_of};
 use crate::seeing::see_touched;
 use crate::{Changes, OwnerTable, Touch};
 use ce_base::{NoMemory, NodeNo};
 use node_arena::Tree;
 use node_set::NodeSet;
+use owner_rows::{Row, place_of};
 use std::alloc::Global;
 
 /// Puts blank rows behind, up to a count.
