@@ -1,5 +1,6 @@
 // The controls of forms.
-ghost use Rattle.std.specs.Prelude.{◌≡◌, ◌<◌, ◌-◌, ◌++◌, ◌∷◌, [], All, Some, filter, if◌then◌else◌, length, slice_get, IfOk, OnOk};
+ghost use Rattle.std.specs.Prelude.{◌≡◌, ◌<◌, ◌-◌, ◌++◌, ◌∷◌, [], if◌then◌else◌};
+ghost use Rattle.std.specs.Prelude.{All, Some, filter, length, slice_get, IfOk, OnOk};
 ghost use Rattle.node_trees.specs.Nodes.{IsNode, size};
 ghost use Rattle.owner_rows.specs.OwnerRow.{row_of};
 ghost use Rattle.form_owner.specs.Reading.{is_owned_in, owned_in};

@@ -91,7 +91,8 @@ fn consider_ids(
     new: Option<&str>,
     found: &mut NodeSet,
 ) -> Result<(), NoMemory>
-    ensures { OnOk result (Considers tree.now (is_concerned tree.now rows.now) (is_of_ids (is_held named.now) (option_copied old.entry) (option_copied new.entry)) found.old found.new) }
+    ensures { OnOk result (Considers tree.now (is_concerned tree.now rows.now)
+        (is_of_ids (is_held named.now) (option_copied old.entry) (option_copied new.entry)) found.old found.new) }
 {
     if old != new {
         consider_named(tree, rows, named, old, found)?;

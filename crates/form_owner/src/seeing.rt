@@ -20,7 +20,8 @@ fn note_form(
     form: Option<&str>,
     n: NodeNo,
 ) -> Result<(), NoMemory>
-    ensures { OnOk result ((id : List ℕ) (m : ℕ) → is_held named.new id m ≡ (is_held named.old id m || (n == m && is_text id (option_copied form.entry)))) }
+    ensures { OnOk result ((id : List ℕ) (m : ℕ) →
+        is_held named.new id m ≡ (is_held named.old id m || (n == m && is_text id (option_copied form.entry)))) }
 {
     if let Some(form) = form {
         named.add(alloc, form, n)?;

@@ -59,7 +59,8 @@ impl OwnerTable {
     fn candidates(&self, alloc: Global, tree: &Tree, touch: Touch) -> Result<NodeSet, NoMemory>
         requires stood { StoodBefore self.now touch tree.now }
         ensures nodes { IfOk result (All (IsNode tree.now)) }
-        ensures covers { (before : Forms) → Stands self.now before → IsTouched touch before.forest tree.now → IfOk result (λ set. Covers set before (after_touch touch before tree.now)) }
+        ensures covers { (before : Forms) → Stands self.now before → IsTouched touch before.forest tree.now →
+            IfOk result (λ set. Covers set before (after_touch touch before tree.now)) }
     {
         let _count = tree.count();
         match touch {
@@ -85,8 +86,10 @@ impl OwnerTable {
     /// was refused, and then the table is only dropped.
     pub fn settle(&mut self, alloc: Global, tree: &Tree, touch: Touch) -> Result<Changes, NoMemory>
         requires stood { StoodBefore self.old touch tree.now }
-        ensures stands { (before : Forms) → Stands self.old before → IsTouched touch before.forest tree.now → OnOk result (Stands self.new (after_touch touch before tree.now)) }
-        ensures changes { (before : Forms) → Stands self.old before → IsTouched touch before.forest tree.now → IfOk result (λ cs. cs ≡ form_changes before (after_touch touch before tree.now)) }
+        ensures stands { (before : Forms) → Stands self.old before → IsTouched touch before.forest tree.now →
+            OnOk result (Stands self.new (after_touch touch before tree.now)) }
+        ensures changes { (before : Forms) → Stands self.old before → IsTouched touch before.forest tree.now →
+            IfOk result (λ cs. cs ≡ form_changes before (after_touch touch before tree.now)) }
         ensures nodes { IfOk result (AreOfNodes tree.now) }
     {
         let candidates = self.candidates(alloc, tree, touch)?.list(alloc)?;
