@@ -1,8 +1,8 @@
 use Rattle.std.proofs.Common.{◌≡◌, ◌∙◌, ap, sym, slice_get, Some}
 use Rattle.node_trees.specs.Paths.{is_among}
 use Rattle.tree_laws.specs.Numbers.{insert_number}
-use Rattle.form_owner.proofs.Placing.{insert-absent, insert-before, insert-last}
-use Rattle.form_owner.proofs.control_list.put_in.Goals as goal
+use Rattle.owner_rows.proofs.Placing.{insert-absent, insert-before, insert-last}
+use Rattle.owner_rows.proofs.control_list.put_in.Goals as goal
 
 pub returns-in_ok-push-in-None : goal.returns-in_ok-push-in-None
 returns-in_ok-push-in-None c = c.in_ok-push-in-None.ensures.items ∙ sym (ap (λ b. insert_number b c.args.n c.args.list.now.items) c.in-None.is ∙ insert-last c.args.n c.args.list.now.items)

@@ -1,9 +1,9 @@
-// What the table last saw of an element's attributes.
+// What was last seen of an element's attributes.
 ghost use Rattle.std.specs.Prelude.{◌≡◌, IfOk};
 ghost use Rattle.std.specs.Option.{option_copied};
 ghost use Rattle.node_trees.specs.Nodes.{IsNode};
-ghost use Rattle.form_owner.specs.Attributes.{seen_at};
-ghost use Rattle.form_owner.specs.OwnerRows.{blank_seen};
+ghost use Rattle.owner_rows.specs.Attributes.{seen_at};
+ghost use Rattle.owner_rows.specs.OwnerRow.{blank_seen};
 
 use ce_base::{NoMemory, NodeNo, Text};
 use form_kinds::has_disabled;
@@ -11,16 +11,17 @@ use node_arena::Tree;
 use std::alloc::Global;
 use std::marker::Model;
 
-/// What the table last saw of an element's attributes.
+/// What was last seen of an element's attributes: the texts of `id` and `form`, where it has them, and whether it has
+/// `disabled`.
 #[derive(Drop)]
-pub(crate) struct Seen {
+pub struct Seen {
     id: Option<Text>,
     form: Option<Text>,
     disabled: bool,
 }
 
 impl Model for Seen {
-    ghost use Rattle.form_owner.specs.OwnerRows.{Seen as SeenOf};
+    ghost use Rattle.owner_rows.specs.OwnerRow.{Seen as SeenOf};
 
     ghost Value = { SeenOf };
 
@@ -39,8 +40,8 @@ impl Seen {
         }
     }
 
-    /// What is seen of a node now.
-    pub(crate) fn of(alloc: Global, tree: &Tree, n: NodeNo) -> Result<Seen, NoMemory>
+    /// What is seen of a node now. NoMemory: memory was refused.
+    pub fn of(alloc: Global, tree: &Tree, n: NodeNo) -> Result<Seen, NoMemory>
         requires { IsNode tree.now n }
         ensures { IfOk result (λ s. s ≡ seen_at tree.now n) }
     {

@@ -3,7 +3,7 @@ ghost use Rattle.std.specs.Prelude.{◌≡◌, Some, None, true, false, filter, 
 ghost use Rattle.node_trees.specs.Paths.{is_among};
 ghost use Rattle.tree_laws.specs.Numbers.{insert_number};
 ghost use Rattle.tree_laws.proofs.Counts.{AreApart};
-ghost use Rattle.form_owner.specs.Moves.{is_other};
+ghost use Rattle.owner_rows.specs.OwnerRow.{is_other};
 
 use ce_base::{NoMemory, NodeNo};
 
@@ -28,7 +28,7 @@ pub(crate) fn place_in(list: &[NodeNo], n: NodeNo) -> Option<usize>
 }
 
 /// Whether a node is in a list.
-pub(crate) fn is_in(list: &[NodeNo], n: NodeNo) -> bool
+pub fn is_in(list: &[NodeNo], n: NodeNo) -> bool
     ensures { result ≡ is_among n list.now }
 {
     place_in(list, n).is_some()

@@ -6,7 +6,7 @@ use ce_base::{NodeNo, Nodes};
 use node_arena::Tree;
 
 /// The node at a place of a list.
-pub fn node_at(tree: &Tree, nodes: &Nodes, place: usize) -> NodeNo
+pub(crate) fn node_at(tree: &Tree, nodes: &Nodes, place: usize) -> NodeNo
     requires within { place < length nodes.now }
     requires nodes { All (IsNode tree.now) nodes.now }
     ensures here { slice_get nodes.now place ≡ Some result }

@@ -1,6 +1,6 @@
 -- A list that is searched from both ends at once.
-use Rattle.std.proofs.Common.{◌≡◌, ℕ, zero, suc, ◌+◌, ◌≤◌, ◌<◌, ◌==◌, Bool, true, false, List, [], ◌∷◌, ◌++◌, take, drop, eqb, get_or, length, refl, sym, ap, ◌∙◌, arith}
-use Rattle.std.specs.Prelude.{◌||◌}
+use Rattle.std.proofs.Common.{◌≡◌, ℕ, zero, suc, ◌+◌, ◌≤◌, ◌<◌, ◌==◌, false, List, [], ◌∷◌, ◌++◌, take, drop, eqb, get_or, length, refl, sym, ap, ◌∙◌, arith}
+use Rattle.std.proofs.lemmas.Bool.{or_parts}
 use Rattle.std.proofs.lemmas.Bool.Decides.{nat_tests}
 use Rattle.std.proofs.lemmas.List.{take-append-drop, take_more, drop_more}
 use Rattle.node_trees.specs.Paths.{is_among}
@@ -12,17 +12,9 @@ in-less n low zero xs le out = refl
 in-less n low (suc high) [] le out = refl
 in-less n zero (suc high) (x ∷ xs) le out = absurd (omega (arith, le))
 in-less n (suc low) (suc high) (x ∷ xs) le out =
-    let rest = in-less n low high xs (omega (arith, le)) (second (x == n) (is_among n (take low xs)) out) in
-    let here = first (x == n) (is_among n (take low xs)) out in
-    grind (arith, nat_tests, rest, here)
-  where
-    first : (b c : Bool) → (b || c) ≡ false → b ≡ false
-    first true c e = absurd cc
-    first false c e = refl
-
-    second : (b c : Bool) → (b || c) ≡ false → c ≡ false
-    second true c e = absurd cc
-    second false c e = e
+    let both = or_parts (x == n) (is_among n (take low xs)) out in
+    let rest = in-less n low high xs (omega (arith, le)) both.1 in
+    grind (arith, nat_tests, rest, both.0)
 
 -- where the ends have met it is in neither part
 pub nowhere : (n low high : ℕ) (xs : List ℕ) → high ≤ low → is_among n (take low xs) ≡ false → is_among n (drop high xs) ≡ false → is_among n xs ≡ false

@@ -1,7 +1,7 @@
 use Rattle.std.proofs.Common.{◌≡◌, ◌+◌, ◌-◌, ap, arith, drop, sym, ◌∙◌}
 use Rattle.node_trees.specs.Paths.{is_among}
-use Rattle.form_owner.proofs.BothEnds.{from-back, from-front, nowhere}
-use Rattle.form_owner.proofs.control_list.place_in.Goals as goal
+use Rattle.owner_rows.proofs.BothEnds.{from-back, from-front, nowhere}
+use Rattle.owner_rows.proofs.control_list.place_in.Goals as goal
 
 pub loop-low-preserved : goal.loop-low-preserved
 loop-low-preserved c =

@@ -1,6 +1,6 @@
 use Rattle.std.proofs.Common.{◌≡◌, ◌-◌, ◌≤◌, false, drop, length, take}
 use Rattle.node_trees.specs.Paths.{is_among}
-use Rattle.form_owner.proofs.control_list.place_in.Given as goal
+use Rattle.owner_rows.proofs.control_list.place_in.Given as goal
 
 abbrev pub invariant-loop-low : goal.invariant-loop-low
 invariant-loop-low l = record {
