@@ -1,1 +1,2 @@
 pub mod Reading
+pub use Rattle.rule_tokens.specs.Quoted

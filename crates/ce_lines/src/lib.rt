@@ -20,3 +20,4 @@ pub use event_line::write_event;
 pub use event_reader::EventRefused;
 pub use out::write_out;
 pub use reading::read_event;
+pub use rule_tokens::quoted;

@@ -1,0 +1,15 @@
+pub mod SplitLaws
+pub mod UrlLaws
+pub mod WrittenUrl
+pub mod PlainLaws
+pub mod WrittenPlain
+pub mod TextCuts
+pub mod PartCuts
+pub mod MultiLaws
+pub mod WrittenMulti
+pub mod ListingLaws
+pub mod GatheredLaws
+pub mod RunLaws
+pub mod FrontLaws
+pub mod FirstCuts
+pub mod PartLaws

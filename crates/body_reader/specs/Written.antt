@@ -1,0 +1,13 @@
+-- What was written, as it is read back.
+use Rattle.ce_base.specs.declared.entries.Entry.{Entry}
+use Rattle.form_submission.specs.EntryList.{entry}
+use Rattle.form_submission.specs.Encodings.{escaped}
+use Rattle.form_submission.specs.LineEnds.{with_full_newlines}
+
+-- the entry with its line ends as they are sent
+abbrev pub as_sent : Entry → Entry
+as_sent e = entry (with_full_newlines e.name) (with_full_newlines e.value)
+
+-- the entry with its name as a multipart body has it
+abbrev pub as_part : Entry → Entry
+as_part e = entry (escaped e.name) (with_full_newlines e.value)
