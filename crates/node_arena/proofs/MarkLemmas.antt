@@ -1,5 +1,5 @@
 -- Notes of whether nodes are connected, through what the calls do to the trees.
-use Rattle.std.proofs.Common.{◌≡◌, ◌≢◌, ℕ, ◌≤◌, ◌<◌, ◌+◌, Bool, true, false, List, [], ◌∷◌, ◌++◌, Some, ap, sym, ◌∙◌, subst, arith, inl, inr, length, refl}
+use Rattle.std.proofs.Common.{◌≡◌, ◌≢◌, ℕ, ◌<◌, ◌+◌, Bool, true, false, List, [], ◌∷◌, ◌++◌, Some, ap, sym, ◌∙◌, subst, arith, inl, inr, refl}
 use Rattle.std.specs.Prelude.{◌||◌}
 use Rattle.std.proofs.lemmas.Bool.{cases_eq}
 use Rattle.std.proofs.lemmas.Bool.Decides.{nat_tests}
@@ -19,9 +19,7 @@ use Rattle.tree_laws.proofs.Counts.{count-among}
 use Rattle.tree_laws.proofs.Pieces.{path-long}
 use Rattle.tree_laws.proofs.WayUp.{first_above}
 use Rattle.tree_laws.proofs.Walked.{walked, count-order}
-use Rattle.node_arena.specs.Links.{Link}
 use Rattle.node_arena.specs.Marks.{mark_at, Allows, MarksHold, SaysLess, AreNoted}
-use Rattle.node_arena.specs.Seen.{Forest, seen}
 use Rattle.node_arena.specs.declared.marks.Mark.{Mark}
 
 -- one step up
@@ -90,7 +88,6 @@ module _ (f g : Trees) (n : ℕ) (moved : IsMoved f g n) where
       by_path : (b : Bool) → is_among n (path m g) ≡ b → Allows (mark_at marks m) (connected g m)
       by_path false off = subst (Allows (mark_at marks m)) (connected-outside f g n moved m at off) (hold m (was_node m at))
       by_path true on = subst (Allows (mark_at marks m)) (connected-inside f g n moved m at on ∙ was ∙ sym is ∙ sym (connected-here node m on)) (hold m (was_node m at))
-
 
   -- and any other, once it is noted with all below it
   pub hold_noted : IsNode g n → (old new : List Mark) → AreNoted g n (connected g n) old new → MarksHold old f → MarksHold new g

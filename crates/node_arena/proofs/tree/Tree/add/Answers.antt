@@ -4,7 +4,7 @@ use Rattle.std.proofs.lemmas.Result.{err_from_is_err_and}
 use Rattle.node_arena.specs.NodeLinks.{link_from, facts_of}
 use Rattle.node_trees.specs.Nodes.{size}
 use Rattle.node_arena.specs.Marks.{mark_at, Allows}
-use Rattle.node_arena.specs.Seen.{seen_fact, seen_is, seen_size}
+use Rattle.node_arena.specs.Seen.{seen_fact, seen_is}
 use Rattle.node_arena.proofs.Calls.{counts, last_node, pushed, pushed_or_not, pushed_covers, new_free}
 use Rattle.tree_laws.proofs.NodeKinds.{kinds-same, kinds-new, kind-new}
 use Rattle.tree_laws.proofs.OtherSpots.{spots-same, spot_at-new}
@@ -23,9 +23,10 @@ invariant_of-self-2 c =
     let a = seen_fact _ _ _ c.self.view_is in
     let b = pushed _ _ _ _ a c.requires.loose c.requires.kind c.requires.parts c.in_ok-push_node.ensures.items in
     let e = seen_is _ _ _ b in
-    let blank = λ (is : Bool). subst (λ (k : ℕ). Allows (mark_at c.push_node.new.marks.items (k + 1)) is) (counts _ _ a) (c.push_node.ensures.blank is) in
-    (pushed_covers _ _ _ _ _ c.requires.bare c.push_node.ensures.items c.self.invariant.0,
-    hold_more c.args.self.now _ _ _ (ap size e ∙ size-with_node (size c.args.self.now + 1) (facts_of c.args.node) c.args.self.now) (connected-new _ (facts_of c.args.node) _ _ a.tidy (rw e b.tidy) e) blank c.push_node.ensures.others (hold_same _ _ _ (sym c.self.view_is) c.self.invariant.1))
+    let blank = λ (is : Bool). subst (λ (k : ℕ). Allows (mark_at c.push_node.new.marks.items (k + 1)) is) (counts _ _ a) (c.push_node.ensures.blank is) in (
+      pushed_covers _ _ _ _ _ c.requires.bare c.push_node.ensures.items c.self.invariant.0,
+      hold_more c.args.self.now _ _ _ (ap size e ∙ size-with_node (size c.args.self.now + 1) (facts_of c.args.node) c.args.self.now) (connected-new _ (facts_of c.args.node) _ _ a.tidy (rw e b.tidy) e) blank c.push_node.ensures.others (hold_same _ _ _ (sym c.self.view_is) c.self.invariant.1),
+    )
 
 pub returns-in_err-push_node-clause-err : goal.returns-in_err-push_node-clause-err
 returns-in_err-push_node-clause-err c =
@@ -87,9 +88,10 @@ returns-in_err-push_node-clause-tidy c = (seen_fact _ _ _ c.self.view_is).tidy
 
 pub invariant_of-self : goal.invariant_of-self
 invariant_of-self c =
-    let e = seen_is _ _ _ (rw c.in_err-push_node.ensures.items (seen_fact _ _ _ c.self.view_is)) in
-    (pushed_covers _ _ _ _ _ c.requires.bare c.push_node.ensures.items c.self.invariant.0,
-    hold_same _ _ _ e (hold_less _ _ _ c.push_node.ensures.others (hold_same _ _ _ (sym c.self.view_is) c.self.invariant.1)))
+    let e = seen_is _ _ _ (rw c.in_err-push_node.ensures.items (seen_fact _ _ _ c.self.view_is)) in (
+      pushed_covers _ _ _ _ _ c.requires.bare c.push_node.ensures.items c.self.invariant.0,
+      hold_same _ _ _ e (hold_less _ _ _ c.push_node.ensures.others (hold_same _ _ _ (sym c.self.view_is) c.self.invariant.1)),
+    )
 
 pub note-requires : goal.note-requires
 note-requires c =

@@ -40,7 +40,8 @@ returns-clause-tidy c = (seen_fact _ _ _ c.self.view_is).tidy
 pub invariant_of-self : goal.invariant_of-self
 invariant_of-self c =
     let blank_mark = λ (is : Bool). subst (λ (k : ℕ). Allows (mark_at c.attach.new.marks.items (k + 1)) is) (counts _ _ (seen_fact _ _ _ c.self.view_is)) (c.attach.ensures.blank is) in
-    let hold = hold_same _ _ _ (sym c.self.view_is) c.self.invariant.1 in
-    (attached_covers c.self.inside.nodes.items c.attach.new.nodes.items c.args.self.now c.args.host (record c.blank-root.result { host = Some c.args.host }) (blank ShadowRoot (document_at c.args.self.now c.args.host)) (seen_fact _ _ _ c.self.view_is) c.requires.node c.requires.element c.requires.bare refl refl (root_link c.args.self.now c.args.host c.blank-root.result (record c.blank-root.result { host = Some c.args.host }) (blank ShadowRoot (document_at c.args.self.now c.args.host)) c.blank-root.ensures.loose refl (c.blank-root.ensures.facts ∙ ap (blank ShadowRoot) c.document.ensures)) c.self.inside.ids c.attach.result c.blank-root.ensures.bare c.attach.ensures.ok c.attach.ensures.err c.self.invariant.0,
-    by_result c.attach.result (λ e. hold_more c.args.self.now _ _ _ (ap size e ∙ size-with_shadow c.args.host (size c.args.self.now + 1) (blank ShadowRoot (document_at c.args.self.now c.args.host)) c.args.self.now (seen_fact _ _ _ c.self.view_is).tidy c.requires.node) (attached_connected c.self.inside.nodes.items c.attach.new.nodes.items c.args.self.now c.args.host (record c.blank-root.result { host = Some c.args.host }) (blank ShadowRoot (document_at c.args.self.now c.args.host)) (seen_fact _ _ _ c.self.view_is) c.requires.node c.requires.element c.requires.bare refl refl (root_link c.args.self.now c.args.host c.blank-root.result (record c.blank-root.result { host = Some c.args.host }) (blank ShadowRoot (document_at c.args.self.now c.args.host)) c.blank-root.ensures.loose refl (c.blank-root.ensures.facts ∙ ap (blank ShadowRoot) c.document.ensures)) _ e) blank_mark c.attach.ensures.others hold)
-    (λ e. hold_same _ _ _ e (hold_less _ _ _ c.attach.ensures.others hold)) (returns-clause-made c) (returns-clause-err c))
+    let hold = hold_same _ _ _ (sym c.self.view_is) c.self.invariant.1 in (
+      attached_covers c.self.inside.nodes.items c.attach.new.nodes.items c.args.self.now c.args.host (record c.blank-root.result { host = Some c.args.host }) (blank ShadowRoot (document_at c.args.self.now c.args.host)) (seen_fact _ _ _ c.self.view_is) c.requires.node c.requires.element c.requires.bare refl refl (root_link c.args.self.now c.args.host c.blank-root.result (record c.blank-root.result { host = Some c.args.host }) (blank ShadowRoot (document_at c.args.self.now c.args.host)) c.blank-root.ensures.loose refl (c.blank-root.ensures.facts ∙ ap (blank ShadowRoot) c.document.ensures)) c.self.inside.ids c.attach.result c.blank-root.ensures.bare c.attach.ensures.ok c.attach.ensures.err c.self.invariant.0,
+      by_result c.attach.result (λ e. hold_more c.args.self.now _ _ _ (ap size e ∙ size-with_shadow c.args.host (size c.args.self.now + 1) (blank ShadowRoot (document_at c.args.self.now c.args.host)) c.args.self.now (seen_fact _ _ _ c.self.view_is).tidy c.requires.node) (attached_connected c.self.inside.nodes.items c.attach.new.nodes.items c.args.self.now c.args.host (record c.blank-root.result { host = Some c.args.host }) (blank ShadowRoot (document_at c.args.self.now c.args.host)) (seen_fact _ _ _ c.self.view_is) c.requires.node c.requires.element c.requires.bare refl refl (root_link c.args.self.now c.args.host c.blank-root.result (record c.blank-root.result { host = Some c.args.host }) (blank ShadowRoot (document_at c.args.self.now c.args.host)) c.blank-root.ensures.loose refl (c.blank-root.ensures.facts ∙ ap (blank ShadowRoot) c.document.ensures)) _ e) blank_mark c.attach.ensures.others hold)
+          (λ e. hold_same _ _ _ e (hold_less _ _ _ c.attach.ensures.others hold)) (returns-clause-made c) (returns-clause-err c),
+    )

@@ -60,10 +60,9 @@ invariant_of-self-2 c =
     let moved = inserted_moved _ c.args.self.now c.args.parent c.args.node c.args.before (seen_fact _ _ _ c.self.view_is) c.requires.parent c.requires.node c.requires.may c.requires.free _ e in
     let node = still_node _ _ _ (inserted_size _ c.args.self.now c.args.parent c.args.node c.args.before (seen_fact _ _ _ c.self.view_is) c.requires.parent c.requires.node c.requires.may c.requires.free _ e) c.requires.node in
     let up = inserted_up _ c.args.self.now c.args.parent c.args.node c.args.before (seen_fact _ _ _ c.self.view_is) c.requires.parent c.requires.node c.requires.may c.requires.free _ e in
-    let here = connected-moved _ _ _ moved c.args.parent node up in
-    (
+    let here = connected-moved _ _ _ moved c.args.parent node up in (
       inserted_covers _ c.args.self.now c.args.parent c.args.node c.args.before (seen_fact _ _ _ c.self.view_is) c.requires.parent c.requires.node c.requires.may c.requires.free c.child_before-previous.result _ _ _ c.deref_mut.ensures.value (written _ _ _ _ c.deref_mut.ensures.value c.self.inside.nodes.ok.0 c.join.auto.nodes) c.join.ensures _ c.child_before-previous.ensures.node c.requires.before c.self.invariant.0,
       hold_same _ _ _ (seen_is _ _ _ fact ∙ sym e)
-      (hold_moved _ _ _ moved node c.is_connected-was.result c.is_connected-is.result _ _ c.is_connected-was.ensures (c.is_connected-is.ensures ∙ sym here) c.noted-noted.ensures.same c.noted-noted.ensures.noted
-      (rw c.replace-marks.ensures.value (hold_same _ _ _ (sym c.self.view_is) c.self.invariant.1))),
+          (hold_moved _ _ _ moved node c.is_connected-was.result c.is_connected-is.result _ _ c.is_connected-was.ensures (c.is_connected-is.ensures ∙ sym here) c.noted-noted.ensures.same c.noted-noted.ensures.noted
+          (rw c.replace-marks.ensures.value (hold_same _ _ _ (sym c.self.view_is) c.self.invariant.1))),
     )

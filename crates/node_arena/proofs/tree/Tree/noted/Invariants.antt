@@ -1,4 +1,4 @@
-use Rattle.std.proofs.Common.{◌≡◌, ℕ, List}
+use Rattle.std.proofs.Common.{ℕ, List}
 use Rattle.node_trees.specs.Nodes.{IsNode, IsTidy}
 use Rattle.tree_laws.proofs.OrderListing.{Listing, left_from}
 use Rattle.node_arena.proofs.MarkLemmas.{AreMarked}

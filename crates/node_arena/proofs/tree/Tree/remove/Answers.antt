@@ -42,12 +42,11 @@ invariant_of-self-in-Some-2 c =
     let e = seen_is _ _ _ fact in
     let tidy = (seen_fact _ _ _ c.self.view_is).tidy in
     let moved = removed_moved _ _ _ tidy c.requires.node e (seen_fact _ _ _ refl).tidy in
-    let node = still_node _ _ _ (removed_size _ _ _ tidy c.requires.node e) c.requires.node in
-    (
+    let node = still_node _ _ _ (removed_size _ _ _ tidy c.requires.node e) c.requires.node in (
       removed_covers _ c.args.self.now c.in-Some.parent c.args.node (seen_fact _ _ _ c.self.view_is) c.requires.node (sym c.node-kept.ensures.parent_is ∙ c.in-Some.is) _ _ _ _ _ c.deref_mut.ensures.value (written _ _ _ _ c.deref_mut.ensures.value c.self.inside.nodes.ok.0 c.part.auto.nodes) c.part.ensures _ c.node-kept.ensures.previous c.node-kept.ensures.next c.self.invariant.0,
       hold_same _ _ _ (seen_is _ _ _ fact ∙ sym e)
-      (hold_moved _ _ _ moved node c.is_connected-was.result c.is_connected-is.result _ _ c.is_connected-was.ensures c.is_connected-is.ensures c.noted-noted.ensures.same c.noted-noted.ensures.noted
-      (rw c.replace-marks.ensures.value (hold_same _ _ _ (sym c.self.view_is) c.self.invariant.1))),
+          (hold_moved _ _ _ moved node c.is_connected-was.result c.is_connected-is.result _ _ c.is_connected-was.ensures c.is_connected-is.ensures c.noted-noted.ensures.same c.noted-noted.ensures.noted
+          (rw c.replace-marks.ensures.value (hold_same _ _ _ (sym c.self.view_is) c.self.invariant.1))),
     )
 
 pub returns-in-Some-clause-cut : goal.returns-in-Some-clause-cut

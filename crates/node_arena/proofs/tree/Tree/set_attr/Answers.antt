@@ -33,8 +33,10 @@ pub returns-clause-err : goal.returns-clause-err
 returns-clause-err c = on_err_weaker c.set_attribute.result (λ w. seen_is _ _ _ (unaltered _ _ _ _ _ c.args.node _ (seen_fact _ _ _ c.self.view_is) c.requires.node (keeps-attributes _ _ (with_value c.args.name c.args.value) (seen_fact _ _ _ c.self.view_is).tidy c.requires.node c.requires.element) c.deref_mut.ensures.value (written _ _ _ _ c.deref_mut.ensures.value c.self.inside.nodes.ok.0 c.set_attribute.auto.nodes) w)) c.set_attribute.ensures.err
 
 pub invariant_of-self : goal.invariant_of-self
-invariant_of-self c = (written_covers _ _ _ _ _ _ c.deref_mut.ensures.value (written _ _ _ _ c.deref_mut.ensures.value c.self.inside.nodes.ok.0 c.set_attribute.auto.nodes) c.set_attribute.ensures.covers c.self.invariant.0,
-    by_result c.set_attribute.result (λ e. hold_with _ c.args.node (λ x. record x { attributes = with_value c.args.name c.args.value x.attributes }) c.args.self.now _ (λ x. refl) e (hold_same _ _ _ (sym c.self.view_is) c.self.invariant.1)) (λ e. hold_same _ c.args.self.now _ e (hold_same _ _ _ (sym c.self.view_is) c.self.invariant.1)) (returns-clause-set c) (returns-clause-err c))
+invariant_of-self c = (
+  written_covers _ _ _ _ _ _ c.deref_mut.ensures.value (written _ _ _ _ c.deref_mut.ensures.value c.self.inside.nodes.ok.0 c.set_attribute.auto.nodes) c.set_attribute.ensures.covers c.self.invariant.0,
+  by_result c.set_attribute.result (λ e. hold_with _ c.args.node (λ x. record x { attributes = with_value c.args.name c.args.value x.attributes }) c.args.self.now _ (λ x. refl) e (hold_same _ _ _ (sym c.self.view_is) c.self.invariant.1)) (λ e. hold_same _ c.args.self.now _ e (hold_same _ _ _ (sym c.self.view_is) c.self.invariant.1)) (returns-clause-set c) (returns-clause-err c),
+)
 
 pub returns-clause-size : goal.returns-clause-size
 returns-clause-size c = by_result c.set_attribute.result (λ e. ap size e ∙ size-with c.args.node (λ x. record x { attributes = with_value c.args.name c.args.value x.attributes }) c.args.self.now) (λ e. ap size e) (returns-clause-set c) (returns-clause-err c)
