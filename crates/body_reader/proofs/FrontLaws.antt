@@ -45,11 +45,11 @@ pub record IsBound (b : ℕ) : Type 0 where
   pub lf : nat_eq b 10 ≡ false
   pub dash : nat_eq b 45 ≡ false
 
-other : (b c : ℕ) → is_ascii_alphanumeric b ≡ true → (is_ascii_alphanumeric c ≡ true → ⊥) → nat_eq b c ≡ false
-other b c is differ = ne_eqb b c (λ e. differ (subst (λ (x : ℕ). is_ascii_alphanumeric x ≡ true) e is))
+differs : (b c : ℕ) → is_ascii_alphanumeric b ≡ true → (is_ascii_alphanumeric c ≡ true → ⊥) → nat_eq b c ≡ false
+differs b c is differ = ne_eqb b c (λ e. differ (subst (λ (x : ℕ). is_ascii_alphanumeric x ≡ true) e is))
 
 bound_of : (b : ℕ) → is_ascii_alphanumeric b ≡ true → IsBound b
-bound_of b is = record { low = low_of b is; cr = other b 13 is (λ e. absurd cc); lf = other b 10 is (λ e. absurd cc); dash = other b 45 is (λ e. absurd cc) }
+bound_of b is = record { low = low_of b is; cr = differs b 13 is (λ e. absurd cc); lf = differs b 10 is (λ e. absurd cc); dash = differs b 45 is (λ e. absurd cc) }
   where
     low_of : (x : ℕ) → is_ascii_alphanumeric x ≡ true → x < 128
     low_of x e = grind (arith, nat_tests)

@@ -25,14 +25,14 @@ use Rattle.body_reader.proofs.PartLaws.{named, valued, part_text, IsPart, part_s
 -- ---- all parts
 
 -- what stands behind the first boundary
-abbrev pub tail : List ℕ → List Entry → List ℕ
-tail boundary [] = closing
-tail boundary (e ∷ list) = part_text boundary e (tail boundary list)
+abbrev pub tail_text : List ℕ → List Entry → List ℕ
+tail_text boundary [] = closing
+tail_text boundary (e ∷ list) = part_text boundary e (tail_text boundary list)
 
 record AreParts (boundary : List ℕ) (list : List Entry) (bytes : List ℕ) : Type 0 where
   pub fit : AllByRecursion (FitsPart boundary) list
   pub texts : AllByRecursion HasTexts list
-  pub joined : bytes ≡ tail boundary list
+  pub joined : bytes ≡ tail_text boundary list
 
 end_said : (bytes : List ℕ) (o : Option (List ℕ)) → behind closing bytes ≡ o → is_end o ≡ true → bytes ≡ closing
 end_said bytes None is e = absurd cc
@@ -63,14 +63,14 @@ tail_said (suc n) boundary some bytes list e = tail_step n boundary bytes (is_en
 not_end : (bytes : List ℕ) → behind closing (13 ∷ bytes) ≡ None
 not_end bytes = behind_not closing (13 ∷ bytes) refl
 
-tail_again : (n : ℕ) (boundary : List ℕ) (list : List Entry) → HasSome boundary → AllByRecursion IsBound boundary → AllByRecursion (FitsPart boundary) list → AllByRecursion HasTexts list → length list < n → read_tail n boundary (tail boundary list) ≡ Some list
+tail_again : (n : ℕ) (boundary : List ℕ) (list : List Entry) → HasSome boundary → AllByRecursion IsBound boundary → AllByRecursion (FitsPart boundary) list → AllByRecursion HasTexts list → length list < n → read_tail n boundary (tail_text boundary list) ≡ Some list
 tail_again zero boundary list some are fit texts small = absurd (omega arith)
 tail_again (suc n) boundary [] some are fit texts small = tail_opens n boundary closing ∙ ap (λ (o : Option (List ℕ)). cond (is_end o) (Some []) (then_parts (read_part boundary closing) (read_tail n boundary))) (behind_again closing [])
 tail_again (suc n) boundary (e ∷ list) some are fit texts small =
-    let bytes = part_text boundary e (tail boundary list) in
+    let bytes = part_text boundary e (tail_text boundary list) in
     tail_opens n boundary bytes
     ∙ (ap (λ (o : Option (List ℕ)). cond (is_end o) (Some []) (then_parts (read_part boundary bytes) (read_tail n boundary))) (not_end (drop 1 bytes))
-    ∙ rw (part_again boundary e (tail boundary list) some are fit.0 texts.0, tail_again n boundary list some are fit.1 texts.1 (omega arith)) refl)
+    ∙ rw (part_again boundary e (tail_text boundary list) some are fit.0 texts.0, tail_again n boundary list some are fit.1 texts.1 (omega arith)) refl)
 
 longer : (xs ys : List ℕ) → length ys ≤ length (xs ++ ys)
 longer [] ys = omega arith
@@ -86,11 +86,11 @@ part_longer boundary e rest =
     let h = longer before_name (e.name ++ 34 ∷ (behind_name ++ (e.value ++ (dashes ++ (boundary ++ rest))))) in
     omega (arith, b, d, v, n, q, h)
 
-tail_long : (boundary : List ℕ) (list : List Entry) → length list ≤ length (tail boundary list)
+tail_long : (boundary : List ℕ) (list : List Entry) → length list ≤ length (tail_text boundary list)
 tail_long boundary [] = omega arith
-tail_long boundary (e ∷ list) = let one = part_longer boundary e (tail boundary list) in let more = tail_long boundary list in omega (arith, one, more)
+tail_long boundary (e ∷ list) = let one = part_longer boundary e (tail_text boundary list) in let more = tail_long boundary list in omega (arith, one, more)
 
--- ---- the whole body
+-- ---- the whole_body body
 
 abbrev end_of : List ℕ → List ℕ → List ℕ
 end_of boundary front = front ++ codes "--" ++ boundary ++ codes "--" ++ newline
@@ -101,9 +101,9 @@ one_text boundary e rest = simp append_assoc refl
 end_more : (boundary xs ys : List ℕ) → end_of boundary (xs ++ ys) ≡ xs ++ end_of boundary ys
 end_more boundary xs ys = simp append_assoc refl
 
-pub whole : (boundary : List ℕ) (list : List Entry) → end_of boundary (flat_map (part boundary) list) ≡ codes "--" ++ (boundary ++ tail boundary list)
-whole boundary [] = simp append_assoc refl
-whole boundary (e ∷ list) = end_more boundary (part boundary e) (flat_map (part boundary) list) ∙ (ap (λ (l : List ℕ). part boundary e ++ l) (whole boundary list) ∙ one_text boundary e (tail boundary list))
+pub whole_body : (boundary : List ℕ) (list : List Entry) → end_of boundary (flat_map (part boundary) list) ≡ codes "--" ++ (boundary ++ tail_text boundary list)
+whole_body boundary [] = simp append_assoc refl
+whole_body boundary (e ∷ list) = end_more boundary (part boundary e) (flat_map (part boundary) list) ∙ (ap (λ (l : List ℕ). part boundary e ++ l) (whole_body boundary list) ∙ one_text boundary e (tail_text boundary list))
 
 -- ---- UTF-8
 
@@ -138,9 +138,9 @@ part_utf8 boundary e rest are texts is =
     front_utf8 before_name (e.name ++ 34 ∷ (behind_name ++ (e.value ++ (dashes ++ (boundary ++ rest))))) (ascii_by before_name refl)
     (IsUtf8-append e.name (34 ∷ (behind_name ++ (e.value ++ (dashes ++ (boundary ++ rest))))) texts.0 q)
 
-pub tail_utf8 : (boundary : List ℕ) (list : List Entry) → AreAscii boundary → AllByRecursion HasTexts list → IsUtf8 (tail boundary list)
+pub tail_utf8 : (boundary : List ℕ) (list : List Entry) → AreAscii boundary → AllByRecursion HasTexts list → IsUtf8 (tail_text boundary list)
 tail_utf8 boundary [] are texts = front_utf8 closing [] (ascii_by closing refl) IsUtf8-nil
-tail_utf8 boundary (e ∷ list) are texts = part_utf8 boundary e (tail boundary list) are texts.0 (tail_utf8 boundary list are texts.1)
+tail_utf8 boundary (e ∷ list) are texts = part_utf8 boundary e (tail_text boundary list) are texts.0 (tail_utf8 boundary list are texts.1)
 
 part_texts : (boundary : List ℕ) (e : Entry) (rest : List ℕ) → AreAscii boundary → IsUtf8 (part_text boundary e rest) → HasTexts e × IsUtf8 rest
 part_texts boundary e rest are is =
@@ -150,9 +150,9 @@ part_texts boundary e rest are is =
     let v = utf8_around 13 e.value (10 ∷ 45 ∷ 45 ∷ (boundary ++ rest)) (omega arith) valued in
     ((n.0, v.0), behind_utf8 boundary rest are (behind_utf8 (10 ∷ 45 ∷ 45 ∷ []) (boundary ++ rest) (ascii_by (10 ∷ 45 ∷ 45 ∷ []) refl) v.1))
 
-tail_texts : (boundary : List ℕ) (list : List Entry) → AreAscii boundary → IsUtf8 (tail boundary list) → AllByRecursion HasTexts list
+tail_texts : (boundary : List ℕ) (list : List Entry) → AreAscii boundary → IsUtf8 (tail_text boundary list) → AllByRecursion HasTexts list
 tail_texts boundary [] are is = tt
-tail_texts boundary (e ∷ list) are is = let both = part_texts boundary e (tail boundary list) are is in (both.0, tail_texts boundary list are both.1)
+tail_texts boundary (e ∷ list) are is = let both = part_texts boundary e (tail_text boundary list) are is in (both.0, tail_texts boundary list are both.1)
 
 -- ---- bodies
 
@@ -164,12 +164,12 @@ multi_open : (boundary bytes : List ℕ) (h : Option (List ℕ)) (list : List En
 multi_open boundary bytes None list some are is e = absurd cc
 multi_open boundary bytes (Some rest) list some are is e =
     let (after, opened, parts) = multi_behind boundary rest (behind boundary rest) list some refl e in
-    let joined : bytes ≡ codes "--" ++ (boundary ++ tail boundary list) =
+    let joined : bytes ≡ codes "--" ++ (boundary ++ tail_text boundary list) =
     behind_said (codes "--") bytes rest is ∙ (ap (λ (l : List ℕ). codes "--" ++ l) opened ∙ ap (λ (l : List ℕ). codes "--" ++ (boundary ++ l)) parts.joined) in
     let ascii = bound_ascii boundary are in (
-      subst IsUtf8 (sym joined) (front_utf8 (codes "--") (boundary ++ tail boundary list) (ascii_by (codes "--") refl) (front_utf8 boundary (tail boundary list) ascii (tail_utf8 boundary list ascii parts.texts))),
+      subst IsUtf8 (sym joined) (front_utf8 (codes "--") (boundary ++ tail_text boundary list) (ascii_by (codes "--") refl) (front_utf8 boundary (tail_text boundary list) ascii (tail_utf8 boundary list ascii parts.texts))),
       All-from_recursion (FitsPart boundary) list parts.fit,
-      joined ∙ sym (whole boundary list),
+      joined ∙ sym (whole_body boundary list),
     )
 
 pub multi_said : (boundary bytes : List ℕ) (list : List Entry) → IsBoundary boundary → read_multi boundary bytes ≡ Some list → PartText list boundary bytes
@@ -179,14 +179,14 @@ pub multi_again : (boundary bytes : List ℕ) (list : List Entry) → IsBoundary
 multi_again boundary bytes list is (utf8, fit, joined) =
     let are = boundary_bounds boundary is in
     let ascii = bound_ascii boundary are in
-    let opened : bytes ≡ codes "--" ++ (boundary ++ tail boundary list) = joined ∙ whole boundary list in
-    let rest = behind_utf8 boundary (tail boundary list) ascii (behind_utf8 (codes "--") (boundary ++ tail boundary list) (ascii_by (codes "--") refl) (subst IsUtf8 opened utf8)) in
+    let opened : bytes ≡ codes "--" ++ (boundary ++ tail_text boundary list) = joined ∙ whole_body boundary list in
+    let rest = behind_utf8 boundary (tail_text boundary list) ascii (behind_utf8 (codes "--") (boundary ++ tail_text boundary list) (ascii_by (codes "--") refl) (subst IsUtf8 opened utf8)) in
     let long = tail_long boundary list in
-    let small : length list < length (tail boundary list) + 1 = omega (arith, long) in
+    let small : length list < length (tail_text boundary list) + 1 = omega (arith, long) in
     ap (read_multi boundary) opened
-    ∙ (ap (λ (h : Option (List ℕ)). tail_behind boundary (behind_dashes boundary h)) (behind_again (codes "--") (boundary ++ tail boundary list))
-    ∙ (ap (tail_behind boundary) (behind_again boundary (tail boundary list))
-    ∙ tail_again (length (tail boundary list) + 1) boundary list (boundary_some boundary is) are (recursion_from_All (FitsPart boundary) list fit) (tail_texts boundary list ascii rest) small))
+    ∙ (ap (λ (h : Option (List ℕ)). tail_behind boundary (behind_dashes boundary h)) (behind_again (codes "--") (boundary ++ tail_text boundary list))
+    ∙ (ap (tail_behind boundary) (behind_again boundary (tail_text boundary list))
+    ∙ tail_again (length (tail_text boundary list) + 1) boundary list (boundary_some boundary is) are (recursion_from_All (FitsPart boundary) list fit) (tail_texts boundary list ascii rest) small))
 
 none_of : (boundary bytes : List ℕ) (list : List Entry) → IsBoundary boundary → read_multi boundary bytes ≡ None → PartText list boundary bytes → ⊥
 none_of boundary bytes list is none body = let both : None ≡ Some list = sym none ∙ multi_again boundary bytes list is body in absurd cc

@@ -67,7 +67,7 @@ named_step bytes None is = tt
 named_step bytes (Some more) is = named_at bytes more (cut_at 34 more) (behind_said before_name bytes more is) (cut_joined 34 more) (cut_before 34 more)
 
 pub named : (bytes : List ℕ) → IsNamed bytes (name_cut bytes)
-named bytes = named_step bytes (behind before_name bytes) refl
+name_said bytes = named_step bytes (behind before_name bytes) refl
 
 dashes_step : (text value : List ℕ) (h : Option (List ℕ)) → behind dashes (drop (length text - 4) text) ≡ h → kept_if h (take (length text - 4) text) ≡ Some value → text ≡ value ++ dashes
 dashes_step text value None is e = absurd cc
@@ -107,7 +107,7 @@ valued_step boundary bytes None some is = tt
 valued_step boundary bytes (Some more) some is = valued_at boundary bytes more (cut_text boundary more) (behind_said behind_name bytes more is) (text_joined boundary more) (text_free boundary more some)
 
 pub valued : (boundary bytes : List ℕ) → HasSome boundary → IsValued boundary bytes (value_cut boundary bytes)
-valued boundary bytes some = valued_step boundary bytes (behind behind_name bytes) some refl
+value_said boundary bytes some = valued_step boundary bytes (behind behind_name bytes) some refl
 
 -- ---- a part
 
@@ -139,11 +139,11 @@ part_value boundary name more bytes (Some (value, rest')) e rest joined free val
 
 part_named : (boundary bytes : List ℕ) (o : Option (List ℕ × List ℕ)) (e : Entry) (rest : List ℕ) → HasSome boundary → IsNamed bytes o → part_of_name boundary o ≡ Some (e, rest) → IsPart boundary e rest bytes
 part_named boundary bytes None e rest some named is = absurd cc
-part_named boundary bytes (Some (name, more)) e rest some named is = part_value boundary name more bytes (value_cut boundary more) e rest named.0 named.1 (valued boundary more some) is
+part_named boundary bytes (Some (name, more)) e rest some named is = part_value boundary name more bytes (value_cut boundary more) e rest named.0 named.1 (value_said boundary more some) is
 
 pub part_said : (boundary bytes : List ℕ) (e : Entry) (rest : List ℕ) → HasSome boundary → read_part boundary bytes ≡ Some (e, rest) → IsPart boundary e rest bytes
 unfolding read_part
-part_said boundary bytes e rest some is = part_named boundary bytes (name_cut bytes) e rest some (named bytes) is
+part_said boundary bytes e rest some is = part_named boundary bytes (name_cut bytes) e rest some (name_said bytes) is
 
 pub part_again : (boundary : List ℕ) (e : Entry) (rest : List ℕ) → HasSome boundary → AllByRecursion IsBound boundary → FitsPart boundary e → HasTexts e → read_part boundary (part_text boundary e rest) ≡ Some (e, rest)
 unfolding read_part

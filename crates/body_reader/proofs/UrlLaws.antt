@@ -48,23 +48,23 @@ digits_spell high low c true are is =
     inr (inr (high, low, ltb-true (digit_value high) 16 both.0, ltb-true (digit_value low) 16 both.1, same, refl))
 digits_spell high low c false are is = absurd cc
 
-put : (cell bytes text : List ℕ) (x : Option ℕ) → ((c : ℕ) → x ≡ Some c → IsSpelling c cell) → ((rest : List ℕ) → unspell bytes Outside ≡ Some rest → Spells rest bytes) → then_one x (unspell bytes Outside) ≡ Some text → Spells text (cell ++ bytes)
-put cell bytes text x spelled others is =
+spelled_put : (cell bytes text : List ℕ) (x : Option ℕ) → ((c : ℕ) → x ≡ Some c → IsSpelling c cell) → ((rest : List ℕ) → unspell bytes Outside ≡ Some rest → Spells rest bytes) → then_one x (unspell bytes Outside) ≡ Some text → Spells text (cell ++ bytes)
+spelled_put cell bytes text x spelled others is =
     let (c, rest, is_c, is_rest, joined) = one_some x (unspell bytes Outside) text is in
     subst (λ (t : List ℕ). Spells t (cell ++ bytes)) (sym joined) (cell, bytes, spelled c is_c, others rest is_rest, refl)
 
-outside : (b : ℕ) (bytes text : List ℕ) (t : Bool) → nat_eq b 37 ≡ t → (unspell bytes AfterPercent ≡ Some text → Spells text (37 ∷ bytes)) → ((rest : List ℕ) → unspell bytes Outside ≡ Some rest → Spells rest bytes) → cond t (unspell bytes AfterPercent) (then_one (bare b) (unspell bytes Outside)) ≡ Some text → Spells text (b ∷ bytes)
-outside b bytes text true percent escape others is = subst (λ (x : ℕ). Spells text (x ∷ bytes)) (sym (eqb-true b 37 percent)) (escape is)
-outside b bytes text false differ escape others is = put (b ∷ []) bytes text (bare b) (λ c e. bare_spells b c (nat_eq b 43) (is_bare b) refl refl e) others is
+spelled_outside : (b : ℕ) (bytes text : List ℕ) (t : Bool) → nat_eq b 37 ≡ t → (unspell bytes AfterPercent ≡ Some text → Spells text (37 ∷ bytes)) → ((rest : List ℕ) → unspell bytes Outside ≡ Some rest → Spells rest bytes) → cond t (unspell bytes AfterPercent) (then_one (bare b) (unspell bytes Outside)) ≡ Some text → Spells text (b ∷ bytes)
+spelled_outside b bytes text true percent escape others is = subst (λ (x : ℕ). Spells text (x ∷ bytes)) (sym (eqb-true b 37 percent)) (escape is)
+spelled_outside b bytes text false differ escape others is = spelled_put (b ∷ []) bytes text (bare b) (λ c e. bare_spells b c (nat_eq b 43) (is_bare b) refl refl e) others is
 
-pub said : (bytes : List ℕ) (s : InEscape) (text : List ℕ) → unspell bytes s ≡ Some text → Said s text bytes
+pub spelled_said : (bytes : List ℕ) (s : InEscape) (text : List ℕ) → unspell bytes s ≡ Some text → Said s text bytes
 unfolding unspell
-said [] Outside text is = let e : [] ≡ text = (cc) in subst (λ (t : List ℕ). Spells t []) e refl
-said [] AfterPercent text is = absurd cc
-said [] (AfterDigit high) text is = absurd cc
-said (b ∷ bytes) Outside text is = outside b bytes text (nat_eq b 37) refl (said bytes AfterPercent text) (said bytes Outside) is
-said (b ∷ bytes) AfterPercent text is = said bytes (AfterDigit b) text is
-said (b ∷ bytes) (AfterDigit high) text is = put (37 ∷ high ∷ b ∷ []) bytes text (escaped high b) (λ c e. digits_spell high b c (nat_lt (digit_value high) 16 && nat_lt (digit_value b) 16) refl e) (said bytes Outside) is
+spelled_said [] Outside text is = let e : [] ≡ text = (cc) in subst (λ (t : List ℕ). Spells t []) e refl
+spelled_said [] AfterPercent text is = absurd cc
+spelled_said [] (AfterDigit high) text is = absurd cc
+spelled_said (b ∷ bytes) Outside text is = spelled_outside b bytes text (nat_eq b 37) refl (spelled_said bytes AfterPercent text) (spelled_said bytes Outside) is
+spelled_said (b ∷ bytes) AfterPercent text is = spelled_said bytes (AfterDigit b) text is
+spelled_said (b ∷ bytes) (AfterDigit high) text is = spelled_put (37 ∷ high ∷ b ∷ []) bytes text (escaped high b) (λ c e. digits_spell high b c (nat_lt (digit_value high) 16 && nat_lt (digit_value b) 16) refl e) (spelled_said bytes Outside) is
 
 -- ---- what is spelled so is read
 
@@ -153,7 +153,7 @@ then_some None text e = absurd cc
 then_some (Some bytes) text e = let is = utf8_some bytes text (is_utf8 bytes) refl e in (ap Some is.0, is.1)
 
 text_said : (bytes text : List ℕ) → read_text bytes ≡ Some text → Spells text bytes × IsUtf8 text
-text_said bytes text e = let is = then_some (unspell bytes Outside) text e in (said bytes Outside text is.0, is.1)
+text_said bytes text e = let is = then_some (unspell bytes Outside) text e in (spelled_said bytes Outside text is.0, is.1)
 
 text_again : (bytes text : List ℕ) → Spells text bytes → IsUtf8 text → read_text bytes ≡ Some text
 text_again bytes text spells utf8 = rw (said_again text bytes spells, is_utf8-from_IsUtf8 text utf8) refl

@@ -14,7 +14,7 @@ use Rattle.body_reader.specs.Bodies.{FitsPart, part, PartText, IsBoundary}
 use Rattle.ce_base.specs.Texts.{HasTexts}
 use Rattle.body_reader.specs.Written.{as_part}
 use Rattle.body_reader.proofs.FrontLaws.{IsBound, boundary_bounds}
-use Rattle.body_reader.proofs.MultiLaws.{ascii_by, bound_ascii, front_utf8, tail, tail_utf8, whole}
+use Rattle.body_reader.proofs.MultiLaws.{ascii_by, bound_ascii, front_utf8, tail_text, tail_utf8, whole_body}
 use Rattle.body_reader.proofs.PlainLaws.{no_from_free}
 use Rattle.body_reader.proofs.UrlLaws.{Free, free_both}
 
@@ -70,7 +70,7 @@ multi_back entries boundary is texts free =
     let list = map as_part entries in
     let texts' = texts_written entries (recursion_from_All HasTexts entries texts) in
     let joined : multipart entries boundary ≡ flat_map (part boundary) list ++ codes "--" ++ boundary ++ codes "--" ++ newline = ap (λ (l : List ℕ). l ++ codes "--" ++ boundary ++ codes "--" ++ newline) (parts_same boundary entries) in (
-      subst IsUtf8 (sym (joined ∙ whole boundary list)) (front_utf8 (codes "--") (boundary ++ tail boundary list) (ascii_by (codes "--") refl) (front_utf8 boundary (tail boundary list) ascii (tail_utf8 boundary list ascii texts'))),
+      subst IsUtf8 (sym (joined ∙ whole_body boundary list)) (front_utf8 (codes "--") (boundary ++ tail_text boundary list) (ascii_by (codes "--") refl) (front_utf8 boundary (tail_text boundary list) ascii (tail_utf8 boundary list ascii texts'))),
       All-from_recursion (FitsPart boundary) list (fits_written boundary entries (no_line_end boundary are) free),
       joined,
     )
