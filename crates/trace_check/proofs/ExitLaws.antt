@@ -1,14 +1,12 @@
 -- What is true of a check at each of its ends.
 use Rattle.std.proofs.Common.{◌≡◌, ◌≤◌, ◌<◌, ℕ, Bool, true, List, [], ◌++◌, length, Some, None, Result, Ok, Err, refl, sym, ap, subst, ◌∙◌, append-nil, arith, length-append, inl, inr}
-use Rattle.std.proofs.KnownBytes.{Appends-nil, Consumes-nil}
 use Rattle.std.specs.Io.KnownBytes.{Consumes, Appends, IsAtEnd}
 use Rattle.std.specs.declared.option.Option.{Option}
 use Rattle.ce_base.specs.Faults.{Rose}
 use Rattle.ce_base.specs.Whole.{ReadMeets}
-use Rattle.ce_base.specs.declared.memory.NoMemory.{NoMemory as WantOfMemory}
 use Rattle.ce_base.specs.declared.stop.Stop.{Stop}
 use Rattle.ce_base.specs.declared.stop.Stop.TheVariants.{NoMemory as StopMemory, WriteFault as StopWrite}
-use Rattle.ce_base.specs.declared.whole.Read.TheVariants.{Whole, Failed as ReadFailed, TooLong as ReadTooLong}
+use Rattle.ce_base.specs.declared.whole.Read.TheVariants.{Whole}
 use Rattle.ce_algorithms.specs.Lines.{lines_of}
 use Rattle.trace_check.specs.Table.{Call, CheckMeets, ChecksWhole, Judges, Row, limit, status_of}
 use Rattle.trace_check.specs.Told.{TellsVerdict, line_of}
@@ -17,29 +15,6 @@ use Rattle.trace_check.specs.declared.status.CheckStatus.{CheckStatus}
 use Rattle.trace_check.specs.declared.status.CheckStatus.TheVariants.{Lawful, Unlawful, Usage, ReadFault, WriteFault, NoMemory, TooLong}
 use Rattle.trace_check.specs.declared.verdict.Verdict.{Verdict}
 use Rattle.trace_check.specs.declared.verdict.Verdict.TheVariants.{Yes, No}
-
--- nothing was read
-pub meets_usage : (left held : Option (List ℕ)) (ended : Bool) (sb sn kb kn : ℕ) → CheckMeets Usage left left held held ended sb sn kb kn
-meets_usage left held ended sb sn kb kn = record { taken = []; written = []; took = Consumes-nil left; wrote = Appends-nil held; row = (refl, refl) }
-
--- ---- the reading stopped
-
-pub meets_memory : (left left' held : Option (List ℕ)) (ended : Bool) (sb sn kb kn : ℕ) (e : WantOfMemory) → ReadMeets limit (Err e) left left' ended sb sn
-    → CheckMeets NoMemory left left' held held ended sb sn kb kn
-meets_memory left left' held ended sb sn kb kn e read =
-    record { taken = read.taken; written = []; took = read.took; wrote = Appends-nil held; row = (read.row, inl refl) }
-
-pub meets_fault : (left left' held : Option (List ℕ)) (ended : Bool) (sb sn kb kn : ℕ) → ReadMeets limit (Ok ReadFailed) left left' ended sb sn
-    → CheckMeets ReadFault left left' held held ended sb sn kb kn
-meets_fault left left' held ended sb sn kb kn read =
-    record { taken = read.taken; written = []; took = read.took; wrote = Appends-nil held; row = (read.row.0, read.row.1, refl) }
-
-pub meets_long : (left left' held : Option (List ℕ)) (ended : Bool) (sb sn kb kn : ℕ) → ReadMeets limit (Ok ReadTooLong) left left' ended sb sn
-    → CheckMeets TooLong left left' held held ended sb sn kb kn
-meets_long left left' held ended sb sn kb kn read =
-    record { taken = read.taken; written = []; took = read.took; wrote = Appends-nil held; row = (read.row, refl) }
-
--- ---- all was read
 
 -- the trace was read to its end, and this is the verdict on it
 judges : (v : Verdict) (bytes : List ℕ) (call : Call) → bytes ≡ call.taken → call.ended ≡ true → IsAtEnd call.left → length call.taken ≤ limit → IsVerdict v (lines_of bytes)

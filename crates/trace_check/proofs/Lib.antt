@@ -4,7 +4,6 @@ pub mod LineLaws
 pub mod OpenLemmas
 pub mod PassLaws
 pub mod SlotLemmas
-pub mod StartLemmas
 pub mod StepLaws
 pub mod TellLaws
 pub mod TraceLaws

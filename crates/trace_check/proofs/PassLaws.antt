@@ -53,9 +53,3 @@ breaks_here tell all rest line behind count b has cut none =
           let with_line : AreLawful (lines ++ line ∷ []) = subst AreLawful (ap (take (length lines + 1)) all_is ∙ take-append-add lines (line ∷ lines_of behind) 1) are in
           none_goes_on tell blank lines line has.log with_line.0 has.is_log with_line.1 with_line.2 (subst (λ (c : Book). NoneMayCome c line) (sym has.book) none);
     }
-
--- nothing is left
-pub all_read : (all rest : List ℕ) (count : ℕ) (b : Book) → HasRead all rest count b → rest ≡ [] → (count ≡ length (lines_of all)) × AreLawful (lines_of all)
-all_read all rest count b has end =
-    let lines : has.lines ≡ lines_of all = sym (append-nil has.lines) ∙ (ap (λ (l : List ℕ). has.lines ++ lines_of l) (sym end) ∙ has.split) in
-    (has.count_is ∙ ap length lines, subst AreLawful lines (has.log, has.is_log, has.law))
