@@ -1,5 +1,5 @@
 -- The book after a line.
-use Rattle.std.specs.Prelude.{◌≡◌, ℕ, Bool, true, false, List, Option, Some, None}
+use Rattle.std.specs.Prelude.{◌≡◌, ℕ, true, false, List, Option, Some, None}
 use Rattle.ce_events.specs.declared.event.Event.{Event}
 use Rattle.ce_events.specs.Text.{event_text}
 use Rattle.event_reader.specs.IsEvent.{IsEvent}

@@ -1,9 +1,4 @@
-use Rattle.std.proofs.Common.{◌≡◌, ℕ, List, Ok, Err, sym, subst, ◌∙◌}
-use Rattle.ce_base.specs.Whole.{ReadMeets}
-use Rattle.ce_base.specs.declared.whole.Read.TheVariants.{Whole}
-use Rattle.ce_algorithms.specs.Lines.{lines_of}
-use Rattle.trace_check.specs.Table.{CheckMeets, limit}
-use Rattle.trace_check.specs.Told.{TellsVerdict}
+use Rattle.std.proofs.Common.{sym, ◌∙◌}
 use Rattle.trace_check.proofs.ExitLaws.{checks_whole, meets_whole, told_apart}
 use Rattle.trace_check.proofs.top.check_run.Goals as goal
 

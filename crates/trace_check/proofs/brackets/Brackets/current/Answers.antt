@@ -1,4 +1,4 @@
-use Rattle.std.proofs.Common.{ap, sym, ◌∙◌, ◌≡◌, ◌-◌, length, Some, None}
+use Rattle.std.proofs.Common.{ap, sym, ◌∙◌, ◌-◌, length}
 use Rattle.std.specs.Prelude.{reverse, map}
 use Rattle.std.specs.List.{slice_get}
 use Rattle.order_law.specs.Reads.{current}

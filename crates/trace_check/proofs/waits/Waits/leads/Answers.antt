@@ -1,4 +1,4 @@
-use Rattle.std.proofs.Common.{rules, ap, sym, ◌∙◌, ◌≡◌, true, false, arith}
+use Rattle.std.proofs.Common.{rules, ap, ◌∙◌, ◌≡◌, true, false, arith}
 use Rattle.std.specs.Prelude.{not}
 use Rattle.order_law.specs.Reads.{entry_of}
 use Rattle.order_law.specs.Clauses.{leads}

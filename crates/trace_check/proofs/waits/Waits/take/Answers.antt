@@ -1,4 +1,4 @@
-use Rattle.std.proofs.Common.{ap, sym, subst, ◌∙◌, ◌≡◌, ◌-◌, true, arith, length}
+use Rattle.std.proofs.Common.{ap, sym, subst, ◌∙◌, ◌-◌, arith}
 use Rattle.std.proofs.lemmas.List.{length-set}
 use Rattle.std.specs.Prelude.{is_some}
 use Rattle.std.specs.Ordering.{nat_cmp}
@@ -6,7 +6,7 @@ use Rattle.std.specs.Map.{count_at}
 use Rattle.std.specs.BTreeMap.{get}
 use Rattle.order_law.specs.Reads.{entry_of, without}
 use Rattle.order_law.specs.Clauses.{leads}
-use Rattle.trace_check.specs.Slots.{waits_at, waiting_from, AreCounted}
+use Rattle.trace_check.specs.Slots.{waiting_from, AreCounted}
 use Rattle.trace_check.proofs.SlotLemmas.{within, waits_some, taken, entry_there, waiting_same}
 use Rattle.trace_check.proofs.CountLemmas.{counted_take, told_one}
 use Rattle.trace_check.proofs.waits.Waits.take.Goals as goal
