@@ -10,3 +10,4 @@ pub mod SettleLemmas
 pub mod TodoLemmas
 pub mod StepLemmas
 pub mod TellLemmas
+pub mod Unheard

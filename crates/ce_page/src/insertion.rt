@@ -103,8 +103,11 @@ impl Page {
         ensures refused { NeverRefuses result }
     {
         let changes = self.graft(alloc, parent, node, before)?;
-        let walk = self.tree.shadow_order(alloc, node)?;
         let mut now = Connectedness::of(Some(node));
+        if self.is_unheard(&changes, &mut now) {
+            return Ok(());
+        }
+        let walk = self.tree.shadow_order(alloc, node)?;
         self.tell_insertion(alloc, node, &walk, &changes, &mut now, fuel)
     }
 

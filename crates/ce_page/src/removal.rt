@@ -48,6 +48,9 @@ impl Page {
     {
         let mut was = Connectedness::of(self.tree.parent(node));
         let changes = self.cut(alloc, node)?;
+        if self.is_unheard(&changes, &mut was) {
+            return Ok(());
+        }
         let walk = self.tree.shadow_order(alloc, node)?;
         self.tell_removal(alloc, node, &walk, &changes, &mut was, fuel)
     }

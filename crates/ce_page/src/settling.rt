@@ -44,6 +44,7 @@ impl Page {
         requires free { parent_at self.old.forest node ≡ None }
         ensures page { OnOk result (self.new ≡ with_forest (λ f. graft f parent node before) self.old) }
         ensures tidy { OnOk result (IsTidy self.old.forest) }
+        ensures still_tidy { OnOk result (IsTidy self.new.forest) }
         ensures changes { IfOk result (λ cs. cs ≡ form_changes self.old self.new) }
         ensures nodes { IfOk result (AreOfNodes self.new.forest) }
         ensures settled { OnOk result (KeepsSettled self.old self.new) }

@@ -39,15 +39,15 @@ pub fn checked_of(
     found
 }
 
-/// Whether a checkbox or a radio button is checked (HTML Standard, section "The input element", "checkedness"). It takes no
-/// memory.
+/// Whether a checkbox or a radio button is checked (HTML Standard, section "The input element", "checkedness"). The group of
+/// a radio button is gone through only where the button is flagged. It takes no memory.
 pub fn is_checked(tree: &Tree, owners: &OwnerTable, controls: &ControlTable, n: NodeNo) -> bool
     requires stands { StandsFor owners.now tree.now }
     requires node { IsNode tree.now n }
     ensures { (f : Forms) → f.forest ≡ tree.now → Stands owners.now f → result ≡ is_checked f controls.now n }
 {
-    if !has_kind(tree, n, InputKind::Radio) {
-        return controls.is_flagged(tree, n);
+    if !controls.is_flagged(tree, n) {
+        return false;
     }
-    checked_of(tree, owners, controls, n) == Some(n)
+    !has_kind(tree, n, InputKind::Radio) || checked_of(tree, owners, controls, n) == Some(n)
 }

@@ -6,7 +6,13 @@ use Rattle.command_words.specs.declared.choice.Choice.{Choice}
 use Rattle.command_words.specs.Words.{Chosen, is_equals_sign, read}
 
 abbrev pub chosen_of : Choice → Chosen
-chosen_of choice = record { fuel = choice.fuel; boundary = option_copied choice.boundary; url = option_copied choice.url; trace = choice.trace; make = choice.make }
+chosen_of choice = record {
+  fuel = choice.fuel;
+  boundary = option_copied choice.boundary;
+  url = option_copied choice.url;
+  trace = choice.trace;
+  make = choice.make;
+}
 
 -- with the words that are left
 abbrev pub read_on : {A : Type 0} → Option (Choice × Bor (List (String A))) → Option Chosen

@@ -1,5 +1,6 @@
 -- What the words of a call mean: options in any order, each at most once, its value in the next word or behind `=`.
-use Rattle.std.specs.Prelude.{ℕ, Bool, true, false, not, ◌&&◌, ◌||◌, ◌==◌, nat_le, if◌then◌else◌, codes, List, [], ◌∷◌, length, Option, Some, None, is_some, unwrap_or, Ok, Err, bytes_eq}
+use Rattle.std.specs.Prelude.{ℕ, Bool, true, false, not, ◌&&◌, ◌||◌, ◌==◌, nat_le, if◌then◌else◌}
+use Rattle.std.specs.Prelude.{codes, List, [], ◌∷◌, length, Option, Some, None, is_some, unwrap_or, Ok, Err, bytes_eq}
 use Rattle.std.specs.Char.{is_ascii_alphanumeric}
 use Rattle.std.specs.List.{after_first, before_first, list_all, list_any}
 use Rattle.short_numbers.specs.Numbers.{number_in}

@@ -2,7 +2,8 @@
 ghost use Rattle.std.specs.Prelude.{◌≡◌, ◌≤◌, ◌∷◌, map, length, string_bytes, option_map, false, IfOk, IfSome, MatchOption};
 ghost use Rattle.std.specs.List.{list_any};
 ghost use Rattle.command_words.specs.Choices.{Splits, chosen_of, read_on};
-ghost use Rattle.command_words.specs.Words.{and_then, has_value, is_equals_sign, meaning_of, nothing, options_of, read, with_boundary, with_fuel, with_make, with_option, with_trace, with_url, with_word};
+ghost use Rattle.command_words.specs.Words.{and_then, has_value, is_equals_sign, meaning_of, nothing, options_of, read};
+ghost use Rattle.command_words.specs.Words.{with_boundary, with_fuel, with_make, with_option, with_trace, with_url, with_word};
 
 use crate::page_url::is_page_url;
 use crate::values::{count_in, fuel_in, is_boundary};

@@ -3,7 +3,5 @@
 #![tactic(auto)]
 
 mod disabled;
-mod reading;
 
 pub use disabled::disabled_of;
-pub use reading::node_at;

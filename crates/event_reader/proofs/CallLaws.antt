@@ -14,7 +14,7 @@ use Rattle.ce_events.specs.declared.event.Event.TheVariants.{Connected, Disconne
 use Rattle.ce_events.specs.Text.{call, event_text, mode, node, node_or_null, text_or_null}
 use Rattle.event_reader.specs.Calls.{call_by, mode_named}
 use Rattle.event_reader.specs.IsEvent.{IsNumber, IsNumberOrNone, IsTextOrNone}
-use Rattle.event_reader.specs.Reading.{event_of}
+use Rattle.event_reader.specs.Reading.{class_in, event_of}
 use Rattle.event_reader.proofs.Told.{IsTold}
 use Rattle.event_reader.proofs.TokenLaws.{bare, quoted, three_spaced, word_clean, node_clean, node_back, text_token, text_written, text_clean, text_back, node_or_null_clean, node_or_null_back}
 
@@ -37,9 +37,11 @@ told_call e n word ts rest fits text is word_is clean read = record {
   line = text ∙ call_line n word ts rest is;
   clean = call_clean n word ts fits word_is clean;
   begins = (refl, refl);
+  no_class = ap class_in text;
   other = e;
   read = call_read n word ts fits ∙ read;
   same = refl;
+  step = refl;
 }
 
 pub told_connected : (n : ℕ) → IsNumber n → IsTold (Connected n)

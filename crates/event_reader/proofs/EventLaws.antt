@@ -1,11 +1,8 @@
 -- The text of an event is guessed as an event with this text.
-use Rattle.std.proofs.Common.{◌≡◌, ℕ, Bool, true, false, cond, List, [], ◌∷◌, ◌++◌, length, take, drop, Option, Some, None, Ok, refl, sym, ap, ◌∙◌, subst, arith}
-use Rattle.std.specs.Prelude.{codes, nat_eq}
-use Rattle.std.specs.List.{starts_with}
+use Rattle.std.proofs.Common.{◌≡◌, ℕ, List, [], ◌∷◌, ◌++◌, length, Option, Some, None, Ok, refl, sym, ap, ◌∙◌, subst, arith}
+use Rattle.std.specs.Prelude.{codes}
 use Rattle.std.specs.Option.{option_map}
-use Rattle.std.specs.Str.{is_utf8, IsUtf8}
-use Rattle.std.proofs.lemmas.List.{take-append-drop}
-use Rattle.std.proofs.lemmas.Slice.Eq.{bytes_eq-Decides}
+use Rattle.std.specs.Str.{IsUtf8}
 use Rattle.std.proofs.lemmas.Str.{is_utf8-from_IsUtf8}
 use Rattle.ce_base.specs.declared.fault.Fault.{Fault}
 use Rattle.rule_tokens.specs.declared.token.Token.{Token}
@@ -15,6 +12,7 @@ use Rattle.rule_tokens.specs.Tokens.{tokens_of}
 use Rattle.ce_events.specs.declared.event.Answer.{Answer}
 use Rattle.ce_events.specs.declared.event.Event.{Event}
 use Rattle.ce_events.specs.declared.event.Event.TheVariants.{Construct, Connected, Disconnected, Adopted, Attribute, FormAssociated, FormDisabled, FormReset, FormStateRestore, Logged, Caught, Reported, Asked, SubmitGet, SubmitPost, SubmitBlocked, Fine, Gave, Answered, Ignored, Threw, WasBad, FuelLine, QueueOpened, Enqueued, DrainBegun, Started, Finished, Dropped, QueueClosed, UpgradeBegun, UpgradeDone, UpgradeThrew}
+use Rattle.ce_events.specs.Step.{step_of}
 use Rattle.ce_events.specs.Text.{event_text}
 use Rattle.event_reader.specs.Answers.{answer_of}
 use Rattle.event_reader.specs.Guessed.{IsTextGuessed, TextsAreGuessed}
@@ -36,23 +34,12 @@ pub record Below : Type 0 where
 
 -- ---- a constructor that starts
 
-both : (a b : Bool) (x c : List ℕ) → cond a (cond b (Some x) None) None ≡ Some c → (a ≡ true) × (x ≡ c)
-both true true x c e = (refl, cc)
-both true false x c e = absurd cc
-both false b x c e = absurd cc
-
-class_text : (bytes c : List ℕ) → class_in bytes ≡ Some c → codes "construct " ++ c ≡ bytes
-class_text bytes c e =
-    let parts = both (starts_with nat_eq bytes (codes "construct ")) (is_utf8 (drop 10 bytes)) (drop 10 bytes) c e in
-    let front : codes "construct " ≡ take 10 bytes = (bytes_eq-Decides (codes "construct ") (take 10 bytes)).0 parts.0 in
-    ap (λ (l : List ℕ). codes "construct " ++ l) (sym parts.1) ∙ (ap (λ (l : List ℕ). l ++ drop 10 bytes) front ∙ take-append-drop 10 bytes)
-
 class_read : (class : List ℕ) → IsUtf8 class → class_in (codes "construct " ++ class) ≡ Some class
 class_read class utf8 = rw (is_utf8-from_IsUtf8 class utf8) refl
 
 guessed_class : (class : List ℕ) → IsUtf8 class → IsTextGuessed (Construct class)
 unfolding guess
-guessed_class class utf8 = record { other = Construct class; read = ap (λ (o : Option (List ℕ)). construct_or o (event_in (tokens_of (length (codes "construct " ++ class)) (codes "construct " ++ class)))) (class_read class utf8); same = refl }
+guessed_class class utf8 = record { other = Construct class; read = ap (λ (o : Option (List ℕ)). construct_or o (event_in (tokens_of (length (codes "construct " ++ class)) (codes "construct " ++ class)))) (class_read class utf8); same = refl; step = refl }
 
 -- ---- a line of tokens
 
@@ -61,13 +48,12 @@ tokens_read below e told =
     let P : List ℕ → Type 0 = λ bs. tokens_of (length bs) bs ≡ Ok (Some told.tokens) in
     subst P (sym told.line) (below.read (length (as_line told.tokens)) told.tokens told.clean told.begins (below.text told.tokens told.clean) (omega arith))
 
-by_class : (e other : Event) (class : Option (List ℕ)) → class_in (event_text e) ≡ class → event_in (tokens_of (length (event_text e)) (event_text e)) ≡ Some other → event_text other ≡ event_text e → IsTextGuessed e
-unfolding guess
-by_class e other None is read same = record { other = other; read = rw is read; same = same }
-by_class e other (Some class) is read same = record { other = Construct class; read = rw is refl; same = class_text (event_text e) class is }
-
 guessed_by : Below → (e : Event) → IsTold e → IsTextGuessed e
-guessed_by below e told = by_class e told.other (class_in (event_text e)) refl (ap event_in (tokens_read below e told) ∙ told.read) told.same
+unfolding guess
+guessed_by below e told =
+    let none = told.no_class in
+    let is : event_in (tokens_of (length (event_text e)) (event_text e)) ≡ Some told.other = ap event_in (tokens_read below e told) ∙ told.read in
+    record { other = told.other; read = rw (none, is) refl; same = told.same; step = told.step }
 
 -- ---- what a body does
 
@@ -77,9 +63,11 @@ told_logged texts are = record {
   line = ap (λ (l : List ℕ). codes "log" ++ l) (texts_written texts);
   clean = (word_clean (codes "log") refl, texts_clean texts are);
   begins = (refl, refl);
+  no_class = refl;
   other = Logged texts;
   read = rw (texts_back texts) refl;
   same = refl;
+  step = refl;
 }
 
 told_caught : (f : Fault) → IsFault f → IsTold (Caught f)
@@ -88,9 +76,11 @@ told_caught f is = record {
   line = ap (λ (l : List ℕ). codes "caught" ++ l) (fault_written f);
   clean = (word_clean (codes "caught") refl, fault_clean f is);
   begins = (refl, refl);
+  no_class = refl;
   other = Caught f;
   read = rw (fault_back f) refl;
   same = refl;
+  step = refl;
 }
 
 told_reported : (f : Fault) → IsFault f → IsTold (Reported f)
@@ -99,9 +89,11 @@ told_reported f is = record {
   line = ap (λ (l : List ℕ). codes "report" ++ l) (fault_written f);
   clean = (word_clean (codes "report") refl, fault_clean f is);
   begins = (refl, refl);
+  no_class = refl;
   other = Reported f;
   read = rw (fault_back f) refl;
   same = refl;
+  step = refl;
 }
 
 asked_line : (ts : List Token) (a : Answer) → answer_of ts ≡ Some a → codes "ask " ++ as_line ts ≡ codes "ask" ++ spaced_tokens ts
@@ -116,13 +108,15 @@ told_asked named a is =
       line = ap (λ (l : List ℕ). codes "ask " ++ l) told.line ∙ asked_line (answer_tokens a) told.other told.read;
       clean = (word_clean (codes "ask") refl, told.clean);
       begins = (refl, refl);
+      no_class = refl;
       other = Asked told.other;
       read = ap (option_map Asked) told.read;
       same = ap (λ (l : List ℕ). codes "ask " ++ l) told.same;
+      step = refl;
     }
 
 told_fuel : IsTold FuelLine
-told_fuel = record { tokens = bare (codes "fuel") ∷ []; line = refl; clean = (word_clean (codes "fuel") refl, tt); begins = (refl, refl); other = FuelLine; read = refl; same = refl }
+told_fuel = record { tokens = bare (codes "fuel") ∷ []; line = refl; clean = (word_clean (codes "fuel") refl, tt); begins = (refl, refl); no_class = refl; other = FuelLine; read = refl; same = refl; step = refl }
 
 -- ---- each event
 

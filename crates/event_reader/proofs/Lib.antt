@@ -5,6 +5,7 @@ pub mod FitLaws
 pub mod GuessLaws
 pub mod NumberLaws
 pub mod ReplyLaws
+pub mod StepLaws
 pub mod SubmissionLaws
 pub mod Told
 pub mod TokenLaws

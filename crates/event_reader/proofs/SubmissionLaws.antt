@@ -12,7 +12,7 @@ use Rattle.ce_events.specs.declared.event.Event.{Event}
 use Rattle.ce_events.specs.declared.event.Event.TheVariants.{SubmitGet, SubmitPost, SubmitBlocked}
 use Rattle.ce_events.specs.Text.{cause, event_text, node, submit}
 use Rattle.event_reader.specs.IsEvent.{IsCause, IsNumber}
-use Rattle.event_reader.specs.Reading.{event_of}
+use Rattle.event_reader.specs.Reading.{class_in, event_of}
 use Rattle.event_reader.specs.Submissions.{cause_of, submit_by}
 use Rattle.event_reader.proofs.Told.{IsTold}
 use Rattle.event_reader.proofs.TokenLaws.{bare, quoted, word_clean, node_clean, node_back, node_tokens, nodes_written, nodes_clean, nodes_back}
@@ -32,9 +32,11 @@ told_submit e n word ts rest fits text is word_is clean read = record {
   line = text ∙ submit_line n word ts rest is;
   clean = (word_clean (codes "submit") refl, (node_clean n fits, (word_is, clean)));
   begins = (refl, refl);
+  no_class = ap class_in text;
   other = e;
   read = submit_read n word ts fits ∙ read;
   same = refl;
+  step = refl;
 }
 
 pub told_get : (n : ℕ) (url : List ℕ) → IsNumber n → IsUtf8 url → IsTold (SubmitGet n url)

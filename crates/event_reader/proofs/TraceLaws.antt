@@ -15,6 +15,7 @@ use Rattle.ce_events.specs.declared.event.Event.TheVariants.{QueueOpened, Enqueu
 use Rattle.ce_events.specs.Text.{event_text, node, what}
 use Rattle.event_reader.specs.IsEvent.{IsNumber}
 use Rattle.event_reader.specs.Parts.{node_in, number_in}
+use Rattle.event_reader.specs.Reading.{class_in}
 use Rattle.event_reader.specs.Traces.{trace_by, what_named}
 use Rattle.event_reader.proofs.NumberLaws.{number_back}
 use Rattle.event_reader.proofs.Told.{IsTold}
@@ -29,9 +30,11 @@ told_trace e word number ts line word_is number_is clean read = record {
   line = line;
   clean = (word_clean (codes "~") refl, (word_is, (number_is, clean)));
   begins = (refl, refl);
+  no_class = ap class_in line;
   other = e;
   read = read;
   same = refl;
+  step = refl;
 }
 
 pub told_opened : (q : ℕ) → IsNumber q → IsTold (QueueOpened q)

@@ -7,5 +7,6 @@ pub mod Read
 pub mod Reading
 pub mod Refused
 pub mod Replies
+pub mod Steps
 pub mod Submissions
 pub mod Traces

@@ -1,5 +1,6 @@
-// What holds of the texts of events, as the contract of a function that does nothing.
+// What holds of the texts of events: statements, each the contract of a function that does nothing.
 ghost use Rattle.event_reader.specs.Guessed.{TextsAreGuessed};
+ghost use Rattle.event_reader.specs.Steps.{TextsTellSteps};
 
 use rule_tokens::{flags_are_read, what_is_written_is_read, what_is_written_is_text};
 
@@ -10,4 +11,12 @@ pub(crate) fn texts_are_guessed()
     what_is_written_is_read();
     what_is_written_is_text();
     flags_are_read();
+}
+
+/// Two events with one text are one step to the law of order: what the law reads of an event is in its text.
+#[tactic(auto, using(crate::proofs::StepLaws::texts_tell))]
+pub fn texts_tell_steps()
+    ensures { TextsTellSteps }
+{
+    texts_are_guessed();
 }

@@ -15,4 +15,5 @@ mod submissions;
 mod traces;
 
 pub use guessing::guess;
+pub use laws::texts_tell_steps;
 pub use refused::EventRefused;

@@ -18,8 +18,8 @@ use Rattle.form_controls.specs.Owners.{Forms, form_owner}
 use Rattle.form_controls.proofs.Listed.{contains_range, made_contains, range_increases}
 use Rattle.owner_laws.proofs.OwnerTogether.{owner-in_order}
 use Rattle.owner_reading.specs.Owners.{owner_with}
+use Rattle.owner_rows.specs.OwnerRow.{OwnerRow, row_of}
 use Rattle.form_owner.specs.Moves.{is_moving, stays}
-use Rattle.form_owner.specs.OwnerRows.{OwnerRow, row_of}
 use Rattle.form_owner.specs.Reading.{change_read, changes_read}
 use Rattle.form_owner.specs.Told.{AreRising}
 use Rattle.form_owner.proofs.Nodes.{owner-node}

@@ -9,7 +9,7 @@ use Rattle.node_trees.specs.Trees.{Trees}
 use Rattle.node_trees.specs.Nodes.{IsNode, size}
 use Rattle.node_trees.specs.Paths.{is_among}
 use Rattle.form_controls.specs.Changes.{is_change, numbers}
-use Rattle.form_owner.specs.OwnerRows.{OwnerRow}
+use Rattle.owner_rows.specs.OwnerRow.{OwnerRow}
 use Rattle.form_owner.specs.Reading.{change_read, changes_read}
 use Rattle.form_owner.proofs.Nodes.{all-among}
 

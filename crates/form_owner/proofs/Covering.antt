@@ -1,6 +1,7 @@
 -- Who is not among the candidates of a touch has the form owner and the disabled state that it had.
 use Rattle.std.proofs.Common.{◌≡◌, ℕ, ◌+◌, ◌-◌, Bool, true, false, List, [], Some, refl, sym, ap, ◌∙◌, subst, arith}
 use Rattle.std.specs.Prelude.{◌&&◌, ◌||◌, codes}
+use Rattle.std.proofs.lemmas.Bool.{or_parts}
 use Rattle.element_names.specs.declared.natives.Native.TheVariants.{Fieldset, Legend}
 use Rattle.node_trees.specs.Facts.{Facts, value_in}
 use Rattle.node_trees.specs.Trees.{Trees, graft}
@@ -18,13 +19,14 @@ use Rattle.id_index.specs.declared.index.IdIndex.{IdIndex}
 use Rattle.owner_laws.specs.Locality.{IsAsideOfMove, IsUnchanged}
 use Rattle.owner_laws.proofs.Moves.{covers-graft, covers-cut}
 use Rattle.owner_laws.proofs.PutBack.{graft-up}
+use Rattle.owner_rows.specs.OwnerRow.{OwnerRow, row_of}
 use Rattle.form_owner.specs.Candidates.{Considers, Covers, is_concerned, is_named_among, is_of_legend, is_of_move}
-use Rattle.form_owner.specs.OwnerRows.{OwnerRow, OwnerRows, row_of}
+use Rattle.form_owner.specs.OwnerRows.{OwnerRows}
 use Rattle.form_owner.specs.Stands.{Stands}
 use Rattle.form_owner.specs.Touches.{IsInserted, IsRemoved}
 use Rattle.form_owner.proofs.Naming.{none-named}
 use Rattle.form_owner.proofs.Touching.{inserted-shift, removed-shift}
-use Rattle.form_owner.proofs.Unchanged.{neither, no-change, unconcerned}
+use Rattle.form_owner.proofs.Unchanged.{no-change, unconcerned}
 
 -- who was not put into a set is one that forms are not about, or that the test is false of
 pub left-out : {forest : Trees} {about test : ℕ → Bool} {set : List ℕ} → Considers forest about test [] set → (m : ℕ) → IsNode forest m → is_among m set ≡ false → about m ≡ true → test m ≡ false
@@ -56,10 +58,10 @@ module _ (table : OwnerRows) (before : Forms) (stands : Stands table before) (no
   }
     where
       parts : (is_among m (order_of now n) ≡ false) × ((is_named_among now (is_held table.named) (order_of now n) m || is_of_legend now n p m) ≡ false)
-      parts = neither (is_among m (order_of now n)) (is_named_among now (is_held table.named) (order_of now n) m || is_of_legend now n p m) fails
+      parts = or_parts (is_among m (order_of now n)) (is_named_among now (is_held table.named) (order_of now n) m || is_of_legend now n p m) fails
 
       rest : (is_named_among now (is_held table.named) (order_of now n) m ≡ false) × (is_of_legend now n p m ≡ false)
-      rest = neither (is_named_among now (is_held table.named) (order_of now n) m) (is_of_legend now n p m) parts.1
+      rest = or_parts (is_named_among now (is_held table.named) (order_of now n) m) (is_of_legend now n p m) parts.1
 
   pub covers-move : (set : List ℕ) → Considers now (is_concerned now table.rows) (is_of_move now (is_held table.named) n p) [] set → ((m : ℕ) → IsNode now m → IsAsideOfMove now n p m → IsUnchanged before moved m) → Covers set before moved
   covers-move set all unchanged m node out = by_test (is_concerned now table.rows m) refl

@@ -3,6 +3,7 @@ use Rattle.std.proofs.Common.{◌≡◌, ℕ, ◌+◌, ◌-◌, Bool, true, fals
 use Rattle.std.specs.Prelude.{not, ◌&&◌, ◌||◌, bytes_eq, codes}
 use Rattle.std.specs.Bool.{beq}
 use Rattle.std.specs.Option.{option_eq}
+use Rattle.std.proofs.lemmas.Bool.{or_parts}
 use Rattle.std.proofs.lemmas.Bool.Decides.{nat_tests}
 use Rattle.std.proofs.lemmas.Slice.Eq.{bytes_eq-Decides}
 use Rattle.element_names.specs.declared.natives.Native.{Native}
@@ -25,16 +26,17 @@ use Rattle.id_index.specs.Held.{is_held}
 use Rattle.owner_laws.specs.Locality.{IsAsideOfAttribute, IsUnchanged}
 use Rattle.owner_laws.proofs.Attributes.{covers-with}
 use Rattle.owner_laws.proofs.SameReads.{unchanged-marked}
-use Rattle.form_owner.specs.Attributes.{seen_at}
+use Rattle.owner_rows.specs.OwnerRow.{Seen, row_of}
+use Rattle.owner_rows.specs.Attributes.{seen_at}
 use Rattle.form_owner.specs.Candidates.{Considers, Covers, is_concerned, is_named_by, is_of_change, is_of_group, is_of_ids}
-use Rattle.form_owner.specs.OwnerRows.{OwnerRows, Seen, row_of}
+use Rattle.form_owner.specs.OwnerRows.{OwnerRows}
 use Rattle.form_owner.specs.Stands.{Stands}
 use Rattle.form_owner.specs.Touches.{IsChanged, IsDefined, with_associated}
 use Rattle.form_owner.proofs.Covering.{left-out}
 use Rattle.form_owner.proofs.Naming.{has-other}
 use Rattle.form_owner.proofs.Touched.{among-with}
 use Rattle.form_owner.proofs.Touching.{facts-changed}
-use Rattle.form_owner.proofs.Unchanged.{neither, no-change, unconcerned}
+use Rattle.form_owner.proofs.Unchanged.{no-change, unconcerned}
 
 same-option : (a b : Option (List ℕ)) → option_eq bytes_eq a b ≡ true → a ≡ b
 same-option None None e = refl
@@ -98,10 +100,10 @@ module _ (table : OwnerRows) (before : Forms) (stands : Stands table before) (no
 
   module _ (m : ℕ) (node : IsNode now m) (fails : is_of_change now table.rows (is_held table.named) n m ≡ false) where
     parts : ((n == m) ≡ false) × ((is_of_ids (is_held table.named) (row_of table.rows n).seen.id (attribute_at now n (codes "id")) m || (not (beq (row_of table.rows n).seen.disabled (has_disabled now n)) && is_of_group now n m)) ≡ false)
-    parts = neither (n == m) (is_of_ids (is_held table.named) (row_of table.rows n).seen.id (attribute_at now n (codes "id")) m || (not (beq (row_of table.rows n).seen.disabled (has_disabled now n)) && is_of_group now n m)) fails
+    parts = or_parts (n == m) (is_of_ids (is_held table.named) (row_of table.rows n).seen.id (attribute_at now n (codes "id")) m || (not (beq (row_of table.rows n).seen.disabled (has_disabled now n)) && is_of_group now n m)) fails
 
     rest : (is_of_ids (is_held table.named) (row_of table.rows n).seen.id (attribute_at now n (codes "id")) m ≡ false) × ((not (beq (row_of table.rows n).seen.disabled (has_disabled now n)) && is_of_group now n m) ≡ false)
-    rest = neither (is_of_ids (is_held table.named) (row_of table.rows n).seen.id (attribute_at now n (codes "id")) m) (not (beq (row_of table.rows n).seen.disabled (has_disabled now n)) && is_of_group now n m) parts.1
+    rest = or_parts (is_of_ids (is_held table.named) (row_of table.rows n).seen.id (attribute_at now n (codes "id")) m) (not (beq (row_of table.rows n).seen.disabled (has_disabled now n)) && is_of_group now n m) parts.1
 
     form_stays : attribute_at now m (codes "form") ≡ attribute_at before.forest m (codes "form")
     form_stays = ap (λ (x : Facts). value_in x.attributes (codes "form")) (facts-changed n before.forest now t m parts.0)
@@ -118,7 +120,7 @@ module _ (table : OwnerRows) (before : Forms) (stands : Stands table before) (no
             ap (λ k. is_element k && is_id id (attribute_at now n (codes "id"))) ((keeps-kind n before.forest now t).kind n)
             ∙ ap (λ o. is_element (kind_at before.forest n) && is_id id o) (sym (same-option (row_of table.rows n).seen.id (attribute_at now n (codes "id")) e) ∙ was)
         by_test false e =
-            let none = neither (is_named_by (is_held table.named) (row_of table.rows n).seen.id m) (is_named_by (is_held table.named) (attribute_at now n (codes "id")) m) (sym (ap (λ b. not b && (is_named_by (is_held table.named) (row_of table.rows n).seen.id m || is_named_by (is_held table.named) (attribute_at now n (codes "id")) m)) e) ∙ rest.0) in
+            let none = or_parts (is_named_by (is_held table.named) (row_of table.rows n).seen.id m) (is_named_by (is_held table.named) (attribute_at now n (codes "id")) m) (sym (ap (λ b. not b && (is_named_by (is_held table.named) (row_of table.rows n).seen.id m || is_named_by (is_held table.named) (attribute_at now n (codes "id")) m)) e) ∙ rest.0) in
             has-other before.forest (is_held table.named) stands.named now m form_stays (attribute_at now n (codes "id")) none.1 id is (facts_at now n) refl
             ∙ sym (has-other before.forest (is_held table.named) stands.named now m form_stays (row_of table.rows n).seen.id none.0 id is (facts_at before.forest n) (sym was))
 

@@ -13,9 +13,9 @@ use Rattle.tree_laws.specs.Numbers.{insert_number}
 use Rattle.tree_laws.proofs.Counts.{AreApart}
 use Rattle.tree_laws.proofs.Children.{tree_order-apart}
 use Rattle.form_controls.specs.declared.change.Change.{Change}
+use Rattle.owner_rows.specs.OwnerRow.{OwnerRow, row_in, row_of}
 use Rattle.form_owner.specs.Groups.{all_after}
 use Rattle.form_owner.specs.Moves.{AreEntered, IsTold, is_listed_in, is_moved_by, is_settled, stays}
-use Rattle.form_owner.specs.OwnerRows.{OwnerRow, row_in, row_of}
 use Rattle.form_owner.specs.Reading.{is_owned_in}
 use Rattle.form_owner.specs.Told.{AreRising}
 use Rattle.form_owner.specs.Writing.{Written, unlisted}

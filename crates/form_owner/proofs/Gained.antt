@@ -9,9 +9,9 @@ use Rattle.node_trees.specs.Paths.{is_among, root_at}
 use Rattle.tree_laws.specs.Numbers.{insert_number}
 use Rattle.tree_laws.proofs.Counts.{AreApart}
 use Rattle.form_controls.specs.declared.change.Change.{Change}
+use Rattle.owner_rows.specs.OwnerRow.{OwnerRow, row_of}
 use Rattle.form_owner.specs.Groups.{all_after}
 use Rattle.form_owner.specs.Moves.{AreEntered, IsTold, is_listed_in}
-use Rattle.form_owner.specs.OwnerRows.{OwnerRow, row_of}
 use Rattle.form_owner.specs.Told.{AreRising}
 use Rattle.form_owner.specs.Writing.{Written}
 use Rattle.form_owner.proofs.Entering.{earlier, entered-apart, entered-none, entered-some}

@@ -16,7 +16,8 @@ use Rattle.form_controls.specs.Checkedness.{is_grouped_with, group_of, next_afte
 use Rattle.form_controls.specs.Kinds.{name_of}
 use Rattle.form_controls.specs.Owners.{Forms}
 use Rattle.form_controls.specs.Texts.{is_empty}
-use Rattle.form_owner.specs.OwnerRows.{OwnerRow, OwnerRows}
+use Rattle.owner_rows.specs.OwnerRow.{OwnerRow}
+use Rattle.form_owner.specs.OwnerRows.{OwnerRows}
 use Rattle.form_owner.specs.Groups.{is_grouped_in, group_in, all_behind, members_behind, left_behind}
 use Rattle.form_owner.proofs.Groups.{all_after-step, all_after-last}
 

@@ -16,7 +16,8 @@ use Rattle.form_controls.specs.Checkedness.{is_grouped_with, group_of, next_afte
 use Rattle.form_controls.specs.Kinds.{has_kind, name_of}
 use Rattle.form_controls.specs.Owners.{Forms, form_owner}
 use Rattle.form_controls.specs.Texts.{is_empty}
-use Rattle.form_owner.specs.OwnerRows.{OwnerRow, OwnerRows, row_of}
+use Rattle.owner_rows.specs.OwnerRow.{OwnerRow, row_of}
+use Rattle.form_owner.specs.OwnerRows.{OwnerRows}
 use Rattle.form_owner.specs.Groups.{is_grouped_in, group_in, all_after}
 use Rattle.form_owner.specs.Stands.{Stands, StandsFor, IsMemberOrNone}
 use Rattle.form_owner.proofs.Rows.{filter-members}

@@ -8,8 +8,8 @@ use Rattle.std.proofs.lemmas.List.Folds.{list_any_more}
 use Rattle.std.proofs.lemmas.Option.{get_or_from_slice_get, slice_get_within}
 use Rattle.node_trees.specs.Trees.{is_number}
 use Rattle.form_controls.specs.declared.change.Change.{Change}
-use Rattle.form_owner.specs.Moves.{is_moving, is_moved_by, is_other, stays}
-use Rattle.form_owner.specs.OwnerRows.{OwnerRow, row_in, row_of}
+use Rattle.owner_rows.specs.OwnerRow.{OwnerRow, is_other, row_in, row_of}
+use Rattle.form_owner.specs.Moves.{is_moving, is_moved_by, stays}
 use Rattle.form_owner.specs.Reading.{is_owned_in}
 use Rattle.form_owner.specs.Writing.{Written}
 

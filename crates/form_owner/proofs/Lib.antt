@@ -3,7 +3,6 @@ pub mod Considering
 pub mod Reaching
 pub mod Listing
 pub mod Rows
-pub mod BothEnds
 pub mod Placing
 pub mod Leaving
 pub mod Nodes

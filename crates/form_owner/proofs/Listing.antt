@@ -10,7 +10,7 @@ use Rattle.node_trees.specs.Nodes.{IsNode}
 use Rattle.node_trees.specs.Orders.{tree_order_of}
 use Rattle.node_trees.specs.Paths.{is_among, root_at}
 use Rattle.node_trees.proofs.Absent.{is_among-append}
-use Rattle.form_owner.specs.OwnerRows.{OwnerRow, row_in, row_of}
+use Rattle.owner_rows.specs.OwnerRow.{OwnerRow, row_in, row_of}
 use Rattle.form_owner.specs.Reading.{is_owned_in, owned_in}
 use Rattle.form_owner.specs.Writing.{AreListed, Written, unlisted}
 use Rattle.form_owner.proofs.Rows.{filter-members}

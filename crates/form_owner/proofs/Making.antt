@@ -26,7 +26,8 @@ use Rattle.tree_laws.proofs.Changed.{size-with}
 use Rattle.form_controls.specs.Kinds.{native_at, is_a}
 use Rattle.form_controls.specs.Owners.{Forms, is_associated, is_listed_native, owner_by, form_owner, where_form, named_form, nearest_form, ancestors_below, ancestors, is_owned_by, controls_of}
 use Rattle.form_controls.specs.Disabled.{has_disabled, first_legend, is_inside, disables, is_in_disabled_fieldset, is_in_disabled_group, is_option_disabled, is_disabled}
-use Rattle.form_owner.specs.OwnerRows.{OwnerRows, Seen}
+use Rattle.owner_rows.specs.OwnerRow.{Seen}
+use Rattle.form_owner.specs.OwnerRows.{OwnerRows}
 use Rattle.form_owner.specs.Attributes.{is_text}
 use Rattle.owner_reading.specs.Owners.{listed_by, owner_with}
 use Rattle.disabled_reading.specs.Disabled.{disabled_with}

@@ -1,6 +1,7 @@
 -- What the steps of moving controls leave.
 use Rattle.std.proofs.Common.{◌≡◌, All, ℕ, ◌+◌, ◌-◌, ◌<◌, ◌==◌, Bool, true, false, cond, List, [], ◌∷◌, get_or, Some, refl, sym, ap, ◌∙◌, subst, arith}
 use Rattle.std.specs.Prelude.{filter, ◌&&◌}
+use Rattle.std.proofs.lemmas.Bool.{and_parts}
 use Rattle.std.proofs.lemmas.List.Elements.{All-filter, All-map, filter_agree}
 use Rattle.node_trees.specs.Trees.{Trees, is_number}
 use Rattle.node_trees.specs.Nodes.{IsNode, IsTidy, size}
@@ -10,8 +11,8 @@ use Rattle.tree_laws.proofs.InOrder.{member_is_node}
 use Rattle.form_controls.specs.declared.change.Change.{Change}
 use Rattle.form_controls.specs.Changes.{is_change, numbers}
 use Rattle.owner_reading.specs.Owners.{owner_with}
+use Rattle.owner_rows.specs.OwnerRow.{OwnerRow, row_in, row_of}
 use Rattle.form_owner.specs.Moves.{AreEntered, IsTold, is_settled, stays}
-use Rattle.form_owner.specs.OwnerRows.{OwnerRow, row_in, row_of}
 use Rattle.form_owner.specs.Reading.{change_read, changes_read, is_owned_in}
 use Rattle.form_owner.specs.Writing.{AreRenewed, IsKept, ListsStood, unlisted, with_changes, with_told}
 use Rattle.form_owner.proofs.Changed.{new-is, owner-has-it, owner-is-node, unmoved}
@@ -67,16 +68,11 @@ module _ (f : Trees) (tidy : IsTidy f) (old left written : List OwnerRow) (cs : 
   module _ (lists : ListsStood f old) where
     kept : (i m : ℕ) → IsNode f m → (stays cs m && is_owned_in old (i + 1) m) ≡ true → IsKept f old (i + 1) m
     kept i m node test =
-        let both = by_test (stays cs m) (is_owned_in old (i + 1) m) test in
+        let both = and_parts (stays cs m) (is_owned_in old (i + 1) m) test in
         record {
           owned = both.1;
           owns = sym (unmoved f old m node (ap (λ v. stays v m) (sym is) ∙ both.0)) ∙ is-number (row_of old m).owner (i + 1) both.1;
         }
-      where
-        by_test : (b c : Bool) → (b && c) ≡ true → (b ≡ true) × (c ≡ true)
-        by_test true true e = (refl, refl)
-        by_test true false e = absurd cc
-        by_test false c e = absurd cc
 
     settled : (i m : ℕ) → IsNode f m → (stays cs m && is_owned_in old (i + 1) m) ≡ is_settled written cs (i + 1) m
     settled i m node = by_test (stays cs m) refl

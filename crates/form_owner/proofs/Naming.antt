@@ -2,7 +2,7 @@
 use Rattle.std.proofs.Common.{◌≡◌, ℕ, Bool, true, false, ◌==◌, List, [], ◌∷◌, Option, Some, None, refl, sym, ap, ◌∙◌, subst}
 use Rattle.std.specs.Prelude.{◌||◌, bytes_eq, codes}
 use Rattle.std.specs.List.{list_any}
-use Rattle.std.proofs.lemmas.Bool.{and_parts, eqb-true}
+use Rattle.std.proofs.lemmas.Bool.{and_parts, eqb-true, false_from_ne_true, or_parts}
 use Rattle.std.proofs.lemmas.Slice.Eq.{bytes_eq-Decides}
 use Rattle.node_trees.specs.Facts.{Facts, is_element, value_in}
 use Rattle.node_trees.specs.Ids.{has_id, is_id}
@@ -11,7 +11,6 @@ use Rattle.node_trees.specs.Paths.{is_among}
 use Rattle.node_trees.specs.Spots.{attribute_at, facts_at}
 use Rattle.form_owner.specs.Attributes.{is_naming}
 use Rattle.form_owner.specs.Candidates.{is_named_by, is_named_among}
-use Rattle.form_owner.proofs.Unchanged.{neither}
 
 id-is : (id : List ℕ) (o : Option (List ℕ)) → is_id id o ≡ true → o ≡ Some id
 id-is [] o e = absurd cc
@@ -23,15 +22,11 @@ id-of id x e = id-is id (value_in x.attributes (codes "id")) (and_parts (is_elem
 
 any-false : (p : ℕ → Bool) (xs : List ℕ) → list_any p xs ≡ false → (x : ℕ) → is_among x xs ≡ true → p x ≡ false
 any-false p [] none x among = absurd cc
-any-false p (y ∷ ys) none x among = by_test (any-false p ys (neither (p y) (list_any p ys) none).1 x) (y == x) refl among
+any-false p (y ∷ ys) none x among = by_test (any-false p ys (or_parts (p y) (list_any p ys) none).1 x) (y == x) refl among
   where
     by_test : (is_among x ys ≡ true → p x ≡ false) → (b : Bool) → (y == x) ≡ b → (b || is_among x ys) ≡ true → p x ≡ false
-    by_test later true e h = subst (λ v. p v ≡ false) (eqb-true y x e) (neither (p y) (list_any p ys) none).0
+    by_test later true e h = subst (λ v. p v ≡ false) (eqb-true y x e) (or_parts (p y) (list_any p ys) none).0
     by_test later false e h = later h
-
-not_so : (b : Bool) → (b ≡ true → ⊥) → b ≡ false
-not_so true h = absurd (h refl)
-not_so false h = refl
 
 module _ (old : Trees) (named : List ℕ → ℕ → Bool) (seen : (id : List ℕ) (n : ℕ) → named id n ≡ is_naming old id n) (now : Trees) (m : ℕ) (same : attribute_at now m (codes "form") ≡ attribute_at old m (codes "form")) where
   -- its `form` attribute was seen
@@ -44,7 +39,7 @@ module _ (old : Trees) (named : List ℕ → ℕ → Bool) (seen : (id : List �
 
   -- whom an ID is named by not, it is not that ID
   pub has-other : (o : Option (List ℕ)) → is_named_by named o m ≡ false → (id : List ℕ) → attribute_at now m (codes "form") ≡ Some id → (x : Facts) → value_in x.attributes (codes "id") ≡ o → has_id id x ≡ false
-  has-other o none id is x is_o = not_so (has_id id x) (λ has.
+  has-other o none id is x is_o = false_from_ne_true (has_id id x) (λ has.
       let same_id : o ≡ Some id = sym is_o ∙ id-of id x has in
       let by : is_named_by named o m ≡ true = ap (λ v. is_named_by named v m) same_id ∙ named-by id is in
       absurd cc)

@@ -20,7 +20,7 @@ use Rattle.form_controls.specs.Changes.{is_change, numbers}
 use Rattle.form_controls.specs.Kinds.{is_a}
 use Rattle.form_controls.specs.Owners.{Forms, is_listed, is_associated, owner_by, form_owner, where_form, named_form, nearest_form, ancestors, is_owned_by, controls_of}
 use Rattle.form_controls.specs.Disabled.{is_disabled}
-use Rattle.form_owner.specs.OwnerRows.{OwnerRow}
+use Rattle.owner_rows.specs.OwnerRow.{OwnerRow}
 use Rattle.form_owner.specs.Reading.{change_read, changes_read}
 
 -- the numbers of all nodes are nodes

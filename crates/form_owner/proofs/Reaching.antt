@@ -1,14 +1,15 @@
 -- What the parts of a touch's reach come to.
-use Rattle.std.proofs.Common.{◌≡◌, ℕ, Bool, true, false, List, [], Option, ap, ◌∙◌, subst, sym, ◌==◌}
+use Rattle.std.proofs.Common.{◌≡◌, ℕ, Bool, false, List, [], Option, ap, ◌∙◌, subst, sym, ◌==◌}
 use Rattle.std.specs.Prelude.{not, ◌&&◌, codes}
 use Rattle.std.specs.Bool.{beq}
+use Rattle.std.proofs.lemmas.Bool.{and_parts}
 use Rattle.node_trees.specs.Trees.{Trees}
 use Rattle.node_trees.specs.Orders.{order_of}
 use Rattle.node_trees.specs.Paths.{is_among}
 use Rattle.node_trees.specs.Spots.{attribute_at}
 use Rattle.form_controls.specs.Disabled.{has_disabled}
+use Rattle.owner_rows.specs.OwnerRow.{OwnerRow, row_of}
 use Rattle.form_owner.specs.Candidates.{Considers, is_named_among, is_of_change, is_of_group, is_of_ids, is_of_legend, is_of_move}
-use Rattle.form_owner.specs.OwnerRows.{OwnerRow, row_of}
 use Rattle.form_owner.proofs.Considering.{both, from_none, less, nothing}
 
 module _ (forest : Trees) (about : ℕ → Bool) (named : List ℕ → ℕ → Bool) (n : ℕ) where
@@ -30,11 +31,7 @@ module _ (forest : Trees) (about : ℕ → Bool) (named : List ℕ → ℕ → B
 
   module _ (rows : List OwnerRow) where
     pub grouped : (old new : List ℕ) → Considers forest about (is_of_group forest n) old new → Considers forest about (is_of_disabled rows) old new
-    grouped old new all = less (λ m passes. second (not (beq (row_of rows n).seen.disabled (has_disabled forest n))) m passes) all
-      where
-        second : (b : Bool) (m : ℕ) → (b && is_of_group forest n m) ≡ true → is_of_group forest n m ≡ true
-        second true m passes = passes
-        second false m passes = absurd cc
+    grouped old new all = less (λ m passes. (and_parts (not (beq (row_of rows n).seen.disabled (has_disabled forest n))) (is_of_group forest n m) passes).1) all
 
     pub ungrouped : (old new : List ℕ) → new ≡ old → not (beq (row_of rows n).seen.disabled (has_disabled forest n)) ≡ false → Considers forest about (is_of_disabled rows) old new
     ungrouped old new same alike = subst (λ s. Considers forest about (is_of_disabled rows) old s) (sym same) (nothing (is_of_disabled rows) old (λ m is. ap (λ b. b && is_of_group forest n m) alike))

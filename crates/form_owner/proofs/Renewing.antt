@@ -3,7 +3,7 @@ use Rattle.std.proofs.Common.{◌≡◌, ◌≢◌, ℕ, zero, suc, ◌+◌, ◌
 use Rattle.std.specs.Prelude.{filter, map, ◌||◌, nat_eq, is_some}
 use Rattle.std.specs.List.{list_any, range_with_len}
 use Rattle.std.specs.Option.{option_eq}
-use Rattle.std.proofs.lemmas.Bool.{cases_eq, eqb-true}
+use Rattle.std.proofs.lemmas.Bool.{cases_eq, eqb-true, or_parts}
 use Rattle.node_trees.specs.Trees.{Trees, is_number}
 use Rattle.node_trees.specs.Nodes.{size, IsNode, IsTidy}
 use Rattle.node_trees.specs.Orders.{tree_order_of}
@@ -12,8 +12,8 @@ use Rattle.tree_laws.proofs.InOrder.{member_is_node}
 use Rattle.form_controls.specs.declared.change.Change.{Change}
 use Rattle.form_controls.specs.Changes.{is_change, where_new, numbers}
 use Rattle.owner_reading.specs.Owners.{owner_with}
+use Rattle.owner_rows.specs.OwnerRow.{OwnerRow, row_in, row_of}
 use Rattle.form_owner.specs.Candidates.{Considers}
-use Rattle.form_owner.specs.OwnerRows.{OwnerRow, row_in, row_of}
 use Rattle.form_owner.specs.Reading.{change_read, changes_read, is_owned_in, owned_in}
 use Rattle.form_owner.specs.Writing.{AreListed, AreRenewed, ListsStood, is_moved, is_moved_among, with_changes}
 use Rattle.form_owner.proofs.Listing.{owned-same}
@@ -26,21 +26,13 @@ unsaid : (p : Change → Bool) (f : ℕ → Change) (says : Change → Bool) (a 
 unsaid p f says a zero none m le lt is = absurd (omega (arith, le, lt))
 unsaid p f says a (suc n) none m le lt is = by_test (λ later other. unsaid p f says (a + 1) n later m (omega (arith, le, other)) (omega (arith, lt)) is) (says (f a)) refl none
   where
-    first : (b c : Bool) → (b || c) ≡ false → b ≡ false
-    first true c e = absurd cc
-    first false c e = refl
-
-    second : (b c : Bool) → (b || c) ≡ false → c ≡ false
-    second true c e = absurd cc
-    second false c e = e
-
     rest : List ℕ
     rest = filter (λ k. says (f k)) (range_with_len (a + 1) n)
 
     by_test : (list_any p (map f rest) ≡ false → a ≢ m → p (f m) ≡ false) → (b : Bool) → says (f a) ≡ b → list_any p (map f (cond b (a ∷ rest) rest)) ≡ false → p (f m) ≡ false
     by_test on true e none = elim (cases_eq a m) [
-      | inl same ↦ subst (λ k. p (f k) ≡ false) same (first (p (f a)) (list_any p (map f rest)) none)
-      | inr other ↦ on (second (p (f a)) (list_any p (map f rest)) none) other
+      | inl same ↦ subst (λ k. p (f k) ≡ false) same (or_parts (p (f a)) (list_any p (map f rest)) none).0
+      | inr other ↦ on (or_parts (p (f a)) (list_any p (map f rest)) none).1 other
     ]
     by_test on false e none = elim (cases_eq a m) [
       | inl same ↦ absurd (let it : says (f a) ≡ true = ap (λ k. says (f k)) same ∙ is in cc)
@@ -51,10 +43,6 @@ unsaid p f says a (suc n) none m le lt is = by_test (λ later other. unsaid p f 
 same-owned : (old new : Option ℕ) (form : ℕ) → ((owner : Option ℕ) → where_new (option_eq nat_eq) old new ≡ Some owner → (is_number old form || is_number owner form) ≡ false) → is_number old form ≡ is_number new form
 same-owned old new form says = by_test (option_eq nat_eq old new) refl
   where
-    neither : (b c : Bool) → (b || c) ≡ false → b ≡ c
-    neither true c e = absurd cc
-    neither false c e = sym e
-
     alike : (old new : Option ℕ) → option_eq nat_eq old new ≡ true → old ≡ new
     alike None None e = refl
     alike None (Some y) e = absurd cc
@@ -63,7 +51,7 @@ same-owned old new form says = by_test (option_eq nat_eq old new) refl
 
     by_test : (b : Bool) → option_eq nat_eq old new ≡ b → is_number old form ≡ is_number new form
     by_test true e = ap (λ o. is_number o form) (alike old new e)
-    by_test false e = neither (is_number old form) (is_number new form) (says new (ap (λ b. cond b None (Some new)) e))
+    by_test false e = let both = or_parts (is_number old form) (is_number new form) (says new (ap (λ b. cond b None (Some new)) e)) in both.0 ∙ sym both.1
 
 module _ (f : Trees) (tidy : IsTidy f) (old written new : List OwnerRow) (forms : List ℕ) (is : (i : ℕ) → row_in written i ≡ with_changes (changes_read f old (numbers f)) i (row_in old i)) (listed : AreListed f forms written new) where
   read : (i : ℕ) → i < size f → row_in written i ≡ read_row f old i

@@ -4,7 +4,7 @@ use Rattle.std.specs.Prelude.{filter, map, slice_get, unwrap_or, nat_eq, is_some
 use Rattle.std.specs.Bool.{beq}
 use Rattle.std.specs.List.{range_with_len}
 use Rattle.std.specs.Option.{option_eq}
-use Rattle.std.proofs.lemmas.Bool.{cases_eq, eqb-true, eq-eqb}
+use Rattle.std.proofs.lemmas.Bool.{cases_eq, eqb-true, eq-eqb, or_left, or_right}
 use Rattle.std.proofs.lemmas.Bool.Decides.{nat_tests}
 use Rattle.std.proofs.lemmas.List.{take_more}
 use Rattle.std.proofs.lemmas.Option.{get_or_from_slice_get, slice_get_within}
@@ -12,9 +12,9 @@ use Rattle.node_trees.specs.Trees.{Trees}
 use Rattle.node_trees.specs.Paths.{is_among}
 use Rattle.form_controls.specs.declared.change.Change.{Change}
 use Rattle.form_controls.specs.Changes.{where_new, is_change}
-use Rattle.form_owner.specs.OwnerRows.{OwnerRow, blank_row, row_in, row_of}
 use Rattle.owner_reading.specs.Owners.{owner_with}
 use Rattle.disabled_reading.specs.Disabled.{disabled_with}
+use Rattle.owner_rows.specs.OwnerRow.{OwnerRow, blank_row, row_in, row_of}
 use Rattle.form_owner.specs.Reading.{change_read, changes_read}
 use Rattle.form_owner.specs.Writing.{Written, with_told, with_changes}
 
@@ -169,15 +169,7 @@ module _ (f : Trees) (rows : List OwnerRow) (i : ℕ) where
 
 pub filter-members : (p q : ℕ → Bool) (xs : List ℕ) → ((x : ℕ) → is_among x xs ≡ true → p x ≡ q x) → filter p xs ≡ filter q xs
 filter-members p q [] same = refl
-filter-members p q (x ∷ xs) same = by_test (filter-members p q xs (λ y h. same y (later y h (x == y)))) (same x (first (x == x) (eq-eqb x x refl)))
+filter-members p q (x ∷ xs) same = by_test (filter-members p q xs (λ y h. same y (or_right (x == y) (is_among y xs) h))) (same x (or_left (x == x) (is_among x xs) (eq-eqb x x refl)))
   where
-    later : (y : ℕ) → is_among y xs ≡ true → (b : Bool) → (b || is_among y xs) ≡ true
-    later y h true = refl
-    later y h false = h
-
-    first : (b : Bool) → b ≡ true → (b || is_among x xs) ≡ true
-    first true e = refl
-    first false e = cc
-
     by_test : filter p xs ≡ filter q xs → p x ≡ q x → cond (p x) (x ∷ filter p xs) (filter p xs) ≡ cond (q x) (x ∷ filter q xs) (filter q xs)
     by_test more e = ap (λ v. cond v (x ∷ filter p xs) (filter p xs)) e ∙ ap (λ v. cond (q x) (x ∷ v) v) more

@@ -13,9 +13,11 @@ use Rattle.form_controls.specs.Owners.{Forms, is_associated, form_owner, is_owne
 use Rattle.form_controls.specs.Disabled.{is_disabled}
 use Rattle.form_controls.specs.Changes.{form_change, form_changes, is_change, numbers}
 use Rattle.id_index.specs.Held.{is_held}
-use Rattle.form_owner.specs.Attributes.{seen_at, is_naming}
+use Rattle.owner_rows.specs.OwnerRow.{OwnerRow, blank_row, row_in, row_of}
+use Rattle.owner_rows.specs.Attributes.{seen_at}
+use Rattle.form_owner.specs.Attributes.{is_naming}
 use Rattle.form_owner.specs.Candidates.{Covers}
-use Rattle.form_owner.specs.OwnerRows.{OwnerRow, OwnerRows, blank_row, row_in, row_of}
+use Rattle.form_owner.specs.OwnerRows.{OwnerRows}
 use Rattle.owner_reading.specs.Owners.{owner_with}
 use Rattle.disabled_reading.specs.Disabled.{disabled_with}
 use Rattle.form_owner.specs.Reading.{change_read, changes_read, is_owned_in, owned_in}

@@ -7,10 +7,11 @@ use Rattle.node_trees.specs.Facts.{Facts, value_in}
 use Rattle.node_trees.specs.Trees.{Trees}
 use Rattle.node_trees.specs.Nodes.{IsNode, size}
 use Rattle.node_trees.specs.Spots.{facts_at}
+use Rattle.owner_rows.specs.OwnerRow.{OwnerRow, Seen, row_in}
+use Rattle.owner_rows.specs.Attributes.{seen_at}
 use Rattle.form_owner.specs.declared.touch.Touch.{Touch}
 use Rattle.form_owner.specs.declared.touch.Touch.TheVariants.{Inserted, Removed, Attr, Associated}
-use Rattle.form_owner.specs.Attributes.{is_naming, is_text, seen_at}
-use Rattle.form_owner.specs.OwnerRows.{OwnerRow, Seen, row_in}
+use Rattle.form_owner.specs.Attributes.{is_naming, is_text}
 use Rattle.form_owner.specs.Touches.{IsTouched}
 use Rattle.form_owner.specs.Writing.{AreNoted, AreSeen, AreSeenBy, AreUnseen, IsSeenPlaced, unseen}
 use Rattle.form_owner.proofs.Touching.{facts-stay}

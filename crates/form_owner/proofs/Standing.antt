@@ -11,7 +11,7 @@ use Rattle.tree_laws.proofs.InOrder.{member_is_node}
 use Rattle.form_controls.specs.Owners.{Forms, form_owner, is_associated, is_owned_by, controls_of}
 use Rattle.owner_reading.specs.Owners.{owner_with}
 use Rattle.owner_laws.proofs.OwnerTogether.{owner-together}
-use Rattle.form_owner.specs.OwnerRows.{OwnerRow, row_in, row_of}
+use Rattle.owner_rows.specs.OwnerRow.{OwnerRow, row_in, row_of}
 use Rattle.form_owner.specs.Reading.{is_owned_in}
 use Rattle.form_owner.specs.Writing.{IsKept, ListsStood}
 use Rattle.form_owner.proofs.Nodes.{is-number}

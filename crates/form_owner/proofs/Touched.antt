@@ -7,9 +7,9 @@ use Rattle.node_trees.specs.Trees.{Trees}
 use Rattle.node_trees.specs.Nodes.{size, IsNode}
 use Rattle.node_trees.specs.Paths.{is_among}
 use Rattle.form_controls.specs.Owners.{Forms}
+use Rattle.owner_rows.specs.OwnerRow.{OwnerRow, row_in}
 use Rattle.form_owner.specs.declared.touch.Touch.{Touch}
 use Rattle.form_owner.specs.declared.touch.Touch.TheVariants.{Inserted, Removed, Attr, Associated}
-use Rattle.form_owner.specs.OwnerRows.{OwnerRow, row_in}
 use Rattle.form_owner.specs.Stands.{KnowsAssociated}
 use Rattle.form_owner.specs.Touches.{IsTouched, after_touch, with_associated}
 use Rattle.form_owner.specs.Writing.{IsPlaced, Noted}

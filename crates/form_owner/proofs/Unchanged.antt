@@ -3,7 +3,7 @@ use Rattle.std.proofs.Common.{◌≡◌, ℕ, Bool, true, false, cond, Option, S
 use Rattle.std.specs.Prelude.{◌||◌, nat_eq, is_some}
 use Rattle.std.specs.Bool.{beq}
 use Rattle.std.specs.Option.{option_eq}
-use Rattle.std.proofs.lemmas.Bool.{eq-eqb}
+use Rattle.std.proofs.lemmas.Bool.{eq-eqb, or_parts}
 use Rattle.element_names.specs.declared.natives.Native.TheVariants.{OptionItem}
 use Rattle.element_names.specs.Natives.{native, same_native}
 use Rattle.node_trees.specs.Spots.{facts_at}
@@ -29,10 +29,6 @@ no-change before now m same =
     ∙ ap (λ b. is_some (where_new beq (is_disabled before m) b)) same.disabled
     ∙ ap is_some (same-state (is_disabled before m))
 
-pub neither : (b c : Bool) → (b || c) ≡ false → (b ≡ false) × (c ≡ false)
-neither true c e = absurd cc
-neither false c e = (refl, e)
-
 unlisted-owner : (f : Forms) (m : ℕ) → listed_by f.forest m (is_associated f m) ≡ false → form_owner f m ≡ None
 unlisted-owner f m out = rw out refl
 
@@ -41,10 +37,10 @@ unlisted-state f m out no_option = rw (no_option, out) refl
 
 module _ (before now : Forms) (m : ℕ) (associated : Bool) (local : (facts_at now.forest m).local ≡ (facts_at before.forest m).local) (was : is_associated before m ≡ associated) (is : is_associated now m ≡ associated) (none : (listed_by now.forest m associated || is_a OptionItem now.forest m) ≡ false) where
   out : listed_by now.forest m (is_associated now m) ≡ false
-  out = ap (listed_by now.forest m) is ∙ (neither (listed_by now.forest m associated) (is_a OptionItem now.forest m) none).0
+  out = ap (listed_by now.forest m) is ∙ (or_parts (listed_by now.forest m associated) (is_a OptionItem now.forest m) none).0
 
   no_option : is_a OptionItem now.forest m ≡ false
-  no_option = (neither (listed_by now.forest m associated) (is_a OptionItem now.forest m) none).1
+  no_option = (or_parts (listed_by now.forest m associated) (is_a OptionItem now.forest m) none).1
 
   out_before : listed_by before.forest m (is_associated before m) ≡ false
   out_before = ap (listed_by before.forest m) (was ∙ sym is) ∙ sym (ap (λ l. is_listed_native (native l) || is_associated now m) local) ∙ out

@@ -1,5 +1,6 @@
 -- Which nodes a touch may change.
-use Rattle.std.specs.Prelude.{◌≡◌, ◌==◌, ◌&&◌, ◌||◌, not, if◌then◌else◌, ℕ, Bool, true, false, List, codes, bytes_eq, Option, Some, None, All}
+use Rattle.std.specs.Prelude.{◌≡◌, ◌==◌, ◌&&◌, ◌||◌, not, if◌then◌else◌, ℕ, Bool, true, false}
+use Rattle.std.specs.Prelude.{List, codes, bytes_eq, Option, Some, None, All}
 use Rattle.std.specs.Bool.{beq}
 use Rattle.std.specs.List.{list_any}
 use Rattle.std.specs.Option.{option_eq}
@@ -14,7 +15,7 @@ use Rattle.form_controls.specs.Disabled.{has_disabled}
 use Rattle.form_controls.specs.Kinds.{is_a}
 use Rattle.form_controls.specs.Owners.{Forms}
 use Rattle.owner_reading.specs.Owners.{listed_by}
-use Rattle.form_owner.specs.OwnerRows.{OwnerRow, row_of}
+use Rattle.owner_rows.specs.OwnerRow.{OwnerRow, row_of}
 
 -- only a listed element has an owner, and only it or an option may be disabled
 abbrev pub is_concerned : Trees → List OwnerRow → ℕ → Bool

@@ -9,7 +9,8 @@ use Rattle.form_controls.specs.Kinds.{has_kind, name_of}
 use Rattle.form_controls.specs.Texts.{is_empty}
 use Rattle.form_controls.specs.Owners.{Forms}
 use Rattle.form_controls.specs.Checkedness.{group_of}
-use Rattle.form_owner.specs.OwnerRows.{OwnerRow, OwnerRows, row_of}
+use Rattle.owner_rows.specs.OwnerRow.{OwnerRow, row_of}
+use Rattle.form_owner.specs.OwnerRows.{OwnerRows}
 
 -- the group of a radio button, by the owners in the rows
 

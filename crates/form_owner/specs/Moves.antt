@@ -1,12 +1,14 @@
 -- Controls that go from list to list.
-use Rattle.std.specs.Prelude.{◌≡◌, ◌<◌, ◌+◌, ℕ, Bool, true, not, ◌&&◌, ◌==◌, List, filter, is_some, Option, Some}
+use Rattle.std.specs.Prelude.{◌≡◌, ◌<◌, ◌+◌, ℕ, Bool, true, not, ◌&&◌, ◌==◌, List, filter, find, is_some, Option, Some}
 use Rattle.std.specs.List.{list_any}
 use Rattle.node_trees.specs.Trees.{Trees}
 use Rattle.node_trees.specs.Nodes.{IsNode, size}
 use Rattle.node_trees.specs.Orders.{tree_order_of}
 use Rattle.node_trees.specs.Paths.{is_among, root_at}
+use Rattle.tree_laws.specs.Numbers.{insert_number}
 use Rattle.form_controls.specs.declared.change.Change.{Change}
-use Rattle.form_owner.specs.OwnerRows.{OwnerRow, row_in, row_of}
+use Rattle.owner_rows.specs.OwnerRow.{OwnerRow, row_in, row_of}
+use Rattle.form_owner.specs.Groups.{all_after}
 use Rattle.form_owner.specs.Reading.{is_owned_in}
 use Rattle.form_owner.specs.Writing.{unlisted}
 
@@ -21,13 +23,17 @@ is_moved_by cs m = list_any (is_moving m) cs
 abbrev pub stays : List Change → ℕ → Bool
 stays cs m = not (is_moved_by cs m)
 
--- m is another than n
-abbrev pub is_other : ℕ → ℕ → Bool
-is_other n m = not (m == n)
-
 -- m is in the list of a form that owns it
 abbrev pub is_listed_in : List OwnerRow → ℕ → ℕ → Bool
 is_listed_in rows form m = is_owned_in rows form m && is_among m (row_of rows form).controls
+
+-- the first of a form's list behind n, in the tree order of the form's tree
+abbrev pub listed_after : Trees → List OwnerRow → ℕ → ℕ → Option ℕ
+listed_after forest rows form n = find (is_listed_in rows form) (all_after n (tree_order_of forest (root_at forest form)))
+
+-- a form's row, with n put into its list before another or at the end
+abbrev pub with_control : Option ℕ → ℕ → OwnerRow → OwnerRow
+with_control before n row = record row { controls = insert_number before n row.controls }
 
 -- what a change tells of its node stands in the node's row, and the node stands in the tree of its new form owner
 pub record IsTold (forest : Trees) (rows : List OwnerRow) (c : Change) : Type 0 where

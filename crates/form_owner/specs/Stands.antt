@@ -6,10 +6,12 @@ use Rattle.node_trees.specs.Paths.{is_among}
 use Rattle.form_controls.specs.Owners.{Forms, form_owner, is_associated, controls_of}
 use Rattle.form_controls.specs.Disabled.{is_disabled}
 use Rattle.form_controls.specs.Checkedness.{group_of}
+use Rattle.owner_rows.specs.OwnerRow.{OwnerRow, row_in}
+use Rattle.owner_rows.specs.Attributes.{seen_at}
 use Rattle.form_owner.specs.declared.touch.Touch.{Touch}
-use Rattle.form_owner.specs.OwnerRows.{OwnerRow, OwnerRows, row_in}
+use Rattle.form_owner.specs.OwnerRows.{OwnerRows}
 use Rattle.id_index.specs.Held.{is_held}
-use Rattle.form_owner.specs.Attributes.{seen_at, is_naming}
+use Rattle.form_owner.specs.Attributes.{is_naming}
 use Rattle.form_owner.specs.Touches.{IsTouched}
 
 -- the rows say who is a form-associated custom element, and those are nodes

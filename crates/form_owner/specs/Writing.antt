@@ -1,15 +1,17 @@
 -- What is written into the rows.
-use Rattle.std.specs.Prelude.{◌≡◌, ◌≢◌, ◌<◌, ◌+◌, ◌-◌, ◌==◌, ◌||◌, if◌then◌else◌, ℕ, Bool, true, false, List, [], ◌∷◌, filter, Option, Some, None, unwrap_or}
+use Rattle.std.specs.Prelude.{◌≡◌, ◌≢◌, ◌<◌, ◌+◌, ◌-◌, ◌==◌, ◌||◌, if◌then◌else◌, ℕ, Bool, true, false}
+use Rattle.std.specs.Prelude.{List, [], ◌∷◌, filter, Option, Some, None, unwrap_or}
 use Rattle.std.specs.List.{list_any}
 use Rattle.node_trees.specs.Trees.{Trees, is_number}
 use Rattle.node_trees.specs.Nodes.{IsNode, size}
 use Rattle.node_trees.specs.Orders.{tree_order_of}
 use Rattle.node_trees.specs.Paths.{is_among, root_at}
 use Rattle.form_controls.specs.declared.change.Change.{Change}
+use Rattle.owner_rows.specs.OwnerRow.{OwnerRow, blank_seen, row_in, row_of}
+use Rattle.owner_rows.specs.Attributes.{seen_at}
 use Rattle.form_owner.specs.declared.touch.Touch.{Touch}
 use Rattle.form_owner.specs.declared.touch.Touch.TheVariants.{Inserted, Removed, Attr, Associated}
-use Rattle.form_owner.specs.Attributes.{seen_at, is_naming, is_text}
-use Rattle.form_owner.specs.OwnerRows.{OwnerRow, blank_seen, row_in, row_of}
+use Rattle.form_owner.specs.Attributes.{is_naming, is_text}
 use Rattle.owner_reading.specs.Owners.{owner_with}
 use Rattle.disabled_reading.specs.Disabled.{disabled_with}
 use Rattle.form_owner.specs.Reading.{is_owned_in, owned_in}
@@ -71,10 +73,15 @@ pub record IsKept (forest : Trees) (rows : List OwnerRow) (form m : ℕ) : Type 
   pub owned : is_owned_in rows form m ≡ true
   pub owns : owner_with forest m (row_of rows m).associated ≡ Some form
 
+-- a form keeps each node that passes a test
+abbrev pub KeepsPassing : Trees → List OwnerRow → ℕ → (ℕ → Bool) → Type 0
+KeepsPassing forest rows form test = (m : ℕ) → IsNode forest m → test m ≡ true → IsKept forest rows form m
+
 -- each list is of those that the rows say the form owns, and those that it keeps stand in it as they do in tree order now
 pub record ListsStood (forest : Trees) (rows : List OwnerRow) : Type 0 where
   pub owned : (i : ℕ) → filter (is_owned_in rows (i + 1)) (row_in rows i).controls ≡ (row_in rows i).controls
-  pub kept : (i : ℕ) → IsNode forest (i + 1) → (test : ℕ → Bool) → ((m : ℕ) → IsNode forest m → test m ≡ true → IsKept forest rows (i + 1) m) → filter test (row_in rows i).controls ≡ filter test (tree_order_of forest (root_at forest (i + 1)))
+  pub kept : (i : ℕ) → IsNode forest (i + 1) → (test : ℕ → Bool) → KeepsPassing forest rows (i + 1) test →
+      filter test (row_in rows i).controls ≡ filter test (tree_order_of forest (root_at forest (i + 1)))
 
 -- the rows of all nodes were read off the trees, with the form-associated custom elements that they had
 pub record AreRenewed (forest : Trees) (old new : List OwnerRow) : Type 0 where

@@ -9,19 +9,19 @@ ghost use Rattle.node_trees.specs.Spots.{children_at};
 ghost use Rattle.form_controls.specs.Disabled.{has_disabled};
 ghost use Rattle.form_controls.specs.Kinds.{is_a};
 ghost use Rattle.id_index.specs.Held.{is_held};
+ghost use Rattle.owner_rows.specs.OwnerRow.{row_of};
+ghost use Rattle.owner_rows.specs.Attributes.{seen_at};
 ghost use Rattle.form_owner.specs.Candidates.{Considers, is_concerned, is_named_among, is_named_by};
-ghost use Rattle.form_owner.specs.OwnerRows.{row_of};
-ghost use Rattle.form_owner.specs.Attributes.{seen_at};
 
-use crate::row::{Row, associated_in};
+use crate::node_list::node_at;
 use ce_base::{NoMemory, NodeNo, Nodes};
-use disabled_reading::node_at;
 use element_names::Native;
 use form_kinds::is_a;
 use id_index::IdIndex;
 use node_arena::Tree;
 use node_set::NodeSet;
 use owner_reading::is_listed;
+use owner_rows::{Row, associated_in};
 
 /// Whether forms are about a node: it is listed, or an option.
 fn is_concerned(tree: &Tree, rows: &[Row], n: NodeNo) -> bool

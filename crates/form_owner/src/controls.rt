@@ -1,14 +1,15 @@
 // The controls of forms.
-ghost use Rattle.std.specs.Prelude.{◌≡◌, ◌<◌, ◌-◌, ◌++◌, ◌∷◌, [], All, Some, filter, if◌then◌else◌, length, slice_get, IfOk, OnOk};
+ghost use Rattle.std.specs.Prelude.{◌≡◌, ◌<◌, ◌-◌, ◌++◌, ◌∷◌, [], if◌then◌else◌};
+ghost use Rattle.std.specs.Prelude.{All, Some, filter, length, slice_get, IfOk, OnOk};
 ghost use Rattle.node_trees.specs.Nodes.{IsNode, size};
-ghost use Rattle.form_owner.specs.OwnerRows.{row_of};
+ghost use Rattle.owner_rows.specs.OwnerRow.{row_of};
 ghost use Rattle.form_owner.specs.Reading.{is_owned_in, owned_in};
 ghost use Rattle.form_owner.specs.Writing.{Written, AreListed};
 
-use crate::row::{Row, owner_in, place_of};
+use crate::node_list::node_at;
 use ce_base::{NoMemory, NodeNo, Nodes};
-use disabled_reading::node_at;
 use node_arena::Tree;
+use owner_rows::{Row, owner_in, place_of};
 use std::alloc::Global;
 
 /// Whether a form is the owner of a node, by the rows.

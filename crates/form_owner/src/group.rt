@@ -12,11 +12,11 @@ ghost use Rattle.form_owner.specs.Groups.{all_after, group_in, is_grouped_in, le
 ghost use Rattle.form_owner.specs.Stands.{IsMemberOrNone, Stands, StandsFor};
 
 use crate::OwnerTable;
-use crate::row::{Row, owner_in};
 use ce_base::NodeNo;
 use element_names::InputKind;
 use form_kinds::{has_kind, name_of};
 use node_arena::Tree;
+use owner_rows::{Row, owner_in};
 
 /// Whether a node is a radio button with the form owner and the name of another one.
 fn is_grouped_with(rows: &[Row], tree: &Tree, radio: NodeNo, n: NodeNo) -> bool

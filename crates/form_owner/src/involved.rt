@@ -5,10 +5,10 @@ ghost use Rattle.form_owner.specs.Candidates.{Considers};
 ghost use Rattle.form_owner.specs.Writing.{is_moved, is_moved_among};
 
 use crate::Changes;
-use crate::row::{Row, owner_in};
 use ce_base::{NoMemory, NodeNo};
 use node_arena::Tree;
 use node_set::NodeSet;
+use owner_rows::{Row, owner_in};
 use std::alloc::Global;
 
 /// Puts a form into a set, if there is one.

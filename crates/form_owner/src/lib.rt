@@ -4,18 +4,16 @@
 
 mod candidates;
 mod changes;
-mod control_list;
 mod controls;
 mod group;
 mod involved;
 mod laws;
 mod moving;
+mod node_list;
 mod reach;
 mod reading;
 mod renewal;
-mod row;
 mod seeing;
-mod seen;
 mod settle;
 mod table;
 mod touch;

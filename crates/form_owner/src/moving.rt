@@ -1,25 +1,24 @@
 // Controls that go from list to list, where few do.
-ghost use Rattle.std.specs.Prelude.{◌≡◌, ◌<◌, ◌-◌, ◌+◌, ◌==◌, ◌&&◌, [], All, ℕ, false, true, Some, None, filter, find, length, not, slice_get, OnOk};
+ghost use Rattle.std.specs.Prelude.{◌≡◌, ◌<◌, ◌-◌, ◌+◌, ◌==◌, ◌&&◌, [], All, ℕ, false, true, Some, None};
+ghost use Rattle.std.specs.Prelude.{filter, find, length, not, slice_get, OnOk};
 ghost use Rattle.node_trees.specs.Nodes.{IsNode, IsTidy, size};
 ghost use Rattle.node_trees.specs.Orders.{tree_order_of};
 ghost use Rattle.node_trees.specs.Paths.{is_among, root_at};
-ghost use Rattle.tree_laws.specs.Numbers.{insert_number};
 ghost use Rattle.tree_laws.proofs.Counts.{AreApart};
 ghost use Rattle.form_controls.specs.Changes.{numbers};
 ghost use Rattle.form_controls.specs.declared.change.Change.{Change};
+ghost use Rattle.owner_rows.specs.OwnerRow.{is_other, row_in, row_of};
 ghost use Rattle.form_owner.specs.Groups.{all_after};
-ghost use Rattle.form_owner.specs.Moves.{AreEntered, IsTold, is_listed_in, is_other, stays};
-ghost use Rattle.form_owner.specs.OwnerRows.{row_in, row_of};
+ghost use Rattle.form_owner.specs.Moves.{AreEntered, IsTold, is_listed_in, listed_after, stays, with_control};
 ghost use Rattle.form_owner.specs.Reading.{changes_read, is_owned_in};
 ghost use Rattle.form_owner.specs.Told.{AreRising};
 ghost use Rattle.form_owner.specs.Writing.{AreRenewed, ListsStood, Written, with_changes, with_told};
 
 use crate::Changes;
-use crate::control_list::is_in;
-use crate::row::{Row, controls_in, owner_in, place_of};
 use crate::writing::write_all;
 use ce_base::{NoMemory, NodeNo};
 use node_arena::Tree;
+use owner_rows::{Row, controls_in, is_in, owner_in, place_of};
 
 /// Takes a node out of a form's list.
 fn take_from(rows: &mut [Row], form: NodeNo, n: NodeNo)
@@ -99,7 +98,7 @@ fn put_into(
 ) -> Result<(), NoMemory>
     requires within { form - 1 < length rows.old }
     requires apart { AreApart (row_of rows.old form).controls }
-    ensures { OnOk result (Written rows.old rows.new (form - 1) (record (row_of rows.old form) { controls = insert_number before n (row_of rows.old form).controls })) }
+    ensures { OnOk result (Written rows.old rows.new (form - 1) (with_control before n (row_of rows.old form))) }
 {
     let row = &mut rows[place_of(form)];
     row.put_in(n, before)?;
@@ -112,7 +111,7 @@ fn enter(tree: &Tree, rows: &mut [Row], form: NodeNo, n: NodeNo) -> Result<(), N
     requires within { form - 1 < length rows.old }
     requires inside { is_among n (tree_order_of tree.now (root_at tree.now form)) ≡ true }
     requires apart { AreApart (row_of rows.old form).controls }
-    ensures { OnOk result (Written rows.old rows.new (form - 1) (record (row_of rows.old form) { controls = insert_number (find (is_listed_in rows.old form) (all_after n (tree_order_of tree.now (root_at tree.now form)))) n (row_of rows.old form).controls })) }
+    ensures { OnOk result (Written rows.old rows.new (form - 1) (with_control (listed_after tree.now rows.old form n) n (row_of rows.old form))) }
 {
     let _count = tree.count();
     if controls_in(rows, form).is_empty() {

@@ -6,13 +6,13 @@ ghost use Rattle.id_index.specs.Held.{is_held};
 ghost use Rattle.form_owner.specs.Candidates.{Considers, is_concerned, is_of_change, is_of_group, is_of_ids, is_of_legend, is_of_move};
 
 use crate::candidates::{consider, consider_all, consider_named, consider_named_among};
-use crate::row::{Row, disabled_seen_in, id_seen_in};
 use ce_base::{NoMemory, NodeNo};
 use element_names::Native;
 use form_kinds::{has_disabled, is_a};
 use id_index::IdIndex;
 use node_arena::Tree;
 use node_set::NodeSet;
+use owner_rows::{Row, disabled_seen_in, id_seen_in};
 use std::alloc::Global;
 
 /// Where a legend came to a fieldset, or went, what is in the fieldset's tree.
@@ -91,7 +91,8 @@ fn consider_ids(
     new: Option<&str>,
     found: &mut NodeSet,
 ) -> Result<(), NoMemory>
-    ensures { OnOk result (Considers tree.now (is_concerned tree.now rows.now) (is_of_ids (is_held named.now) (option_copied old.entry) (option_copied new.entry)) found.old found.new) }
+    ensures { OnOk result (Considers tree.now (is_concerned tree.now rows.now)
+        (is_of_ids (is_held named.now) (option_copied old.entry) (option_copied new.entry)) found.old found.new) }
 {
     if old != new {
         consider_named(tree, rows, named, old, found)?;

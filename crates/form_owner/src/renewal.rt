@@ -5,20 +5,21 @@ ghost use Rattle.node_trees.specs.Nodes.{IsNode, IsTidy, size};
 ghost use Rattle.node_trees.specs.Paths.{is_among};
 ghost use Rattle.form_controls.specs.Changes.{is_change, numbers};
 ghost use Rattle.form_controls.specs.declared.change.Change.{Change};
-ghost use Rattle.form_owner.specs.OwnerRows.{row_in, row_of};
+ghost use Rattle.owner_rows.specs.OwnerRow.{row_in, row_of};
 ghost use Rattle.form_owner.specs.Reading.{change_read, changes_read};
 ghost use Rattle.form_owner.specs.Writing.{AreRenewed, ListsStood, Written, with_changes, with_told};
 
 use crate::controls::list_controls;
 use crate::involved::involved;
 use crate::moving::move_each;
-use crate::row::{Row, associated_in, disabled_in, owner_in};
+use crate::node_list::node_at;
 use crate::writing::write_all;
 use crate::{Change, Changes};
 use ce_base::{NoMemory, NodeNo, Nodes};
-use disabled_reading::{disabled_of, node_at};
+use disabled_reading::disabled_of;
 use node_arena::Tree;
 use owner_reading::owner_of;
+use owner_rows::{Row, associated_in, disabled_in, owner_in};
 use std::alloc::Global;
 
 /// How many changes are few: with more of them a form's list is made anew by a walk of its tree, since each that comes to a

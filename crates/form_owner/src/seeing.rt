@@ -7,11 +7,10 @@ ghost use Rattle.form_owner.specs.Attributes.{is_naming, is_text};
 ghost use Rattle.form_owner.specs.Writing.{AreNoted, AreSeen, AreSeenBy, IsSeenPlaced};
 
 use crate::Touch;
-use crate::row::{Row, form_seen_in, place_of};
-use crate::seen::Seen;
 use ce_base::{NoMemory, NodeNo};
 use id_index::IdIndex;
 use node_arena::Tree;
+use owner_rows::{Row, Seen, form_seen_in, place_of};
 use std::alloc::Global;
 
 /// Notes a node for the text of its `form` attribute, where it has one.
@@ -21,7 +20,8 @@ fn note_form(
     form: Option<&str>,
     n: NodeNo,
 ) -> Result<(), NoMemory>
-    ensures { OnOk result ((id : List ℕ) (m : ℕ) → is_held named.new id m ≡ (is_held named.old id m || (n == m && is_text id (option_copied form.entry)))) }
+    ensures { OnOk result ((id : List ℕ) (m : ℕ) →
+        is_held named.new id m ≡ (is_held named.old id m || (n == m && is_text id (option_copied form.entry)))) }
 {
     if let Some(form) = form {
         named.add(alloc, form, n)?;

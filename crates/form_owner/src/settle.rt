@@ -3,8 +3,8 @@ ghost use Rattle.std.specs.Prelude.{◌≡◌, ◌<◌, ◌≤◌, ◌-◌, All,
 ghost use Rattle.node_trees.specs.Nodes.{IsNode};
 ghost use Rattle.form_controls.specs.Changes.{form_changes};
 ghost use Rattle.form_controls.specs.Owners.{Forms};
+ghost use Rattle.owner_rows.specs.OwnerRow.{row_in, row_of};
 ghost use Rattle.form_owner.specs.Candidates.{Covers};
-ghost use Rattle.form_owner.specs.OwnerRows.{row_in, row_of};
 ghost use Rattle.form_owner.specs.Stands.{Stands, StoodBefore};
 ghost use Rattle.form_owner.specs.Told.{AreOfNodes};
 ghost use Rattle.form_owner.specs.Touches.{IsTouched, after_touch};
@@ -12,12 +12,12 @@ ghost use Rattle.form_owner.specs.Writing.{IsPlaced, Noted, Written};
 
 use crate::reach::{of_change, of_mark, of_move};
 use crate::renewal::renew;
-use crate::row::{Row, place_of};
 use crate::seeing::see_touched;
 use crate::{Changes, OwnerTable, Touch};
 use ce_base::{NoMemory, NodeNo};
 use node_arena::Tree;
 use node_set::NodeSet;
+use owner_rows::{Row, place_of};
 use std::alloc::Global;
 
 /// Puts blank rows behind, up to a count.
@@ -59,7 +59,8 @@ impl OwnerTable {
     fn candidates(&self, alloc: Global, tree: &Tree, touch: Touch) -> Result<NodeSet, NoMemory>
         requires stood { StoodBefore self.now touch tree.now }
         ensures nodes { IfOk result (All (IsNode tree.now)) }
-        ensures covers { (before : Forms) → Stands self.now before → IsTouched touch before.forest tree.now → IfOk result (λ set. Covers set before (after_touch touch before tree.now)) }
+        ensures covers { (before : Forms) → Stands self.now before → IsTouched touch before.forest tree.now →
+            IfOk result (λ set. Covers set before (after_touch touch before tree.now)) }
     {
         let _count = tree.count();
         match touch {
@@ -85,8 +86,10 @@ impl OwnerTable {
     /// was refused, and then the table is only dropped.
     pub fn settle(&mut self, alloc: Global, tree: &Tree, touch: Touch) -> Result<Changes, NoMemory>
         requires stood { StoodBefore self.old touch tree.now }
-        ensures stands { (before : Forms) → Stands self.old before → IsTouched touch before.forest tree.now → OnOk result (Stands self.new (after_touch touch before tree.now)) }
-        ensures changes { (before : Forms) → Stands self.old before → IsTouched touch before.forest tree.now → IfOk result (λ cs. cs ≡ form_changes before (after_touch touch before tree.now)) }
+        ensures stands { (before : Forms) → Stands self.old before → IsTouched touch before.forest tree.now →
+            OnOk result (Stands self.new (after_touch touch before tree.now)) }
+        ensures changes { (before : Forms) → Stands self.old before → IsTouched touch before.forest tree.now →
+            IfOk result (λ cs. cs ≡ form_changes before (after_touch touch before tree.now)) }
         ensures nodes { IfOk result (AreOfNodes tree.now) }
     {
         let candidates = self.candidates(alloc, tree, touch)?.list(alloc)?;

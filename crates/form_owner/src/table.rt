@@ -8,13 +8,13 @@ ghost use Rattle.form_controls.specs.Disabled.{is_disabled};
 ghost use Rattle.form_controls.specs.Owners.{Forms, controls_of, form_owner, is_associated, is_submittable};
 ghost use Rattle.form_owner.specs.Stands.{Stands};
 
-use crate::row::{Row, associated_in, controls_in, disabled_in, owner_in};
 use ce_base::NodeNo;
 use element_names::Native;
 use form_kinds::is_a;
 use id_index::IdIndex;
 use node_arena::Tree;
 use owner_reading::is_listed;
+use owner_rows::{Row, associated_in, controls_in, disabled_in, owner_in};
 use std::alloc::Global;
 use std::marker::Model;
 

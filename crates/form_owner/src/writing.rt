@@ -1,12 +1,12 @@
 // What was read of nodes is written into their rows.
 ghost use Rattle.std.specs.Prelude.{◌≡◌, ◌<◌, ◌-◌, All, ℕ, length};
 ghost use Rattle.form_controls.specs.declared.change.Change.{Change};
-ghost use Rattle.form_owner.specs.OwnerRows.{row_in, row_of};
+ghost use Rattle.owner_rows.specs.OwnerRow.{row_in, row_of};
 ghost use Rattle.form_owner.specs.Writing.{Written, with_changes, with_told};
 
 use crate::Changes;
-use crate::row::{Row, place_of};
 use ce_base::NodeNo;
+use owner_rows::{Row, place_of};
 
 /// Writes what is told of a node into its row.
 fn write(rows: &mut [Row], n: NodeNo, owner: Option<Option<NodeNo>>, disabled: Option<bool>)

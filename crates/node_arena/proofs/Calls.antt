@@ -32,6 +32,8 @@ use Rattle.tree_laws.proofs.Sizes.{new-absent}
 use Rattle.tree_laws.proofs.Surplus.{KeepsKind}
 use Rattle.id_index.specs.Held.{is_held}
 use Rattle.id_index.specs.declared.index.IdIndex.{IdIndex}
+use Rattle.tree_laws.proofs.Sizes.{size-cut}
+use Rattle.tree_laws.proofs.Connected.{IsMoved, moved-grafted, moved-cut, parent-grafted, connected-attached}
 use Rattle.node_arena.specs.Covers.{Covers}
 use Rattle.node_arena.specs.Links.{Link, link_at, link_of, link_in, children_of, IsLinked}
 use Rattle.node_arena.specs.NodeLinks.{facts_of, link_from, links, IsLoose, IsPlace, IsPlaceOrNone}
@@ -54,6 +56,14 @@ apart_of f links p n b is is_p is_n may e = omega (arith, parent-outside f p n b
 
 pub counts : (nodes : List Node) (f : Trees) → IsLinked (links nodes) f → length nodes ≡ size f
 counts nodes f is = omega (arith, is.counted, length-map nodes link_from)
+
+-- a node of trees is one of any with as many nodes
+pub still_node : (f g : Trees) (n : ℕ) → size g ≡ size f → IsNode f n → IsNode g n
+still_node f g n long at = let high = at.high in record { low = at.low; high = omega (arith, high, long) }
+
+-- the node that was made last
+pub last_node : (g : Trees) (n k : ℕ) → size g ≡ k + 1 → n ≡ k + 1 → IsNode g n
+last_node g n k long is = record { low = omega (arith, is); high = omega (arith, is, long) }
 
 -- places in a slice of the nodes
 module _ (nodes now : List Node) (f : Trees) (is : IsLinked (links nodes) f) (same : now ≡ nodes) where
@@ -101,6 +111,12 @@ module _ (old : List Node) (f : Trees) (p n : ℕ) (b : Option ℕ) (is : IsLink
     pub inserted_apart : connected f p ≡ false → KeepsApart f g
     inserted_apart away = rw e (apart-grafted (rows_of f) (graft_rows f is.tidy p n is_p is_n other b may free) f (graft f p n b) p n b (rows_of-forest f is.tidy) (graft_is f is.tidy p n is_p is_n other b may free) (graft_writes f is.tidy p n is_p is_n other b may free) is_p away)
 
+    pub inserted_moved : IsMoved f g n
+    inserted_moved = rw e (moved-grafted (rows_of f) (graft_rows f is.tidy p n is_p is_n other b may free) f (graft f p n b) p n b (rows_of-forest f is.tidy) (graft_is f is.tidy p n is_p is_n other b may free) (graft_writes f is.tidy p n is_p is_n other b may free))
+
+    pub inserted_up : parent_at g n ≡ Some p
+    inserted_up = rw e (parent-grafted (rows_of f) (graft_rows f is.tidy p n is_p is_n other b may free) f (graft f p n b) p n b (rows_of-forest f is.tidy) (graft_is f is.tidy p n is_p is_n other b may free) (graft_writes f is.tidy p n is_p is_n other b may free) is_n)
+
 -- ---- what `remove` leaves
 
 module _ (old : List Node) (f : Trees) (p n : ℕ) (is : IsLinked (links old) f) (is_n : IsNode f n) (up : parent_at f n ≡ Some p) where
@@ -121,6 +137,13 @@ module _ (old : List Node) (f : Trees) (p n : ℕ) (is : IsLinked (links old) f)
 
     pub removed_covers : (ids : IdIndex) → IsNodeOrNone f a → IsNodeOrNone f d → Covers ids (links old) → Covers ids (links left)
     removed_covers ids at_a at_d c = rw back (rw w (rw same (covers-parted ids (links old) p n a d its_parent.low is_n.low (positive f a at_a) (positive f d at_d) c)))
+
+module _ (f g : Trees) (n : ℕ) (tidy : IsTidy f) (at : IsNode f n) (e : g ≡ cut f n) where
+  pub removed_size : size g ≡ size f
+  removed_size = ap size e ∙ size-cut f n tidy
+
+  pub removed_moved : IsTidy g → IsMoved f g n
+  removed_moved tidy_g = moved-cut f g n tidy tidy_g removed_size at e
 
 -- ---- what a change of facts leaves
 
@@ -203,6 +226,12 @@ module _ (old new : List Node) (f : Trees) (h : ℕ) (root : Node) (x : Facts) (
   pub attached_covers : (ids : IdIndex) (r : Result ℕ NoMemory) → (facts_of root).attributes ≡ [] → OnOk r Attaches → OnErr r (new ≡ old) → Covers ids (links old) → Covers ids (links new)
   attached_covers ids (Ok n) empty ok err c = rw ok (covers-attached ids (links old) (link_from root) h (length old + 1) at.low empty c)
   attached_covers ids (Err e) empty ok err c = rw err c
+
+  pub attached_connected : (g : Trees) → g ≡ with_shadow h (single (size f + 1) x) f → (m : ℕ) → IsNode f m → connected g m ≡ connected f m
+  attached_connected g e =
+      let none_there = no_first (spot_at f h).shadow bare in
+      let is_el = ap is_element element in
+      rw e (connected-attached (rows_of f) (attached_rows f is.tidy h at x is_el none_there fit own) f (with_shadow h (single (size f + 1) x) f) h (size f + 1) x (rows_of-forest f is.tidy) (attach_is f is.tidy h at x is_el none_there fit own) (ap (λ v. v + 1) (sym (rows_of-length f))) (attach_writes f is.tidy h at x is_el none_there fit own))
 
   pub attached_kinds : (g : Trees) → g ≡ with_shadow h (single (size f + 1) x) f → KeepsKinds f g
   attached_kinds g e =

@@ -11,3 +11,4 @@ pub mod LookUp
 pub mod Calls
 pub mod AttributeLemmas
 pub mod FinderLemmas
+pub mod MarkLemmas

@@ -8,3 +8,4 @@ pub mod Holders
 pub mod Attributes
 pub mod Names
 pub mod Found
+pub mod Marks

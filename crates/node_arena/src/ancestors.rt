@@ -7,6 +7,7 @@ ghost use Rattle.node_trees.specs.Orders.{order_of};
 ghost use Rattle.tree_laws.specs.Walks.{IsUp};
 
 use crate::Tree;
+use crate::marks::Mark;
 use ce_base::NodeNo;
 use node_trees::NodeKind;
 
@@ -88,7 +89,18 @@ impl Tree {
         requires { IsNode self.now n }
         ensures { result ≡ connected self.now n }
     {
-        self.kind(self.shadow_including_root(n)) == NodeKind::Document
+        let mut at = n;
+        loop {
+            match self.mark(at) {
+                Mark::Connected => return true,
+                Mark::Apart => return false,
+                Mark::Unknown => {}
+            }
+            match self.above(at) {
+                Some(next) => at = next,
+                None => return self.kind(at) == NodeKind::Document,
+            }
+        }
     }
 
     /// The root of the node's tree, from each shadow root on the root of its host's (DOM Standard, section "Interface

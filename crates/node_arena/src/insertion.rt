@@ -16,6 +16,7 @@ use crate::siblings::join;
 use ce_base::{Fault, NoMemory, NodeNo};
 use node_trees::NodeKind;
 use std::alloc::Global;
+use std::mem;
 
 impl Tree {
     /// Whether the node may be put among the children of `parent`, before the child `before` or at the end
@@ -100,7 +101,7 @@ impl Tree {
     /// `before` or at the end (DOM Standard, section "Mutation algorithms", "insert").
     pub fn insert(
         &mut self,
-        _alloc: Global,
+        alloc: Global,
         parent: NodeNo,
         node: NodeNo,
         before: Option<NodeNo>,
@@ -119,9 +120,15 @@ impl Tree {
         ensures apart { OnOk result (connected self.old parent ≡ false → KeepsApart self.old self.new) }
         ensures err { OnErr result (self.new ≡ self.old) }
     {
+        let was = self.is_connected(node);
+        let is = self.is_connected(parent);
         let next = before;
         let previous = self.child_before(parent, before);
+        let empty = Vec::new(alloc);
+        let marks = mem::replace(&mut self.marks, empty);
         join(&mut self.nodes, parent, node, previous, next);
+        let noted = self.noted(marks, node, was, is);
+        self.marks = noted;
         Ok(())
     }
 }

@@ -10,6 +10,7 @@ mod finder;
 mod ids;
 mod insertion;
 mod making;
+mod marks;
 mod node;
 mod noting;
 mod orders;

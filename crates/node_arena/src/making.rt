@@ -1,5 +1,5 @@
 // New nodes.
-ghost use Rattle.std.specs.Prelude.{◌≡◌, ℕ, ◌+◌, ◌∷◌, ◌++◌, [], None, false, length, IfOk, OnOk, OnErr};
+ghost use Rattle.std.specs.Prelude.{◌≡◌, ◌<◌, ℕ, Bool, ◌+◌, ◌∷◌, ◌++◌, [], None, false, is_ok, if◌then◌else◌, length, IfOk, OnOk, OnErr};
 ghost use Rattle.node_trees.specs.declared.kind.NodeKind.TheVariants.{Document, Element, ShadowRoot, TextNode};
 ghost use Rattle.node_trees.specs.Facts.{blank, new_element, new_text, is_shadow_root};
 ghost use Rattle.node_trees.specs.Trees.{single, with_node, with_shadow};
@@ -8,9 +8,11 @@ ghost use Rattle.node_trees.specs.Nodes.{size, surplus_at, IsNode, IsTidy};
 ghost use Rattle.node_trees.specs.Kinds.{IsElement, KeepsKinds};
 ghost use Rattle.node_trees.specs.Links.{IsAlone, KeepsApart};
 ghost use Rattle.node_arena.specs.NodeLinks.{facts_of, link_from, links, IsLoose, IsPlace};
+ghost use Rattle.node_arena.specs.Marks.{mark_at, Allows, SaysLess};
 ghost use Rattle.node_arena.specs.Writes.{edit};
 
 use crate::Tree;
+use crate::marks::{Mark, make_room};
 use crate::node::Node;
 use crate::siblings::index_of;
 use ce_base::{NoMemory, NodeNo, Text};
@@ -18,14 +20,32 @@ use id_index::IdIndex;
 use node_trees::NodeKind;
 use std::alloc::Global;
 
+/// Puts a node at the end. Nothing is noted of whether it is connected.
+fn push_node(nodes: &mut Vec<Node>, marks: &mut Vec<Mark>, node: Node) -> Result<(), NoMemory>
+    ensures items { nodes.new.items ≡ (if is_ok result then nodes.old.items ++ node ∷ [] else nodes.old.items) }
+    ensures blank { (is : Bool) → Allows (mark_at marks.new.items (length nodes.old.items + 1)) is }
+    ensures others { (m : ℕ) → 0 < m → SaysLess marks.old.items marks.new.items m }
+{
+    make_room(marks, nodes.len())?;
+    nodes.push(node)?;
+    Ok(())
+}
+
 /// Puts a shadow root at the end and links it to its host.
-fn attach(nodes: &mut Vec<Node>, host: NodeNo, root: Node) -> Result<NodeNo, NoMemory>
+fn attach(
+    nodes: &mut Vec<Node>,
+    marks: &mut Vec<Mark>,
+    host: NodeNo,
+    root: Node,
+) -> Result<NodeNo, NoMemory>
     requires { IsPlace (length nodes.old.items) host }
     ensures number { IfOk result (λ n. n ≡ length nodes.old.items + 1) }
     ensures ok { OnOk result (links nodes.new.items ≡ edit host (λ l. record l { shadow = (length nodes.old.items + 1) ∷ [] }) (links nodes.old.items ++ link_from root ∷ [])) }
     ensures err { OnErr result (nodes.new.items ≡ nodes.old.items) }
+    ensures blank { (is : Bool) → Allows (mark_at marks.new.items (length nodes.old.items + 1)) is }
+    ensures others { (m : ℕ) → 0 < m → SaysLess marks.old.items marks.new.items m }
 {
-    nodes.push(root)?;
+    push_node(nodes, marks, root)?;
     let number = NodeNo(nodes.len() as u64);
     let at = index_of(host);
     nodes[at].shadow = Some(number);
@@ -40,7 +60,9 @@ impl Tree {
         let mut nodes = Vec::new(alloc);
         nodes.push(Node::blank(alloc, NodeKind::Document, NodeNo(1)))?;
         let ids = IdIndex::make(alloc);
-        Ok(Tree { nodes, ids })
+        let mut marks = Vec::new(alloc);
+        make_room(&mut marks, 0)?;
+        Ok(Tree { nodes, ids, marks })
     }
 
     /// Puts a node at the end, as a root.
@@ -61,8 +83,10 @@ impl Tree {
         ensures ok { OnOk result (self.new ≡ with_node (size self.old + 1) (facts_of node) self.old) }
         ensures err { OnErr result (self.new ≡ self.old) }
     {
-        self.nodes.push(node)?;
-        Ok(NodeNo(self.nodes.len() as u64))
+        push_node(&mut self.nodes, &mut self.marks, node)?;
+        let number = NodeNo(self.nodes.len() as u64);
+        self.note(number);
+        Ok(number)
     }
 
     /// Makes a document (DOM Standard, section "Interface Document"). Its number is the next one, and it is
@@ -150,6 +174,6 @@ impl Tree {
     {
         let mut root = Node::blank(alloc, NodeKind::ShadowRoot, self.document(host));
         root.host = Some(host);
-        attach(&mut self.nodes, host, root)
+        attach(&mut self.nodes, &mut self.marks, host, root)
     }
 }

@@ -71,7 +71,7 @@ impl Tree {
 
     // What comes behind a node in the shadow-including tree order of `root`: what is first below it, or else the next sibling
     // of the nearest of it and what is above it that has one, below `root`. Behind a shadow tree comes its host's first child.
-    fn next_in_order(&self, at: NodeNo, root: NodeNo) -> Option<NodeNo>
+    pub(crate) fn next_in_order(&self, at: NodeNo, root: NodeNo) -> Option<NodeNo>
         requires at { IsNode self.now at }
         requires root { IsNode self.now root }
         requires inside { IsTidy self.now → 0 < times at (tree_of root self.now) }

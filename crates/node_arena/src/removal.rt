@@ -9,6 +9,7 @@ ghost use Rattle.node_trees.specs.Kinds.{KeepsKinds};
 use crate::Tree;
 use crate::siblings::part;
 use ce_base::NodeNo;
+use std::mem;
 
 impl Tree {
     /// Takes a node that has a parent, with all below it, out of its parent's children (DOM Standard,
@@ -28,11 +29,17 @@ impl Tree {
         ensures may { (p : ℕ) (b : Option ℕ) → may_insert self.old p node b ≡ None → b ≢ Some node → may_insert self.new p node b ≡ None }
         ensures may_in_place { (p : ℕ) → IsNode self.old p → may_insert self.old p node (Some node) ≡ None → may_insert self.new p node (next_sibling_at self.old node) ≡ None }
     {
+        let was = self.is_connected(node);
         let kept = self.node(node);
         let previous = kept.previous;
         let next = kept.next;
         if let Some(parent) = kept.parent {
+            let empty = Vec::new(*self.marks.allocator());
+            let marks = mem::replace(&mut self.marks, empty);
             part(&mut self.nodes, parent, node, previous, next);
+            let is = self.is_connected(node);
+            let noted = self.noted(marks, node, was, is);
+            self.marks = noted;
         }
     }
 }

@@ -3,6 +3,7 @@ ghost use Rattle.node_arena.specs.Seen.{Forest};
 ghost use Rattle.node_arena.specs.Seen.{Forest-prop};
 ghost use Rattle.node_arena.specs.NodeLinks.{links};
 
+use crate::marks::Mark;
 use crate::node::Node;
 use id_index::IdIndex;
 use std::marker::Model;
@@ -13,6 +14,7 @@ use std::marker::Model;
 pub struct Tree {
     pub(crate) nodes: Vec<Node>,
     pub(crate) ids: IdIndex,
+    pub(crate) marks: Vec<Mark>,
     ghost forest: { Forest (links nodes.items) } by { Forest-prop (links nodes.items) },
 }
 
@@ -30,6 +32,8 @@ impl Model for Tree {
 
     ghost view = { λ t. seen (links t.nodes.items) t.forest };
 
-    // Who has an id is noted for it.
-    ghost invariant = { λ t. Covers t.ids (links t.nodes.items) };
+    ghost use Rattle.node_arena.specs.Marks.{MarksHold};
+
+    // Who has an id is noted for it, and what is noted of who is connected is so.
+    ghost invariant = { λ t. Covers t.ids (links t.nodes.items) × MarksHold t.marks.items (seen (links t.nodes.items) t.forest) };
 }

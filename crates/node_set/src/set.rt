@@ -32,7 +32,7 @@ impl NodeSet {
         }
     }
 
-    /// Puts a node in.
+    /// Puts a node in. NoMemory: memory was refused.
     pub fn add(&mut self, n: NodeNo) -> Result<(), NoMemory>
         ensures { OnOk result ((m : ℕ) → is_among m self.new ≡ (is_among m self.old || n == m)) }
     {
@@ -40,7 +40,7 @@ impl NodeSet {
         Ok(())
     }
 
-    /// The nodes, in the order of their numbers.
+    /// The nodes, in the order of their numbers. NoMemory: memory was refused.
     pub fn list(&self, alloc: Global) -> Result<Nodes, NoMemory>
         ensures list { IfOk result (λ ns. ns ≡ self.now) }
         ensures rising { IfOk result IsStrictlyIncreasing }

@@ -1,6 +1,6 @@
 -- The ancestors of a node: it stands in the order of each one's tree.
 use Rattle.std.proofs.Common.{◌≡◌, ℕ, true, ◌==◌, List, [], ◌∷◌, ◌++◌, refl, ap, sym, ◌∙◌, arith, inl, inr}
-use Rattle.std.proofs.lemmas.Bool.{cases_eq}
+use Rattle.std.proofs.lemmas.Bool.{cases_eq, or_cases}
 use Rattle.std.proofs.lemmas.Bool.Decides.{nat_tests}
 use Rattle.node_trees.specs.Facts.{Facts}
 use Rattle.node_trees.specs.Trees.{Trees, none, tree}
@@ -12,7 +12,6 @@ use Rattle.node_trees.proofs.Weights.{IsApart}
 use Rattle.tree_laws.proofs.Pieces.{tree_of-here, tree_of-shadow, tree_of-children, tree_of-rest}
 use Rattle.tree_laws.proofs.Sums.{tidy-apart, apart-shadow, apart-children, apart-rest}
 use Rattle.form_controls.specs.Owners.{ancestors_below, ancestors}
-use Rattle.owner_laws.proofs.Cases.{either}
 use Rattle.owner_laws.proofs.Roots.{order-there}
 
 -- no ancestors where the node does not stand
@@ -35,7 +34,7 @@ module _ (above : List ℕ) (a n m : ℕ) (x : Facts) (s k r : Trees) (apart : I
       inner (ap (λ t. is_among n (tree_order t)) (tree_of-shadow a m x s k r (grind (arith, nat_tests)) (grind (arith, nat_tests)) (grind (arith, nat_tests))) ∙ o)
 
   from_children : Ancestor (m ∷ above) a n k → Ancestor above a n (tree m x s k r)
-  from_children (outer i o) = elim (either (m == a) (is_among a above) i) [
+  from_children (outer i o) = elim (or_cases (m == a) (is_among a above) i) [
     | inl e ↦ inner (ap (λ t. is_among n (tree_order t)) (tree_of-here a m x s k r (grind (arith, nat_tests))) ∙ grind (arith, nat_tests, is_among-append n (tree_order k) []))
     | inr there ↦ outer there (grind (arith, nat_tests, is_among-append n (tree_order k) (tree_order r)))
   ]
@@ -64,8 +63,8 @@ ancestor above a n (tree m x s k r) apart h =
       | inr ne ↦
           let parts : ancestors_below above n (tree m x s k r) ≡ (ancestors_below [] n s ++ ancestors_below (m ∷ above) n k) ++ ancestors_below above n r = grind (arith, nat_tests) in
           let all : is_among a ((ancestors_below [] n s ++ ancestors_below (m ∷ above) n k) ++ ancestors_below above n r) ≡ true = rw parts at h in
-          elim (either _ _ (sym (is_among-append a (ancestors_below [] n s ++ ancestors_below (m ∷ above) n k) (ancestors_below above n r)) ∙ all)) [
-            | inl v ↦ elim (either _ _ (sym (is_among-append a (ancestors_below [] n s) (ancestors_below (m ∷ above) n k)) ∙ v)) [
+          elim (or_cases _ _ (sym (is_among-append a (ancestors_below [] n s ++ ancestors_below (m ∷ above) n k) (ancestors_below above n r)) ∙ all)) [
+            | inl v ↦ elim (or_cases _ _ (sym (is_among-append a (ancestors_below [] n s) (ancestors_below (m ∷ above) n k)) ∙ v)) [
               | inl u ↦ from_shadow above a n m x s k r apart (in_s u)
               | inr w ↦ from_children above a n m x s k r apart (in_k w)
             ]

@@ -1,13 +1,5 @@
 -- Cases on the value of a test, and on an optional number.
-use Rattle.std.proofs.Common.{◌≡◌, ℕ, ◌⊎◌, Bool, true, false, ◌||◌, Option, Some, None, refl, inl, inr}
-
-pub not_so : (b : Bool) → (b ≡ true → ⊥) → b ≡ false
-not_so true denied = absurd (denied refl)
-not_so false denied = refl
-
-pub either : (a b : Bool) → (a || b) ≡ true → (a ≡ true) ⊎ (b ≡ true)
-either true b e = inl refl
-either false b e = inr e
+use Rattle.std.proofs.Common.{◌≡◌, ℕ, Bool, true, false, Option, Some, None, refl}
 
 pub by_test : {A : Type 0} (b : Bool) → (b ≡ true → A) → (b ≡ false → A) → A
 by_test true f g = f refl

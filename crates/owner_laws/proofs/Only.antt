@@ -1,6 +1,6 @@
 -- What a test finds in a tree order is what it finds in one tree of it, where it finds nothing without that tree.
 use Rattle.std.proofs.Common.{◌≡◌, ℕ, Bool, true, cond, [], ◌∷◌, ◌++◌, ◌||◌, sym, ap, ◌∙◌, arith, inl, inr, append-nil}
-use Rattle.std.proofs.lemmas.Bool.{cases_eq}
+use Rattle.std.proofs.lemmas.Bool.{cases_eq, or_cases}
 use Rattle.std.proofs.lemmas.Bool.Decides.{nat_tests}
 use Rattle.node_trees.specs.Trees.{Trees, none, tree, tree_of, without}
 use Rattle.node_trees.specs.Orders.{tree_order}
@@ -10,7 +10,6 @@ use Rattle.node_trees.proofs.Weights.{IsApart}
 use Rattle.tree_laws.proofs.InOrder.{order-inside}
 use Rattle.tree_laws.proofs.Pieces.{tree_of-here, tree_of-children, tree_of-rest}
 use Rattle.tree_laws.proofs.Sums.{apart-children, apart-rest}
-use Rattle.owner_laws.proofs.Cases.{either}
 use Rattle.owner_laws.proofs.Kept.{found_in, found-tree, finds-none}
 
 module _ (q : ℕ → Bool) where
@@ -30,7 +29,7 @@ module _ (q : ℕ → Bool) where
             let fails = none_left.fails in
             let start : found_in q (tree m x s k r) ≡ found_in q k ++ found_in q r = found-tree q m x s k r ∙ ap (λ b. cond b (m ∷ (found_in q k ++ found_in q r)) (found_in q k ++ found_in q r)) fails in
             let there : (is_among n (tree_order k) || is_among n (tree_order r)) ≡ true = grind (arith, nat_tests, is_among-append n (tree_order k) (tree_order r)) in
-            elim (either (is_among n (tree_order k)) (is_among n (tree_order r)) there) [
+            elim (or_cases (is_among n (tree_order k)) (is_among n (tree_order r)) there) [
               | inl a ↦
                   let low = order-inside n k a in
                   let gone : found_in q r ≡ [] = ap (found_in q) (sym (without-absent n r (grind (arith, nat_tests)))) ∙ none_left.rest in

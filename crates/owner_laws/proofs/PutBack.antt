@@ -1,6 +1,6 @@
 -- A root that is put among the children of a node, and then taken out again, leaves the trees as they were.
 use Rattle.std.proofs.Common.{◌≡◌, ◌≢◌, ℕ, zero, suc, ◌<◌, ◌≤◌, false, List, [], ◌∷◌, Option, Some, None, refl, ap, sym, ◌∙◌, subst, arith, inl, inr}
-use Rattle.std.proofs.lemmas.Bool.{cases_eq}
+use Rattle.std.proofs.lemmas.Bool.{cases_eq, false_from_ne_true}
 use Rattle.std.proofs.lemmas.Bool.Decides.{nat_tests}
 use Rattle.node_trees.specs.Trees.{Trees, tree_of, cut, graft}
 use Rattle.node_trees.specs.Insertion.{may_insert}
@@ -15,7 +15,6 @@ use Rattle.tree_laws.proofs.Children.{child-parent}
 use Rattle.tree_laws.proofs.CutReads.{in-tree}
 use Rattle.tree_laws.proofs.ForestRows.{rows_of-forest}
 use Rattle.tree_laws.proofs.MovedSpots.{Moved, grafted, removed}
-use Rattle.owner_laws.proofs.Cases.{not_so}
 
 -- trees with the same spots are the same
 
@@ -61,7 +60,7 @@ module _ (f : Trees) (p n : ℕ) (b : Option ℕ) (tidy : IsTidy f) (is_p : IsNo
   taken_out = removed (graft f p n b) graft-tidy p n (graft-node p is_p) (graft-node n is_n) ne graft-up
 
   lacks : is_among n (children_at f p) ≡ false
-  lacks = not_so (is_among n (children_at f p)) (λ h. let claim = child-parent f p tidy is_p n h in cc)
+  lacks = false_from_ne_true (is_among n (children_at f p)) (λ h. let claim = child-parent f p tidy is_p n h in cc)
 
   spots-back : (m : ℕ) → IsNode f m → spot_at (cut (graft f p n b) n) m ≡ spot_at f m
   spots-back m at = elim (cases_eq m n) [

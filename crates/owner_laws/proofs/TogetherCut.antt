@@ -1,7 +1,7 @@
 -- What a test finds in the order of one tree, of those that are in one tree before a removal and in one tree after it, stays.
 use Rattle.std.proofs.Common.{◌≡◌, ◌≢◌, ℕ, Bool, true, false, [], Some, None, ap, sym, ◌∙◌, subst, arith, inl, inr}
 use Rattle.std.specs.Prelude.{filter}
-use Rattle.std.proofs.lemmas.Bool.{cases_lt}
+use Rattle.std.proofs.lemmas.Bool.{cases_lt, false_from_ne_true}
 use Rattle.node_trees.specs.Trees.{Trees, tree_of, without, cut}
 use Rattle.node_trees.specs.Nodes.{times, IsNode, IsTidy}
 use Rattle.node_trees.specs.Orders.{tree_order_of}
@@ -19,7 +19,7 @@ use Rattle.owner_laws.proofs.CutRoots.{cut-tidy, cut-tree, root-cut-in, root-cut
 use Rattle.owner_laws.proofs.Kept.{found_in, kept-cut}
 use Rattle.owner_laws.proofs.Only.{found-only}
 use Rattle.owner_laws.proofs.Tests.{filter-none}
-use Rattle.owner_laws.proofs.Cases.{by_test, not_so}
+use Rattle.owner_laws.proofs.Cases.{by_test}
 use Rattle.owner_laws.proofs.Roots.{root-free, root-node, root-among, order-root, order-top}
 
 -- all that pass are nodes of g's tree, and so they are in the new trees
@@ -52,7 +52,7 @@ module _ (f : Trees) (n p : ℕ) (tidy : IsTidy f) (node : IsNode f n) (up : par
     top_free = parent_at-cut f n tidy node (root_at f g) not-root ∙ root-free f tidy g at
 
     rest_fails : (i : ℕ) → is_among i (tree_order_of (cut f n) (root_at f g)) ≡ true → q i ≡ false
-    rest_fails i i_among = not_so (q i) (λ passes. not-root
+    rest_fails i i_among = false_from_ne_true (q i) (λ passes. not-root
         (sym (order-top (cut f n) (cut-tidy f n p tidy node up) (root_at f g) i top_free i_among) ∙ (together i passes).1.1 ∙ root-cut-in f n p tidy node up g among))
 
     rest_empty : found_in q (without n (tree_of (root_at f g) f)) ≡ []
@@ -70,7 +70,7 @@ module _ (f : Trees) (n p : ℕ) (tidy : IsTidy f) (node : IsNode f n) (up : par
     stays = root-cut-out f n p tidy node up g at out
 
     moved_fails : (i : ℕ) → is_among i (tree_order_of f n) ≡ true → q i ≡ false
-    moved_fails i i_among = not_so (q i) (λ passes. not-root (sym stays ∙ sym (together i passes).1.1 ∙ root-cut-in f n p tidy node up i i_among))
+    moved_fails i i_among = false_from_ne_true (q i) (λ passes. not-root (sym stays ∙ sym (together i passes).1.1 ∙ root-cut-in f n p tidy node up i i_among))
 
     together-out : filter q (tree_order_of (cut f n) (root_at (cut f n) g)) ≡ filter q (tree_order_of f (root_at f g))
     together-out =

@@ -20,7 +20,8 @@ pub record IsUnchanged (before now : Forms) (m : ℕ) : Type 0 where
 pub record IsAsideOfMove (now : Trees) (n p m : ℕ) : Type 0 where
   pub outside : is_among m (order_of now n) ≡ false
   -- no element of the moved tree has the ID that m's `form` attribute names
-  pub unnamed : (id : List ℕ) (j : ℕ) → attribute_at now m (codes "form") ≡ Some id → is_among j (tree_order_of now n) ≡ true → has_id id (facts_at now j) ≡ false
+  pub unnamed : (id : List ℕ) (j : ℕ) → attribute_at now m (codes "form") ≡ Some id → is_among j (tree_order_of now n) ≡ true →
+      has_id id (facts_at now j) ≡ false
   -- m is not below a fieldset that a legend came to or went from
   pub legend : is_a Legend now n ≡ true → is_a Fieldset now p ≡ true → is_among m (tree_order_of now p) ≡ false
 

@@ -24,5 +24,6 @@ pub fn what_a_touch_leaves()
     ensures gone { (f : Forms) (n : ℕ) (name : List ℕ) → IsTidy f.forest → IsElement f.forest n →
         (m : ℕ) → IsNode f.forest m → IsAsideOfAttribute f.forest (without_attribute n name f.forest) n m →
         IsUnchanged f (record f { forest = without_attribute n name f.forest }) m }
-    ensures marked { (f : Forms) (other : List ℕ) (m : ℕ) → is_among m other ≡ is_among m f.associated → IsUnchanged f (record f { associated = other }) m }
+    ensures marked { (f : Forms) (other : List ℕ) (m : ℕ) → is_among m other ≡ is_among m f.associated →
+        IsUnchanged f (record f { associated = other }) m }
 {}

@@ -18,15 +18,17 @@ pub fn the_order_of_a_tree_has_its_nodes()
 /// What a test finds in the order of r's tree stays in its order, where another tree is put in or taken out, in which r does
 /// not stand and in whose order each fails the test. So does the first element with an ID.
 pub fn what_is_found_stays_where_another_tree_moves()
-    ensures graft { (f : Trees) (p n : ℕ) (b : Option ℕ) → IsTidy f → IsNode f p → IsNode f n → may_insert f p n b ≡ None → parent_at f n ≡ None →
-        (q : ℕ → Bool) (r : ℕ) → is_among r (order_of f n) ≡ false → ((i : ℕ) → is_among i (tree_order_of f n) ≡ true → q i ≡ false) →
+    ensures graft { (f : Trees) (p n : ℕ) (b : Option ℕ) → IsTidy f → IsNode f p → IsNode f n → may_insert f p n b ≡ None →
+        parent_at f n ≡ None → (q : ℕ → Bool) (r : ℕ) → is_among r (order_of f n) ≡ false →
+        ((i : ℕ) → is_among i (tree_order_of f n) ≡ true → q i ≡ false) →
         filter q (tree_order_of (graft f p n b) r) ≡ filter q (tree_order_of f r) }
     ensures cut { (f : Trees) (n p : ℕ) → IsTidy f → IsNode f n → parent_at f n ≡ Some p →
         (q : ℕ → Bool) (r : ℕ) → is_among r (order_of f n) ≡ false → ((i : ℕ) → is_among i (tree_order_of f n) ≡ true → q i ≡ false) →
         filter q (tree_order_of (cut f n) r) ≡ filter q (tree_order_of f r) }
     ensures named_graft { (f : Trees) (p n : ℕ) (b : Option ℕ) → IsTidy f → IsNode f p → IsNode f n → may_insert f p n b ≡ None →
         parent_at f n ≡ None → (id : List ℕ) (r : ℕ) → is_among r (order_of f n) ≡ false →
-        ((i : ℕ) → is_among i (tree_order_of f n) ≡ true → has_id id (facts_at f i) ≡ false) → first_with_id (graft f p n b) r id ≡ first_with_id f r id }
+        ((i : ℕ) → is_among i (tree_order_of f n) ≡ true → has_id id (facts_at f i) ≡ false) →
+        first_with_id (graft f p n b) r id ≡ first_with_id f r id }
     ensures named_cut { (f : Trees) (n p : ℕ) → IsTidy f → IsNode f n → parent_at f n ≡ Some p → (id : List ℕ) (r : ℕ) →
         is_among r (order_of f n) ≡ false → ((i : ℕ) → is_among i (tree_order_of f n) ≡ true → has_id id (facts_at f i) ≡ false) →
         first_with_id (cut f n) r id ≡ first_with_id f r id }
@@ -53,7 +55,8 @@ pub fn an_attribute_leaves_the_orders()
 
 /// A form owner stands in the same tree, so its control is in the order of the owner's tree.
 pub fn an_owner_stands_in_the_same_tree()
-    ensures together { (f : Forms) (m g : ℕ) → IsTidy f.forest → IsNode f.forest m → form_owner f m ≡ Some g → root_at f.forest m ≡ root_at f.forest g }
+    ensures together { (f : Forms) (m g : ℕ) → IsTidy f.forest → IsNode f.forest m → form_owner f m ≡ Some g →
+        root_at f.forest m ≡ root_at f.forest g }
     ensures in_order { (f : Forms) (m g : ℕ) → IsTidy f.forest → IsNode f.forest m → form_owner f m ≡ Some g →
         is_among m (tree_order_of f.forest (root_at f.forest g)) ≡ true }
 {}

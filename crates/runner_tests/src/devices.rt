@@ -9,7 +9,12 @@ use std::process::Abort;
 use std::test::Fail;
 
 // A source that gives a script in pieces of at most `cut` bytes, and whose read with this number fails.
-fn failing_source(alloc: Global, script: &str, cut: usize, read: u64) -> Result<MemSource, Fail> {
+pub(crate) fn failing_source(
+    alloc: Global,
+    script: &str,
+    cut: usize,
+    read: u64,
+) -> Result<MemSource, Fail> {
     let script = script.as_bytes().to_vec(alloc)?;
     Ok(MemSource::make(script, cut.max(1), vec![in alloc; read]?))
 }

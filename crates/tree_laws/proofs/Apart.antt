@@ -23,10 +23,10 @@ use Rattle.node_trees.proofs.Absent.{spot-absent}
 
 -- a root is connected where it is a document, and another node where what is above it is
 
-connected-root : (f : Trees) (m : ℕ) → path m f ≡ m ∷ [] → connected f m ≡ is_document (kind_at f m)
+pub connected-root : (f : Trees) (m : ℕ) → path m f ≡ m ∷ [] → connected f m ≡ is_document (kind_at f m)
 connected-root f m is = ap (λ xs. is_document (kind_at f (or_number (first_of xs) m))) is
 
-connected-above : (f : Trees) (m q : ℕ) → IsTidy f → IsAbove f q m → connected f m ≡ connected f q
+pub connected-above : (f : Trees) (m q : ℕ) → IsTidy f → IsAbove f q m → connected f m ≡ connected f q
 connected-above f m q tidy a =
     let long = path-long q f (node_stands f q tidy a.is_node) in
     ap (λ v. is_document (kind_at f v)) (sym (same_first (path q f) (path m f) q m long (sym (ap first_of a.path_is ∙ first_of-append (path q f) (m ∷ []) long))))
@@ -111,8 +111,8 @@ apart-new n x f g tidy_f tidy_g is =
     let still = λ (m : ℕ) (at : IsNode f m). ap (λ v. spot_at v m) is ∙ spot_at-new n x f m tidy_f at in
     stays-apart f g tidy_f tidy_g (omega (arith, more, ap size is)) (λ m at apart. alike (ap (λ (s : Spot). s.parent) (still m at)) (ap (λ (s : Spot). s.host) (still m at)) (ap (λ (s : Spot). s.facts.kind) (still m at)))
 
-written : (rows rows' : List Spot) (m n : ℕ) (it new : Spot) → m ≡ n → row_at rows m ≡ Some it → (row_at rows n ≡ Some it → row_at rows' n ≡ Some new) → row_at rows' m ≡ Some new
-written rows rows' m n it new e at f = subst (λ v. row_at rows' v ≡ Some new) (sym e) (f (subst (λ v. row_at rows v ≡ Some it) e at))
+pub row_written : (rows rows' : List Spot) (m n : ℕ) (it new : Spot) → m ≡ n → row_at rows m ≡ Some it → (row_at rows n ≡ Some it → row_at rows' n ≡ Some new) → row_at rows' m ≡ Some new
+row_written rows rows' m n it new e at f = subst (λ v. row_at rows' v ≡ Some new) (sym e) (f (subst (λ v. row_at rows v ≡ Some it) e at))
 
 -- a node put below one that is not connected
 pub apart-grafted : (rows rows' : List Spot) (f g : Trees) (p n : ℕ) (b : Option ℕ) → IsForest rows f → IsForest rows' g → Grafted rows rows' p n b → IsNode f p → connected f p ≡ false → KeepsApart f g
@@ -127,11 +127,11 @@ apart-grafted rows rows' f g p n b a a' w node_p apart_p =
     let it = spot_of st.it.facts st.it.parent st.it.host st.it.shadow st.it.children in
     elim (cases_eq m n) [
       | inl e ↦
-          let there : row_at rows' m ≡ Some (record it { parent = Some p }) = written rows rows' m n it _ e st.row (w.moved it) in
+          let there : row_at rows' m ≡ Some (record it { parent = Some p }) = row_written rows rows' m n it _ e st.row (w.moved it) in
           moved p (parent_at-is g m _ (row_is rows' g m _ a' still there)) node_p apart_p
       | inr ne ↦ elim (cases_eq m p) [
         | inl e ↦
-            let there : row_at rows' m ≡ Some (record it { children = insert_number b n it.children }) = written rows rows' m p it _ e st.row (w.there it) in
+            let there : row_at rows' m ≡ Some (record it { children = insert_number b n it.children }) = row_written rows rows' m p it _ e st.row (w.there it) in
             let new = spot_at-is g m _ (row_is rows' g m _ a' still there) in
             alike (ap (λ (s : Spot). s.parent) new ∙ sym (ap (λ (s : Spot). s.parent) old)) (ap (λ (s : Spot). s.host) new ∙ sym (ap (λ (s : Spot). s.host) old)) (ap (λ (s : Spot). s.facts.kind) new ∙ sym (ap (λ (s : Spot). s.facts.kind) old))
         | inr ne_p ↦

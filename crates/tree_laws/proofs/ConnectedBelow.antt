@@ -67,7 +67,7 @@ all_in_order P (tree m x s k r) each =
     (All-append P (order k) (order r) (all_in_order P k (λ i pos. each i (omega arith))) (all_in_order P r (λ i pos. each i (omega arith)))))
 
 module _ (f : Trees) (n : ℕ) (tidy : IsTidy f) (node : IsNode f n) where
-  connected-below : (i : ℕ) → 0 < times i (tree_of n f) → connected f i ≡ connected f n
+  pub connected-below : (i : ℕ) → 0 < times i (tree_of n f) → connected f i ≡ connected f n
   connected-below i low =
       let apart = tidy-apart f tidy in
       let stands = node_stands f n tidy node in

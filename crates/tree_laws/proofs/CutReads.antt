@@ -6,7 +6,7 @@ use Rattle.node_trees.specs.Facts.{Facts}
 use Rattle.node_trees.specs.Trees.{Trees, none, tree, tree_of, without, cut}
 use Rattle.node_trees.specs.Nodes.{times, IsNode, IsTidy}
 use Rattle.node_trees.specs.Paths.{path}
-use Rattle.node_trees.specs.Spots.{Spot, spot_in, spot, spot_at, or_no_spot, facts_at, kind_at, parent_at, children_at}
+use Rattle.node_trees.specs.Spots.{Spot, spot_in, spot, spot_at, or_no_spot, facts_at, kind_at, parent_at, host_at, children_at}
 use Rattle.tree_laws.proofs.Sums.{tidy-apart, times-without}
 use Rattle.tree_laws.proofs.Inside.{Found, found}
 use Rattle.tree_laws.proofs.Lists.{lacking, spot_lacking}
@@ -76,6 +76,9 @@ module _ (f : Trees) (n : ℕ) (tidy : IsTidy f) (node : IsNode f n) where
 
   pub parent_at-cut : (i : ℕ) → i ≢ n → parent_at (cut f n) i ≡ parent_at f i
   parent_at-cut = read-other (Option ℕ) (λ s. s.parent) (λ s ns ms. refl)
+
+  pub host_at-cut : (i : ℕ) → i ≢ n → host_at (cut f n) i ≡ host_at f i
+  host_at-cut = read-other (Option ℕ) (λ s. s.host) (λ s ns ms. refl)
 
   pub parent_at-cut-here : parent_at (cut f n) n ≡ None
   parent_at-cut-here = ap (λ o. (or_no_spot o).parent) (spot-cut-here f n tidy node ∙ ap spot_at_top (found None None n f (tidy-apart f tidy) (node_stands f n tidy node)).spot_is)

@@ -51,6 +51,7 @@ pub mod NodeKinds
 pub mod ReadBelow
 pub mod Alone
 pub mod Apart
+pub mod Connected
 pub mod Parents
 pub mod Leaves
 pub mod Past

@@ -1,6 +1,6 @@
 use Rattle.std.proofs.Common.{[], ◌∙◌, ap, refl, sym}
+use Rattle.owner_rows.specs.OwnerRow.{row_in}
 use Rattle.form_owner.specs.Moves.{stays}
-use Rattle.form_owner.specs.OwnerRows.{row_in}
 use Rattle.form_owner.proofs.Leaving.{filter-all, left-next, left-owned}
 use Rattle.form_owner.proofs.moving.leave_all.Goals as goal
 

@@ -1,7 +1,7 @@
 use Rattle.std.proofs.Common.{◌≡◌, ℕ, take}
 use Rattle.std.specs.Prelude.{filter}
+use Rattle.owner_rows.specs.OwnerRow.{row_in}
 use Rattle.form_owner.specs.Moves.{stays}
-use Rattle.form_owner.specs.OwnerRows.{row_in}
 use Rattle.form_owner.proofs.moving.leave_all.Given as goal
 
 abbrev pub invariant-loop-i : goal.invariant-loop-i

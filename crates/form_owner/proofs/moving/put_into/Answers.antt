@@ -1,6 +1,6 @@
 use Rattle.std.proofs.Common.{subst, sym, ◌∙◌, ap, arith}
 use Rattle.tree_laws.proofs.Counts.{AreApart}
-use Rattle.form_owner.specs.OwnerRows.{OwnerRow, row_in}
+use Rattle.owner_rows.specs.OwnerRow.{OwnerRow, row_in}
 use Rattle.form_owner.proofs.Leaving.{indexed}
 use Rattle.form_owner.proofs.moving.put_into.Goals as goal
 

@@ -1,6 +1,6 @@
 use Rattle.std.proofs.Common.{◌∙◌, ap, arith, length}
 use Rattle.std.proofs.lemmas.Result.{on_ok_weaker}
-use Rattle.form_owner.specs.OwnerRows.{row_in}
+use Rattle.owner_rows.specs.OwnerRow.{row_in}
 use Rattle.form_owner.specs.Writing.{with_changes}
 use Rattle.form_owner.proofs.Nodes.{changes-placed}
 use Rattle.form_owner.proofs.Renewing.{are-renewed, involved-of}

@@ -1,5 +1,5 @@
 use Rattle.std.proofs.Common.{◌≡◌, ℕ, ◌-◌, ◌≤◌, length}
-use Rattle.form_owner.specs.OwnerRows.{row_in}
+use Rattle.owner_rows.specs.OwnerRow.{row_in}
 use Rattle.form_owner.proofs.settle.fill.Given as goal
 
 abbrev pub invariant-loop-alloc : goal.invariant-loop-alloc

@@ -1,5 +1,5 @@
 use Rattle.std.proofs.Common.{◌≡◌, ℕ, take}
-use Rattle.form_owner.specs.OwnerRows.{row_in}
+use Rattle.owner_rows.specs.OwnerRow.{row_in}
 use Rattle.form_owner.specs.Writing.{with_changes}
 use Rattle.form_owner.proofs.writing.write_all.Given as goal
 

@@ -3,8 +3,9 @@ use Rattle.std.specs.Vec.{with_items}
 use Rattle.std.proofs.lemmas.List.{with_items_is}
 use Rattle.node_trees.specs.Nodes.{size}
 use Rattle.id_index.specs.Held.{is_held}
+use Rattle.owner_rows.specs.OwnerRow.{row_in}
 use Rattle.form_owner.specs.Candidates.{Covers}
-use Rattle.form_owner.specs.OwnerRows.{OwnerRows, row_in}
+use Rattle.form_owner.specs.OwnerRows.{OwnerRows}
 use Rattle.form_owner.specs.Told.{AreOfNodes}
 use Rattle.form_owner.specs.Touches.{after_touch}
 use Rattle.form_owner.specs.Writing.{AreNoted, AreSeenBy}

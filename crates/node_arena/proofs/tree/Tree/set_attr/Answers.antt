@@ -1,4 +1,4 @@
-use Rattle.std.proofs.Common.{◌≡◌, ◌∙◌, ap, refl}
+use Rattle.std.proofs.Common.{sym, ◌≡◌, ◌∙◌, ap, refl}
 use Rattle.std.proofs.lemmas.Result.{on_ok_weaker, on_err_weaker, IfOk-weaker}
 use Rattle.node_trees.specs.Facts.{value_in, with_value}
 use Rattle.node_trees.specs.Nodes.{size}
@@ -12,6 +12,7 @@ use Rattle.tree_laws.proofs.Surplus.{keeps-attributes}
 use Rattle.node_arena.specs.Links.{link_in}
 use Rattle.node_arena.specs.Seen.{seen_fact, seen_is}
 use Rattle.node_arena.proofs.Calls.{written, written_covers, in_slice, altered, unaltered, altered_or_not, own_link}
+use Rattle.node_arena.proofs.MarkLemmas.{hold_same, hold_with}
 use Rattle.node_arena.proofs.tree.Tree.set_attr.Goals as goal
 
 pub set_attribute-requires : goal.set_attribute-requires
@@ -19,9 +20,6 @@ set_attribute-requires c = in_slice _ _ _ (seen_fact _ _ _ c.self.view_is) c.der
 
 pub invariant_of-self-inside : goal.invariant_of-self-inside
 invariant_of-self-inside c = (altered_or_not _ _ _ _ _ c.args.node _ (seen_fact _ _ _ c.self.view_is) c.requires.node (keeps-attributes _ _ (with_value c.args.name c.args.value) (seen_fact _ _ _ c.self.view_is).tidy c.requires.node c.requires.element) c.deref_mut.ensures.value (written _ _ _ _ c.deref_mut.ensures.value c.self.inside.nodes.ok.0 c.set_attribute.auto.nodes) _ c.set_attribute.ensures.ok c.set_attribute.ensures.err, tt)
-
-pub invariant_of-self : goal.invariant_of-self
-invariant_of-self c = written_covers _ _ _ _ _ _ c.deref_mut.ensures.value (written _ _ _ _ c.deref_mut.ensures.value c.self.inside.nodes.ok.0 c.set_attribute.auto.nodes) c.set_attribute.ensures.covers c.self.invariant
 
 pub returns-clause-set : goal.returns-clause-set
 returns-clause-set c = on_ok_weaker c.set_attribute.result (λ w. seen_is _ _ _ (altered _ _ _ _ _ c.args.node _ (seen_fact _ _ _ c.self.view_is) c.requires.node (keeps-attributes _ _ (with_value c.args.name c.args.value) (seen_fact _ _ _ c.self.view_is).tidy c.requires.node c.requires.element) c.deref_mut.ensures.value (written _ _ _ _ c.deref_mut.ensures.value c.self.inside.nodes.ok.0 c.set_attribute.auto.nodes) w)) c.set_attribute.ensures.ok
@@ -33,6 +31,12 @@ returns-clause-was c =
 
 pub returns-clause-err : goal.returns-clause-err
 returns-clause-err c = on_err_weaker c.set_attribute.result (λ w. seen_is _ _ _ (unaltered _ _ _ _ _ c.args.node _ (seen_fact _ _ _ c.self.view_is) c.requires.node (keeps-attributes _ _ (with_value c.args.name c.args.value) (seen_fact _ _ _ c.self.view_is).tidy c.requires.node c.requires.element) c.deref_mut.ensures.value (written _ _ _ _ c.deref_mut.ensures.value c.self.inside.nodes.ok.0 c.set_attribute.auto.nodes) w)) c.set_attribute.ensures.err
+
+pub invariant_of-self : goal.invariant_of-self
+invariant_of-self c = (
+  written_covers _ _ _ _ _ _ c.deref_mut.ensures.value (written _ _ _ _ c.deref_mut.ensures.value c.self.inside.nodes.ok.0 c.set_attribute.auto.nodes) c.set_attribute.ensures.covers c.self.invariant.0,
+  by_result c.set_attribute.result (λ e. hold_with _ c.args.node (λ x. record x { attributes = with_value c.args.name c.args.value x.attributes }) c.args.self.now _ (λ x. refl) e (hold_same _ _ _ (sym c.self.view_is) c.self.invariant.1)) (λ e. hold_same _ c.args.self.now _ e (hold_same _ _ _ (sym c.self.view_is) c.self.invariant.1)) (returns-clause-set c) (returns-clause-err c),
+)
 
 pub returns-clause-size : goal.returns-clause-size
 returns-clause-size c = by_result c.set_attribute.result (λ e. ap size e ∙ size-with c.args.node (λ x. record x { attributes = with_value c.args.name c.args.value x.attributes }) c.args.self.now) (λ e. ap size e) (returns-clause-set c) (returns-clause-err c)

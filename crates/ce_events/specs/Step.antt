@@ -1,0 +1,51 @@
+-- What an event is to the law of order: the kind of its step, with what the law reads of it.
+use Rattle.std.specs.Prelude.{ℕ}
+use Rattle.rule_tokens.specs.declared.callback.CallName.{CallName}
+use Rattle.rule_tokens.specs.declared.callback.CallName.TheVariants as names
+use Rattle.rule_tokens.specs.declared.callback.CallOrUpgrade.{CallOrUpgrade}
+use Rattle.ce_events.specs.declared.event.Event.{Event}
+use Rattle.ce_events.specs.declared.event.Event.TheVariants.{Connected, Disconnected, Adopted, Attribute, FormAssociated, FormDisabled, FormReset, FormStateRestore, Fine, Gave, Answered, Ignored, Threw, WasBad, FuelLine, QueueOpened, Enqueued, DrainBegun, Started, Finished, Dropped, QueueClosed, UpgradeBegun, UpgradeDone, UpgradeThrew}
+
+pub data Step : Type 0 where
+  Opens : (queue : ℕ) → Step  -- an element queue is pushed
+  Enqueues : (reaction element : ℕ) → (what : CallOrUpgrade) → (queue : ℕ) → Step  -- a reaction is enqueued
+  Drains : (queue : ℕ) → Step  -- a queue is popped, and its draining starts
+  Starts : (reaction : ℕ) → Step  -- a reaction is taken, and runs
+  Finishes : (reaction : ℕ) → Step  -- the reaction ends
+  Drops : (reaction : ℕ) → Step  -- a reaction is taken away, and does not run
+  Closes : (queue : ℕ) → Step  -- the draining of a queue ends
+  Begins : (element : ℕ) → Step  -- an element's upgrade starts
+  Ends : (element : ℕ) → Step  -- the upgrade ends, and the element is custom
+  Throws : (element : ℕ) → Step  -- the upgrade throws
+  Calls : (element : ℕ) → (name : CallName) → Step  -- a callback of an element starts
+  Replies : Step  -- a line of the script is replied to
+  Spends : Step  -- the fuel is spent
+  Says : Step  -- anything else: the law has no word on it
+
+abbrev pub step_of : Event → Step
+step_of (QueueOpened q) = Opens q
+step_of (Enqueued r n what q) = Enqueues r n what q
+step_of (DrainBegun q) = Drains q
+step_of (Started r) = Starts r
+step_of (Finished r) = Finishes r
+step_of (Dropped r) = Drops r
+step_of (QueueClosed q) = Closes q
+step_of (UpgradeBegun n) = Begins n
+step_of (UpgradeDone n) = Ends n
+step_of (UpgradeThrew n) = Throws n
+step_of (Connected n) = Calls n names.Connected
+step_of (Disconnected n) = Calls n names.Disconnected
+step_of (Adopted n old new) = Calls n names.Adopted
+step_of (Attribute n name old new) = Calls n names.Attribute
+step_of (FormAssociated n form) = Calls n names.FormAssociated
+step_of (FormDisabled n disabled) = Calls n names.FormDisabled
+step_of (FormReset n) = Calls n names.FormReset
+step_of (FormStateRestore n text why) = Calls n names.FormStateRestore
+step_of (Fine line) = Replies
+step_of (Gave line n) = Replies
+step_of (Answered line a) = Replies
+step_of (Ignored line) = Replies
+step_of (Threw line f) = Replies
+step_of (WasBad line bad) = Replies
+step_of FuelLine = Spends
+step_of e = Says

@@ -1,0 +1,44 @@
+//! Checks a trace from standard input against the law of order, and writes the verdict to standard output.
+#![tactic(auto)]
+
+#[cfg(test)]
+mod tests;
+mod usage;
+
+use ce_base::{StdSink, StdSource};
+use std::process::ExitCode;
+use std::{env, io};
+use trace_check::{CheckStatus, check_run};
+use usage::tell_usage;
+
+fn main(rt: HostRuntime) -> ExitCode {
+    let status = match words(&rt) {
+        Ok(words) => {
+            let mut source = StdSource::make(rt.stdin());
+            let mut sink = StdSink::make(rt.stdout());
+            check_run(rt.alloc(), &words, &mut source, &mut sink)
+        }
+        Err(error) => status_without_words(&error),
+    };
+    if status == CheckStatus::Usage {
+        tell_usage(&rt);
+    }
+    ExitCode::from(status.number())
+}
+
+// The words after the program's name.
+fn words(rt: &HostRuntime) -> io::Result<Vec<String>> {
+    let mut words = Vec::new(rt.alloc());
+    for word in env::args(rt)?.skip(1) {
+        words.push(word)?;
+    }
+    Ok(words)
+}
+
+// A word that is no text is refused, as any word is.
+fn status_without_words(error: &io::Error) -> CheckStatus {
+    match error.kind() {
+        io::ErrorKind::OutOfMemory => CheckStatus::NoMemory,
+        _ => CheckStatus::Usage,
+    }
+}

@@ -1,7 +1,0 @@
-use Rattle.std.proofs.Common.{subst, sym}
-use Rattle.tree_laws.proofs.Counts.{AreApart}
-use Rattle.form_owner.specs.OwnerRows.{OwnerRow}
-use Rattle.form_owner.proofs.row.Row.put_in.Goals as goal
-
-pub put_in-requires : goal.put_in-requires
-put_in-requires c = record { apart = subst (λ (r : OwnerRow). AreApart r.controls) (sym c.self.view_is) c.requires.apart }

@@ -1,0 +1,2 @@
+pub mod BothEnds
+pub mod Placing

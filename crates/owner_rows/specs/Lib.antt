@@ -1,0 +1,2 @@
+pub mod OwnerRow
+pub mod Attributes

@@ -1,0 +1,10 @@
+pub mod CountLemmas
+pub mod ExitLaws
+pub mod LineLaws
+pub mod OpenLemmas
+pub mod PassLaws
+pub mod SlotLemmas
+pub mod StepLaws
+pub mod TellLaws
+pub mod TraceLaws
+pub mod VerdictLaws
