@@ -6,4 +6,4 @@ mod top;
 pub use command_words::{Meaning, Options};
 pub use line_feed::Feed;
 pub use script_runner::{Session, Status};
-pub use top::run;
+pub use top::{run, run_with};

@@ -1,7 +1,10 @@
 // A whole run, from the words and the source to the sink and a status.
-ghost use Rattle.std.specs.Prelude.{◌≡◌, ◌≤◌, ◌<◌, ◌⊎◌, length, map, string_bytes, Some, List, ℕ};
+ghost use Rattle.std.specs.Prelude.{◌≡◌, ◌≤◌, ◌<◌, ◌⊎◌, true, length, map, string_bytes, Some, List, ℕ};
+ghost use Rattle.std.specs.Io.KnownBytes.{IsAtEnd};
 ghost use Rattle.ce_base.specs.Faults.{Rose};
+ghost use Rattle.ce_base.specs.Outside.{AppendsPart};
 ghost use Rattle.command_words.specs.Words.{meaning};
+ghost use Rattle.page_runner.specs.Ending.{Ends, script_transcript};
 ghost use Rattle.script_runner.specs.Making.{RunsMade};
 ghost use Rattle.script_runner.specs.Table.{RunMeets, RunsWhole, limit};
 
@@ -58,7 +61,33 @@ pub fn run<S: Source, K: Sink>(
     match Meaning::of(alloc, words) {
         Err(NoMemory) => Status::NoMemory,
         Ok(Meaning::Refused) => Status::Usage,
-        Ok(Meaning::Script(options)) => Status::of(run_script(alloc, options, source, sink)),
+        Ok(Meaning::Script(options)) => run_with(alloc, options, source, sink),
         Ok(Meaning::Made(count, options)) => Status::of(run_made(alloc, options, count, sink)),
     }
+}
+
+/// Runs the script that the source gives with these options, as `run` does with words that mean them. The status is one of
+/// those that `run` gives there, and says the same; it is never Usage.
+pub fn run_with<S: Source, K: Sink>(
+    alloc: Global,
+    options: Options,
+    source: &mut S,
+    sink: &mut K,
+) -> Status
+    ensures table { RunMeets (Meaning.Script options) result (S.left source.old) (S.left source.new) (K.held sink.old) (K.held sink.new)
+        (S.ended source.new) (S.failed source.old) (S.failed source.new) (K.failed sink.old) (K.failed sink.new) }
+    ensures later { (S.failed source.old ≤ S.failed source.new) × (K.failed sink.old ≤ K.failed sink.new) }
+    ensures read_fault { S.failed source.old < S.failed source.new → result ≡ Status.ReadFault }
+    ensures write_fault { K.failed sink.old < K.failed sink.new → result ≡ Status.WriteFault }
+
+    // A script of any length is run to its end, unless a count of faults rises or memory is refused.
+    ensures complete { (script : List ℕ) → S.left source.old ≡ Some script
+        → ¬ Rose (S.failed source.old) (S.failed source.new) → ¬ Rose (K.failed sink.old) (K.failed sink.new)
+        → Ends options script result (K.held sink.old) (K.held sink.new) }
+
+    // With each status a front of the script's transcript was written.
+    ensures front { (script : List ℕ) → S.left source.old ≡ Some script → (S.ended source.new ≡ true → IsAtEnd (S.left source.new))
+        → AppendsPart (K.held sink.old) (K.held sink.new) (script_transcript options script) }
+{
+    Status::of(run_script(alloc, options, source, sink))
 }

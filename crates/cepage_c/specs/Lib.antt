@@ -1,0 +1,5 @@
+pub use Rattle.script_runner.specs.Table
+pub use Rattle.page_runner.specs.Ending
+pub mod Asked
+pub mod Given
+pub mod Memory
