@@ -41,10 +41,10 @@ transcribed status end old new bytes transcript count most made held fits full =
       front = subst (λ l. IsPrefix l transcript) (sym (held ∙ is.1)) part.1;
       within = omega (arith, fits, is.0);
       whole = λ more.
-      let calm : Rose 0 new.faults → ⊥ = λ rose. let some : 0 < new.faults = omega (arith, rose) in omega (arith, full some, is.0, more) in
-      elim (run calm) [
-        | inl all ↦ inl (all.0, held ∙ (appended most new.most new.held transcript all.1).1)
-        | inr none ↦ inr none
-      ];
+          let calm : Rose 0 new.faults → ⊥ = λ rose. let some : 0 < new.faults = omega (arith, rose) in omega (arith, full some, is.0, more) in
+          elim (run calm) [
+            | inl all ↦ inl (all.0, held ∙ (appended most new.most new.held transcript all.1).1)
+            | inr none ↦ inr none
+          ];
     } in
     subst P (sym made) from

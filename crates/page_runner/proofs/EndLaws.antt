@@ -66,15 +66,15 @@ cut_lines : (taken rest : List ℕ) → (more : List (List ℕ)) × (script_line
 cut_lines taken rest =
     elim (cases_lt limit (length taken)) [
       | inl far ↦
-        let long : limit < length (taken ++ rest) = omega (arith, far, length-append taken rest) in
-        let same : take limit (taken ++ rest) ≡ take limit taken = take-append-le limit taken rest (omega (arith, far)) in
-        ([], counted_beyond true (taken ++ rest) long ∙ (ap whole_lines same ∙ sym (append-nil (whole_lines (take limit taken)))))
+          let long : limit < length (taken ++ rest) = omega (arith, far, length-append taken rest) in
+          let same : take limit (taken ++ rest) ≡ take limit taken = take-append-le limit taken rest (omega (arith, far)) in
+          ([], counted_beyond true (taken ++ rest) long ∙ (ap whole_lines same ∙ sym (append-nil (whole_lines (take limit taken)))))
       | inr near ↦
-        let lines : counted false taken ≡ whole_lines taken = counted-within taken near in
-        elim (cases_lt limit (length (taken ++ rest))) [
-          | inl long ↦ let more = cut_within taken rest near long in (more.0, more.1 ∙ ap (λ l. l ++ more.0) (sym lines))
-          | inr short ↦ let more = lines_of-front taken rest in (more.0, counted-ended (taken ++ rest) short ∙ (more.1 ∙ ap (λ l. l ++ more.0) (sym lines)))
-        ]
+          let lines : counted false taken ≡ whole_lines taken = counted-within taken near in
+          elim (cases_lt limit (length (taken ++ rest))) [
+            | inl long ↦ let more = cut_within taken rest near long in (more.0, more.1 ∙ ap (λ l. l ++ more.0) (sym lines))
+            | inr short ↦ let more = lines_of-front taken rest in (more.0, counted-ended (taken ++ rest) short ∙ (more.1 ∙ ap (λ l. l ++ more.0) (sym lines)))
+          ]
     ]
 
 -- all bytes were taken where none is left
