@@ -28,8 +28,8 @@ ends_otherwise set script = number_at_end (spends_all set (script_lines script))
 
 -- so the one never comes, and the other only where the transcript is longer than the buffer
 pub no_usage : (set : Options) (script : List ℕ) (status : Status) (count room size : ℕ)
-    → (size ≤ room → ((status ≡ end_status set script) × (count ≡ size)) ⊎ (status ≡ NoMemory)) → (room < size → ((status ≡ WriteFault) × (count ≡ room)) ⊎ (status ≡ NoMemory))
-    → number_of status ≡ 2 → ⊥
+    → (size ≤ room → ((status ≡ end_status set script) × (count ≡ size)) ⊎ (status ≡ NoMemory))
+    → (room < size → ((status ≡ WriteFault) × (count ≡ room)) ⊎ (status ≡ NoMemory)) → number_of status ≡ 2 → ⊥
 no_usage set script status count room size whole longer is =
     elim (cases_lt room size) [
       | inl long ↦
@@ -57,6 +57,7 @@ more_room_only set script status count room size whole is =
     ]
 
 -- and it comes where it is
-pub more_room_where : (status : Status) (number count room : ℕ) → number ≡ number_of status → ((status ≡ WriteFault) × (count ≡ room)) ⊎ (status ≡ NoMemory) → ((number ≡ 5) × (count ≡ room)) ⊎ (number ≡ 6)
+pub more_room_where : (status : Status) (number count room : ℕ) → number ≡ number_of status
+    → ((status ≡ WriteFault) × (count ≡ room)) ⊎ (status ≡ NoMemory) → ((number ≡ 5) × (count ≡ room)) ⊎ (number ≡ 6)
 more_room_where status number count room is (inl full) = inl (is ∙ ap number_of full.0, full.1)
 more_room_where status number count room is (inr none) = inr (is ∙ ap number_of none)

@@ -37,7 +37,8 @@ pub(crate) fn run_into(
 fn transcribe(alloc: Global, options: Options, script: &[u8], most: usize) -> (Status, Vec<u8>)
     ensures front { IsPrefix result.1.items (script_transcript options script.now) }
     ensures within { vec_len result.1 ≤ most }
-    ensures whole { vec_len result.1 < most → ((result.0 ≡ end_status options script.now) × (result.1.items ≡ script_transcript options script.now)) ⊎ (result.0 ≡ Status.NoMemory) }
+    ensures whole { vec_len result.1 < most
+        → ((result.0 ≡ end_status options script.now) × (result.1.items ≡ script_transcript options script.now)) ⊎ (result.0 ≡ Status.NoMemory) }
 {
     let mut source = ScriptSource::make(script);
     let mut sink = BoundedSink::make(alloc, most);
