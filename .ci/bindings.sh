@@ -1,0 +1,198 @@
+#!/bin/sh
+# Holds the bindings to the program: for each script of examples/ with its words, and each worked script of runner_tests, all
+# once more with the trace or without it, the bytes and the status that C, Python, Node and Rust give have to be the program's,
+# by the program and by the library; and the three readers have to make the same of each line. Then each package's own tests
+# are run. What is not there is left out, and named: a language without its tool, and the library without the archive of
+# cepage_c. CEPAGE names another program than that of the gate.
+
+cd "$(dirname "$0")/.." || exit 1
+CEPAGE=${CEPAGE:-$(pwd)/crates/cepage/out/cepage}
+LC_ALL=C.UTF-8
+PYTHONDONTWRITEBYTECODE=1
+export CEPAGE LC_ALL PYTHONDONTWRITEBYTECODE
+unset CEPAGE_LIBRARY CEPAGE_ADDON CEPAGE_ARCHIVE
+
+if [ ! -x "$CEPAGE" ]; then
+    echo "bindings: the program $CEPAGE is missing: run rt ci first" >&2
+    exit 1
+fi
+room=$(mktemp -d) || exit 1
+trap 'rm -rf "$room"' EXIT
+trap 'exit 1' HUP INT TERM
+cases=$room/cases
+library=$room/library
+mkdir "$cases" "$room/worked" "$library" || exit 1
+
+# Writes each worked script of these files to a file of its own.
+worked() {
+    awk -v folder="$room/worked" '
+        /(^| )const [A-Z]+: &str = r#"/ {
+            split(FILENAME, path, "/")
+            name = FILENAME
+            gsub(/.*src\/|\.rt$/, "", name)
+            gsub(/\//, "-", name)
+            match($0, /[A-Z]+: /)
+            out = folder "/" name "-" substr($0, RSTART, RLENGTH - 2) ".script"
+            sub(/.*r#"/, "")
+        }
+        out != "" {
+            last = /"#;$/
+            if (match($0, /^[0-9]*> /)) {
+                times = RLENGTH > 2 ? substr($0, 1, RLENGTH - 2) : 1
+                line = substr($0, RLENGTH + 1)
+                if (last) sub(/"#;$/, "", line)
+                while (times-- > 0) print line > out
+            }
+            if (last) { close(out); out = "" }
+        }' "$@"
+}
+
+# Adds a case: a script and its words, with what the program makes of them.
+add() {
+    name=$cases/$1
+    script=$2
+    shift 2
+    ln -s "$script" "$name.script"
+    : >"$name.words"
+    [ $# -eq 0 ] || printf '%s\n' "$@" >"$name.words"
+    "$CEPAGE" "$@" <"$script" >"$name.transcript" 2>"$room/error"
+    echo $? >"$name.status"
+}
+
+# Adds a script with its words, and once more with the trace turned.
+add_both() {
+    name=$1
+    script=$2
+    traced=
+    set --
+    if [ -f "${script%.script}.words" ]; then
+        while IFS= read -r word; do
+            if [ "$word" = --trace ]; then traced=--trace; else set -- "$@" "$word"; fi
+        done <"${script%.script}.words"
+    fi
+    pair=$name
+    add "$pair" "$script" "$@"
+    add "$pair-trace" "$script" "$@" --trace
+}
+
+for script in examples/*.script examples/*/*.script; do
+    add_both "$(echo "${script%.script}" | tr / -)" "$(pwd)/$script"
+done
+worked crates/runner_tests/src/*.rt crates/runner_tests/src/worked/*.rt
+for script in "$room"/worked/*.script; do
+    add_both "worked-$(basename "$script" .script)" "$script"
+done
+add words-usage "$(pwd)/examples/first.script" --fuel 0
+add words-url "$(pwd)/examples/submission/actions.script" --url mailto:a
+add words-boundary "$(pwd)/examples/review.script" --boundary a-b --trace
+echo "bindings: $(ls "$cases"/*.script | wc -l) runs, of examples/ and of $(ls "$room"/worked | wc -l) worked scripts"
+
+# The library, where the archive is there.
+if sh bindings/c/build.sh "$library" >"$room/build" 2>&1; then
+    shared=$library/libcepage.so
+    archive=$library/libcepage.a
+    addon=$library/cepage.node
+    [ -f "$addon" ] || addon=
+else
+    echo "bindings: left out: the library: $(tail -n 1 "$room/build")"
+    shared= archive= addon=
+fi
+
+in_python() {
+    cd bindings/python || return
+    python3 -W error compare.py "$cases" "$room/python" || return
+    if [ -n "$shared" ]; then
+        python3 -W error compare.py "$cases" "$room/python-library" "$shared" || return
+    fi
+    CEPAGE_LIBRARY=$shared python3 -W error -m unittest
+}
+
+in_node() {
+    cd bindings/node || return
+    node compare.js "$cases" "$room/node" || return
+    if [ -n "$addon" ]; then
+        node compare.js "$cases" "$room/node-library" "$addon" || return
+    fi
+    CEPAGE_ADDON=$addon node --test test/*.test.js
+}
+
+# cargo WORDS.. in a copy of the crate, since it writes a lock file beside it.
+in_rust() {
+    mkdir -p "$room/repository/bindings" || return
+    cp -R bindings/rust "$room/repository/bindings/" && ln -s "$(pwd)/examples" "$room/repository/examples" || return
+    cd "$room/repository/bindings/rust" || return
+    CARGO_TARGET_DIR=$room/target CARGO_PROFILE_DEV_DEBUG=false CARGO_TERM_COLOR=never
+    export CARGO_TARGET_DIR CARGO_PROFILE_DEV_DEBUG CARGO_TERM_COLOR
+    cargo run --offline --quiet --example compare -- "$cases" "$room/rust" || return
+    if [ -n "$archive" ]; then
+        CEPAGE_ARCHIVE=$archive
+        export CEPAGE_ARCHIVE
+        cargo run --offline --quiet --example compare -- "$cases" "$room/rust-library" library || return
+    fi
+    cargo test --offline --quiet
+}
+
+# Runs each case by the library from C, and three trials.
+in_c() {
+    for trial in program many threads; do
+        cc -std=gnu11 -O1 -Wall -Wextra -Werror -pthread -o "$room/$trial" "bindings/c/trials/$trial.c" "$archive" || return
+    done
+    failed=0
+    for script in "$cases"/*.script; do
+        set --
+        while IFS= read -r word; do set -- "$@" "$word"; done <"${script%.script}.words"
+        "$room/program" "$@" <"$script" >"$room/of-c"
+        echo $? >"$room/status-of-c"
+        if ! cmp -s "$room/of-c" "${script%.script}.transcript" || ! cmp -s "$room/status-of-c" "${script%.script}.status"; then
+            echo "$script: it differs"
+            failed=$((failed + 1))
+        fi
+    done
+    echo "c, library: $failed differ"
+    "$room/many" 1000 <examples/review.script && "$room/threads" 100 <examples/review.script && [ "$failed" -eq 0 ]
+}
+
+# Whether a tool is there, which is said where it is not.
+there() {
+    command -v "$1" >/dev/null && return
+    echo "bindings: left out: $2: there is no $1"
+    return 1
+}
+
+# Runs a part beside the others. What it says is told when all are done.
+running=
+begin() {
+    running="$running $1"
+    { (in_"$1") >"$room/log-$1" 2>&1; echo $? >"$room/ended-$1"; } &
+}
+
+! there python3 Python || begin python
+! there node Node || begin node
+! there cargo Rust || begin rust
+if [ -n "$archive" ]; then
+    ! there cc C || begin c
+fi
+wait
+
+failed=0
+for part in $running; do
+    if [ "$(cat "$room/ended-$part")" -eq 0 ]; then
+        grep -h -E '^(python|node|rust|c), |^many|^threads|^Ran |^# pass|^test result' "$room/log-$part" | sed 's,^,    ,'
+    else
+        echo "bindings: $part went wrong:" >&2
+        tail -n 60 "$room/log-$part" >&2
+        failed=$((failed + 1))
+    fi
+done
+for part in python node rust; do
+    for lines in "$room/$part" "$room/$part-library"; do
+        [ ! -f "$lines" ] || [ ! -f "$room/first" ] || cmp -s "$room/first" "$lines" || {
+            echo "bindings: the readers make something else of a line:" >&2
+            diff "$room/first" "$lines" | head -n 10 >&2
+            failed=$((failed + 1))
+        }
+        [ -f "$room/first" ] || [ ! -f "$lines" ] || ln -s "$lines" "$room/first"
+    done
+done
+echo "bindings: $failed failed"
+[ "$failed" -eq 0 ]
