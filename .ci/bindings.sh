@@ -98,6 +98,16 @@ else
     shared= archive= addon=
 fi
 
+# Whether the code of this language that docs/checking.md has first is that of the file.
+shown() {
+    awk -v fence="\`\`\`$1" '$0 == fence { on = 1; next } on && /^```$/ { exit } on' docs/checking.md | cmp - "$2"
+}
+if ! { shown python bindings/python/tests/test_review.py && shown js bindings/node/test/review.test.js &&
+    shown rust bindings/rust/tests/review.rs; }; then
+    echo "bindings: docs/checking.md shows another test" >&2
+    exit 1
+fi
+
 in_python() {
     cd bindings/python || return
     python3 -W error compare.py "$cases" "$room/python" || return
