@@ -69,7 +69,7 @@ int main(void) {
     struct script script = read_script();
     struct answer whole = run_refusing(script, NONE, NONE, room(ROOM));
     uint8_t *out = room(ROOM);
-    long requests = asked, wrong = held != 0, refused = 0, fronts = 0;
+    long requests = asked, wrong = held != 0 || asked == 0, refused = 0, fronts = 0;
     for (long k = 1; k <= requests; k++) {
         for (int way = 0; way < EACH; way++) {
             struct answer answer = run_refusing(script, k, way ? requests * 9 : k, out);

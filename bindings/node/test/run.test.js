@@ -1,7 +1,9 @@
 // A script that is run.
 import assert from "node:assert/strict";
+import { once } from "node:events";
 import { dirname } from "node:path";
 import { test } from "node:test";
+import { Worker } from "node:worker_threads";
 import { ProgramDied, ProgramMissing, run } from "cepage";
 import { example } from "./examples.js";
 import { programOf } from "./program.js";
@@ -58,6 +60,17 @@ test("a transcript that is long", () => {
   const script = `create $a p\ntext $t "${"é".repeat(2000)}"\nappend $a $t\n${"ask kids $a\n".repeat(9_000)}`;
   assert.ok(run(script).bytes.length > 65_536);
   assert.deepEqual(run(script).bytes, run(script, { library: false }).bytes);
+});
+
+test("eight workers at once", async () => {
+  const code = `import { parentPort, workerData } from "node:worker_threads";
+import { run } from "${new URL("../index.js", import.meta.url)}";
+parentPort.postMessage([0, 1, 2, 3, 4, 5].map((k) => run(workerData, { trace: k % 2 === 1 }).transcript).join(""));`;
+  const script = example("review.script");
+  const wanted = (run(script).transcript + run(script, { trace: true }).transcript).repeat(3);
+  const file = new URL(`data:text/javascript,${encodeURIComponent(code)}`);
+  const workers = Array.from({ length: 8 }, () => new Worker(file, { workerData: script }));
+  for (const [came] of await Promise.all(workers.map((worker) => once(worker, "message")))) assert.equal(came, wanted);
 });
 
 const component = run(example("component.script"));

@@ -3,6 +3,7 @@ import os
 import stat
 import tempfile
 import unittest
+from concurrent.futures import ThreadPoolExecutor
 from unittest import mock
 
 from cepage import Node, ProgramDied, ProgramMissing, Status, run
@@ -69,6 +70,14 @@ class Running(unittest.TestCase):
         script = "create $a p\n" + 'text $t "' + "é" * 2000 + '"\n' + "append $a $t\nclone $t $t\n" + "ask value $a\n" * 9_000
         self.assertEqual(run(script).bytes, run(script, library=False).bytes)
         self.assertGreater(len(run(script).bytes), 65_536)
+
+
+    def test_eight_threads_at_once(self) -> None:
+        script = example("review.script")
+        wanted = [run(script, trace=trace).bytes for trace in (False, True)]
+        with ThreadPoolExecutor(8) as threads:
+            came = list(threads.map(lambda k: run(script, trace=bool(k % 2)).bytes, range(80)))
+        self.assertEqual(came, wanted * 40)
 
 
 class Asking(unittest.TestCase):

@@ -80,7 +80,8 @@ fn main() -> Result<(), Box<dyn Error>> {
     if by_library && !has_library() {
         return Err("the crate was built without the library".into());
     }
-    let mut scripts: Vec<PathBuf> = fs::read_dir(cases)?.map(|entry| entry.map(|it| it.path())).collect::<Result<_, _>>()?;
+    let mut scripts: Vec<PathBuf> =
+        fs::read_dir(cases)?.map(|entry| entry.map(|it| it.path())).collect::<Result<_, _>>()?;
     scripts.retain(|path| path.extension().is_some_and(|end| end == "script"));
     scripts.sort_by_key(|path| path.file_stem().map(ToOwned::to_owned));
     let (mut out, mut failed) = (String::new(), 0);

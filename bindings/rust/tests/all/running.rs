@@ -68,6 +68,22 @@ fn a_transcript_that_is_long() {
 }
 
 #[test]
+fn eight_threads_at_once() {
+    let script = example("review.script");
+    let wanted = [false, true].map(|trace| Options::new().trace(trace).run(&script).unwrap());
+    std::thread::scope(|threads| {
+        for _ in 0..8 {
+            threads.spawn(|| {
+                for trace in [false, true, false, true, false, true] {
+                    let came = Options::new().trace(trace).run(&script).unwrap();
+                    assert_eq!(came.bytes(), wanted[usize::from(trace)].bytes());
+                }
+            });
+        }
+    });
+}
+
+#[test]
 fn what_a_line_did() {
     let component = run(example("component.script")).unwrap();
     let opened = component.command(13);
