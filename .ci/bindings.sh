@@ -20,7 +20,9 @@ room=$(mktemp -d) || exit 1
 trap 'rm -rf "$room"' EXIT
 trap 'exit 1' HUP INT TERM
 cases=$room/cases
+list=$room/list
 library=$room/library
+tab=$(printf '\t')
 mkdir "$cases" "$room/worked" "$library" || exit 1
 
 # Writes each worked script of these files to a file of its own.
@@ -47,45 +49,49 @@ worked() {
         }' "$@"
 }
 
-# Adds a case: a script and its words, with what the program makes of them.
+# Adds a case: a script and its words, with what the program makes of them. A row of the list has its name, the status, the
+# script and the words, with tabs between them.
 add() {
-    name=$cases/$1
+    name=$1
     script=$2
     shift 2
-    ln -s "$script" "$name.script"
-    : >"$name.words"
-    [ $# -eq 0 ] || printf '%s\n' "$@" >"$name.words"
-    "$CEPAGE" "$@" <"$script" >"$name.transcript" 2>"$room/error"
-    echo $? >"$name.status"
+    "$CEPAGE" "$@" <"$script" >"$cases/$name" 2>"$room/error"
+    row="$name$tab$?$tab$script"
+    for word; do row="$row$tab$word"; done
+    echo "$row" >>"$list"
 }
 
 # Adds a script with its words, and once more with the trace turned.
 add_both() {
-    name=$1
+    case_of=$1
     script=$2
-    traced=
-    set --
+    shift 2
     if [ -f "${script%.script}.words" ]; then
         while IFS= read -r word; do
-            if [ "$word" = --trace ]; then traced=--trace; else set -- "$@" "$word"; fi
+            [ "$word" = --trace ] || set -- "$@" "$word"
         done <"${script%.script}.words"
     fi
-    pair=$name
-    add "$pair" "$script" "$@"
-    add "$pair-trace" "$script" "$@" --trace
+    add "$case_of" "$script" "$@"
+    add "$case_of-trace" "$script" "$@" --trace
 }
 
 for script in examples/*.script examples/*/*.script; do
-    add_both "$(echo "${script%.script}" | tr / -)" "$(pwd)/$script"
+    name=${script#examples/}
+    name=${name%.script}
+    case $name in
+    */*) name=${name%%/*}-${name#*/} ;;
+    esac
+    add_both "$name" "$(pwd)/$script"
 done
 worked crates/runner_tests/src/*.rt crates/runner_tests/src/worked/*.rt
 for script in "$room"/worked/*.script; do
-    add_both "worked-$(basename "$script" .script)" "$script"
+    name=${script##*/}
+    add_both "worked-${name%.script}" "$script"
 done
 add words-usage "$(pwd)/examples/first.script" --fuel 0
 add words-url "$(pwd)/examples/submission/actions.script" --url mailto:a
 add words-boundary "$(pwd)/examples/review.script" --boundary a-b --trace
-echo "bindings: $(ls "$cases"/*.script | wc -l) runs, of examples/ and of $(ls "$room"/worked | wc -l) worked scripts"
+echo "bindings: $(wc -l <"$list") runs, of examples/ and of $(ls "$room/worked" | wc -l) worked scripts"
 
 # The library, where the archive is there.
 if sh bindings/c/build.sh "$library" >"$room/build" 2>&1; then
@@ -110,18 +116,18 @@ fi
 
 in_python() {
     cd bindings/python || return
-    python3 -W error compare.py "$cases" "$room/python" || return
+    python3 -W error compare.py "$list" "$cases" "$room/python" || return
     if [ -n "$shared" ]; then
-        python3 -W error compare.py "$cases" "$room/python-library" "$shared" || return
+        python3 -W error compare.py "$list" "$cases" "$room/python-library" "$shared" || return
     fi
     CEPAGE_LIBRARY=$shared python3 -W error -m unittest
 }
 
 in_node() {
     cd bindings/node || return
-    node compare.js "$cases" "$room/node" || return
+    node compare.js "$list" "$cases" "$room/node" || return
     if [ -n "$addon" ]; then
-        node compare.js "$cases" "$room/node-library" "$addon" || return
+        node compare.js "$list" "$cases" "$room/node-library" "$addon" || return
     fi
     CEPAGE_ADDON=$addon node --test test/*.test.js
 }
@@ -133,11 +139,11 @@ in_rust() {
     cd "$room/repository/bindings/rust" || return
     CARGO_TARGET_DIR=$room/target CARGO_PROFILE_DEV_DEBUG=false CARGO_TERM_COLOR=never
     export CARGO_TARGET_DIR CARGO_PROFILE_DEV_DEBUG CARGO_TERM_COLOR
-    cargo run --offline --quiet --example compare -- "$cases" "$room/rust" || return
+    cargo run --offline --quiet --example compare -- "$list" "$cases" "$room/rust" || return
     if [ -n "$archive" ]; then
         CEPAGE_ARCHIVE=$archive
         export CEPAGE_ARCHIVE
-        cargo run --offline --quiet --example compare -- "$cases" "$room/rust-library" library || return
+        cargo run --offline --quiet --example compare -- "$list" "$cases" "$room/rust-library" library || return
     fi
     cargo test --offline --quiet
 }
@@ -148,16 +154,14 @@ in_c() {
         cc -std=gnu11 -O1 -Wall -Wextra -Werror -pthread -o "$room/$trial" "bindings/c/trials/$trial.c" "$archive" || return
     done
     failed=0
-    for script in "$cases"/*.script; do
-        set --
-        while IFS= read -r word; do set -- "$@" "$word"; done <"${script%.script}.words"
-        "$room/program" "$@" <"$script" >"$room/of-c"
-        echo $? >"$room/status-of-c"
-        if ! cmp -s "$room/of-c" "${script%.script}.transcript" || ! cmp -s "$room/status-of-c" "${script%.script}.status"; then
-            echo "$script: it differs"
+    while IFS=$tab read -r name status script words; do
+        IFS=$tab
+        "$room/program" $words <"$script" >"$room/of-c"
+        if [ $? -ne "$status" ] || ! cmp -s "$room/of-c" "$cases/$name"; then
+            echo "$name: it differs"
             failed=$((failed + 1))
         fi
-    done
+    done <"$list"
     echo "c, library: $failed differ"
     "$room/many" 1000 <examples/review.script && "$room/threads" 100 <examples/review.script && [ "$failed" -eq 0 ]
 }

@@ -1,11 +1,11 @@
-// compare.js CASES LINES [LIBRARY]: runs each CASES/NAME.script, with the words of NAME.words, by the addon where one is named,
-// and else by the program that CEPAGE names. Its bytes have to be those of NAME.transcript, and its status that of NAME.status.
-// Writes to LINES what the reader makes of each transcript, for the other languages to be held against.
-import { readFileSync, readdirSync, writeFileSync } from "node:fs";
+// compare.js LIST CASES LINES [LIBRARY]: runs each case of the list, by the addon where one is named, and else by the program that
+// CEPAGE names. A row of the list has its name, its status, its script and its words, with tabs between them; the bytes have to be
+// those of CASES/NAME. Writes to LINES what the reader makes of each transcript, for the other languages to be held against.
+import { readFileSync, writeFileSync } from "node:fs";
 import { join } from "node:path";
 import { STATUSES, run } from "cepage";
 
-const [cases, lines, library] = process.argv.slice(2);
+const [list, cases, lines, library] = process.argv.slice(2);
 
 // The options that words say.
 function optionsOf(words) {
@@ -23,21 +23,19 @@ function told(line) {
 }
 
 // What is wrong with a case, or nothing; and what the reader makes of it.
-function compare(name) {
-  const read = (end) => readFileSync(join(cases, `${name}.${end}`));
-  const words = read("words").toString().split("\n").slice(0, -1);
-  const came = run(read("script"), { ...optionsOf(words), library: library ?? false });
+function compare(row) {
+  const [name, status, script, ...words] = row.split("\t");
+  const came = run(readFileSync(script), { ...optionsOf(words), library: library ?? false });
   const other = came.lines.find((line) => line.kind === "other");
   let why = other && `a line is not known: ${other.text}`;
-  if (!came.bytes.equals(read("transcript"))) why = "the transcript differs";
-  if (STATUSES.indexOf(came.status) !== Number(read("status"))) why = `the status is ${came.status}`;
+  if (!came.bytes.equals(readFileSync(join(cases, name)))) why = "the transcript differs";
+  if (STATUSES.indexOf(came.status) !== Number(status)) why = `the status is ${came.status}`;
   return { name, why, made: `${name}\n${came.lines.map(told).join("")}` };
 }
 
-const names = readdirSync(cases).filter((file) => file.endsWith(".script")).map((file) => file.slice(0, -".script".length));
-const compared = names.sort().map(compare);
+const compared = readFileSync(list, "utf8").split("\n").slice(0, -1).map(compare);
 writeFileSync(lines, compared.map(({ made }) => made).join(""));
 const failed = compared.filter(({ why }) => why);
 for (const { name, why } of failed) console.log(`${name}: ${why}`);
-console.log(`node, ${library ? "library" : "program"}: ${names.length} runs, ${failed.length} differ`);
-process.exitCode = failed.length || !names.length ? 1 : 0;
+console.log(`node, ${library ? "library" : "program"}: ${compared.length} runs, ${failed.length} differ`);
+process.exitCode = failed.length || !compared.length ? 1 : 0;

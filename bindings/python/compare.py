@@ -1,7 +1,7 @@
 #!/usr/bin/env python3
-"""compare.py CASES LINES [LIBRARY]: runs each CASES/NAME.script, with the words of NAME.words, by the library where one is
-named, and else by the program that CEPAGE names. Its bytes have to be those of NAME.transcript, and its status that of
-NAME.status. Writes to LINES what the reader makes of each transcript, for the other languages to be held against.
+"""compare.py LIST CASES LINES [LIBRARY]: runs each case of the list, by the library where one is named, and else by the program
+that CEPAGE names. A row of the list has its name, its status, its script and its words, with tabs between them; the bytes have to
+be those of CASES/NAME. Writes to LINES what the reader makes of each transcript, for the other languages to be held against.
 """
 import pathlib
 import sys
@@ -25,25 +25,25 @@ def told(line):
     return f"{line.command or 0} {line.kind}{sent}\n"
 
 
-def wrong(script, library, lines):
+def wrong(row, cases, library, lines):
     """What is wrong with a case, or None."""
-    words = script.with_suffix(".words").read_text(encoding="utf-8").split("\n")[:-1]
-    came = run(script.read_bytes(), library=library or False, **options_of(words))
-    lines.write(f"{script.stem}\n" + "".join(told(line) for line in came.lines))
-    if came.status != int(script.with_suffix(".status").read_text()):
-        return f"the status is {came.status}"
-    if came.bytes != script.with_suffix(".transcript").read_bytes():
-        return "the transcript differs"
+    name, status, script, *words = row.split("\t")
+    came = run(pathlib.Path(script).read_bytes(), library=library or False, **options_of(words))
+    lines.write(f"{name}\n" + "".join(told(line) for line in came.lines))
+    if came.status != int(status):
+        return f"{name}: the status is {came.status}"
+    if came.bytes != pathlib.Path(cases, name).read_bytes():
+        return f"{name}: the transcript differs"
     others = [line.text for line in came.lines if line.kind == "other"]
-    return f"a line is not known: {others[0]}" if others else None
+    return f"{name}: a line is not known: {others[0]}" if others else None
 
 
-def main(cases, lines, library=None):
-    scripts = sorted(pathlib.Path(cases).glob("*.script"), key=lambda script: script.stem)
+def main(rows, cases, lines, library=None):
+    rows = pathlib.Path(rows).read_text(encoding="utf-8").split("\n")[:-1]
     with open(lines, "w", encoding="utf-8") as out:
-        failed = [f"{script.name}: {why}" for script in scripts for why in [wrong(script, library, out)] if why]
-    print("\n".join([*failed, f"python, {'library' if library else 'program'}: {len(scripts)} runs, {len(failed)} differ"]))
-    return bool(failed) or not scripts
+        failed = [why for row in rows for why in [wrong(row, cases, library, out)] if why]
+    print("\n".join([*failed, f"python, {'library' if library else 'program'}: {len(rows)} runs, {len(failed)} differ"]))
+    return bool(failed) or not rows
 
 
 sys.exit(main(*sys.argv[1:]))

@@ -1,15 +1,14 @@
-//! compare CASES LINES [library]: runs each CASES/NAME.script, with the words of NAME.words, by the library where that is said,
-//! and else by the program that CEPAGE names. Its bytes have to be those of NAME.transcript, and its status that of NAME.status.
-//! Writes to LINES what the reader makes of each transcript, for the other languages to be held against.
+//! compare LIST CASES LINES [library]: runs each case of the list, by the library where that is said, and else by the program that
+//! CEPAGE names. A row of the list has its name, its status, its script and its words, with tabs between them; the bytes have to be
+//! those of CASES/NAME. Writes to LINES what the reader makes of each transcript, for the other languages to be held against.
 use cepage::{has_library, Kind, Line, Options};
 use std::error::Error;
 use std::fs;
-use std::path::{Path, PathBuf};
+use std::path::Path;
 
 /// The options that words say.
-fn options_of(words: &str) -> Result<Options, Box<dyn Error>> {
+fn options_of<'a>(mut words: impl Iterator<Item = &'a str>) -> Result<Options, Box<dyn Error>> {
     let mut options = Options::new();
-    let mut words = words.lines();
     while let Some(word) = words.next() {
         let mut value = || words.next().ok_or("a value is missing");
         options = match word {
@@ -54,49 +53,49 @@ fn told(line: &Line) -> String {
 }
 
 /// What is wrong with a case, if something is, and what the reader makes of it.
-fn compare(script: &Path, by_library: bool) -> Result<(Option<String>, String), Box<dyn Error>> {
-    let words = fs::read_to_string(script.with_extension("words"))?;
-    let options = options_of(&words)?;
+fn compare(row: &str, cases: &Path, by_library: bool) -> Result<(Option<String>, String), Box<dyn Error>> {
+    let mut parts = row.split('\t');
+    let mut part = || parts.next().ok_or("a part of the row is missing");
+    let (name, status, script) = (part()?, part()?.parse::<i32>()?, part()?);
+    let options = options_of(parts)?;
     let options = if by_library { options } else { options.without_library() };
     let came = options.run(fs::read(script)?)?;
-    let mut made = format!("{}\n", script.file_stem().unwrap_or_default().to_string_lossy());
+    let mut made = format!("{name}\n");
     made.extend(came.lines().iter().map(told));
-    let status: i32 = fs::read_to_string(script.with_extension("status"))?.trim().parse()?;
     let other = came.lines().iter().find(|line| line.kind == Kind::Other);
     let why = if came.status().number() != status {
-        Some(format!("the status is {}", came.status()))
-    } else if came.bytes() != fs::read(script.with_extension("transcript"))? {
-        Some("the transcript differs".into())
+        Some(format!("{name}: the status is {}", came.status()))
+    } else if came.bytes() != fs::read(cases.join(name))? {
+        Some(format!("{name}: the transcript differs"))
     } else {
-        other.map(|line| format!("a line is not known: {}", line.text))
+        other.map(|line| format!("{name}: a line is not known: {}", line.text))
     };
     Ok((why, made))
 }
 
 fn main() -> Result<(), Box<dyn Error>> {
     let words: Vec<String> = std::env::args().skip(1).collect();
-    let [cases, lines, rest @ ..] = words.as_slice() else { return Err("compare CASES LINES [library]".into()) };
+    let [list, cases, lines, rest @ ..] = words.as_slice() else {
+        return Err("compare LIST CASES LINES [library]".into());
+    };
     let by_library = rest == ["library"];
     if by_library && !has_library() {
         return Err("the crate was built without the library".into());
     }
-    let mut scripts: Vec<PathBuf> =
-        fs::read_dir(cases)?.map(|entry| entry.map(|it| it.path())).collect::<Result<_, _>>()?;
-    scripts.retain(|path| path.extension().is_some_and(|end| end == "script"));
-    scripts.sort_by_key(|path| path.file_stem().map(ToOwned::to_owned));
+    let list = fs::read_to_string(list)?;
     let (mut out, mut failed) = (String::new(), 0);
-    for script in &scripts {
-        let (why, made) = compare(script, by_library)?;
+    for row in list.lines() {
+        let (why, made) = compare(row, Path::new(cases), by_library)?;
         out += &made;
         if let Some(why) = why {
-            println!("{}: {why}", script.display());
+            println!("{why}");
             failed += 1;
         }
     }
     fs::write(lines, out)?;
     let door = if by_library { "library" } else { "program" };
-    println!("rust, {door}: {} runs, {failed} differ", scripts.len());
-    if failed > 0 || scripts.is_empty() {
+    println!("rust, {door}: {} runs, {failed} differ", list.lines().count());
+    if failed > 0 || list.is_empty() {
         std::process::exit(1);
     }
     Ok(())
