@@ -98,7 +98,10 @@ if sh bindings/c/build.sh "$library" >"$room/build" 2>&1; then
     shared=$library/libcepage.so
     archive=$library/libcepage.a
     addon=$library/cepage.node
-    [ -f "$addon" ] || addon=
+    if [ ! -f "$addon" ]; then
+        echo "bindings: left out: the library from Node: $(tail -n 1 "$room/build")"
+        addon=
+    fi
 else
     echo "bindings: left out: the library: $(tail -n 1 "$room/build")"
     shared= archive= addon=
@@ -166,10 +169,17 @@ in_c() {
     "$room/many" 1000 <examples/review.script && "$room/threads" 100 <examples/review.script && [ "$failed" -eq 0 ]
 }
 
-# Whether a tool is there, which is said where it is not.
+# Whether a tool is there, and answers well where it is asked; that it does not is said.
 there() {
-    command -v "$1" >/dev/null && return
-    echo "bindings: left out: $2: there is no $1"
+    part=$1
+    shift
+    if ! command -v "$1" >/dev/null; then
+        echo "bindings: left out: $part: there is no $1"
+    elif ! "$@" >/dev/null 2>&1; then
+        echo "bindings: left out: $part: $1 is too old"
+    else
+        return 0
+    fi
     return 1
 }
 
@@ -180,11 +190,11 @@ begin() {
     { (in_"$1") >"$room/log-$1" 2>&1; echo $? >"$room/ended-$1"; } &
 }
 
-! there python3 Python || begin python
-! there node Node || begin node
-! there cargo Rust || begin rust
+! there Python python3 -c 'import sys; sys.exit(sys.version_info < (3, 9))' || begin python
+! there Node node -e 'const [a, b] = process.versions.node.split("."); process.exit(a < 20 || (a == 20 && b < 11))' || begin node
+! there Rust cargo --version || begin rust
 if [ -n "$archive" ]; then
-    ! there cc C || begin c
+    ! there C cc --version || begin c
 fi
 wait
 

@@ -1,5 +1,6 @@
 //! What a script did.
 use crate::command::Command;
+use crate::error::Error;
 use crate::failure::block;
 use crate::lines::Reply;
 use crate::past::Past;
@@ -97,6 +98,11 @@ impl Run {
     /// The commands that are spelled so, in their order.
     pub fn find(&self, source: &str) -> Vec<Command> {
         self.commands().into_iter().filter(|command| command.source().trim_matches(' ') == source).collect()
+    }
+
+    /// The same script once more, with the trace.
+    pub fn traced(&self) -> Result<Run, Error> {
+        self.past.options.clone().trace(true).run(self.past.script())
     }
 
     /// Expects that it ended so.

@@ -49,7 +49,9 @@ fn each_option_says_what_its_word_says() {
     assert!(said.transcript().contains("boundary=0D") && said.transcript().contains("\"https://shop.test/\""));
     let first = example("first.script");
     assert_eq!(Options::new().url("").boundary("").run(&first).unwrap().bytes(), run(&first).unwrap().bytes());
-    assert!(Options::new().trace(true).run(&first).unwrap().transcript().starts_with("~ open 1\n"));
+    let traced = Options::new().trace(true).run(&first).unwrap();
+    assert!(traced.transcript().starts_with("~ open 1\n"));
+    assert_eq!(run(&first).unwrap().traced().unwrap().bytes(), traced.bytes());
 }
 
 #[test]
