@@ -1,3 +1,5 @@
+/// <reference types="node" />
+
 /** A node of the page, by its number; node 1 is the page's document. */
 export type NodeNumber = number;
 

@@ -1,5 +1,5 @@
 """What is asked of lines, of a whole run or of one command."""
-from typing import Optional, Tuple, Union
+from typing import Tuple, Union
 
 from .lines import Call, Construct, Line, Log, Node, Report, Submit
 

@@ -1,7 +1,7 @@
 """A session: a command in, what it answered out, over the program's own pipe."""
 import contextlib
 from types import TracebackType
-from typing import List, Optional, Tuple, Type
+from typing import Optional, Tuple, Type
 
 from .command import Command
 from .errors import ProgramDied, SessionEnded, how_it_ended, is_of_cepage

@@ -1,7 +1,7 @@
 """A line's text, spelled from its values alone: what the reader has lost shows as a difference."""
 import re
 
-from cepage import Answer, Ask, Call, Caught, Construct, Fuel, Log, Node, Reply, Report, Submit, Trace
+from cepage import Ask, Call, Caught, Construct, Fuel, Log, Node, Reply, Report, Submit, Trace
 
 ESCAPED = {'"': '\\"', "\\": "\\\\", "\n": "\\n", "\r": "\\r", "\t": "\\t"}
 

@@ -28,7 +28,7 @@ fn main() -> Result<(), Error> {
     let mut told = Vec::new();
     if has_library() {
         told.push(format!("{:.0} calls a second", rate(calls, || run(&text).map(drop))?));
-        told.push(format!("{:.0} with the lines read", rate(calls, || run(&text).map(|it| drop(it.lines().len())))?));
+        told.push(format!("{:.0} with the lines read", rate(calls, || run(&text).map(|it| _ = it.lines().len()))?));
     }
     told.push(format!("{:.0} starts", rate(starts, || Options::new().without_library().run(&text).map(drop))?));
     told.push(format!("{:.0} sessions", rate(starts, || session(&text))?));
