@@ -8,9 +8,10 @@
 # The archive is crates/cepage_c/out/libcepage_c.a, as `rt lib` in crates/cepage_c makes it, or what CEPAGE_C_ARCHIVE names. The
 # heap is that of the Rattle kit, beside `rt`, or what CEPAGE_C_HEAP names.
 set -e
-here=$(cd "$(dirname "$0")" && pwd)
+top=$(cd "$(dirname "$0")/../.." && pwd)
+here=$top/bindings/c
 folder=${1:-$here/out}
-archive=${CEPAGE_C_ARCHIVE:-$here/../../crates/cepage_c/out/libcepage_c.a}
+archive=${CEPAGE_C_ARCHIVE:-$top/crates/cepage_c/out/libcepage_c.a}
 CC=${CC:-cc}
 
 if [ ! -f "$archive" ]; then
