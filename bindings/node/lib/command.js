@@ -29,7 +29,7 @@ export class Command extends Selection {
   /** What it replied. Null where the fuel was spent in it, and of a line that answers nothing. */
   get reply() {
     const last = this.lines.at(-1);
-    return last?.kind === "reply" && last.command === this.number ? last.answer : null;
+    return last?.kind === "reply" ? last.answer : null;
   }
 
   /** The value of the reply, as the text that was asked or the node that was made. */

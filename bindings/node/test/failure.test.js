@@ -70,7 +70,7 @@ test("what is as expected fails nothing", () => {
 });
 
 test("a line too few or too many", () => {
-  for (const lines of [["call #3 connected", "ok"], ["call #3 connected", 'log "in"', 'log "in"', "ok"], ["7: ok", "ok"]]) {
+  for (const lines of [["call #3 connected", "ok"], ["call #3 connected", 'log "in"', 'log "in"', "ok"], ["7: ok", "ok"], [...last.texts.slice(0, 2), "#9"]]) {
     assert.match(told(() => last.expect(...lines)), /expected:\n/);
   }
   assert.match(told(() => last.expect()), /expected:\n    nothing\n/);
@@ -95,6 +95,13 @@ test("what was sent", () => {
   assert.match(message, /    \["stars","5"\]\n[^]*    \["stars","4"\]\n/);
   assert.match(told(() => blocked.expectSent(["title", "Good tea"])), /came:\n    submit #3 blocked invalid #5\n/);
   assert.match(told(() => review.command(46).expectSent()), /came:\n    nothing\n/);
+});
+
+test("what was sent twice", () => {
+  const script = "class A\non A connected : submit $f\non A connected : submit $f\ndefine x-a A\ncreate $h html\nappend doc $h\n";
+  const twice = run(`${script}create $f form\nappend $h $f\ncreate $a x-a\nappend $f $a\n`).commands.at(-1);
+  assert.deepEqual(twice.submissions().map((line) => line.entries), [[], []]);
+  assert.match(told(() => twice.expectSent()), /expected:\n    one submission with\ncame:\n    submit #3 get/);
 });
 
 test("a node", () => {

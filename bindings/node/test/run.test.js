@@ -29,8 +29,10 @@ test("options that are refused", () => {
     { fuel: -1 }, { fuel: 200_001 }, { fuel: 2 ** 32 + 2 }, { fuel: 1e30 }, { url: "page.test" }, { boundary: "a-b" },
     { url: `http://h/${"a".repeat(300_000)}` }, { boundary: "B".repeat(300_000) },
   ]) {
-    const { status, bytes } = run(FIRST, options);
-    assert.deepEqual([status, bytes.length], ["Usage", 0], JSON.stringify(options).slice(0, 80));
+    for (const library of [undefined, false]) {
+      const { status, bytes } = run(FIRST, { ...options, library });
+      assert.deepEqual([status, bytes.length], ["Usage", 0], JSON.stringify(options).slice(0, 80));
+    }
   }
   assert.equal(run(`${"#".repeat(4000)}\n`.repeat(1000), { fuel: 0 }).status, "Usage");
 });

@@ -31,6 +31,8 @@ test("a body", () => {
     [MULTIPART, "--B--\r\n", []],
     [MULTIPART, part("a", "b"), null],
     [MULTIPART, "--B\r\n\r\nb\r\n--B--\r\n", null],
+    [MULTIPART, `x\r\n${part("a", "b")}--B--\r\n`, null],
+    [MULTIPART, `${part("a", "b").replace("form", "from")}--B--\r\n`, null],
     [MULTIPART, "", null],
     ["application/json", "{}", null],
   ]) {

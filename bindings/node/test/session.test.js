@@ -32,11 +32,13 @@ test("an example is what it is in one piece", async () => {
 
 test("some lines are not waited for", async () => {
   const page = new Session();
-  for (const line of ["", "  ", "# a comment", "  # another", "class A", "on A connected : log in"]) {
+  const parts = ["class A", "on A connected : log in", "observe A k", " has A adopted", "associate A", "disable A shadow"];
+  for (const line of ["", "  ", "# a comment", "  # another", ...parts]) {
     const { lines, reply } = await page.command(line);
     assert.deepEqual([lines, reply], [[], null]);
   }
-  assert.equal(page.line, 6);
+  assert.equal(page.line, 10);
+  assert.deepEqual((await page.command("define x-a A")).texts, ["11: ok"]);
   await page.close();
 });
 
@@ -77,7 +79,7 @@ test("the options", async () => {
 
 test("many refused parts do not hang", async () => {
   const page = new Session();
-  for (let k = 0; k < 8_000; k += 1) page.command("class a");
+  for (let k = 0; k < 8_000; k += 1) page.command(`class a${" ".repeat(40)}`);
   const came = await page.command("create $a p");
   assert.equal(came.lines.length, 8_001);
   assert.equal(came.node, 2);
@@ -148,6 +150,13 @@ test("a script that is too long", async () => {
   };
   await assert.rejects(talk(), /TooLong/);
   assert.equal((await page.close()).status, "TooLong");
+});
+
+test("a line that is cut off is kept", async () => {
+  const page = new Session({ program: programOf("read line; printf '1: #2\\n2: #'; exit 6") });
+  assert.equal((await page.command("create $a p")).node, 2);
+  const { status, transcript } = await page.close();
+  assert.deepEqual([status, transcript], ["NoMemory", "1: #2\n2: #"]);
 });
 
 test("one that is not closed keeps no process alive", async () => {

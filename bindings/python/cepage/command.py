@@ -41,7 +41,7 @@ class Command(Selection):
     def reply(self) -> Optional[Answer]:
         """What it replied. None where the fuel was spent in it, and of a line that answers nothing."""
         last = self.lines[-1] if self.lines else None
-        return last.answer if isinstance(last, Reply) and last.command == self.number else None
+        return last.answer if isinstance(last, Reply) else None
 
     @property
     def value(self) -> Any:

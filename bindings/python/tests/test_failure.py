@@ -67,7 +67,7 @@ class Failures(unittest.TestCase):
 
     def test_a_line_too_few_or_too_many(self) -> None:
         last = self.card.command(7)
-        for lines in (("call #3 connected", "ok"), ("call #3 connected", 'log "in"', 'log "in"', "ok"), (), ("7: ok", "ok")):
+        for lines in (("call #3 connected", "ok"), ("call #3 connected", 'log "in"', 'log "in"', "ok"), (), ("7: ok", "ok"), (*last.texts[:2], "#9")):
             self.assertIn("expected:\n", self.fails(last.expect, *lines))
         self.assertIn("expected:\n    nothing\n", self.fails(last.expect))
 
@@ -90,6 +90,12 @@ class Failures(unittest.TestCase):
         self.assertIn("    ('stars', '4')\n", told)
         self.assertIn("came:\n    submit #3 blocked invalid #5\n", self.fails(blocked.expect_sent, ("title", "Good tea")))
         self.assertIn("came:\n    nothing\n", self.fails(review.command(46).expect_sent))
+
+    def test_what_was_sent_twice(self) -> None:
+        script = "class A\non A connected : submit $f\non A connected : submit $f\ndefine x-a A\ncreate $h html\nappend doc $h\n"
+        twice = run(script + "create $f form\nappend $h $f\ncreate $a x-a\nappend $f $a\n").commands[-1]
+        self.assertEqual([it.entries for it in twice.submissions()], [(), ()])
+        self.assertIn("expected:\n    one submission with\ncame:\n    submit #3 get", self.fails(twice.expect_sent))
 
     def test_a_node(self) -> None:
         self.assertIn("a reply that gives a node", self.fails(lambda: self.card.command(7).node))

@@ -45,8 +45,9 @@ class Running(unittest.TestCase):
             {"fuel": -1}, {"fuel": 200_001}, {"fuel": 2**32 + 2}, {"fuel": 10**30}, {"url": "page.test"}, {"boundary": "a-b"},
             {"url": "http://h/" + "a" * 300_000}, {"boundary": "B" * 300_000}, {"url": "http://h/\udcff"},
         ):  # fmt: skip
-            refused = run(FIRST, **said)
-            self.assertEqual((refused.status, refused.bytes), (Status.USAGE, b""), said)
+            for library in (None, False):
+                refused = run(FIRST, library=library, **said)
+                self.assertEqual((refused.status, refused.bytes), (Status.USAGE, b""))
 
     def test_what_no_option_can_be(self) -> None:
         for said, error in (({"fuel": "2"}, TypeError), ({"url": b"http://h/"}, TypeError), ({"url": "http://h/\0"}, ValueError)):

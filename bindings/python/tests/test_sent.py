@@ -35,6 +35,8 @@ class Sent(unittest.TestCase):
             (MULTIPART, "--B--\r\n", ()),
             (MULTIPART, part("a", "b"), None),
             (MULTIPART, "--B\r\n\r\nb\r\n--B--\r\n", None),
+            (MULTIPART, "x\r\n" + part("a", "b") + "--B--\r\n", None),
+            (MULTIPART, part("a", "b").replace("form", "from") + "--B--\r\n", None),
             (MULTIPART, "", None),
             ("application/json", "{}", None),
         ]:

@@ -41,11 +41,13 @@ class Sessions(unittest.TestCase):
             self.assertEqual(whole.status, Status.BAD_LINES if name == "faults" else Status.DONE)
 
     def test_some_lines_are_not_waited_for(self) -> None:
+        parts = ("class A", "on A connected : log in", "observe A k", " has A adopted", "associate A", "disable A shadow")
         with Session() as page:
-            for line in ("", "  ", "# a comment", "  # another", "class A", "on A connected : log in"):
+            for line in ("", "  ", "# a comment", "  # another", *parts):
                 came = page.command(line)
                 self.assertEqual((came.lines, came.reply), ((), None))
-            self.assertEqual(page.line, 6)
+            self.assertEqual(page.line, 10)
+            self.assertEqual(page.command("define x-a A").texts, ("11: ok",))
 
     def test_a_refused_part_is_answered_with_the_next_command(self) -> None:
         with Session() as page:
@@ -78,7 +80,7 @@ class Sessions(unittest.TestCase):
     def test_many_refused_parts_do_not_hang(self) -> None:
         with Session() as page:
             for _ in range(8_000):
-                page.command("class a")
+                page.command("class a" + " " * 40)
             came = page.command("create $a p")
             self.assertEqual(len(came.lines), 8_001)
             self.assertEqual(came.node, Node(2))
@@ -146,6 +148,19 @@ class Ends(unittest.TestCase):
             process = page.process
             raise KeyError
         self.assertFalse(is_running(process))
+
+    def test_one_that_does_not_end_is_killed(self) -> None:
+        page = Session(program=program_of("exec sleep 600"))
+        process = page.process
+        del page
+        gc.collect()
+        self.assertFalse(is_running(process))
+
+    def test_a_line_that_is_cut_off_is_kept(self) -> None:
+        page = Session(program=program_of("read line; printf '1: #2\\n2: #'; exit 6"))
+        self.assertEqual(page.command("create $a p").node, Node(2))
+        whole = page.close()
+        self.assertEqual((whole.status, whole.transcript), (Status.NO_MEMORY, "1: #2\n2: #"))
 
     def test_two_sessions_at_once(self) -> None:
         wrote = {}

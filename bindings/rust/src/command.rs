@@ -43,11 +43,8 @@ impl Command {
 
     /// What it replied. None where the fuel was spent in it, and of a line that answers nothing.
     pub fn reply(&self) -> Option<&Reply> {
-        match self.lines.last() {
-            Some(last) if last.command == Some(self.number) => match &last.kind {
-                Kind::Reply(reply) => Some(reply),
-                _ => None,
-            },
+        match self.lines.last().map(|last| &last.kind) {
+            Some(Kind::Reply(reply)) => Some(reply),
             _ => None,
         }
     }

@@ -62,8 +62,13 @@ fn what_is_as_expected_fails_nothing() {
 
 #[test]
 fn a_line_too_few_or_too_many() {
-    let others: [&'static [&'static str]; 4] =
-        [&["call #3 connected", "ok"], &["call #3 connected", "log \"in\"", "log \"in\"", "ok"], &["7: ok", "ok"], &[]];
+    let others: [&'static [&'static str]; 5] = [
+        &["call #3 connected", "ok"],
+        &["call #3 connected", "log \"in\"", "log \"in\"", "ok"],
+        &["7: ok", "ok"],
+        &["call #3 connected", "log \"in\"", "#9"],
+        &[],
+    ];
     for lines in others {
         assert!(told(|| last().expect(lines.iter().copied())).contains("expected:\n"));
     }
@@ -95,6 +100,16 @@ fn what_was_sent() {
     let message = told(|| pressed(0).expect_sent([("title", "Good tea")]));
     assert!(message.contains("came:\n    submit #3 blocked invalid #5\n"));
     assert!(told(|| review().command(46).expect_sent([])).contains("came:\n    nothing\n"));
+}
+
+#[test]
+fn what_was_sent_twice() {
+    let class = "class A\non A connected : submit $f\non A connected : submit $f\ndefine x-a A\n";
+    let page = "create $h html\nappend doc $h\ncreate $f form\nappend $h $f\ncreate $a x-a\nappend $f $a\n";
+    let twice = run(format!("{class}{page}")).unwrap().commands().pop().unwrap();
+    assert_eq!(twice.lines().submissions().len(), 2);
+    let message = told(move || twice.expect_sent([]));
+    assert!(message.contains("expected:\n    one submission with\ncame:\n    submit #3 get"), "{message}");
 }
 
 #[test]

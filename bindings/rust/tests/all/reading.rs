@@ -107,6 +107,7 @@ call #3 connected
 call  #3 connected
 call #03 connected
 call #3 adopted #1
+call #3 adopted #1 null
 call #3 attribute "k" null
 call #3 attribute null null ""
 call #3 formDisabled yes

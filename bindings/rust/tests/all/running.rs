@@ -35,8 +35,10 @@ fn options_that_are_refused() {
         Options::new().url(format!("http://h/{}", "a".repeat(300_000))),
         Options::new().boundary("B".repeat(300_000)),
     ] {
-        let refused = options.run("create $a p").unwrap();
-        assert_eq!((refused.status(), refused.transcript()), (Status::Usage, ""));
+        for options in [options.clone(), options.without_library()] {
+            let refused = options.run("create $a p").unwrap();
+            assert_eq!((refused.status(), refused.transcript()), (Status::Usage, ""));
+        }
     }
     assert!(matches!(Options::new().url("http://h/\0").run(""), Err(Error::Nul)));
     assert!(matches!(Options::new().boundary("\0").session(), Err(Error::Nul)));

@@ -40,6 +40,8 @@ fn a_body() {
         (MULTIPART, "--B--\r\n", Some(vec![])),
         (MULTIPART, &part("a", "b"), None),
         (MULTIPART, "--B\r\n\r\nb\r\n--B--\r\n", None),
+        (MULTIPART, &format!("x\r\n{}--B--\r\n", part("a", "b")), None),
+        (MULTIPART, &format!("{}--B--\r\n", part("a", "b").replace("form", "from")), None),
         (MULTIPART, "", None),
         ("application/json", "{}", None),
     ] {

@@ -35,11 +35,14 @@ fn an_example_is_what_it_is_in_one_piece() {
 #[test]
 fn some_lines_are_not_waited_for() {
     let mut page = Session::new().unwrap();
-    for line in ["", "  ", "# a comment", "  # another", "class A", "on A connected : log in"] {
+    let parts =
+        ["class A", "on A connected : log in", "observe A k", " has A adopted", "associate A", "disable A shadow"];
+    for line in ["", "  ", "# a comment", "  # another"].into_iter().chain(parts) {
         let came = page.command(line).unwrap();
         assert!(came.lines().is_empty() && came.reply().is_none());
     }
-    assert_eq!(page.line(), 6);
+    assert_eq!(page.line(), 10);
+    assert_eq!(page.command("define x-a A").unwrap().texts(), ["11: ok"]);
 }
 
 #[test]
@@ -74,7 +77,7 @@ fn a_line_feed_is_refused() {
 fn many_refused_parts_do_not_hang() {
     let mut page = Session::new().unwrap();
     for _ in 0..8_000 {
-        page.command("class a").unwrap();
+        page.command(&format!("class a{}", " ".repeat(40))).unwrap();
     }
     let came = page.command("create $a p").unwrap();
     assert_eq!((came.lines().len(), came.node()), (8_001, Node(2)));
@@ -144,4 +147,21 @@ fn no_process_is_left() {
     let process = page.process();
     page.close().unwrap();
     assert!(!is_running(process));
+}
+
+#[test]
+fn one_that_does_not_end_is_killed() {
+    let page = Options::new().program(program_of("exec sleep 600")).session().unwrap();
+    let process = page.process();
+    drop(page);
+    assert!(!is_running(process));
+}
+
+#[test]
+fn a_line_that_is_cut_off_is_kept() {
+    let program = program_of("read line; printf '1: #2\\n2: #'; exit 6");
+    let mut page = Options::new().program(program).session().unwrap();
+    assert_eq!(page.command("create $a p").unwrap().node(), Node(2));
+    let whole = page.close().unwrap();
+    assert_eq!((whole.status(), whole.transcript()), (Status::NoMemory, "1: #2\n2: #"));
 }
