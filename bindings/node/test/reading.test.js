@@ -67,10 +67,10 @@ const LINES = [
 
 // Lines that no transcript has.
 const OTHERS = [
-  "", " ", "construct", "construct card", "construct A B", "call", "call #3", "call 3 connected", "call #3 clicked",
+  "", " ", "construct", "construct card", "construct A B", `construct ${"A".repeat(33)}`, "call", "call #3", "call 3 connected", "call #3 clicked",
   "call #3 constructor", "call #3 toString", "call #3 connected ", "call  #3 connected", "call #03 connected",
   "call #3 adopted #1", "call #3 adopted #1 null", 'call #3 attribute "k" null', 'call #3 attribute null null ""', "call #3 formDisabled yes",
-  'call #3 formStateRestore "s" other', "log a", 'log"a"', 'log "a', 'log "a""b"', 'log "\\q"', 'log "\\u{}"',
+  'call #3 formStateRestore "s" other', "log a", 'log"a"', 'log "a', 'log "a""b"', 'log "a"x"b"', 'log "\\u{007f}"', 'log "\\q"', 'log "\\u{}"',
   'log "\\u{7F}"', 'log "\t"', "ask", "ask ok", "ask a", "caught", "caught Error", "caught user", "report TypeError x",
   "submit #3", "submit #3 get", "submit #3 get http://h/", 'submit #3 post "u" "t"', "submit #3 blocked",
   "submit #3 blocked late", "submit #3 blocked invalid x", "7:", "7: ", "7 : ok", "07: ok", "x7: ok", "7: OK", "7: ok ok",

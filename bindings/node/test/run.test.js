@@ -34,7 +34,7 @@ test("options that are refused", () => {
       assert.deepEqual([status, bytes.length], ["Usage", 0], JSON.stringify(options).slice(0, 80));
     }
   }
-  assert.equal(run(`${"#".repeat(4000)}\n`.repeat(1000), { fuel: 0 }).status, "Usage");
+  assert.equal(run(`${"#".repeat(4000)}\n`.repeat(1000), { fuel: 0, library: false }).status, "Usage");
 });
 
 test("what no option can be", () => {

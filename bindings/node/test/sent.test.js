@@ -13,6 +13,7 @@ test("a query", () => {
     ["http://h/?a=b+c&d=%26%C3%A1#e?f=g", [["a", "b c"], ["d", "&á"]]],
     ["http://h/?", []],
     ["http://h/", []],
+    ["http://h/??a=b", [["?a", "b"]]],
     ["http://h/?=&a=", [["", ""], ["a", ""]]],
   ]) {
     assert.deepEqual(entriesSent(url, null, null), entries, url);

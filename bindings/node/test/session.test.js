@@ -15,7 +15,7 @@ test("a command gives what it wrote", async () => {
   await page.feed(`${CARD}create $html html\nappend doc $html\ncreate $card x-card\n`);
   const came = await page.command("append $html $card");
   assert.deepEqual(came.texts, ["call #3 connected", 'log "in"', "9: ok"]);
-  assert.deepEqual(came.lines.map((line) => line.command), [9, 9, 9]);
+  assert.deepEqual(came.lines.map((line) => [line.number, line.command]), [[6, 9], [7, 9], [8, 9]]);
   assert.equal((await page.command("ask parent $card")).value, 2);
   assert.equal((await page.close()).status, "Done");
 });

@@ -64,10 +64,10 @@ LINES = [
 
 # Lines that no transcript has.
 OTHERS = [
-    "", " ", "construct", "construct card", "construct A B", "call", "call #3", "call 3 connected", "call #3 clicked",
+    "", " ", "construct", "construct card", "construct A B", "construct " + "A" * 33, "call", "call #3", "call 3 connected", "call #3 clicked",
     "call #3 connected ", "call  #3 connected", "call #03 connected", "call #3 adopted #1", "call #3 adopted #1 null", 'call #3 attribute "k" null',
     'call #3 attribute null null ""', "call #3 formDisabled yes", 'call #3 formStateRestore "s" other', "log a", 'log"a"',
-    'log "a', 'log "a""b"', r'log "\q"', r'log "\u{}"', r'log "\u{7F}"', 'log "\t"', "ask", "ask ok", "ask a", "caught",
+    'log "a', 'log "a""b"', 'log "a"x"b"', r'log "\u{007f}"', r'log "\q"', r'log "\u{}"', r'log "\u{7F}"', 'log "\t"', "ask", "ask ok", "ask a", "caught",
     "caught Error", "caught user", "report TypeError x", "submit #3", "submit #3 get", "submit #3 get http://h/",
     'submit #3 post "u" "t"', "submit #3 blocked", "submit #3 blocked late", "submit #3 blocked invalid x", "7:", "7: ",
     "7 : ok", "07: ok", "x7: ok", "7: OK", "7: ok ok", "7: throw", "7: throw user", "7: bad", "7: bad later", "7: #1 x",

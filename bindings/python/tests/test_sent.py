@@ -19,6 +19,7 @@ class Sent(unittest.TestCase):
             ("http://h/?a=b+c&d=%26%C3%A1#e?f=g", (("a", "b c"), ("d", "&á"))),
             ("http://h/?", ()),
             ("http://h/", ()),
+            ("http://h/??a=b", (("?a", "b"),)),
             ("http://h/?=&a=", (("", ""), ("a", ""))),
         ]:
             self.assertEqual(entries_sent(url, None, None), entries, url)

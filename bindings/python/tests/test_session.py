@@ -28,7 +28,7 @@ class Sessions(unittest.TestCase):
             page.feed(CARD + "create $html html\nappend doc $html\ncreate $card x-card\n")
             came = page.command("append $html $card")
             self.assertEqual(came.texts, ("call #3 connected", 'log "in"', "9: ok"))
-            self.assertEqual([line.command for line in came.lines], [9, 9, 9])
+            self.assertEqual([(line.number, line.command) for line in came.lines], [(6, 9), (7, 9), (8, 9)])
             self.assertEqual(page.command("ask parent $card").value, Node(2))
         self.assertIs(page.close().status, Status.DONE)
 

@@ -99,6 +99,7 @@ const OTHERS: &str = r##"
 construct
 construct card
 construct A B
+construct AAAAAAAAAAAAAAAAAAAAAAAAAAAAAAAAA
 call
 call #3
 call 3 connected
@@ -116,6 +117,8 @@ log a
 log"a"
 log "a
 log "a""b"
+log "a"x"b"
+log "\u{007f}"
 log "\q"
 log "\u{}"
 log "\u{7F}"

@@ -16,7 +16,8 @@ fn a_command_gives_what_it_wrote() {
     page.feed("create $html html\nappend doc $html\ncreate $card x-card\n").unwrap();
     let came = page.command("append $html $card").unwrap();
     assert_eq!(came.texts(), ["call #3 connected", "log \"in\"", "9: ok"]);
-    assert!(came.lines().iter().all(|line| line.command == Some(9)));
+    let places: Vec<_> = came.lines().iter().map(|line| (line.number, line.command)).collect();
+    assert_eq!(places, [(6, Some(9)), (7, Some(9)), (8, Some(9))]);
     assert_eq!(page.command("ask parent $card").unwrap().answer(), Some(&Answer::Node(Node(2))));
     assert_eq!(page.close().unwrap().status(), Status::Done);
 }
