@@ -197,7 +197,7 @@ begin() {
 }
 
 ! there Python python3 -c 'import sys; sys.exit(sys.version_info < (3, 9))' || begin python
-! there Node node -e 'const [a, b] = process.versions.node.split("."); process.exit(a < 20 || (a == 20 && b < 11))' || begin node
+! there Node node -e 'const [a, b] = process.versions.node.split("."); process.exit(a < 20 || (a == 20 && b < 11) ? 1 : 0)' || begin node
 ! there Rust cargo --version || begin rust
 if [ -n "$archive" ]; then
     ! there C cc --version || begin c

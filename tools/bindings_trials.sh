@@ -34,15 +34,23 @@ tried() {
     "$@" || failed=$((failed + 1))
 }
 
-for script in review tabs upgrades fuel; do
-    echo "examples/$script.script:"
+# A script whose transcript is longer than what is gathered before it is written.
+awk 'BEGIN {
+    for (i = 0; i < 1000; i++) value = value "v"
+    print "create $a p"
+    print "setattr $a k " value
+    for (i = 0; i < 200; i++) print "ask attr $a k"
+}' >"$room/long.script"
+
+for script in examples/review.script examples/tabs.script examples/upgrades.script examples/reentry.script "$room/long.script"; do
+    echo "$(basename "$script"):"
     if there valgrind "what valgrind says"; then
         tried valgrind --leak-check=full --show-leak-kinds=all --error-exitcode=9 --log-file="$room/valgrind" \
-            "$room/many" 1000 <"examples/$script.script"
-        sed -n 's,^==[0-9]*==  *\(total heap usage\|ERROR SUMMARY\|in use at exit\),valgrind: \1,p' "$room/valgrind"
+            "$room/many" 1000 <"$script"
+        sed -n 's,^==[0-9]*==  *\(total heap usage\|in use at exit\),    valgrind: \1,p; s,^==[0-9]*== \(ERROR SUMMARY\),    valgrind: \1,p' "$room/valgrind"
     fi
-    tried "$room/refuse" <"examples/$script.script"
-    tried "$room/threads" 1000 <"examples/$script.script"
+    tried "$room/refuse" <"$script"
+    tried "$room/threads" 1000 <"$script"
 done
 
 echo "$twenty:"
