@@ -1,37 +1,30 @@
-// Tests for node:test: `node --test drive.test.mjs`. PAGES names the folder of scripts, this one without it; CEPAGE the
-// program.
+// A test for each script of a folder, against the files beside it: `PAGES=folder node --test drive.test.mjs`. Without PAGES
+// the folder is this one. CEPAGE names the program.
 import assert from "node:assert/strict";
 import { existsSync, readFileSync, readdirSync } from "node:fs";
 import { join } from "node:path";
 import { test } from "node:test";
-import { Page, refused, run } from "./cepage.mjs";
+// Where the package is installed: from "cepage".
+import { STATUSES, run } from "../../bindings/node/index.js";
 
 const folder = process.env.PAGES ?? import.meta.dirname;
 
-// Each script of the folder, against the files beside it.
+// The options that the words of a file say, one word a line.
+function optionsOf(words) {
+  const said = {};
+  for (let at = 0; at < words.length; at += 1) said[words[at].slice(2)] = words[at] === "--trace" || words[++at];
+  return said.fuel === undefined ? said : { ...said, fuel: Number(said.fuel) };
+}
+
 const scripts = readdirSync(folder).filter((name) => name.endsWith(".script"));
 for (const name of scripts) {
   test(name, () => {
     const file = join(folder, name);
     const beside = (end) => file.replace(/script$/, end);
     const optional = (end) => (existsSync(beside(end)) ? readFileSync(beside(end), "utf8") : "");
-    const words = optional("words").split("\n").filter((word) => word !== "");
-    const { status, transcript } = run(file, words);
-    const bad = refused(readFileSync(file, "utf8"), transcript).join("\n");
-    assert.equal(status, Number(optional("status")), `the status is ${status}\n${bad}`);
-    assert.equal(transcript, readFileSync(beside("transcript"), "utf8"));
+    const came = run(readFileSync(file), optionsOf(optional("words").split("\n").filter((word) => word !== "")));
+    came.expectStatus(STATUSES[Number(optional("status"))]);
+    assert.equal(came.transcript, readFileSync(beside("transcript"), "utf8"));
   });
 }
 test("there are scripts", () => assert.notEqual(scripts.length, 0, `no script in ${folder}`));
-
-// A test that is no script: it goes on by what was answered.
-test("a card hears that it is in", async () => {
-  const page = new Page();
-  page.lines("class Card\non Card connected : log in\n");
-  await page.command("define x-card Card");
-  await page.command("create $html html");
-  await page.command("append doc $html");
-  await page.command("create $card x-card");
-  assert.deepEqual(await page.command("append $html $card"), ["call #3 connected", 'log "in"', "8: ok"]);
-  assert.equal(await page.end(), 0);
-});

@@ -1,0 +1,150 @@
+// A session: a command in, what it answered out, over the program's own pipe.
+import { spawn } from "node:child_process";
+import { Command } from "./command.js";
+import { ProgramDied, SessionEnded, howItEnded } from "./errors.js";
+import { optionsOf, wordsOf } from "./options.js";
+import { findProgram, runProgram, startFailed } from "./program.js";
+import { readLines } from "./reading.js";
+import { Run } from "./run.js";
+import { cutLines, isUnanswered } from "./script.js";
+import { STATUSES } from "./status.js";
+
+/** A page that is talked to, a line at a time.
+ *
+ * The program answers each line before it reads the next one. A session that waits for nothing keeps no process of Node
+ * alive, and its program ends with that. */
+export class Session {
+  #program;
+  #options;
+  #child;
+  #closed;
+  #script = [];
+  #wrote = [];
+  #rest = "";
+  #given = 0; // how many of the lines that were written have been given with a command
+  #waiting = []; // commands whose reply has not come: { number, line, resolve, reject }
+  #over = null; // why no line is taken any more
+  #ended = null; // { code, signal }
+  #failed = null; // the program could not be started
+
+  /** The options are those of `run`; the program is started in any case. */
+  constructor(options = {}) {
+    this.#options = optionsOf(options);
+    this.#program = findProgram(options.program);
+    this.#child = spawn(this.#program.name, wordsOf(this.#options), { stdio: ["pipe", "pipe", "ignore"] });
+    this.#closed = new Promise((resolve) => this.#child.on("close", (code, signal) => resolve(this.#end({ code, signal }))));
+    this.#child.on("error", (error) => {
+      this.#failed = startFailed(this.#program, error);
+    });
+    this.#child.stdin.on("error", () => {}); // the program has ended, which its close tells
+    this.#child.stdout.setEncoding("utf8").on("data", (piece) => this.#take(piece));
+    this.#hold(false);
+  }
+
+  /** The number of the line that was given last. */
+  get line() {
+    return this.#script.length;
+  }
+
+  /** The number of the program's process. */
+  get process() {
+    return this.#child.pid;
+  }
+
+  /** Gives a line, and gives what it wrote, the reply last.
+   *
+   * A blank line, a comment and a part of a class answer nothing where they are accepted, and are not waited for. Where a
+   * part is refused, its reply comes first of what the next command gives. */
+  async command(line) {
+    if (typeof line !== "string" || !line.isWellFormed()) throw new TypeError("a line is a string of Unicode scalar values");
+    if (line.includes("\n")) throw new TypeError("a line has no line feed: give each line by itself, or all of them to feed()");
+    if (this.#over !== null) throw this.#failed ?? new SessionEnded(this.#over, this.#status);
+    const number = this.#script.push(line);
+    this.#child.stdin.write(`${line}\n`);
+    if (isUnanswered(line)) return new Command(this.#untilNow(), number, line, []);
+    return new Promise((resolve, reject) => {
+      this.#waiting.push({ number, line, resolve, reject });
+      this.#hold(true);
+    });
+  }
+
+  /** Gives each line of a script, and gives what each command among them wrote. */
+  async feed(script) {
+    const given = [];
+    for (const line of cutLines(script)) given.push(await this.command(line));
+    return given.filter((command) => command.lines.length);
+  }
+
+  /** Ends the script, and gives the whole session as a run. */
+  async close() {
+    this.#over ??= "it was closed";
+    this.#hold(true);
+    this.#child.stdin.end();
+    await this.#closed;
+    if (this.#failed) throw this.#failed;
+    if (this.#status === null) throw new ProgramDied(this.#program.name, this.#ended);
+    return this.#run(this.#script.length, this.#wrote.length, this.#status, this.#rest);
+  }
+
+  async [Symbol.asyncDispose ?? Symbol.for("nodejs.asyncDispose")]() {
+    await this.close();
+  }
+
+  get #status() {
+    return (this.#ended && !this.#ended.signal && STATUSES[this.#ended.code]) || null;
+  }
+
+  // A line of a transcript ends at a line feed, and at nothing else.
+  #take(piece) {
+    const lines = (this.#rest + piece).split("\n");
+    this.#rest = lines.pop();
+    for (const line of lines) {
+      this.#wrote.push(line);
+      if (line === "fuel") this.#spent();
+      else if (this.#waiting.length && line.startsWith(`${this.#waiting[0].number}: `)) this.#answer();
+    }
+  }
+
+  // Gives the command that waits longest what has come since the last one.
+  #answer() {
+    const { number, line, resolve } = this.#waiting.shift();
+    const wrote = this.#wrote.slice(this.#given).map((text) => `${text}\n`).join("");
+    const lines = readLines(wrote, () => number, this.#given + 1);
+    this.#given = this.#wrote.length;
+    resolve(new Command(this.#untilNow(number), number, line, lines));
+    if (!this.#waiting.length) this.#hold(false);
+  }
+
+  #spent() {
+    if (!this.#waiting.length) return;
+    const { number, line } = this.#waiting[0];
+    this.#over = `the fuel was spent in line ${number}: ${line}`;
+    this.#answer();
+  }
+
+  #end(ended) {
+    this.#ended = ended;
+    const first = this.#waiting[0];
+    const where = first ? `, at line ${first.number}: ${first.line}` : "";
+    this.#over ??= `the program ended ${howItEnded(ended)}${where}`;
+    for (const { reject } of this.#waiting.splice(0)) reject(this.#failed ?? new SessionEnded(this.#over, this.#status));
+  }
+
+  // The session as a run, up to this line and to what has been given.
+  #untilNow(number = this.#script.length) {
+    const given = this.#given;
+    return () => this.#run(number, given, null, "");
+  }
+
+  #run(number, given, status, rest) {
+    const text = (lines) => lines.map((line) => `${line}\n`).join("");
+    const bytes = Buffer.from(text(this.#wrote.slice(0, given)) + rest);
+    const script = Buffer.from(text(this.#script.slice(0, number)));
+    return new Run(script, this.#options, { status, bytes }, runProgram.bind(null, this.#program));
+  }
+
+  // Whether Node goes on as long as the program does.
+  #hold(held) {
+    for (const it of [this.#child, this.#child.stdin, this.#child.stdout]) it[held ? "ref" : "unref"]();
+  }
+}

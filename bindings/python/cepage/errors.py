@@ -1,0 +1,49 @@
+"""What goes wrong outside of a script."""
+import os
+import signal
+from typing import Optional
+
+from .status import Status
+
+
+class CepageError(Exception):
+    """The program or its library could not be used."""
+
+
+class ProgramMissing(CepageError, FileNotFoundError):
+    """There is no program of that name."""
+
+    def __init__(self, name: str, asked_by: str) -> None:
+        super().__init__(f"there is no program {name!r}, which {asked_by} names; say program=, or set CEPAGE, to cepage")
+
+
+class ProgramDied(CepageError):
+    """The program ended as cepage does not: by a signal, or with another status."""
+
+    def __init__(self, name: str, status: int, told: str = "") -> None:
+        super().__init__(f"{name} ended {how_it_ended(status)}" + (f": {told}" if told else ""))
+
+
+class SessionEnded(CepageError):
+    """The session is over, so this line was not run."""
+
+    def __init__(self, why: str, status: Optional[Status]) -> None:
+        super().__init__(f"the session has ended: {why}")
+        self.status = status
+
+
+def how_it_ended(status: int) -> str:
+    """A status as os.wait tells it, in words."""
+    if status < 0:
+        name = next((it.name for it in signal.Signals if it == -status), str(-status))
+        return f"by the signal {name}"
+    return f"with status {status}" + (f", {Status(status).name}" if is_of_cepage(status) else "")
+
+
+def is_of_cepage(status: int) -> bool:
+    return status in list(Status)
+
+
+def one_line(told: bytes) -> str:
+    """The first line of what was written to standard error."""
+    return next(iter(os.fsdecode(told).split("\n")), "").strip()

@@ -1,0 +1,33 @@
+"""Failures that read well."""
+from typing import List, Sequence
+
+MOST_LINES = 200
+
+
+class Failure(AssertionError):
+    """A script did something else than was expected."""
+
+
+def block(title: str, lines: Sequence[str]) -> List[str]:
+    """The title, and the lines below it, set in; of very many the first ones."""
+    shown = [f"    {line}" for line in lines[:MOST_LINES]] or ["    nothing"]
+    more = len(lines) - MOST_LINES
+    return [title, *shown] + [f"    and {more} lines more"] * (more > 0)
+
+
+def differing(expected: Sequence[str], came: Sequence[str]) -> List[str]:
+    """What was expected and what came, with a sign before the first line that differs."""
+    at = next((k for k, (one, other) in enumerate(zip(expected, came)) if one != other), min(len(expected), len(came)))
+    marked = [[("> " if k == at else "  ") + line for k, line in enumerate(lines)] for lines in (expected, came)]
+    return block("expected:", marked[0]) + block("came:", marked[1])
+
+
+def indented(trace: Sequence[str]) -> List[str]:
+    """A trace as an outline: what stands deeper ran within what stands around it."""
+    lines, depth = [], 0
+    for line in trace:
+        word = line.split(" ")[1] if line.startswith("~ ") else ""
+        depth -= word in ("finish", "done", "threw", "close")
+        lines.append("  " * max(depth, 0) + line)
+        depth += word in ("open", "start", "up") or line == "~ drain 0"
+    return lines

@@ -1,0 +1,25 @@
+"""The package as pip installs it."""
+import os
+import subprocess
+import sys
+import tempfile
+import unittest
+
+import packing
+
+
+class Packing(unittest.TestCase):
+    def test_the_wheel_has_the_package(self) -> None:
+        with tempfile.TemporaryDirectory() as folder:
+            wheel = os.path.join(folder, packing.build_wheel(folder))
+            code = "import cepage, sys; sys.exit(not (cepage.__file__.startswith(sys.argv[1]) and cepage.run('').status == 0))"
+            environment = {**os.environ, "PYTHONPATH": wheel, "CEPAGE_LIBRARY": ""}
+            done = subprocess.run([sys.executable, "-c", code, wheel], cwd=folder, env=environment, check=False)
+            self.assertEqual(done.returncode, 0)
+
+    def test_its_metadata(self) -> None:
+        said = packing.metadata(packing.project())
+        self.assertIn("\nName: cepage\nVersion: ", said)
+        self.assertIn("\nRequires-Python: >=3.9\n", said)
+        self.assertIn("\nClassifier: Typing :: Typed\n", said)
+        self.assertIn("\n\n# cepage for Python\n", said)

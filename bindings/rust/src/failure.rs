@@ -1,0 +1,41 @@
+//! Failures that read well.
+const MOST_LINES: usize = 200;
+
+/// The title, and the lines below it, set in; of very many the first ones.
+pub(crate) fn block<T: AsRef<str>>(title: &str, lines: &[T]) -> Vec<String> {
+    let mut block = vec![title.to_string()];
+    block.extend(lines.iter().take(MOST_LINES).map(|line| format!("    {}", line.as_ref())));
+    if lines.is_empty() {
+        block.push("    nothing".into());
+    }
+    if lines.len() > MOST_LINES {
+        block.push(format!("    and {} lines more", lines.len() - MOST_LINES));
+    }
+    block
+}
+
+/// What was expected and what came, with a sign before the first line that differs.
+pub(crate) fn differing(expected: &[&str], came: &[&str]) -> Vec<String> {
+    let at = expected.iter().zip(came).take_while(|(one, other)| one == other).count();
+    let marked = |lines: &[&str]| -> Vec<String> {
+        lines.iter().enumerate().map(|(k, line)| format!("{} {line}", if k == at { '>' } else { ' ' })).collect()
+    };
+    [block("expected:", &marked(expected)), block("came:", &marked(came))].concat()
+}
+
+/// A trace as an outline: what stands deeper ran within what stands around it.
+pub(crate) fn indented(trace: &[&str]) -> Vec<String> {
+    let mut depth: usize = 0;
+    let outline = trace.iter().map(|line| {
+        let word = line.strip_prefix("~ ").and_then(|rest| rest.split(' ').next()).unwrap_or("");
+        if matches!(word, "finish" | "done" | "threw" | "close") {
+            depth = depth.saturating_sub(1);
+        }
+        let shown = format!("{}{line}", "  ".repeat(depth));
+        if matches!(word, "open" | "start" | "up") || *line == "~ drain 0" {
+            depth += 1;
+        }
+        shown
+    });
+    outline.collect()
+}
