@@ -47,7 +47,7 @@ globalThis.Cepage ??= {};
 
     // What stands open where the transcript ends. The command that has no reply is the next one of the script.
     function endRun(run) {
-        run.open = run.stack.map((bracket) => bracket.row);
+        run.open = new Set(run.stack.map((bracket) => bracket.row));
         run.leaveTo(0);
         if (run.command >= 0) {
             const row = run.rows[run.command];

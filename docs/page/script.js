@@ -106,5 +106,6 @@ globalThis.Cepage ??= {};
 
     Cepage.Script = Script;
     Cepage.readMaking = readMaking;
+    Cepage.kindOfLine = kindOf;
     Cepage.said = said;
 })();
