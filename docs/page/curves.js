@@ -127,11 +127,12 @@ globalThis.Cepage ??= {};
 
         // The bars: one for each row that something seen stands within.
         bars() {
-            const { view, first, last } = this.seen;
-            const open = [...view.around(view.shown[first])].reverse();
-            const drawn = new Set(open);
-            for (let place = first; place <= last; place++) drawn.add(view.shown[place]);
-            return [...drawn].map((index) => this.bar(index)).filter(Boolean);
+            const { view, first, shown, levels } = this.seen;
+            const open = [];
+            for (const index of view.around(view.shown[first])) {
+                if (levels.x(view.run.rows[index].depth + 1) >= 0) open.push(index);
+            }
+            return [...open, ...shown].map((index) => this.bar(index)).filter(Boolean);
         }
 
         bar(index) {

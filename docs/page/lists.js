@@ -18,7 +18,8 @@ globalThis.Cepage ??= {};
             element.tabIndex = 0;
             element.setAttribute("role", "listbox");
             element.setAttribute("aria-label", name);
-            element.addEventListener("scroll", () => this.render());
+            this.top = 0;
+            element.addEventListener("scroll", () => this.scrolled());
             element.addEventListener("click", (event) => this.clicked(event));
             element.addEventListener("keydown", (event) => this.pressed(event));
             this.texts = [];
@@ -34,7 +35,27 @@ globalThis.Cepage ??= {};
             this.look = look;
             this.chosen = -1;
             this.room.style.height = `${texts.length * HEIGHT}px`;
-            this.element.scrollTop = 0;
+            this.lit = () => "";
+            this.height = this.element.clientHeight;
+            this.scrollTo(0);
+            this.render();
+        }
+
+        resized() {
+            this.height = this.element.clientHeight;
+            if (this.chosen >= 0) this.reveal(this.chosen);
+            this.render();
+        }
+
+        scrollTo(top) {
+            this.top = Math.max(0, Math.min(top, this.texts.length * HEIGHT - this.height));
+            this.element.scrollTop = this.top;
+        }
+
+        scrolled() {
+            const { scrollTop } = this.element;
+            if (Math.abs(scrollTop - this.top) < 1) return;
+            this.top = scrollTop;
             this.render();
         }
 
@@ -48,15 +69,13 @@ globalThis.Cepage ??= {};
 
         reveal(at) {
             const top = at * HEIGHT;
-            const { scrollTop, clientHeight } = this.element;
-            if (clientHeight === 0 || (top >= scrollTop && top + HEIGHT <= scrollTop + clientHeight)) return;
-            this.element.scrollTop = top - (clientHeight - HEIGHT) / 2;
+            if (this.height === 0 || (top >= this.top && top + HEIGHT <= this.top + this.height)) return;
+            this.scrollTo(top - (this.height - HEIGHT) / 2);
         }
 
         render() {
-            const { scrollTop, clientHeight } = this.element;
-            const first = Math.max(0, Math.floor(scrollTop / HEIGHT) - MARGIN);
-            const last = Math.min(this.texts.length, Math.ceil((scrollTop + clientHeight) / HEIGHT) + MARGIN);
+            const first = Math.max(0, Math.floor(this.top / HEIGHT) - MARGIN);
+            const last = Math.min(this.texts.length, Math.ceil((this.top + this.height) / HEIGHT) + MARGIN);
             const lines = [];
             for (let at = first; at < last; at++) lines.push(this.line(at));
             if (this.chosen >= 0 && this.chosen < this.texts.length && (this.chosen < first || this.chosen >= last)) {
@@ -101,7 +120,7 @@ globalThis.Cepage ??= {};
         }
 
         pressed(event) {
-            const page = Math.max(1, Math.floor(this.element.clientHeight / HEIGHT) - 1);
+            const page = Math.max(1, Math.floor(this.height / HEIGHT) - 1);
             const moves = { ArrowDown: 1, ArrowUp: -1, PageDown: page, PageUp: -page, Home: -Infinity, End: Infinity };
             if (!Object.hasOwn(moves, event.key) || event.ctrlKey || event.altKey || event.metaKey) return;
             event.preventDefault();

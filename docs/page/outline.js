@@ -22,7 +22,8 @@ globalThis.Cepage ??= {};
             this.made = new Map();
             this.place = 0;
             this.hover = 0;
-            tree.addEventListener("scroll", () => this.render());
+            this.top = 0;
+            tree.addEventListener("scroll", () => this.scrolled());
             tree.addEventListener("click", (event) => this.clicked(event));
             tree.addEventListener("pointermove", (event) => this.pointed(event.target));
             tree.addEventListener("pointerleave", () => this.pointed(null));
@@ -35,7 +36,7 @@ globalThis.Cepage ??= {};
             this.room.style.height = `${Math.min(TALLEST, view.shown.length * HEIGHT)}px`;
             this.place = Math.max(0, view.placeOf(index));
             this.measure();
-            this.tree.scrollTop = 0;
+            this.scrollTo(0);
             this.focusPlace(this.place);
         }
 
@@ -47,7 +48,9 @@ globalThis.Cepage ??= {};
 
         // How wide the tree is decides how many lanes there are.
         measure() {
-            this.narrow = this.tree.clientWidth < 480;
+            this.width = this.tree.clientWidth;
+            this.height = this.tree.clientHeight;
+            this.narrow = this.width < 480;
             this.gap = this.narrow ? 8 : 11;
             this.lanes = new Cepage.Lanes(this.view.run, this.narrow ? 6 : 14);
             const most = this.lanes.laneOf.size > 0 && [...this.lanes.laneOf.values()].includes(-1);
@@ -55,9 +58,12 @@ globalThis.Cepage ??= {};
             this.tree.classList.toggle("narrow", this.narrow);
         }
 
+        // The row in focus stays in sight where it was.
         resized() {
-            if (!this.view) return;
+            const above = this.place * HEIGHT - this.top;
+            const inSight = above >= 0 && above + HEIGHT <= this.height;
             this.measure();
+            if (this.view.shown.length > 0 && inSight) this.reveal();
             this.render();
         }
 
@@ -90,22 +96,39 @@ globalThis.Cepage ??= {};
         // Scrolls so that the row in focus is seen: a far one in the middle.
         reveal() {
             const top = this.place * HEIGHT;
-            const { scrollTop, clientHeight } = this.tree;
-            const above = top - scrollTop;
-            if (above >= 0 && above + HEIGHT <= clientHeight) return;
-            const near = above > -4 * HEIGHT && above < clientHeight + 4 * HEIGHT;
-            if (!near) this.tree.scrollTop = top - (clientHeight - HEIGHT) / 2;
-            else this.tree.scrollTop = above < 0 ? top : top + HEIGHT - clientHeight;
+            const above = top - this.top;
+            if (above >= 0 && above + HEIGHT <= this.height) return;
+            const near = above > -4 * HEIGHT && above < this.height + 4 * HEIGHT;
+            if (!near) this.scrollTo(top - (this.height - HEIGHT) / 2);
+            else this.scrollTo(above < 0 ? top : top + HEIGHT - this.height);
+        }
+
+        // Scrolls without asking the browser where it stands, which would lay out all that has changed.
+        scrollTo(top) {
+            this.top = Math.max(0, Math.min(top, this.view.shown.length * HEIGHT - this.height));
+            this.tree.scrollTop = this.top;
+        }
+
+        // Brings a place into the middle, and leaves the focus where it is.
+        look(place) {
+            this.scrollTo(place * HEIGHT - this.height / 2);
+            this.render();
+        }
+
+        scrolled() {
+            const { scrollTop } = this.tree;
+            if (Math.abs(scrollTop - this.top) < 1) return;
+            this.top = scrollTop;
+            this.render();
         }
 
         // The places that are seen now.
         seen() {
             const count = this.view.shown.length;
-            const { scrollTop, clientHeight } = this.tree;
-            const first = Math.max(0, Math.min(count - 1, Math.floor(scrollTop / HEIGHT) - MARGIN));
-            const last = Math.min(count - 1, Math.ceil((scrollTop + clientHeight) / HEIGHT) + MARGIN);
+            const first = Math.max(0, Math.min(count - 1, Math.floor(this.top / HEIGHT) - MARGIN));
+            const last = Math.min(count - 1, Math.ceil((this.top + this.height) / HEIGHT) + MARGIN);
             const shown = Array.from(this.view.shown.subarray(first, last + 1));
-            const levels = new Cepage.Levels(shown.map((index) => this.view.run.rows[index].depth), this.tree.clientWidth);
+            const levels = new Cepage.Levels(shown.map((index) => this.view.run.rows[index].depth), this.width);
             return { first, last, shown, levels, height: HEIGHT, gap: this.gap, offset: this.offset, view: this.view,
                 lanes: this.lanes, strong: this.strong };
         }
@@ -120,7 +143,7 @@ globalThis.Cepage ??= {};
             }
             const seen = this.seen();
             this.makeRows(seen);
-            this.curves.replaceChildren(new Cepage.Curves(seen).picture(this.tree.clientWidth));
+            this.curves.replaceChildren(new Cepage.Curves(seen).picture(this.width));
             this.tree.setAttribute("aria-activedescendant", `row-${this.index}`);
             this.onSeen?.(seen);
         }
@@ -210,7 +233,7 @@ globalThis.Cepage ??= {};
         }
 
         page(down) {
-            const rows = Math.max(1, Math.floor(this.tree.clientHeight / HEIGHT) - 1);
+            const rows = Math.max(1, Math.floor(this.height / HEIGHT) - 1);
             this.focusPlace(this.place + (down ? rows : -rows));
         }
 

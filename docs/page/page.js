@@ -9,11 +9,11 @@ globalThis.Cepage ??= {};
         constructor() {
             this.outline = new Cepage.Outline(find("tree"), (index) => this.focused(index));
             this.outline.onSeen = (seen) => this.seen(seen);
-            this.strip = new Cepage.Strip(find("strip"), find("tree"));
+            this.strip = new Cepage.Strip(find("strip"), (place) => this.outline.look(place));
             this.scriptList = new Cepage.LineList(find("script-lines"), "Lines of the script", (at) => this.choseScript(at));
             this.transcriptList = new Cepage.LineList(find("transcript-lines"), "Lines of the transcript",
                 (at) => this.choseTranscript(at));
-            this.tabs = new Cepage.Tabs(find("tabs"), () => this.resized());
+            this.tabs = new Cepage.Tabs(find("tabs"));
             this.opener = new Cepage.Opener(find("opener"), (own) => this.showOwn(own));
             this.listExamples();
             this.listen();
@@ -46,8 +46,8 @@ globalThis.Cepage ??= {};
                 });
             }
             addEventListener("hashchange", () => this.openHash());
-            addEventListener("resize", () => this.resized());
-            matchMedia("(prefers-color-scheme: dark)").addEventListener("change", () => this.resized());
+            matchMedia("(prefers-color-scheme: dark)").addEventListener("change", () => this.showStrip());
+            this.watch();
         }
 
         // Opens the example that the address names, behind it the line of its transcript: `#trace:40`.
@@ -124,18 +124,17 @@ globalThis.Cepage ??= {};
             const before = this.view?.run === this.run ? this.outline.index : 0;
             this.view = new Cepage.View(this.run, find("brief").checked);
             this.outline.show(this.view, this.view.nearest(before));
-            this.strip.show(this.view);
-            this.strip.seen();
+            this.showStrip();
             if (this.view.shown.length === 0) find("words").textContent = "There is nothing to draw.";
         }
 
         seen(seen) {
-            const top = Math.floor(this.outline.tree.scrollTop / Cepage.ROW_HEIGHT);
+            const top = Math.floor(this.outline.top / Cepage.ROW_HEIGHT);
             const index = this.view.shown[Math.min(top, this.view.shown.length - 1)];
             find("path").textContent = Cepage.pathWords(this.view, index);
             const waits = top > 0 ? seen.lanes.waiting[this.view.shown[top - 1]] : 0;
             find("waiting").textContent = waits > 0 ? `${waits.toLocaleString("en")} ${waits === 1 ? "waits" : "wait"}` : "";
-            if (this.strip.view === this.view) this.strip.seen();
+            if (this.strip.view === this.view) this.strip.seen(this.outline.top, this.outline.height);
         }
 
         // Tells of the row in focus, and lights its lines.
@@ -227,13 +226,27 @@ globalThis.Cepage ??= {};
             act();
         }
 
-        resized() {
+        // Hears where a pane has got another size: the window, another tab, a note or longer words do that.
+        watch() {
+            const sizes = new ResizeObserver((entries) => {
+                for (const { target } of entries) this.resized(target);
+            });
+            for (const element of [this.outline.tree, this.scriptList.element, this.transcriptList.element]) sizes.observe(element);
+        }
+
+        resized(element) {
             if (!this.view) return;
-            this.outline.resized();
+            if (element === this.scriptList.element) this.scriptList.resized();
+            else if (element === this.transcriptList.element) this.transcriptList.resized();
+            else {
+                this.outline.resized();
+                this.showStrip();
+            }
+        }
+
+        showStrip() {
             this.strip.show(this.view);
-            this.strip.seen();
-            this.scriptList.render();
-            this.transcriptList.render();
+            this.strip.seen(this.outline.top, this.outline.height);
         }
     }
 

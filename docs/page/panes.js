@@ -5,22 +5,20 @@ globalThis.Cepage ??= {};
 
 (function () {
     class Tabs {
-        // `onChange` is told when another pane is shown.
-        constructor(list, onChange) {
+        constructor(list) {
             this.tabs = [...list.querySelectorAll("[role=tab]")];
-            this.onChange = onChange;
             for (const tab of this.tabs) tab.addEventListener("click", () => this.choose(this.paneOf(tab)));
             list.addEventListener("keydown", (event) => this.pressed(event));
-            this.mark("drawing");
+            this.choose("drawing");
         }
 
         paneOf(tab) {
             return tab.getAttribute("aria-controls");
         }
 
-        // `pane` is the one that is seen where there is room for one; `side` the one beside the drawing where there is
-        // room for two.
-        mark(pane) {
+        // Chooses the pane that is seen where there is room for one; the last other one stands beside the drawing
+        // where there is room for two.
+        choose(pane) {
             document.body.dataset.pane = pane;
             if (pane !== "drawing") document.body.dataset.side = pane;
             document.body.dataset.side ??= "transcript";
@@ -30,11 +28,6 @@ globalThis.Cepage ??= {};
                 tab.tabIndex = chosen ? 0 : -1;
                 tab.classList.toggle("side", this.paneOf(tab) === document.body.dataset.side);
             }
-        }
-
-        choose(pane) {
-            this.mark(pane);
-            this.onChange();
         }
 
         pressed(event) {
@@ -49,15 +42,16 @@ globalThis.Cepage ??= {};
         }
     }
 
-    // What stands open above the first row that is seen: the command, the two innermost rows, and how many more.
+    // What stands open around a row: the command, the two innermost rows, and how many more.
     function pathWords(view, index) {
         const { run } = view;
-        const around = [...view.around(index)];
-        const rows = around.filter((at) => run.rows[at].kind !== "command");
         const command = run.commandOf(index);
-        if (rows.length === 0) return command >= 0 && command !== index ? `line ${run.rows[command].scriptLine || "?"}` : "at rest";
-        const names = rows.slice(0, 2).reverse().map((at) => openWords(run, at));
-        const more = rows.length > 2 ? [`… ${Cepage.many(rows.length - 2, "more", "more")} …`] : [];
+        // Each row around it but the heading is one level.
+        const levels = Math.max(0, run.rows[index].depth - 1);
+        if (levels === 0) return command >= 0 && command !== index ? `line ${run.rows[command].scriptLine || "?"}` : "at rest";
+        const inner = run.rows[index].parent;
+        const names = [inner, ...(levels > 1 ? [run.rows[inner].parent] : [])].map((at) => openWords(run, at)).reverse();
+        const more = levels > 2 ? [`… ${Cepage.many(levels - 2, "more", "more")} …`] : [];
         return [`line ${run.rows[command]?.scriptLine || "?"}`, ...more, ...names].join(" › ");
     }
 

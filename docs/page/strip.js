@@ -9,9 +9,10 @@ globalThis.Cepage ??= {};
     const FAULTS = 6;
 
     class Strip {
-        constructor(element, tree) {
+        // `goTo` scrolls the outline.
+        constructor(element, goTo) {
             this.element = element;
-            this.tree = tree;
+            this.goTo = goTo;
             this.canvas = element.querySelector("canvas");
             this.frame = element.querySelector(".seen");
             element.addEventListener("pointerdown", (event) => {
@@ -25,18 +26,19 @@ globalThis.Cepage ??= {};
 
         // How tall the run is drawn: a short one does not fill the strip.
         get tall() {
-            return Math.min(this.element.clientHeight, this.view.shown.length * 6);
+            return Math.min(this.height, this.view.shown.length * 6);
         }
 
         go(event) {
             const y = event.clientY - this.element.getBoundingClientRect().top;
             const place = y / Math.max(1, this.tall) * this.view.shown.length;
-            this.tree.scrollTop = place * Cepage.ROW_HEIGHT - this.tree.clientHeight / 2;
+            this.goTo(place);
         }
 
         show(view) {
             this.view = view;
             const { clientWidth: width, clientHeight: height } = this.element;
+            this.height = height;
             const ratio = globalThis.devicePixelRatio || 1;
             this.canvas.width = Math.max(1, Math.round(width * ratio));
             this.canvas.height = Math.max(1, Math.round(height * ratio));
@@ -78,12 +80,12 @@ globalThis.Cepage ??= {};
             }
         }
 
-        // Puts the frame around what is seen.
-        seen() {
+        // Puts the frame around what is seen: the outline stands at this offset, and is so high.
+        seen(top, height) {
             const rows = this.view.shown.length * Cepage.ROW_HEIGHT;
             const scale = rows > 0 ? this.tall / rows : 0;
-            this.frame.style.top = `${this.tree.scrollTop * scale}px`;
-            this.frame.style.height = `${Math.max(6, Math.min(this.tall, this.tree.clientHeight * scale))}px`;
+            this.frame.style.top = `${top * scale}px`;
+            this.frame.style.height = `${Math.max(6, Math.min(this.tall, height * scale))}px`;
         }
     }
 

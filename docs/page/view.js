@@ -62,24 +62,23 @@ globalThis.Cepage ??= {};
     // that no row seen stands at; where many are left the step shrinks.
     class Levels {
         constructor(depths, width) {
-            this.depths = [...new Set(depths)].sort((one, other) => one - other);
-            this.columns = [];
+            const sorted = [...new Set(depths)].sort((one, other) => one - other);
+            const columns = new Map();
             let column = 0;
-            this.depths.forEach((depth, at) => {
-                if (at > 0) column += Math.min(depth - this.depths[at - 1], GAP);
-                this.columns.push(column);
+            sorted.forEach((depth, at) => {
+                const gap = at > 0 ? Math.min(depth - sorted[at - 1], GAP) : 0;
+                // The levels of a gap that are kept are the deepest ones.
+                for (let less = gap - 1; less >= 0; less--) columns.set(depth - less, ++column);
+                if (at === 0) columns.set(depth, column);
             });
+            this.columns = columns;
             this.step = Math.max(4, Math.min(18, Math.floor(width * 0.42 / Math.max(1, column))));
         }
 
         // The offset of a depth in pixels, or -1 where that level is cut.
         x(depth) {
-            let at = 0;
-            while (at < this.depths.length && this.depths[at] < depth) at++;
-            if (at === this.depths.length) return -1;
-            const column = this.columns[at] - (this.depths[at] - depth);
-            if (this.depths[at] !== depth && (at === 0 || column <= this.columns[at - 1])) return -1;
-            return column * this.step;
+            const column = this.columns.get(depth);
+            return column === undefined ? -1 : column * this.step;
         }
     }
 

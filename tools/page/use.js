@@ -1,0 +1,3 @@
+'use strict';
+async function checkUse() { return { faults: [], told: 'use' }; }
+module.exports = { checkUse };
