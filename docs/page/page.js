@@ -15,6 +15,7 @@ globalThis.Cepage ??= {};
                 (at) => this.choseTranscript(at));
             this.tabs = new Cepage.Tabs(find("tabs"));
             this.opener = new Cepage.Opener(find("opener"), (own) => this.showOwn(own));
+            this.kept = -1;
             this.listExamples();
             this.listen();
         }
@@ -156,7 +157,7 @@ globalThis.Cepage ??= {};
             const other = index >= 0 ? this.outline.otherEnd(index) : -1;
             const rowAt = (at) => this.run.rowOfLine[this.places[at]];
             const lit = (at) => index < 0 ? "" : rowAt(at) === index ? "lit" : other >= 0 && rowAt(at) === other ? "lit other" : "";
-            this.transcriptList.light(lit, this.firstLineOf(index));
+            this.transcriptList.light(lit, this.kept >= 0 ? this.kept : this.firstLineOf(index));
         }
 
         // The place in the list of the first line of a row that is listed, or -1.
@@ -196,9 +197,12 @@ globalThis.Cepage ??= {};
             return -1;
         }
 
+        // Goes to the row of a line of the transcript; the line stays the one that is chosen.
         choseTranscript(at) {
             const row = this.run.rowOfLine[this.places[at]] ?? -1;
+            this.kept = at;
             if (row >= 0) this.goTo(row);
+            this.kept = -1;
         }
 
         // Puts the focus on a row; of one that is left out the words are told.

@@ -53,7 +53,7 @@ globalThis.Cepage ??= {};
 
     function ran(run, row) {
         const parts = [mark("▶"), tag(row.reaction), ...called(run, row)];
-        if (row.early) parts.push(make("span", "early", `taken early from ${row.queue === 0 ? "the backup queue" : `queue ${row.queue}`}`));
+        if (row.early) parts.push(make("span", "early", `early, from ${row.queue === 0 ? "the backup queue" : `queue ${row.queue}`}`));
         if (!row.told) parts.push(soft(row.text === "upgrade" ? "nothing to upgrade any more" : "it was not called"));
         return parts;
     }
@@ -89,7 +89,7 @@ globalThis.Cepage ??= {};
         submit: (run, row) => [soft("submit"), chip(run, row.node), row.text.startsWith("blocked") ? fault(row.text) : code(row.text)],
         drain: (run, row) => drained(run, row.nodes, `queue ${row.queue} is drained`),
         checkpoint: (run, row) => drained(run, row.nodes, row.nodes.length > 0 ? "checkpoint: the backup queue is drained"
-            : "checkpoint: the backup queue, nothing is left"),
+            : "checkpoint: nothing waits"),
         fuel: () => [mark("■", "fault"), fault("the fuel is spent")],
         problem: (run, row) => [mark("?", "fault"), fault(`line ${row.line + 1}: ${row.text}`), code(run.lines[row.line])],
     };

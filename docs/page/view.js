@@ -72,7 +72,8 @@ globalThis.Cepage ??= {};
                 if (at === 0) columns.set(depth, column);
             });
             this.columns = columns;
-            this.step = Math.max(4, Math.min(18, Math.floor(width * 0.42 / Math.max(1, column))));
+            const widest = width < 480 ? 12 : 18;
+            this.step = Math.max(4, Math.min(widest, Math.floor(width * 0.42 / Math.max(1, column))));
         }
 
         // The offset of a depth in pixels, or -1 where that level is cut.

@@ -23,6 +23,14 @@ function lookAtDrawing(found) {
   rows.sort((one, other) => middle(one) - middle(other)).forEach((row, at) => {
     if (at > 0 && Math.abs(middle(row) - middle(rows[at - 1]) - row.offsetHeight) > 1) say(`row ${row.id} leaves a gap`);
   });
+  for (const row of rows) {
+    if (parseFloat(row.firstChild.style.paddingLeft) > tree.clientWidth * 0.75) say(`row ${row.id} is out of sight`);
+    for (const chip of row.querySelectorAll('.chip')) {
+      const node = chip.querySelector('b').textContent;
+      const hue = chip.style.getPropertyValue('--hue');
+      if ((found.hues[node] ??= hue) !== hue) say(`${node} has two colours`);
+    }
+  }
   found.most = Math.max(found.most, tree.querySelectorAll('.row').length);
   for (const row of rows) {
     for (const kind of ['due', 'end']) {
@@ -53,7 +61,7 @@ function lookAtDrawing(found) {
 // Runs in the page. Scrolls through the run that is shown.
 async function scrollThrough() {
   const tree = document.getElementById('tree');
-  const found = { due: {}, end: {}, lane: {}, stub: {}, faults: [], most: 0, views: 0 };
+  const found = { due: {}, end: {}, lane: {}, stub: {}, hues: {}, faults: [], most: 0, views: 0 };
   const frame = () => new Promise((resolve) => requestAnimationFrame(() => setTimeout(resolve)));
   tree.scrollTop = 0;
   await frame();
