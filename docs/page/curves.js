@@ -7,6 +7,7 @@ globalThis.Cepage ??= {};
 (function () {
     const SPACE = "http://www.w3.org/2000/svg";
     const BEND = 5;
+    const BARRED = new Set(["run", "upgrade", "operation"]);
 
     function draw(name, attributes) {
         const element = document.createElementNS(SPACE, name);
@@ -138,7 +139,7 @@ globalThis.Cepage ??= {};
         bar(index) {
             const { view, first, last, offset, levels } = this.seen;
             const row = view.run.rows[index];
-            if (row.kind === "command" || row.end === index) return null;
+            if (!BARRED.has(row.kind) || row.end === index) return null;
             const x = levels.x(row.depth + 1);
             const from = Math.max(first, view.placeOf(index) + 1);
             const to = Math.min(last, view.placeOf(row.end));

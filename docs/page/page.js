@@ -41,6 +41,9 @@ globalThis.Cepage ??= {};
             find("brief").addEventListener("change", () => this.changeView());
             find("traced").addEventListener("change", () => this.listTranscript());
             find("tree").addEventListener("keydown", (event) => this.pressed(event));
+            find("find").addEventListener("keydown", (event) => {
+                if (event.key === "Enter") this.seek(event.target.value, !event.shiftKey);
+            });
             for (const list of [this.scriptList, this.transcriptList]) {
                 list.element.addEventListener("keydown", (event) => {
                     if (event.key === "Enter") this.toDrawing();
@@ -65,7 +68,7 @@ globalThis.Cepage ??= {};
         }
 
         showOwn({ script, transcript, names }) {
-            find("example").selectedIndex = -1;
+            find("example").value = "";
             history.replaceState(null, "", "#");
             const parts = [names.script && `script: ${names.script}`, names.transcript && `transcript: ${names.transcript}`];
             this.show(script, transcript, parts.filter(Boolean).join(", "), null);
@@ -89,8 +92,9 @@ globalThis.Cepage ??= {};
 
         summary() {
             const { counts, lines } = this.run;
+            const status = this.example ? ` · status ${this.example.status}` : "";
             return `${Cepage.many(lines.length, "line", "lines")} · ${Cepage.many(counts.due, "reaction", "reactions")}: `
-                + `${counts.ran.toLocaleString("en")} ran, ${counts.dropped.toLocaleString("en")} dropped, ${counts.waits.toLocaleString("en")} wait`;
+                + `${counts.ran.toLocaleString("en")} ran, ${counts.dropped.toLocaleString("en")} dropped, ${counts.waits.toLocaleString("en")} wait${status}`;
         }
 
         note() {
@@ -216,6 +220,21 @@ globalThis.Cepage ??= {};
             this.lightTranscript(index);
         }
 
+        // Goes to the next row, or the one before, of which a line of the transcript has this text.
+        seek(text, forward) {
+            const { lines, rows, rowOfLine } = this.run;
+            if (!text || lines.length === 0) return;
+            const here = this.outline.index;
+            const from = rows[here]?.line ?? 0;
+            for (let step = 1; step <= lines.length; step++) {
+                const at = (from + (forward ? step : lines.length - step)) % lines.length;
+                if (!lines[at].includes(text) || (rowOfLine[at] === here && step < lines.length)) continue;
+                this.goTo(rowOfLine[at]);
+                return;
+            }
+            find("words").textContent = `No line of the transcript has: ${text}`;
+        }
+
         toDrawing(index) {
             this.tabs.choose("drawing");
             if (index >= 0) this.goTo(index);
@@ -224,6 +243,11 @@ globalThis.Cepage ??= {};
 
         pressed(event) {
             if (event.ctrlKey || event.altKey || event.metaKey || this.view.shown.length === 0) return;
+            if (event.key === "/") {
+                event.preventDefault();
+                find("find").focus();
+                return;
+            }
             const act = this.outline.act(event.key);
             if (!act) return;
             event.preventDefault();

@@ -43,8 +43,8 @@ async function checkTab(page, faults) {
     await page.key('Tab');
     reached.push(await page.evaluate('document.activeElement.id || document.activeElement.tagName'));
   }
-  faults.same('Tab reaches', reached.slice(0, 8),
-    ['example', 'open', 'brief', 'script-lines', 'tree', 'traced', 'transcript-lines', 'SUMMARY']);
+  faults.same('Tab reaches', reached,
+    ['example', 'open', 'brief', 'find', 'script-lines', 'tree', 'traced', 'transcript-lines', 'SUMMARY']);
 }
 
 // Each key of the outline goes where it says.
@@ -118,6 +118,27 @@ async function checkLinks(page, faults) {
   faults.same('lines of the transcript that do not lead to their rows', led.filter((fits) => !fits).length, 0);
   await page.key('Enter');
   faults.same('Enter in a list leads to', await page.evaluate('document.activeElement.id'), 'tree');
+}
+
+// What is sought is found, forward and back, also behind the last row.
+async function checkFind(page, faults) {
+  await show(page, 'trace');
+  await page.evaluate('document.getElementById("tree").focus()');
+  await press(page, 'Home');
+  await page.key('/');
+  faults.same('/ leads to', await page.evaluate('document.activeElement.id'), 'find');
+  await page.send('Input.insertText', { text: 'connected' });
+  const line = () => page.evaluate('Cepage.page.run.rows[Cepage.page.outline.index].line + 1');
+  const found = [];
+  for (const key of ['Enter', 'Enter', 'Enter', 'Enter', 'Enter', 'Shift+Enter']) {
+    await page.key(key);
+    found.push(await line());
+  }
+  faults.same('connected is found at', found, [32, 33, 35, 40, 32, 40]);
+  await page.send('Input.insertText', { text: ' nowhere' });
+  await page.key('Enter');
+  const words = await page.evaluate('document.getElementById("words").textContent');
+  faults.same('what is not there', words, 'No line of the transcript has: connected nowhere');
 }
 
 // What a screen reader is told: the rows in their order, each in words, and the one in focus.
@@ -307,6 +328,7 @@ async function checkUse(browser, page, runs) {
   await checkTab(page, faults);
   await checkKeys(page, faults);
   await checkLinks(page, faults);
+  await checkFind(page, faults);
   await checkReader(page, faults);
   await checkWidths(page, faults);
   await checkContrast(page, faults);
