@@ -50,12 +50,11 @@ globalThis.Cepage ??= {};
             addEventListener("drop", (event) => {
                 event.preventDefault();
                 document.body.classList.remove("dropping");
-                this.dropped(event.dataTransfer);
+                this.dropped(event.dataTransfer, "dropped text");
             });
             addEventListener("paste", (event) => {
                 if (event.target.closest?.("textarea, input")) return;
-                const text = event.clipboardData.getData("text/plain");
-                if (text) this.take([{ text, name: "pasted text" }]);
+                this.dropped(event.clipboardData, "pasted text");
             });
         }
 
@@ -68,12 +67,13 @@ globalThis.Cepage ??= {};
             if (file) this.boxes[kind].value = await readFile(file);
         }
 
-        async dropped(data) {
+        // What was dropped or pasted: files, or else a text, which gets this name.
+        async dropped(data, name) {
             const texts = [];
             const files = [...data.files];
             const text = data.getData("text/plain");
             for (const file of files) texts.push({ text: await readFile(file), name: file.name });
-            if (files.length === 0 && text) texts.push({ text, name: "dropped text" });
+            if (files.length === 0 && text) texts.push({ text, name });
             if (texts.length > 0) this.take(texts);
         }
 

@@ -82,6 +82,7 @@ globalThis.Cepage ??= {};
             this.texts = { script, transcript };
             this.rowOfScriptLine = new Map();
             for (const index of this.run.commands) this.rowOfScriptLine.set(this.run.rows[index].scriptLine, index);
+            document.title = example ? `${example.name} · A run, drawn` : "A run, drawn";
             find("source").textContent = source;
             find("source").title = source;
             find("summary").textContent = this.summary();
@@ -95,7 +96,8 @@ globalThis.Cepage ??= {};
         summary() {
             const { counts, lines } = this.run;
             return `${Cepage.many(lines.length, "line", "lines")} · ${counts.due.toLocaleString("en")} due: `
-                + `${counts.ran.toLocaleString("en")} ran, ${counts.dropped.toLocaleString("en")} dropped, ${counts.waits.toLocaleString("en")} wait`;
+                + `${counts.ran.toLocaleString("en")} ran, ${counts.dropped.toLocaleString("en")} dropped, `
+                + `${counts.waits.toLocaleString("en")} wait`;
         }
 
         note() {
@@ -131,7 +133,7 @@ globalThis.Cepage ??= {};
             this.view = new Cepage.View(this.run, find("brief").checked);
             this.outline.show(this.view, this.view.nearest(before));
             this.showStrip();
-            if (this.view.shown.length === 0) find("words").textContent = "There is nothing to draw.";
+            if (this.view.shown.length === 0) this.say("There is nothing to draw.");
         }
 
         seen(seen) {
@@ -143,9 +145,14 @@ globalThis.Cepage ??= {};
             if (this.strip.view === this.view) this.strip.seen(this.outline.top, this.outline.height);
         }
 
+        // Writes the line below the drawing.
+        say(text) {
+            find("words").textContent = text;
+        }
+
         // Tells of the row in focus, and lights its lines.
         focused(index) {
-            find("words").textContent = Cepage.rowWords(this.view, index);
+            this.say(Cepage.rowWords(this.view, index));
             this.lightScript(index);
             this.lightTranscript(index);
         }
@@ -161,7 +168,11 @@ globalThis.Cepage ??= {};
         lightTranscript(index) {
             const other = index >= 0 ? this.outline.otherEnd(index) : -1;
             const rowAt = (at) => this.run.rowOfLine[this.places[at]];
-            const lit = (at) => index < 0 ? "" : rowAt(at) === index ? "lit" : other >= 0 && rowAt(at) === other ? "lit other" : "";
+            const lit = (at) => {
+                const row = rowAt(at);
+                if (index < 0 || (row !== index && row !== other)) return "";
+                return row === index ? "lit" : "lit other";
+            };
             this.transcriptList.light(lit, this.kept >= 0 ? this.kept : this.firstLineOf(index));
         }
 
@@ -187,7 +198,7 @@ globalThis.Cepage ??= {};
             const heading = this.rowOfScriptLine.get(at + 1);
             const row = heading ?? this.namedAfter(at + 1);
             if (row >= 0) this.goTo(row);
-            else find("words").textContent = `Line ${at + 1} of the script has no row of its own: ${this.run.script.line(at + 1) ?? ""}`;
+            else this.say(`Line ${at + 1} of the script has no row of its own: ${this.run.script.line(at + 1) ?? ""}`);
         }
 
         // The next row behind the one in focus that is named after an action of this line; from the top behind the last.
@@ -216,7 +227,7 @@ globalThis.Cepage ??= {};
                 this.outline.focusRow(index);
                 return;
             }
-            find("words").textContent = `${Cepage.rowWords(this.view, index)} It is left out of the drawing.`;
+            this.say(`${Cepage.rowWords(this.view, index)} It is left out of the drawing.`);
             this.lightScript(index);
             this.lightTranscript(index);
         }
@@ -233,7 +244,7 @@ globalThis.Cepage ??= {};
                 this.goTo(rowOfLine[at]);
                 return;
             }
-            find("words").textContent = `No line of the transcript has: ${text}`;
+            this.say(`No line of the transcript has: ${text}`);
         }
 
         toDrawing(index) {

@@ -80,11 +80,11 @@ globalThis.Cepage ??= {};
             return index + 1;
         }
 
-        // Gathers the bodies and the definitions of the lines that were not refused.
-        gather(refused) {
-            this.lines.forEach((line, index) => {
+        // Gathers the bodies and the definitions of the lines up to this one that were not refused.
+        gather(refused, upTo) {
+            this.lines.slice(0, upTo).forEach((line, index) => {
                 if (refused.has(index + 1)) return;
-                const part = /^ *on +([A-Z][A-Za-z0-9_]*) +([A-Za-z]+) +: +(.*)$/.exec(line);
+                const part = /^ *on +([A-Z][A-Za-z0-9_]*) +([A-Za-z]+) +: +(.*)$/s.exec(line);
                 if (part) this.addAction(`${part[1]} ${part[2]}`, index + 1, part[3]);
                 const defined = /^ *define +/.test(line) ? line.match(TOKEN) : null;
                 if (defined && defined.length === 3) this.definitions.set(said(defined[1]), defined[2]);

@@ -73,10 +73,11 @@ globalThis.Cepage ??= {};
 
         paintFaults(pen, colour) {
             const { shown, run } = this.view;
+            const height = Math.max(3, this.tall / shown.length - 1);
             pen.fillStyle = colour;
             for (const index of run.faults) {
                 const place = this.view.placeOf(index);
-                if (place >= 0) pen.fillRect(0, place / shown.length * this.tall, FAULTS, Math.max(3, this.tall / shown.length - 1));
+                if (place >= 0) pen.fillRect(0, place / shown.length * this.tall, FAULTS, height);
             }
         }
 

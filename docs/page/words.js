@@ -67,10 +67,11 @@ globalThis.Cepage ??= {};
         const line = script.line(row.scriptLine);
         const text = row.scriptLine ? `Line ${row.scriptLine}${line === undefined ? "" : `: ${line.trim()}`}.` : "A command.";
         const { reply } = row;
-        if (!reply) return `${text} It has no reply: the transcript ends within it.`;
+        const pushed = row.queue > 0 ? ` It pushes queue ${row.queue}.` : "";
+        if (!reply) return `${text}${pushed} It has no reply: the transcript ends within it.`;
         if (reply.answer === "bad") return `${text} It is refused: ${REASONS[reply.text.slice(4)]} (${reply.text}).`;
-        if (reply.answer === "throw") return `${text} It throws ${reply.text.slice(6)}.`;
-        return `${text} It answers ${reply.text}.`;
+        if (reply.answer === "throw") return `${text}${pushed} It throws ${reply.text.slice(6)}.`;
+        return `${text}${pushed} It answers ${reply.text}.`;
     }
 
     function operation(view, row, index) {
