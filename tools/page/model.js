@@ -180,4 +180,4 @@ function checkModel(Cepage) {
   return { faults, told };
 }
 
-module.exports = { checkModel, checkExample };
+module.exports = { checkModel, numbers };
