@@ -28,6 +28,9 @@ globalThis.Cepage ??= {};
         const { lines } = run.script;
         const returned = lines.findIndex((line) => line.endsWith("\r"));
         if (lines.length === 0) notes.push("There is no script, so commands have numbers and no text.");
+        if (lines.length > Cepage.MOST_LINES) {
+            notes.push(`Of the script the first ${Cepage.MOST_LINES.toLocaleString("en")} lines are shown.`);
+        }
         if (lines[0]?.startsWith("\uFEFF")) {
             notes.push("The script begins with a byte order mark: cepage refuses its first line.");
         }

@@ -36,7 +36,7 @@ globalThis.Cepage ??= {};
 
         listen() {
             find("example").addEventListener("change", (event) => {
-                location.hash = encodeURI(event.target.value);
+                location.hash = event.target.value;
             });
             find("brief").addEventListener("change", () => this.changeView());
             find("traced").addEventListener("change", () => this.listTranscript());
@@ -56,7 +56,7 @@ globalThis.Cepage ??= {};
 
         // Opens the example that the address names, behind it the line of its transcript: `#trace:40`.
         openHash() {
-            const [, name, line] = /^#(.*?)(?::([0-9]+))?$/.exec(decodeURI(location.hash) || "#") ?? [];
+            const [, name, line] = /^#(.*?)(?::([0-9]+))?$/.exec(location.hash || "#");
             const example = Cepage.examples.find((one) => one.name === name)
                 ?? (this.run ? null : Cepage.examples.find((one) => one.name === "trace"));
             if (!example) return;
@@ -87,7 +87,7 @@ globalThis.Cepage ??= {};
             find("source").title = source;
             find("summary").textContent = this.summary();
             const { lines, kinds } = this.run.script;
-            this.scriptList.show(lines, (at) => String(at + 1), (at) => kinds[at]);
+            this.scriptList.show(lines.slice(0, Cepage.MOST_LINES), (at) => String(at + 1), (at) => kinds[at]);
             this.listTranscript();
             this.note();
             this.changeView();
@@ -271,7 +271,7 @@ globalThis.Cepage ??= {};
             const sizes = new ResizeObserver((entries) => {
                 for (const { target } of entries) this.resized(target);
             });
-            for (const element of [this.outline.tree, this.scriptList.element, this.transcriptList.element]) sizes.observe(element);
+            for (const pane of [this.outline.tree, this.scriptList.element, this.transcriptList.element]) sizes.observe(pane);
         }
 
         resized(element) {

@@ -5,7 +5,7 @@
 globalThis.Cepage ??= {};
 
 (function () {
-    // So many lines of a transcript are read: a browser lays out no list that is much longer.
+    // So many lines of a transcript are read, and of a script shown: a browser lays out no list that is much longer.
     const MOST = 1000000;
 
     // The class that a `create` has constructed for the node that it gives, or "".
@@ -89,6 +89,7 @@ globalThis.Cepage ??= {};
         return run;
     }
 
+    Cepage.MOST_LINES = MOST;
     Cepage.endCommand = endCommand;
     Cepage.readRun = readRun;
 })();

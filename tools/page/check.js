@@ -1,9 +1,9 @@
 'use strict';
-// node tools/page/check.js [--program PATH] [--quick]: opens docs/page/index.html from disk in a headless Chromium and
+// node tools/page/check.js [--program PATH] [--quick] [--pictures]: opens docs/page/index.html from disk in a headless Chromium and
 // checks that it draws the runs of examples/ as their traces say, that it names actions rightly, that long traces stay
 // usable, that it is used by keys alone and read in order, that it stands what it can't read, that nothing leaves it and
 // nothing is said on its console. PATH is the program cepage, by default crates/cepage/out/cepage, which makes traces. CHROMIUM names another
-// Chromium. With --quick the drawing is not scrolled through. The status is 1 where a check fails.
+// Chromium. With --quick the drawing is not scrolled through; with --pictures those of docs/page/pictures are made too. The status is 1 where a check fails.
 
 const path = require('path');
 const { launch } = require('./chromium.js');
@@ -12,11 +12,13 @@ const { checkModel, numbers } = require('./model.js');
 const { checkTruth } = require('./truth.js');
 const { checkDrawing, checkLong } = require('./drawing.js');
 const { checkUse } = require('./use.js');
+const { takePictures } = require('./pictures.js');
 const { made, PROGRAM } = require('./made.js');
 
 function words(given) {
   const at = given.indexOf('--program');
-  return { program: at < 0 ? PROGRAM : given[at + 1], quick: given.includes('--quick') };
+  return { program: at < 0 ? PROGRAM : given[at + 1], quick: given.includes('--quick'),
+    pictures: given.includes('--pictures') };
 }
 
 // What the page asked for, and what it complained of.
@@ -29,7 +31,7 @@ function checkQuiet(page) {
 }
 
 async function main() {
-  const { program, quick } = words(process.argv.slice(2));
+  const { program, quick, pictures } = words(process.argv.slice(2));
   const Cepage = load();
   const runs = made(program);
   const browser = await launch();
@@ -47,6 +49,7 @@ async function main() {
   tell(await checkLong(page, runs));
   tell(await checkUse(browser, page, runs));
   tell(checkQuiet(page));
+  if (pictures) tell(await takePictures(browser, runs));
   await browser.close();
   console.log(failed === 0 ? 'page: all is as it should be' : `page: ${failed} faults`);
   process.exitCode = failed === 0 ? 0 : 1;

@@ -55,6 +55,8 @@ function lookAtEnds(found, picture, row, kind) {
   if (hasLane) found.lane[`${kind} ${number}`] = true;
   if (hasStub) found.stub[`${kind} ${number}`] = true;
   if (!hasLane && !hasStub) found.faults.push(`reaction ${number}: nothing is drawn at its row ${kind}`);
+  const dropped = lane !== null && lane.classList.contains('dropped') !== row.classList.contains('drop');
+  if (kind === 'end' && dropped) found.faults.push(`reaction ${number}: its lane does not say whether it was dropped`);
   const tag = row.querySelector('.tag')?.textContent;
   if (tag !== number) found.faults.push(`reaction ${number}: its row ${kind} says ${tag}`);
 }

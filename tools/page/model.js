@@ -48,8 +48,10 @@ function faultsOf(Cepage, name, script, transcript) {
     }
     if (!Cepage.rowWords(view, index)) faults.push(`${name}: row ${index} has no words`);
   });
-  for (const { due: from, end } of run.reactions.values()) {
-    if (end >= 0 && end <= from) faults.push(`${name}: a reaction ends before it is due`);
+  const kinds = { ran: 'run', dropped: 'drop' };
+  for (const { number, due: from, end, ended } of run.reactions.values()) {
+    if (end >= 0 && end <= from) faults.push(`${name}: reaction ${number} ends before it is due`);
+    if (run.rows[end]?.kind !== kinds[ended]) faults.push(`${name}: reaction ${number} has ended as ${ended || 'none'}`);
   }
   Cepage.notesOn(run);
   return { faults, run };
