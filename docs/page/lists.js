@@ -8,11 +8,13 @@ globalThis.Cepage ??= {};
     const MARGIN = 4;
 
     class LineList {
-        // `name` is that of the list; `onChoose` is told of a line that the reader goes to.
-        constructor(element, name, onChoose) {
+        // `name` is that of the list; `onChoose` is told of a line that the reader goes to, and `onEnter` where Enter or
+        // a second press goes on from it.
+        constructor(element, name, onChoose, onEnter) {
             this.element = element;
             this.name = name;
             this.onChoose = onChoose;
+            this.onEnter = onEnter;
             this.room = Cepage.make("div", "room");
             element.append(this.room);
             element.tabIndex = 0;
@@ -108,7 +110,10 @@ globalThis.Cepage ??= {};
 
         clicked(event) {
             const line = event.target.closest(".line");
-            if (line) this.choose(Number(line.dataset.at));
+            if (!line) return;
+            const at = Number(line.dataset.at);
+            if (at === this.chosen) this.onEnter();
+            else this.choose(at);
         }
 
         choose(at) {
@@ -120,6 +125,7 @@ globalThis.Cepage ??= {};
         }
 
         pressed(event) {
+            if (event.key === "Enter") this.onEnter();
             const page = Math.max(1, Math.floor(this.height / HEIGHT) - 1);
             const moves = { ArrowDown: 1, ArrowUp: -1, PageDown: page, PageUp: -page, Home: -Infinity, End: Infinity };
             if (!Object.hasOwn(moves, event.key) || event.ctrlKey || event.altKey || event.metaKey) return;

@@ -6,6 +6,8 @@ globalThis.Cepage ??= {};
 (function () {
     // So many lines are looked at to tell what a text is.
     const LOOKS = 400;
+    // A text of more characters is not shown in a box.
+    const LONG = 200000;
 
     // Tells whether a text is a transcript, by whether more of its lines are events or lines of a script.
     function isTranscript(text) {
@@ -32,8 +34,10 @@ globalThis.Cepage ??= {};
             const find = (id) => document.getElementById(id);
             this.boxes = { script: find("paste-script"), transcript: find("paste-transcript") };
             this.files = { script: find("file-script"), transcript: find("file-transcript") };
+            this.read = {};
             for (const kind of ["script", "transcript"]) {
                 this.files[kind].addEventListener("change", () => this.chosen(kind));
+                this.boxes[kind].addEventListener("input", () => delete this.read[kind]);
             }
             find("open").addEventListener("click", () => dialog.showModal());
             find("cancel").addEventListener("click", () => dialog.close());
@@ -62,9 +66,14 @@ globalThis.Cepage ??= {};
             this.own = { script: "", transcript: "", names: {} };
         }
 
+        // A file that was chosen is kept as it is: a box would change its line ends. A long one is not put into the box.
         async chosen(kind) {
             const [file] = this.files[kind].files;
-            if (file) this.boxes[kind].value = await readFile(file);
+            if (!file) return;
+            const text = await readFile(file);
+            this.boxes[kind].value = text.length > LONG ? "" : text;
+            this.boxes[kind].placeholder = `${file.name}, ${Cepage.many(text.length, "character", "characters")}`;
+            this.read[kind] = { text, name: file.name };
         }
 
         // What was dropped or pasted: files, or else a text, which gets this name.
@@ -91,9 +100,14 @@ globalThis.Cepage ??= {};
             this.onOpen(this.own);
         }
 
+        // Draws what is in the two boxes. Where each is in the other's place they are taken as what they are.
         draw() {
-            this.own = { script: this.boxes.script.value, transcript: this.boxes.transcript.value,
-                names: { script: "the text that was put in", transcript: "the text that was put in" } };
+            const given = (kind) => this.read[kind] ?? { text: this.boxes[kind].value, name: "the text that was put in" };
+            let [script, transcript] = [given("script"), given("transcript")];
+            const swapped = isTranscript(script.text) && transcript.text && !isTranscript(transcript.text);
+            if (swapped) [script, transcript] = [transcript, script];
+            this.own = { script: script.text, transcript: transcript.text,
+                names: { script: script.name, transcript: transcript.name } };
             this.dialog.close();
             this.onOpen(this.own);
         }

@@ -10,9 +10,10 @@ globalThis.Cepage ??= {};
             this.outline = new Cepage.Outline(find("tree"), (index) => this.focused(index));
             this.outline.onSeen = (seen) => this.seen(seen);
             this.strip = new Cepage.Strip(find("strip"), (place) => this.outline.look(place));
-            this.scriptList = new Cepage.LineList(find("script-lines"), "Lines of the script", (at) => this.choseScript(at));
+            this.scriptList = new Cepage.LineList(find("script-lines"), "Lines of the script",
+                (at) => this.choseScript(at), () => this.toDrawing());
             this.transcriptList = new Cepage.LineList(find("transcript-lines"), "Lines of the transcript",
-                (at) => this.choseTranscript(at));
+                (at) => this.choseTranscript(at), () => this.toDrawing());
             this.tabs = new Cepage.Tabs(find("tabs"));
             this.opener = new Cepage.Opener(find("opener"), (own) => this.showOwn(own));
             this.kept = -1;
@@ -44,11 +45,6 @@ globalThis.Cepage ??= {};
             find("find").addEventListener("keydown", (event) => {
                 if (event.key === "Enter") this.seek(event.target.value, !event.shiftKey);
             });
-            for (const list of [this.scriptList, this.transcriptList]) {
-                list.element.addEventListener("keydown", (event) => {
-                    if (event.key === "Enter") this.toDrawing();
-                });
-            }
             addEventListener("hashchange", () => this.openHash());
             matchMedia("(prefers-color-scheme: dark)").addEventListener("change", () => this.showStrip());
             this.watch();

@@ -269,6 +269,22 @@ async function checkWrong(page, faults, example) {
   return texts.length;
 }
 
+// Chooses two files in the dialog, and draws them.
+function choose(page, texts) {
+  return page.evaluate(async (given) => {
+    for (const [at, kind] of ['script', 'transcript'].entries()) {
+      const data = new DataTransfer();
+      data.items.add(new File([given[at]], `a.${kind}`));
+      const input = document.getElementById(`file-${kind}`);
+      input.files = data.files;
+      input.dispatchEvent(new Event('change'));
+    }
+    await new Promise((resolve) => setTimeout(resolve, 50));
+    document.getElementById('draw').click();
+    return [Cepage.page.run.script.lines.length, Cepage.page.run.lines.length];
+  }, texts);
+}
+
 // Files that are dropped, and texts that are pasted, alone and together.
 async function checkDrops(page, faults, { script, trace }) {
   const drop = (files) => page.evaluate(async (given) => {
@@ -293,6 +309,11 @@ async function checkDrops(page, faults, { script, trace }) {
   faults.same('a transcript dropped behind it', await drop([{ name: 'b', text: plain }]), [count(script), count(plain)]);
   faults.same('a script pasted', await paste(script), [count(script), 0]);
   faults.same('a transcript pasted', await paste(trace), [count(script), count(trace)]);
+  faults.same('both in the other box', await choose(page, [trace, script]), [count(script), count(trace)]);
+  const returned = await choose(page, [script.replaceAll('\n', '\r\n'), trace]);
+  faults.same('files that are chosen', returned, [count(script), count(trace)]);
+  const notes = await page.evaluate('document.getElementById("notes").textContent');
+  faults.same('a file that is chosen keeps its line ends', notes.includes('ends in a carriage return'), true);
 }
 
 // Each example's script is taken for a script, and its transcript for a transcript, with and without the trace.
@@ -314,7 +335,7 @@ async function checkDialog(page, faults) {
   faults.same('Escape closes it', await page.evaluate('[document.getElementById("opener").open, document.activeElement.id]'), [false, 'open']);
   await page.key('Enter');
   for (const [name, text] of [['script', 'create $a p'], ['transcript', '1: #2']]) {
-    await page.evaluate(`document.getElementById("paste-${name}").focus()`);
+    await page.evaluate(`document.getElementById("paste-${name}").select()`);
     await page.send('Input.insertText', { text });
   }
   await page.key('Tab');
