@@ -1,8 +1,7 @@
 // Which action of a body a row is: the trace doesn't tell. All the ways in which the body can have written what stands
 // directly in its bracket are gone through, action by action, with each `if` taken or not where what it compares is not
-// told; a row is named where all ways agree. Follows
-// docs/language.md ("Bodies", "Callbacks within callbacks") and docs/transcript.md ("The order of the lines of one
-// command").
+// told; a row is named where all ways agree. Follows docs/language.md ("Bodies", "Callbacks within callbacks") and
+// docs/transcript.md ("The order of the lines of one command").
 "use strict";
 globalThis.Cepage ??= {};
 

@@ -1,5 +1,6 @@
 // What the reader opens: an example, files that are chosen or dropped, or text that is pasted. Which of the two a text is,
-// a script or a transcript, is told from its lines. Nothing is sent anywhere: files are read by the browser itself.
+// a script or a transcript, is told from its lines. Nothing is sent anywhere: files are read by the browser itself. Follows
+// docs/page.md ("A run of your own").
 "use strict";
 globalThis.Cepage ??= {};
 

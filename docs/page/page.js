@@ -1,4 +1,5 @@
-// The page: it puts the panes together, links them line by line, and hears keys.
+// The page: it puts the panes together, links them line by line, and hears keys. Follows docs/page.md ("Keys", "A run of
+// your own").
 "use strict";
 globalThis.Cepage ??= {};
 

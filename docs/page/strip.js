@@ -1,5 +1,6 @@
 // The strip beside the outline: the whole run at once. Each row is a mark in its element's hue, the deeper the further to
-// the right; faults have a narrow column of their own at the left. A frame shows what is seen; pressing goes there.
+// the right; faults have a narrow column of their own at the left. A frame shows what is seen; pressing goes there. Follows
+// docs/page.md ("What is seen": the strip).
 "use strict";
 globalThis.Cepage ??= {};
 
