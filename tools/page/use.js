@@ -37,14 +37,15 @@ class Faults {
 async function checkTab(page, faults) {
   await page.size(1280, 800);
   await show(page, 'trace');
+  const order = ['example', 'open', 'brief', 'find', 'script-lines', 'tree', 'traced', 'transcript-lines', 'SUMMARY'];
   await page.evaluate('document.getElementById("example").focus()');
   const reached = ['example'];
-  for (let at = 0; at < 8; at++) {
+  while (reached.length < 30 && reached.at(-1) !== order.at(-1)) {
     await page.key('Tab');
     reached.push(await page.evaluate('document.activeElement.id || document.activeElement.tagName'));
   }
-  faults.same('Tab reaches', reached,
-    ['example', 'open', 'brief', 'find', 'script-lines', 'tree', 'traced', 'transcript-lines', 'SUMMARY']);
+  // Other buttons may stand between them.
+  faults.same('Tab reaches', reached.filter((id) => order.includes(id)), order);
 }
 
 // Each key of the outline goes where it says.
