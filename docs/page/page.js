@@ -121,7 +121,7 @@ globalThis.Cepage ??= {};
             const shown = this.places.map((at) => lines[at]);
             const look = (at) => shown[at].startsWith("~") ? "traced" : /^[0-9]/.test(shown[at]) ? "reply" : "event";
             this.transcriptList.show(shown, (at) => String(this.places[at] + 1), look);
-            if (this.view) this.lightTranscript(this.outline.index);
+            if (this.view?.run === this.run) this.lightTranscript(this.outline.index);
         }
 
         // Shows the rows anew, with the focus where it was.
