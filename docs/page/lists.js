@@ -26,6 +26,7 @@ globalThis.Cepage ??= {};
             element.addEventListener("keydown", (event) => this.pressed(event));
             this.texts = [];
             this.chosen = -1;
+            this.soon = false;
             this.lit = () => "";
             this.look = () => "";
         }
@@ -66,7 +67,17 @@ globalThis.Cepage ??= {};
             this.lit = lit;
             this.chosen = at;
             if (at >= 0) this.reveal(at);
-            this.render();
+            this.renderSoon();
+        }
+
+        // Renders behind all that is done now: to scroll a pane while another one is changed would lay it out twice.
+        renderSoon() {
+            if (this.soon) return;
+            this.soon = true;
+            queueMicrotask(() => {
+                this.soon = false;
+                this.render();
+            });
         }
 
         reveal(at) {
@@ -120,7 +131,7 @@ globalThis.Cepage ??= {};
             if (this.texts.length === 0) return;
             this.chosen = Math.max(0, Math.min(at, this.texts.length - 1));
             this.reveal(this.chosen);
-            this.render();
+            this.renderSoon();
             this.onChoose(this.chosen);
         }
 

@@ -29,7 +29,7 @@ globalThis.Cepage ??= {};
         const returned = lines.findIndex((line) => line.endsWith("\r"));
         if (lines.length === 0) notes.push("There is no script, so commands have numbers and no text.");
         if (lines.length > Cepage.MOST_LINES) {
-            notes.push(`Of the script the first ${Cepage.MOST_LINES.toLocaleString("en")} lines are shown.`);
+            notes.push(`Of the script the first ${Cepage.grouped(Cepage.MOST_LINES)} lines are shown.`);
         }
         if (lines[0]?.startsWith("\uFEFF")) {
             notes.push("The script begins with a byte order mark: cepage refuses its first line.");
@@ -65,8 +65,8 @@ globalThis.Cepage ??= {};
         const notes = [];
         if (run.left > 0) {
             const { length } = run.lines;
-            notes.push(`The transcript has ${(length + run.left).toLocaleString("en")} lines. The first `
-                + `${length.toLocaleString("en")} are read and shown, and no more.`);
+            notes.push(`The transcript has ${Cepage.grouped(length + run.left)} lines. The first `
+                + `${Cepage.grouped(length)} are read and shown, and no more.`);
         }
         if (run.marked) notes.push("The transcript begins with a byte order mark. It is left out here; cepage writes none.");
         if (run.returns) {

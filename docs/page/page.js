@@ -92,9 +92,9 @@ globalThis.Cepage ??= {};
 
         summary() {
             const { counts, lines } = this.run;
-            return `${Cepage.many(lines.length, "line", "lines")} · ${counts.due.toLocaleString("en")} due: `
-                + `${counts.ran.toLocaleString("en")} ran, ${counts.dropped.toLocaleString("en")} dropped, `
-                + `${counts.waits.toLocaleString("en")} wait`;
+            return `${Cepage.many(lines.length, "line", "lines")} · ${Cepage.grouped(counts.due)} due: `
+                + `${Cepage.grouped(counts.ran)} ran, ${Cepage.grouped(counts.dropped)} dropped, `
+                + `${Cepage.grouped(counts.waits)} wait`;
         }
 
         note() {
@@ -138,7 +138,7 @@ globalThis.Cepage ??= {};
             const index = this.view.shown[Math.min(top, this.view.shown.length - 1)];
             find("path").textContent = Cepage.pathWords(this.view, index);
             const waits = top > 0 ? seen.lanes.waiting[this.view.shown[top - 1]] : 0;
-            find("waiting").textContent = waits > 0 ? `${waits.toLocaleString("en")} ${waits === 1 ? "waits" : "wait"}` : "";
+            find("waiting").textContent = waits > 0 ? `${Cepage.grouped(waits)} ${waits === 1 ? "waits" : "wait"}` : "";
             if (this.strip.view === this.view) this.strip.seen(this.outline.top, this.outline.height);
         }
 
@@ -149,9 +149,9 @@ globalThis.Cepage ??= {};
 
         // Tells of the row in focus, and lights its lines.
         focused(index) {
-            this.say(Cepage.rowWords(this.view, index));
             this.lightScript(index);
             this.lightTranscript(index);
+            this.say(Cepage.rowWords(this.view, index));
         }
 
         lightScript(index) {

@@ -6,7 +6,10 @@ globalThis.Cepage ??= {};
     const REASONS = { long: "it is too long", utf8: "it is not UTF-8", quote: "a quote is wrong", escape: "an escape is wrong",
         word: "a word is wrong", arity: "a word is missing or left over", place: "it may not stand there" };
 
-    const many = (count, one, more) => `${count.toLocaleString("en")} ${count === 1 ? one : more}`;
+    const FORMAT = new Intl.NumberFormat("en");
+    // A number with its digits in groups of three.
+    const grouped = (number) => FORMAT.format(number);
+    const many = (count, one, more) => `${grouped(count)} ${count === 1 ? one : more}`;
 
     // An element: its number, its variable and its name, or its class.
     function elementWords(run, node) {
@@ -121,6 +124,7 @@ globalThis.Cepage ??= {};
         return WORDS[row.kind](view, row, index) + open;
     }
 
+    Cepage.grouped = grouped;
     Cepage.many = many;
     Cepage.elementWords = elementWords;
     Cepage.queueWords = queueWords;

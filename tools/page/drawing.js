@@ -183,7 +183,10 @@ async function checkLong(page, runs) {
   const faults = [];
   const tells = [];
   for (const { name, script, trace } of Object.values(runs)) {
-    const shown = await showOwn(page, script, trace);
+    // The quickest of three, since the machine may have other work.
+    const times = [];
+    for (let again = 0; again < 3; again++) times.push(await showOwn(page, script, trace));
+    const shown = Math.min(...times);
     const { middle, longest, most } = await page.evaluate(jump);
     if (shown > 1000) faults.push(`${name}: shown in ${Math.round(shown)} ms`);
     if (most > 80) faults.push(`${name}: ${most} rows are made`);
