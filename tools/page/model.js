@@ -57,6 +57,22 @@ function faultsOf(Cepage, name, script, transcript) {
   return { faults, run };
 }
 
+// A reaction has no lane only where more wait than there are lanes, and no lane is used beyond those that wait at once.
+function checkLanes(Cepage, name, run) {
+  const faults = [];
+  for (const most of [6, 14]) {
+    const lanes = new Cepage.Lanes(run, most);
+    let waits = 0;
+    run.rows.forEach((row, index) => {
+      waits += { due: 1, run: -1, drop: -1 }[row.kind] ?? 0;
+      if (lanes.waiting[index] !== waits) faults.push(`${name}: at row ${index} ${waits} wait`);
+      const lane = row.kind === 'due' ? lanes.laneOf.get(row.reaction) : 0;
+      if (lane < 0 ? waits <= most : lane >= waits && row.kind === 'due') faults.push(`${name}: reaction ${row.reaction} has lane ${lane}`);
+    });
+  }
+  return faults;
+}
+
 // What a row that is named after an action may not have within it: another attribute than the action's, another class
 // than that of the name that it creates.
 function checkNames(Cepage, name, run) {
@@ -94,6 +110,7 @@ function checkExample(Cepage, { name, script, trace }) {
     const row = run.rows[index];
     if (run.script.line(row.scriptLine) === undefined) faults.push(`${name}: a command has no line of the script`);
   }
+  faults.push(...checkLanes(Cepage, name, run));
   const names = checkNames(Cepage, name, run);
   faults.push(...names.faults);
   return { faults, counts: { due, ran, dropped, waits: run.counts.waits, named: names.named, operations: names.operations } };
@@ -182,4 +199,4 @@ function checkModel(Cepage) {
   return { faults, told };
 }
 
-module.exports = { checkModel, numbers };
+module.exports = { checkModel, damaged, numbers };

@@ -3,6 +3,7 @@
 // dark, and with texts that it can't read.
 
 const { showOwn } = require('./drawing.js');
+const { damaged, numbers } = require('./model.js');
 
 const frame = (page) => page.evaluate('new Promise((resolve) => requestAnimationFrame(() => setTimeout(resolve)))');
 
@@ -270,6 +271,27 @@ async function checkWrong(page, faults, example) {
   return texts.length;
 }
 
+// Examples that are damaged in two places are drawn, and gone through by each key: an exception shows on the console.
+async function checkDamaged(page, faults, examples) {
+  const next = numbers(7);
+  const before = page.complaints.length;
+  const texts = examples.filter((one, at) => at % 4 === 0)
+    .map(({ script, trace }) => ({ script, transcript: damaged(damaged(trace, next), next), names: {} }));
+  await page.evaluate(async (given) => {
+    for (const own of given) {
+      Cepage.page.opener.onOpen(own);
+      for (const key of ['End', 'p', 'Enter', 'ArrowLeft', '[', 'PageUp', ' ', 'n', 'ArrowRight', ']', 'PageDown', 'Home']) {
+        Cepage.page.outline.act(key)();
+      }
+      Cepage.page.transcriptList.choose(Cepage.page.run.lines.length >> 1);
+      Cepage.page.scriptList.choose(Cepage.page.run.script.lines.length >> 1);
+      await new Promise((resolve) => requestAnimationFrame(() => setTimeout(resolve)));
+    }
+  }, texts);
+  for (const text of page.complaints.slice(before)) faults.list.push(`a damaged transcript: ${text}`);
+  return texts.length;
+}
+
 // Chooses two files in the dialog, and draws them.
 function choose(page, texts) {
   return page.evaluate(async (given) => {
@@ -357,10 +379,13 @@ async function checkUse(browser, page, runs) {
   await checkGuesses(page, faults);
   const example = await page.evaluate('Cepage.examples.find(({ name }) => name === "trace")');
   const wrong = await checkWrong(page, faults, example);
+  const broken = await checkDamaged(page, faults, await page.evaluate('Cepage.examples'));
   await checkDrops(page, faults, example);
   await checkDialog(page, faults);
   await showOwn(page, runs.deep.script, runs.deep.trace);
-  return { faults: faults.list, told: `use: keys, links, what is read, seven widths, contrast in light and dark, ${wrong} texts that don't fit, drops and pastes` };
+  const said = `use: keys, links, what is read, seven widths, contrast in light and dark, ${wrong} texts that don't fit, `
+    + `${broken} damaged ones, drops and pastes`;
+  return { faults: faults.list, told: said };
 }
 
 module.exports = { checkUse };
