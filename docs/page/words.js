@@ -6,6 +6,8 @@ globalThis.Cepage ??= {};
     const REASONS = { long: "it is too long", utf8: "it is not UTF-8", quote: "a quote is wrong", escape: "an escape is wrong",
         word: "a word is wrong", arity: "a word is missing or left over", place: "it may not stand there" };
 
+    // So many elements of a queue are named.
+    const NAMED = 100;
     const FORMAT = new Intl.NumberFormat("en");
     // A number with its digits in groups of three.
     const grouped = (number) => FORMAT.format(number);
@@ -91,7 +93,12 @@ globalThis.Cepage ??= {};
         return `Form ${form} is submitted by ${way.toUpperCase()}: ${rest.join(" ")}`;
     }
 
-    const nodes = (view, list) => list.map((node) => elementWords(view.run, node)).join(", ");
+    // The elements of a list, the first hundred by name.
+    function nodes(view, list) {
+        const names = list.slice(0, NAMED).map((node) => elementWords(view.run, node));
+        if (list.length > NAMED) names.push(`and ${grouped(list.length - NAMED)} more`);
+        return names.join(", ");
+    }
 
     const WORDS = {
         command, due, operation,
