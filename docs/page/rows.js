@@ -53,7 +53,7 @@ globalThis.Cepage ??= {};
     function ran(run, row) {
         const parts = [mark("▶"), tag(row.reaction), ...called(run, row)];
         if (row.early) parts.push(make("span", "early", `early, from ${queueName(row.queue)}`));
-        if (!row.told) parts.push(soft(row.text === "upgrade" ? "nothing to upgrade any more" : "it was not called"));
+        if (!row.told) parts.push(soft(row.text === "upgrade" ? "nothing to upgrade" : "it was not called"));
         return parts;
     }
 
