@@ -143,6 +143,20 @@ async function checkFind(page, faults) {
   faults.same('what is not there', words, 'No line of the transcript has: connected nowhere');
 }
 
+// The row in focus stays in the page where it is scrolled out of sight.
+async function keepsFocus(page, faults) {
+  await show(page, 'abandoned');
+  await page.evaluate('document.getElementById("tree").focus()');
+  const [first] = await press(page, 'Home');
+  await page.evaluate('document.getElementById("tree").scrollTop = 1e6');
+  await frame(page);
+  const kept = await page.evaluate(`(() => {
+    const rows = [...document.querySelectorAll('#tree .row')].map((row) => Number(row.dataset.row));
+    return [rows[0], rows.length > 10 && rows[1] > 10, rows.every((row, at) => at === 0 || row > rows[at - 1])];
+  })()`);
+  faults.same('the row in focus is kept, before the others', kept, [first, true, true]);
+}
+
 // What a screen reader is told: the rows in their order, each in words, and the one in focus.
 async function checkReader(page, faults) {
   await show(page, 'trace');
@@ -156,6 +170,7 @@ async function checkReader(page, faults) {
   faults.same('rows are read', items.length > 10, true);
   const said = await page.evaluate('document.getElementById("words").textContent');
   faults.same('the line below says', said, words[6]);
+  await keepsFocus(page, faults);
   faults.same('panes are named', ['Script', 'Drawing', 'Transcript and trace'].every((name) => tree.some((node) => node.name === name)), true);
   faults.same('each button and field has a name', tree.filter(({ role, name }) => ['button', 'checkbox', 'combobox', 'tab'].includes(role) && !name).length, 0);
 }
