@@ -46,6 +46,8 @@ async function main() {
   tell(checkTruth(Cepage, program, numbers(20261130), 60));
   const page = await browser.open(path.join(PAGE, 'index.html'), 1280, 800);
   if (!quick) tell(await checkDrawing(page, Cepage.examples));
+  if (!quick) tell(await checkDrawing(page, Cepage.examples.filter((example, at) => at % 8 === 0), 390));
+  await page.size(1280, 800);
   tell(await checkLong(page, runs));
   tell(await checkUse(browser, page, runs));
   tell(checkQuiet(page));
