@@ -195,9 +195,10 @@ async function checkTabs(page, faults, width, panes) {
   for (const name of names) {
     await page.click(`#tab-${name}`);
     await frame(page);
-    const seen = await page.evaluate(`document.getElementById(${JSON.stringify(name)}).offsetParent !== null
-      && document.querySelectorAll('#${name} .line, #${name} .row').length > 5`);
-    faults.same(`at ${width} pixels the tab ${name} shows its pane`, seen, true);
+    const seen = await page.evaluate(`[document.getElementById('${name}').offsetParent !== null,
+      document.querySelectorAll('#${name} .line, #${name} .row').length > 5,
+      [...document.querySelectorAll('.pane')].filter((pane) => pane.offsetParent).length]`);
+    faults.same(`at ${width} pixels the tab ${name} shows its pane`, seen, [true, true, panes]);
   }
   await page.key('ArrowLeft');
   const chosen = await page.evaluate('document.querySelector("[role=tab][aria-selected=true]").id');
