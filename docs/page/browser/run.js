@@ -24,7 +24,7 @@ var CepageBrowser = globalThis.CepageBrowser || {};
   // The frame's document. Nothing is fetched, no form is sent, and no script runs but this one.
   function documentFor(code) {
     const key = nonce();
-    const policy = `default-src 'none'; script-src 'nonce-${key}'; form-action 'none'; base-uri 'none'`;
+    const policy = `default-src 'none'; script-src 'nonce-${key}'; form-action 'none'`;
     return `<!DOCTYPE html><meta charset="utf-8"><meta http-equiv="Content-Security-Policy" content="${policy}">`
       + `<script nonce="${key}">${code.replace(/<\/(script)/gi, '<\\/$1')}</script>`;
   }

@@ -6,6 +6,7 @@ CepageBrowser.frame = CepageBrowser.frame || [];
 
 CepageBrowser.frame.push(function classes(run) {
   const known = new Map();
+  const byName = new Map();
   const byPrototype = new WeakMap();
   const constructing = new Set();
   const or = (value, otherwise) => (value === null ? otherwise : value);
@@ -67,9 +68,9 @@ CepageBrowser.frame.push(function classes(run) {
     });
   }
 
-  // The class of JavaScript. It is made anew until a definition has it, since parts may come until then.
+  // The class of JavaScript. It is made anew where a part has come since; that ends when a definition has it.
   function classFor(owner, Base) {
-    if (owner.defined) return owner.made;
+    if (owner.defined || (owner.made && Object.getPrototypeOf(owner.made) === Base)) return owner.made;
     const made = class extends Base {
       constructor() {
         const end = construct(owner, () => this, () => super());
@@ -97,6 +98,7 @@ CepageBrowser.frame.push(function classes(run) {
   function open(name) {
     const owner = classNamed(name);
     if (owner.defined) throw new DOMException('a definition has the class', 'NotSupportedError');
+    owner.made = null;
     return owner;
   }
 
@@ -122,24 +124,28 @@ CepageBrowser.frame.push(function classes(run) {
   // The interface of the elements that a definition extends.
   function baseFor(extended) {
     if (extended === undefined) return HTMLElement;
-    return document.implementation.createHTMLDocument('').createElement(extended).constructor;
+    try {
+      return document.implementation.createHTMLDocument('').createElement(extended).constructor;
+    } catch {
+      return HTMLElement;
+    }
   }
 
   function define([name, className, extended]) {
     const owner = classNamed(className);
-    const Base = /^[a-z][^\0\s/>]*$/i.test(extended) || extended === undefined ? baseFor(extended) : HTMLElement;
-    const made = classFor(owner, Base);
-    owner.defined = owner.defined || { extended };
-    const before = owner.defined;
+    const made = classFor(owner, baseFor(extended));
+    const { defined } = owner;
+    const isNew = !customElements.get(name);
+    owner.defined = defined || { name, extended };
+    if (isNew && extended === undefined) byName.set(name, owner);
     try {
       customElements.define(name, made, extended === undefined ? undefined : { extends: extended });
     } catch (error) {
-      if (!isDefined(made) && before === owner.defined) owner.defined = null;
+      owner.defined = defined;
+      if (isNew) byName.delete(name);
       throw error;
     }
   }
-
-  const isDefined = (made) => Boolean(customElements.getName && customElements.getName(made));
 
   run.operations.define = define;
   run.operations.new = ([variable, className]) => {
@@ -149,9 +155,10 @@ CepageBrowser.frame.push(function classes(run) {
     return run.number(node);
   };
 
-  // The class by whose definition the node is what it is; one that its upgrade has lost has none any more.
+  // The class by whose definition the node is what it is; one that its upgrade has lost has none any more. One that
+  // its constructor gave without a base call has the definition, and not the prototype.
   run.classOf = (node) => {
-    const owner = byPrototype.get(Object.getPrototypeOf(node));
+    const owner = byPrototype.get(Object.getPrototypeOf(node)) || byName.get(node.localName);
     return owner && owner.defined && (constructing.has(node) || node.matches(':defined')) ? owner : null;
   };
   run.isAssociated = (node) => {
@@ -159,5 +166,7 @@ CepageBrowser.frame.push(function classes(run) {
     return Boolean(owner && owner.associated && owner.defined.extended === undefined);
   };
   run.isConstructing = (node) => constructing.has(node);
+  run.isLost = (node) => byPrototype.has(Object.getPrototypeOf(node)) && !run.classOf(node);
+  run.definitionNamed = (name) => [...known.values()].find((owner) => owner.defined && owner.defined.name === name);
   run.part = ({ word, args }) => parts[word](...args);
 });

@@ -6,7 +6,6 @@ CepageBrowser.frame = CepageBrowser.frame || [];
 
 CepageBrowser.frame.push(function controls(run) {
   const internals = new WeakMap();
-  const edited = new WeakSet();
   const NO_TEXT = ['hidden', 'checkbox', 'radio', 'submit', 'reset', 'button', 'file', 'image'];
   const BUTTONS = ['submit', 'reset', 'button', 'file', 'image'];
 
@@ -55,7 +54,6 @@ CepageBrowser.frame.push(function controls(run) {
     const node = one('text', operand, here);
     if (node.matches(':disabled') || node.readOnly) return 'ignored';
     type(node, run.value(value, here));
-    edited.add(node);
   }
 
   // A click where that comes to what is wanted, else the state is set.
@@ -74,11 +72,7 @@ CepageBrowser.frame.push(function controls(run) {
   }
 
   Object.assign(run.operations, {
-    value: ([operand, value], here) => {
-      const node = one('text', operand, here);
-      node.value = run.value(value, here);
-      edited.delete(node);
-    },
+    value: ([operand, value], here) => { one('text', operand, here).value = run.value(value, here); },
     check: ([operand, wanted], here) => { one('checkable', operand, here).checked = wanted === 'on'; },
     choose: ([operand, wanted], here) => { one('option', operand, here).selected = wanted === 'on'; },
     custom: ([operand, message], here) => one('messaged', operand, here).setCustomValidity(run.value(message, here)),
@@ -107,5 +101,5 @@ CepageBrowser.frame.push(function controls(run) {
     'state delete': ([operand, text], here) => { internalsOf(operand, here).states.delete(text); },
     'state clear': ([operand], here) => internalsOf(operand, here).states.clear(),
   });
-  Object.assign(run, { one, is, typeOf, internalsOf, internals, edited });
+  Object.assign(run, { one, is, typeOf, internalsOf, internals });
 });

@@ -45,11 +45,12 @@ CepageBrowser.frame.push(function main(run) {
       return;
     }
     run.asked = undefined;
+    run.noted.clear();
     const reply = replyTo(form);
     const { asked } = run;
     await turn();
     await Promise.all(run.pending.splice(0));
-    run.write(`${form.line}: ${reply}`, { reply: true, ...asked });
+    run.write(`${form.line}: ${reply}`, { reply: true, noted: [...run.noted], ...asked });
   }
 
   async function all(forms) {

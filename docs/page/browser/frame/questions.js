@@ -18,20 +18,7 @@ CepageBrowser.frame.push(function questions(run) {
   // A getter of the prototype: a form's own may be hidden by the names of its controls.
   run.get = (prototype, name, node) => Object.getOwnPropertyDescriptor(prototype, name).get.call(node);
 
-  const elementsOf = (form) => [...run.get(HTMLFormElement.prototype, 'elements', form)];
-
-  // What the reasons for a difference look at.
-  run.facts = (node) => {
-    if (!(node instanceof Element)) return { kind: node.nodeName };
-    const has = (name) => node.hasAttribute(name);
-    return {
-      kind: node.localName, type: run.typeOf(node), number: run.number(node), named: Boolean(node.getAttribute('name')),
-      disabled: node.matches(':disabled'), readonly: has('readonly'), required: has('required'), form: has('form'),
-      connected: node.isConnected, inPage: node.isConnected && node.ownerDocument === document,
-      edited: run.edited.has(node), constructing: run.isConstructing(node), internals: run.internals.has(node),
-      associated: run.isAssociated(node), inDatalist: Boolean(node.closest('datalist')), defined: node.matches(':defined'),
-    };
-  };
+  run.elementsOf = (form) => [...run.get(HTMLFormElement.prototype, 'elements', form)];
 
   // A custom element without internals shows its form owner only as a control of each form of its tree.
   function owner(node) {
@@ -40,7 +27,7 @@ CepageBrowser.frame.push(function questions(run) {
     if (attached) return numbered(attached.form);
     const forms = node.getRootNode().querySelectorAll ? [...node.getRootNode().querySelectorAll('form')] : [];
     const above = node.getRootNode() instanceof HTMLFormElement ? [node.getRootNode()] : [];
-    return numbered([...above, ...forms].find((form) => elementsOf(form).includes(node)));
+    return numbered([...above, ...forms].find((form) => run.elementsOf(form).includes(node)));
   }
 
   // What of a control its own properties show, and of a custom element its internals.
@@ -98,7 +85,7 @@ CepageBrowser.frame.push(function questions(run) {
     kids: ask('node', (node) => listed([...node.childNodes].map(run.number))),
     state: ask('element', state),
     owner: ask('listed', owner),
-    controls: ask('form', (form) => listed(elementsOf(form).map(run.number))),
+    controls: ask('form', (form) => listed(run.elementsOf(form).map(run.number))),
     disabled: ask('disableable', (node) => yes(node.matches(':disabled'))),
     candidate: ask('submittable', candidate),
     valid: ask('submittable', valid),

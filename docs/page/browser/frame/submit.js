@@ -46,29 +46,67 @@ CepageBrowser.frame.push(function submit(run) {
   }
 
   // The browser's own boundary is random: the run's stands in its place.
-  function multipart(line, head, data) {
+  async function multipart(entries) {
+    const data = new FormData();
+    for (const [name, value] of entries) data.append(name, value);
     const response = new Response(data);
     const own = /boundary=(.*)$/.exec(response.headers.get('content-type'))[1];
-    const type = `multipart/form-data; boundary=${run.words.boundary}`;
-    run.pending.push(response.text().then((body) => {
-      line.text = `${head} ${run.quote(type)} ${run.quote(body.replaceAll(own, run.words.boundary))}`;
-    }));
+    return (await response.text()).replaceAll(own, run.words.boundary);
+  }
+
+  // What is written of a submission. Only a multipart body has to be waited for.
+  function compose(form, submitter, { entries, url }, put) {
+    const begin = `submit ${run.number(form)}`;
+    if (said(form, submitter, 'method') !== 'post') {
+      const [path] = url.href.replace(/#.*$/, '').split('?');
+      return put(`${begin} get ${run.quote(`${path}?${urlencoded(entries)}${url.hash}`)}`);
+    }
+    const type = said(form, submitter, 'enctype');
+    const post = (full, body) => put(`${begin} post ${run.quote(url.href)} ${run.quote(full)} ${run.quote(body)}`);
+    if (type !== 'multipart/form-data') return post(type, type === 'text/plain' ? plain(entries) : urlencoded(entries));
+    const full = `${type}; boundary=${run.words.boundary}`;
+    run.pending.push(multipart(entries).then((body) => post(full, body)));
+  }
+
+  // The entries without those of these controls, each of which gives at most one of its name and value.
+  function without(entries, controls) {
+    const left = [...entries];
+    for (const control of controls) {
+      const at = left.findIndex(([name, value]) => name === control.getAttribute('name')
+        && (typeof value !== 'string' || control.value === undefined || control.value === value));
+      if (at >= 0) left.splice(at, 1);
+    }
+    return left;
+  }
+
+  // The same submission with one thing otherwise, in which the docs say that a browser and cepage part: for the
+  // reasons of the comparison.
+  function variantsOf(form, submitter, { entries, url }) {
+    const variants = {};
+    const below = run.elementsOf(form).filter((control) => control.closest('datalist'));
+    if (below.length) variants.datalist = { url, entries: without(entries, below) };
+    if (entries.some(([, value]) => typeof value !== 'string')) {
+      variants.files = { url, entries: entries.filter(([, value]) => typeof value === 'string') };
+    }
+    if (submitter instanceof HTMLInputElement && !submitter.hasAttribute('value')) {
+      const name = submitter.getAttribute('name');
+      const own = entries.findIndex((entry) => entry[0] === name && entry[1] !== '');
+      variants.label = { url, entries: entries.map((entry, index) => (index === own ? [name, ''] : entry)) };
+    }
+    const action = said(form, submitter, 'action');
+    if (document.querySelector('base[href]') && action) variants.base = { entries, url: new URL(action, run.words.url) };
+    if (/\|/.test(action)) variants.bar = { entries, url: { href: url.href.replace(/%7C/g, '|'), hash: url.hash } };
+    return variants;
   }
 
   function sent(form, submitter, url) {
-    const data = new FormData(form, submitter);
-    const begin = `submit ${run.number(form)}`;
-    if (said(form, submitter, 'method') !== 'post') {
-      const { hash } = url;
-      url.hash = '';
-      const [path] = url.href.split('?');
-      return void run.write(`${begin} get ${run.quote(`${path}?${urlencoded([...data])}${hash}`)}`);
+    const as = { url, entries: [...new FormData(form, submitter)] };
+    const line = run.write('', { subject: run.facts(form), variants: {} });
+    compose(form, submitter, as, (text) => { line.text = text; });
+    for (const [name, variant] of Object.entries(variantsOf(form, submitter, as))) {
+      compose(form, submitter, variant, (text) => { line.variants[name] = text; });
     }
-    const head = `${begin} post ${run.quote(url.href)}`;
-    const type = said(form, submitter, 'enctype');
-    if (type === 'multipart/form-data') return void multipart(run.write(head), head, data);
-    const body = type === 'text/plain' ? plain([...data]) : urlencoded([...data]);
-    run.write(`${head} ${run.quote(type)} ${run.quote(body)}`);
+    line.spaceInHost = /^([a-z]+:)?\/\/[^/?#]* [^/?#]*/i.test(said(form, submitter, 'action'));
   }
 
   // Behind the browser's own checks: where it would go, or what blocks it.
@@ -107,7 +145,7 @@ CepageBrowser.frame.push(function submit(run) {
 
   function tried(form, act) {
     const { submitted, submitter, invalid } = listen(form, act);
-    if (submitted) return goes(form, submitter);
+    if (submitted) return void goes(form, submitter);
     const why = invalid.length ? `invalid ${invalid.map(run.number).join(' ')}`
       : isInPage(form) ? 'by nothing that the browser tells' : 'disconnected';
     run.write(`submit ${run.number(form)} blocked ${why}`, { subject: run.facts(form) });

@@ -1,0 +1,229 @@
+'use strict';
+// What the reasons for a difference look at: the circumstances of an element when a line was written, and what the
+// lines before have set on it, as docs/controls.md keeps it: flags that are derived, and not kept as a browser does.
+// Nothing here changes what the browser does. The function's own text runs in the frame.
+var CepageBrowser = globalThis.CepageBrowser || {};
+CepageBrowser.frame = CepageBrowser.frame || [];
+
+CepageBrowser.frame.push(function facts(run) {
+  const flags = new WeakMap();
+  const sets = { edited: new WeakSet(), valueSet: new WeakSet(), retyped: new WeakSet(), shallowCopy: new WeakSet() };
+  const isValues = new WeakMap();
+  const isRadio = (node) => node instanceof HTMLInputElement && run.typeOf(node) === 'radio';
+
+  // The radio buttons of a group, in tree order; one without a name is alone.
+  function groupOf(node) {
+    const name = node.getAttribute('name');
+    const root = node.getRootNode();
+    if (!name || !root.querySelectorAll) return [node];
+    return [...root.querySelectorAll('input')].filter((other) => isRadio(other) && other.form === node.form
+      && other.getAttribute('name') === name);
+  }
+
+  // The options of a select: its children, and those of its optgroups.
+  function optionsOf(select) {
+    const within = [...select.children].flatMap((child) => (child instanceof HTMLOptGroupElement ? [...child.children] : [child]));
+    return within.filter((child) => child instanceof HTMLOptionElement);
+  }
+
+  function selectOf(option) {
+    const above = option.parentNode instanceof HTMLOptGroupElement ? option.parentNode.parentNode : option.parentNode;
+    return above instanceof HTMLSelectElement ? above : null;
+  }
+
+  const isFlagged = (node) => (flags.has(node) ? flags.get(node)
+    : node.hasAttribute(node instanceof HTMLOptionElement ? 'selected' : 'checked'));
+  const isOff = (option) => option.hasAttribute('disabled')
+    || (option.parentNode instanceof HTMLOptGroupElement && option.parentNode.hasAttribute('disabled'));
+
+  function flag(node, on, others) {
+    if (on) for (const other of others) flags.set(other, false);
+    flags.set(node, on);
+  }
+
+  function chosenOf(select) {
+    const options = optionsOf(select);
+    const flagged = options.filter(isFlagged);
+    if (select.multiple) return flagged;
+    const one = flagged.at(-1) || options.find((option) => !isOff(option));
+    return one ? [one] : [];
+  }
+
+  function radioFacts(node) {
+    const group = groupOf(node);
+    const flagged = group.filter(isFlagged);
+    const turnedOn = (one) => flags.get(one) === false && one.hasAttribute('checked') && one.checked;
+    return {
+      derived: flagged.at(-1) === node, manyFlagged: flagged.length > 1,
+      turnedOn: group.some(turnedOn), groupRequired: group.some((one) => one.hasAttribute('required')),
+    };
+  }
+
+  function selectFacts(select) {
+    const options = optionsOf(select);
+    const shown = [...select.options];
+    const derived = chosenOf(select);
+    return {
+      multiple: select.multiple, derived: run.quote(derived.length ? derived[0].value : ''),
+      derivedMissing: isMissing(select, options, derived), noneFlagged: !options.some(isFlagged),
+      deepOption: shown.some((option) => selectOf(option) !== select),
+      setOff: shown.some((option) => flags.get(option) === false && option.hasAttribute('selected') && option.selected),
+    };
+  }
+
+  // Whether a required select has nothing chosen, or its placeholder alone.
+  function isMissing(select, options, chosen) {
+    if (!select.hasAttribute('required')) return false;
+    const [first] = options;
+    const isPlaceholder = (option) => option === first && option.parentNode === select && option.value === '';
+    return !chosen.length || (!select.multiple && isPlaceholder(chosen[0]));
+  }
+
+  function optionFacts(option) {
+    const group = option.closest('optgroup[disabled]');
+    return { groupFurtherUp: Boolean(group) && option.parentNode !== group && !isOff(option) };
+  }
+
+  function kindFacts(node) {
+    if (isRadio(node)) return radioFacts(node);
+    if (node instanceof HTMLSelectElement) return selectFacts(node);
+    if (node instanceof HTMLOptionElement) return optionFacts(node);
+    if (!(node instanceof HTMLFormElement)) return {};
+    const others = run.elementsOf(node).filter((one) => !run.is.listed(one));
+    return { otherControls: others.map(run.number) };
+  }
+
+  function formFacts(node) {
+    if (!run.is.submittable(node)) return {};
+    return { inDatalist: Boolean(node.closest('datalist')), empty: run.is.text(node) && node.value === '' };
+  }
+
+  // A class that disables shadow is that of the `is` value, and not of the local name.
+  function isOfAnother(node) {
+    const owner = isValues.has(node) && run.definitionNamed(isValues.get(node));
+    return Boolean(owner && owner.disabled.includes('shadow') && owner.defined.extended !== node.localName);
+  }
+
+  run.facts = (node) => {
+    if (!(node instanceof Element)) return { kind: node.nodeName, number: run.number(node) };
+    const has = (name) => node.hasAttribute(name);
+    const owner = run.classOf(node);
+    return {
+      kind: node.localName, type: run.typeOf(node), number: run.number(node), named: Boolean(node.getAttribute('name')),
+      disabled: node.matches(':disabled'), ownDisabled: has('disabled'), readonly: has('readonly'), required: has('required'),
+      form: has('form'), connected: node.isConnected, defined: node.matches(':defined'), lost: run.isLost(node),
+      constructing: run.isConstructing(node), internals: run.internals.has(node), associated: run.isAssociated(node),
+      extendsAssociated: Boolean(owner && owner.associated && owner.defined.extended !== undefined),
+      isOfAnother: isOfAnother(node),
+      ...Object.fromEntries(Object.entries(sets).map(([name, set]) => [name, set.has(node)])),
+      ...formFacts(node), ...kindFacts(node),
+    };
+  };
+
+  // ---- what the lines set
+
+  // `begin` looks at the operands before the operation, and gives what is to be done behind it.
+  function watch(word, begin) {
+    const act = run.operations[word];
+    run.operations[word] = (args, here) => {
+      let behind;
+      try { behind = begin(args, here); } catch { /* the operation itself will throw */ }
+      const reply = act(args, here);
+      if (behind && reply !== 'ignored') behind();
+      return reply;
+    };
+  }
+
+  const nodeOf = ([operand], here) => run.node(operand, here);
+
+  function watchSet(word, isTyped) {
+    watch(word, (args, here) => {
+      const node = nodeOf(args, here);
+      return () => {
+        sets.valueSet.add(node);
+        if (isTyped) sets.edited.add(node);
+        else sets.edited.delete(node);
+      };
+    });
+  }
+
+  function watchFlag(word) {
+    watch(word, (args, here) => {
+      const node = nodeOf(args, here);
+      return () => {
+        const select = node instanceof HTMLOptionElement && selectOf(node);
+        const others = select ? (select.multiple ? [] : optionsOf(select)) : isRadio(node) ? groupOf(node) : [];
+        flag(node, args[1] === 'on', others);
+      };
+    });
+  }
+
+  function forget(form) {
+    for (const control of run.elementsOf(form)) {
+      for (const node of control instanceof HTMLSelectElement ? optionsOf(control) : [control]) flags.delete(node);
+      sets.valueSet.delete(control);
+      sets.edited.delete(control);
+    }
+  }
+
+  function copied(node, copy, deep) {
+    const set = sets.valueSet.has(node) || flags.has(node);
+    if (node instanceof HTMLInputElement || node instanceof HTMLTextAreaElement) {
+      if (flags.has(node)) flags.set(copy, flags.get(node));
+      if (sets.valueSet.has(node)) sets.valueSet.add(copy);
+      if (sets.retyped.has(node)) sets.retyped.add(copy);
+      if (!deep && !set && node instanceof HTMLTextAreaElement) sets.shallowCopy.add(copy);
+    }
+    if (isValues.has(node)) isValues.set(copy, isValues.get(node));
+    if (deep) [...node.childNodes].forEach((child, index) => copied(child, copy.childNodes[index], true));
+  }
+
+  function watchType(word) {
+    watch(word, (args, here) => {
+      const node = nodeOf(args, here);
+      if (!(node instanceof HTMLInputElement) || args[1].toLowerCase() !== 'type') return undefined;
+      const before = node.type;
+      return () => { if (node.type !== before) sets.retyped.add(node); };
+    });
+  }
+
+  // What the browser enqueues nothing for: an element that is custom, or whose constructor runs.
+  const isUpgraded = (node) => node instanceof Element && Boolean(run.classOf(node));
+  const hasUpgraded = (node, test) => test(node) || [...node.childNodes].some((child) => hasUpgraded(child, test));
+
+  function watchUpgrade(word, index, test) {
+    watch(word, (args, here) => {
+      const node = run.node(args[index], here);
+      if (run.depth > 0 && hasUpgraded(node, test)) run.noted.add('upgrade');
+    });
+  }
+
+  watchSet('value', false);
+  watchSet('user edit', true);
+  for (const word of ['check', 'choose', 'user check', 'user choose']) watchFlag(word);
+  for (const word of ['reset', 'user reset']) watch(word, (args, here) => {
+    const form = nodeOf(args, here);
+    return () => forget(form);
+  });
+  watch('user press', (args, here) => {
+    const button = nodeOf(args, here);
+    return () => { if (button.type === 'reset' && button.form) forget(button.form); };
+  });
+  watch('clone', ([variable, operand, deep], here) => {
+    const node = run.node(operand, here);
+    return () => copied(node, run.variables.get(variable), Boolean(deep));
+  });
+  watch('create', ([variable, , is]) => () => { if (is !== undefined) isValues.set(run.variables.get(variable), is); });
+  for (const word of ['setattr', 'delattr']) watchType(word);
+  watchUpgrade('upgrade', 0, isUpgraded);
+  for (const word of ['append', 'before']) watchUpgrade(word, 1, run.isConstructing);
+  for (const word of ['internals', 'formvalue', 'formlist', 'formnull', 'validity', 'shadow', 'append', 'before', 'clone', 'user press', 'request']) {
+    watch(word, (args, here) => {
+      const at = { shadow: 1, append: 1, before: 1, clone: 1, request: args[1] ? 1 : 0 }[word] || 0;
+      const asked = { subject: run.facts(run.node(args[at], here)) };
+      run.asked = asked;
+      return () => { run.asked = asked; };
+    });
+  }
+  run.noted = new Set();
+});
