@@ -133,17 +133,35 @@ var CepageBrowser = globalThis.CepageBrowser || {};
     return [...rows, ...left.map((browserLine) => ({ browser: browserLine }))];
   }
 
-  // The rows of one command: { program, browser, same }.
+  // What a browser doesn't show can be any answer of its kind.
+  const ANSWERS = {
+    'not defined': /^(undefined|failed|precustomized)$/,
+    'submission value': /^("|list$|null$)/,
+    'saved state': /^("|list$|null$)/,
+    'without internals': /^/,
+    'message of a barred control': /^"/,
+  };
+
+  function isAnswer(text, { text: shown, notShown }) {
+    const begin = /^(\d+: |ask )/.exec(text);
+    return Boolean(notShown && begin && shown.startsWith(begin[0])) && ANSWERS[notShown].test(text.slice(begin[0].length));
+  }
+
+  // The rows of one command: { program, browser, same }. A line of the program's has a `reading`: with the browser's
+  // numbers.
   function rowsOf(program, browser, numbers) {
     numbers.bindReplies(program.at(-1), browser.at(-1));
     const readings = program.map(({ text }) => numbers.readings(text));
+    program.forEach((line, row) => { [line.reading] = readings[row]; });
     const isSame = (row, column) => readings[row].includes(browser[column].text);
+    const isPaired = (row, column) => isSame(row, column) || isAnswer(program[row].text, browser[column]);
     const rows = [];
     let [row, column] = [0, 0];
-    for (const [nextRow, nextColumn] of matches(program, browser, isSame)) {
+    for (const [nextRow, nextColumn] of matches(program, browser, isPaired)) {
       rows.push(...besides(program.slice(row, nextRow), browser.slice(column, nextColumn)));
-      numbers.bind(program[nextRow].text, browser[nextColumn].text);
-      rows.push({ program: program[nextRow], browser: browser[nextColumn], same: true });
+      const same = isSame(nextRow, nextColumn);
+      if (same) numbers.bind(program[nextRow].text, browser[nextColumn].text);
+      rows.push({ program: program[nextRow], browser: browser[nextColumn], same });
       [row, column] = [nextRow + 1, nextColumn + 1];
     }
     return [...rows, ...besides(program.slice(row), browser.slice(column))];
@@ -159,7 +177,6 @@ var CepageBrowser = globalThis.CepageBrowser || {};
       line,
       form: formAt.get(line),
       rows: rowsOf(program.get(line) || [], browser.get(line) || [], numbers),
-      numbers,
     }));
   }
 

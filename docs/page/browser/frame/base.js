@@ -29,9 +29,8 @@ CepageBrowser.frame.push(function base(run) {
 
   // One more line of the transcript; `more` is what the comparison is told beside it.
   function write(text, more = {}) {
-    if (run.ended) return {};
     const line = { text, line: run.line, ...more };
-    run.lines.push(line);
+    if (!run.ended) run.lines.push(line);
     return line;
   }
 

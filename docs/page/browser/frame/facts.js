@@ -7,7 +7,7 @@ CepageBrowser.frame = CepageBrowser.frame || [];
 
 CepageBrowser.frame.push(function facts(run) {
   const flags = new WeakMap();
-  const sets = { edited: new WeakSet(), valueSet: new WeakSet(), retyped: new WeakSet(), shallowCopy: new WeakSet() };
+  const sets = { edited: new WeakSet(), valueSet: new WeakSet(), retyped: new WeakSet(), moved: new WeakSet(), shallowCopy: new WeakSet() };
   const isValues = new WeakMap();
   const isRadio = (node) => node instanceof HTMLInputElement && run.typeOf(node) === 'radio';
 
@@ -16,7 +16,7 @@ CepageBrowser.frame.push(function facts(run) {
     const name = node.getAttribute('name');
     const root = node.getRootNode();
     if (!name || !root.querySelectorAll) return [node];
-    return [...root.querySelectorAll('input')].filter((other) => isRadio(other) && other.form === node.form
+    return [root, ...root.querySelectorAll('input')].filter((other) => isRadio(other) && other.form === node.form
       && other.getAttribute('name') === name);
   }
 
@@ -81,16 +81,21 @@ CepageBrowser.frame.push(function facts(run) {
 
   function optionFacts(option) {
     const group = option.closest('optgroup[disabled]');
-    return { groupFurtherUp: Boolean(group) && option.parentNode !== group && !isOff(option) };
+    const select = option.closest('select');
+    return {
+      groupFurtherUp: Boolean(group) && option.parentNode !== group && !isOff(option),
+      selectOff: Boolean(select) && select.matches(':disabled') && !isOff(option),
+    };
   }
 
   function kindFacts(node) {
     if (isRadio(node)) return radioFacts(node);
     if (node instanceof HTMLSelectElement) return selectFacts(node);
     if (node instanceof HTMLOptionElement) return optionFacts(node);
+    if (node instanceof HTMLInputElement) return { derived: isFlagged(node) };
     if (!(node instanceof HTMLFormElement)) return {};
     const others = run.elementsOf(node).filter((one) => !run.is.listed(one));
-    return { otherControls: others.map(run.number) };
+    return { otherControls: others.map(run.number), constructed: run.constructed() };
   }
 
   function formFacts(node) {
@@ -114,7 +119,7 @@ CepageBrowser.frame.push(function facts(run) {
       form: has('form'), connected: node.isConnected, defined: node.matches(':defined'), lost: run.isLost(node),
       constructing: run.isConstructing(node), internals: run.internals.has(node), associated: run.isAssociated(node),
       extendsAssociated: Boolean(owner && owner.associated && owner.defined.extended !== undefined),
-      isOfAnother: isOfAnother(node),
+      isOfAnother: isOfAnother(node), is: isValues.get(node),
       ...Object.fromEntries(Object.entries(sets).map(([name, set]) => [name, set.has(node)])),
       ...formFacts(node), ...kindFacts(node),
     };
@@ -147,6 +152,17 @@ CepageBrowser.frame.push(function facts(run) {
     });
   }
 
+  // What an element gives as its entries, as the lines have set it: nothing shows it.
+  const entries = new WeakMap();
+  function watchValue(word, entriesOf) {
+    watch(word, (args, here) => {
+      const node = nodeOf(args, here);
+      const set = entriesOf(args, here, node);
+      return () => entries.set(node, set);
+    });
+  }
+  run.entriesOf = (node) => entries.get(node) || [];
+
   function watchFlag(word) {
     watch(word, (args, here) => {
       const node = nodeOf(args, here);
@@ -167,12 +183,12 @@ CepageBrowser.frame.push(function facts(run) {
   }
 
   function copied(node, copy, deep) {
-    const set = sets.valueSet.has(node) || flags.has(node);
+    const isSet = sets.valueSet.has(node);
     if (node instanceof HTMLInputElement || node instanceof HTMLTextAreaElement) {
       if (flags.has(node)) flags.set(copy, flags.get(node));
-      if (sets.valueSet.has(node)) sets.valueSet.add(copy);
-      if (sets.retyped.has(node)) sets.retyped.add(copy);
-      if (!deep && !set && node instanceof HTMLTextAreaElement) sets.shallowCopy.add(copy);
+      if (isSet) sets.valueSet.add(copy);
+      for (const set of [sets.retyped, sets.moved]) if (set.has(node)) set.add(copy);
+      if (!deep && !isSet && node instanceof HTMLTextAreaElement) sets.shallowCopy.add(copy);
     }
     if (isValues.has(node)) isValues.set(copy, isValues.get(node));
     if (deep) [...node.childNodes].forEach((child, index) => copied(child, copy.childNodes[index], true));
@@ -183,7 +199,11 @@ CepageBrowser.frame.push(function facts(run) {
       const node = nodeOf(args, here);
       if (!(node instanceof HTMLInputElement) || args[1].toLowerCase() !== 'type') return undefined;
       const before = node.type;
-      return () => { if (node.type !== before) sets.retyped.add(node); };
+      return () => {
+        if (node.type === before) return;
+        sets.retyped.add(node);
+        if (sets.valueSet.has(node)) sets.moved.add(node);
+      };
     });
   }
 
@@ -198,6 +218,9 @@ CepageBrowser.frame.push(function facts(run) {
     });
   }
 
+  watchValue('formvalue', ([, value], here, node) => [[node.getAttribute('name'), run.value(value, here)]]);
+  watchValue('formlist', ([, pairs]) => pairs);
+  watchValue('formnull', () => []);
   watchSet('value', false);
   watchSet('user edit', true);
   for (const word of ['check', 'choose', 'user check', 'user choose']) watchFlag(word);
@@ -221,6 +244,7 @@ CepageBrowser.frame.push(function facts(run) {
     watch(word, (args, here) => {
       const at = { shadow: 1, append: 1, before: 1, clone: 1, request: args[1] ? 1 : 0 }[word] || 0;
       const asked = { subject: run.facts(run.node(args[at], here)) };
+      if (['append', 'before'].includes(word)) asked.subject.parent = run.number(run.node(args[0], here));
       run.asked = asked;
       return () => { run.asked = asked; };
     });

@@ -100,5 +100,11 @@ CepageBrowser.frame.push(function questions(run) {
     },
     attr: attribute,
   };
-  for (const [what, answer] of Object.entries(answers)) run.operations[`ask ${what}`] = answer;
+  for (const [what, answer] of Object.entries(answers)) {
+    run.operations[`ask ${what}`] = (args, here) => {
+      const reply = answer(args, here);
+      run.asked.what = what;
+      return reply;
+    };
+  }
 });

@@ -68,12 +68,14 @@ CepageBrowser.frame.push(function submit(run) {
     run.pending.push(multipart(entries).then((body) => post(full, body)));
   }
 
-  // The entries without those of these controls, each of which gives at most one of its name and value.
+  // What a control gives at most: an element of HTML one entry of its name and value.
+  const givenBy = (control) => (run.is.messaged(control) ? [[control.getAttribute('name'), control.value]] : run.entriesOf(control));
+
+  // The entries without those of these controls.
   function without(entries, controls) {
     const left = [...entries];
-    for (const control of controls) {
-      const at = left.findIndex(([name, value]) => name === control.getAttribute('name')
-        && (typeof value !== 'string' || control.value === undefined || control.value === value));
+    for (const [name, value] of controls.flatMap(givenBy)) {
+      const at = left.findIndex((entry) => entry[0] === name && entry[1] === value);
       if (at >= 0) left.splice(at, 1);
     }
     return left;
