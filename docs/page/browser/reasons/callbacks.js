@@ -7,7 +7,6 @@ var CepageBrowser = globalThis.CepageBrowser || {};
   const { row, anyRow, command, browsers } = CepageBrowser.reasonOf;
   const isReply = (text) => /^\d+: /.test(text);
   const isForm = (block) => /^call #\d+ form(Associated|Disabled) /.test(block.text);
-  const nodeOf = (text) => /^call (#\d+) /.exec(text)[1];
 
   // What one side wrote, in blocks. A row that is explained already counts as equal.
   function blocksOf(rows, side) {
@@ -26,22 +25,20 @@ var CepageBrowser = globalThis.CepageBrowser || {};
 
   const texts = (blocks) => blocks.map(({ text }) => text);
   const isSameList = (one, other) => one.length === other.length && one.every((text, index) => text === other[index]);
-  const isSameBag = (one, other) => isSameList([...one].sort(), [...other].sort());
   const differing = (blocks) => blocks.flatMap(({ rows }) => rows).filter((one) => !one.same && !one.reason);
 
-  // Blocks of the browser's that tell an element with a `form` attribute of no form, and then of its form again.
+  const formTold = (block) => (/^call (#\d+) formAssociated (\S+)\n/.exec(block.text) || []).slice(1);
+
+  // Blocks of the browser's that tell an element with a `form` attribute of no form, and the next time of a form, and
+  // of which the program has no such first one.
   function toldTwice(program, browser) {
     const wanted = texts(program);
-    return browser.filter((block, index) => {
-      const next = browser[index + 1];
-      const none = /^call #\d+ formAssociated null\n/.test(block.text);
-      const isPair = none && next && /^call #\d+ formAssociated #/.test(next.text) && nodeOf(next.text) === nodeOf(block.text);
+    return browser.flatMap((block, index) => {
+      const [node, form] = formTold(block);
       const { subject } = block.rows[0].browser;
-      if (isPair && subject && subject.form && !wanted.includes(block.text)) {
-        next.second = true;
-        return true;
-      }
-      return Boolean(block.second);
+      if (form !== 'null' || !subject || !subject.form || wanted.includes(block.text)) return [];
+      const next = browser.slice(index + 1).find((other) => formTold(other)[0] === node);
+      return next && formTold(next)[1] !== 'null' ? [block, next] : [];
     });
   }
 
@@ -51,16 +48,57 @@ var CepageBrowser = globalThis.CepageBrowser || {};
       return differing(toldTwice(blocksOf(rows, 'program'), blocksOf(rows, 'browser')));
     });
 
-  // Only form callbacks stand elsewhere: without them both sides are the same, and both have the same of them.
+  // What each element hears in a command, in order: A is its form owner, D its disabled state, c that it came or left.
+  function heardBy(blocks) {
+    const heard = new Map();
+    for (const { text } of blocks) {
+      const [, node = '', callback = ''] = /^call (#\d+) (\w+)/.exec(text) || [];
+      if (!heard.has(node)) heard.set(node, []);
+      const kind = { formAssociated: 'A', formDisabled: 'D', connected: 'c', disconnected: 'c' }[callback] || 'o';
+      heard.get(node).push({ kind, text });
+    }
+    return heard;
+  }
+
+  // The same in cepage's order: of each run of form callbacks the form owner first, and `behind`: the run before the
+  // `connected` or `disconnected` that it follows.
+  function inOrder(list, behind) {
+    const ordered = [];
+    for (let at = 0; at < list.length;) {
+      const came = behind && list[at].kind === 'c' ? [list[at++]] : [];
+      let end = at;
+      while (end < list.length && 'AD'.includes(list[end].kind)) end++;
+      const run = list.slice(at, end);
+      ordered.push(...['A', 'D'].flatMap((kind) => run.filter((one) => one.kind === kind)), ...came);
+      if (end === at && !came.length) ordered.push(list[end++]);
+      at = end;
+    }
+    return ordered.map(({ text }) => text);
+  }
+
+  function isHeardOtherwise(program, browser) {
+    const [told, heard] = [heardBy(program), heardBy(browser)];
+    return told.size === heard.size && [...told].every(([node, list]) => {
+      const wanted = list.map(({ text }) => text);
+      return heard.has(node) && [true, false].some((behind) => isSameList(inOrder(heard.get(node), behind), wanted));
+    });
+  }
+
+  const firsts = (blocks) => [...heardBy(blocks).keys()];
+  const isNamed = (rows) => rows.some(({ browser }) => browser && browser.subject && browser.subject.form);
+
+  // Each element hears the same, but for its form callbacks behind `connected` and the other way round. Elements hear
+  // it in the same order, unless some have a `form` attribute. All other callbacks stand as they do.
   command('told before connected', browsers('a-form-owner-is-told-before-connected'),
     'Chromium tells of form owners and disabled states in another order: behind `connected`, and by IDs', (rows, { form }) => {
       if (!form) return [];
       const left = rows.filter((one) => one.same || !one.reason || (one.program && one.browser));
       const [program, browser] = [blocksOf(left, 'program'), blocksOf(left, 'browser')];
       const others = (blocks) => texts(blocks.filter((block) => !isForm(block)));
-      const forms = (blocks) => texts(blocks.filter(isForm));
-      if (!isSameList(others(program), others(browser)) || !isSameBag(forms(program), forms(browser))) return [];
-      return [...differing(program), ...differing(browser)];
+      const explained = [...differing(program), ...differing(browser)];
+      const isExplained = isSameList(others(program), others(browser)) && isHeardOtherwise(program, browser)
+        && (isSameList(firsts(program), firsts(browser)) || isNamed(explained));
+      return isExplained ? explained : [];
     });
 
   // What waits at an element that is custom, or whose constructor runs, does not run within the call that upgrades it.
