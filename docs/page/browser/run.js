@@ -16,7 +16,7 @@ var CepageBrowser = globalThis.CepageBrowser || {};
     time: (detail) => `${detail} milliseconds are over, and the frame was taken away`,
     anew: () => 'the frame was loaded anew, so what ran in it is gone, and it was taken away',
     lines: (detail) => `${detail} lines are written, which is the limit of the page`,
-    broken: (detail) => `the frame did not begin: ${detail}`,
+    stopped: () => 'the reader stopped it, and the frame was taken away',
   };
 
   const nonce = () => [...crypto.getRandomValues(new Uint8Array(16))].map((byte) => byte.toString(16).padStart(2, '0')).join('');
@@ -45,38 +45,50 @@ var CepageBrowser = globalThis.CepageBrowser || {};
     return frame;
   }
 
-  // Runs code in a frame, and gives what it wrote and what ended it. `message` is what the code is sent first.
-  function inFrame(code, message, limits) {
-    return new Promise((resolve) => {
-      const begun = performance.now();
-      const token = nonce();
-      const frame = makeFrame(code);
-      const focused = document.activeElement;
-      const lines = [];
-      let loads = 0;
+  // One run in a frame: what it wrote and what ended it. `message` is what the code is sent first.
+  class FrameRun {
+    constructor(code, message, limits, host) {
+      Object.assign(this, { message, limits, lines: [], loads: 0, token: nonce(), begun: performance.now() });
+      this.focused = document.activeElement;
+      this.frame = makeFrame(code);
+      this.result = new Promise((resolve) => { this.resolve = resolve; });
+      this.hear = this.hear.bind(this);
+      window.addEventListener('message', this.hear);
+      this.frame.addEventListener('load', () => this.loaded());
+      this.timer = setTimeout(() => this.end({ why: 'time', detail: limits.milliseconds, line: null }), limits.milliseconds);
+      host.append(this.frame);
+    }
 
-      function end(ended, more = {}) {
-        clearTimeout(timer);
-        window.removeEventListener('message', hear);
-        frame.remove();
-        if (focused && focused !== document.activeElement && focused.isConnected) focused.focus({ preventScroll: true });
-        resolve({ lines, ended, milliseconds: Math.round(performance.now() - begun), ...more });
-      }
-      function hear({ source, data }) {
-        if (source !== frame.contentWindow || !data || data.token !== token) return;
-        lines.push(...data.lines);
-        if (data.done) end(data.ended, { steps: data.steps });
-        else if (lines.length > limits.lines) end({ why: 'lines', detail: limits.lines, line: data.at });
-      }
-      const timer = setTimeout(() => end({ why: 'time', detail: limits.milliseconds, line: null }), limits.milliseconds);
-      window.addEventListener('message', hear);
-      frame.addEventListener('load', () => {
-        loads++;
-        if (loads > 1) end({ why: 'anew', detail: '', line: null });
-        else frame.contentWindow.postMessage({ ...message, token, limits }, '*');
-      });
-      document.body.append(frame);
-    });
+    // A frame that is loaded for a second time has gone elsewhere, or begun anew.
+    loaded() {
+      this.loads++;
+      if (this.loads > 1) this.end({ why: 'anew', detail: '', line: null });
+      else this.frame.contentWindow.postMessage({ ...this.message, token: this.token, limits: this.limits }, '*');
+    }
+
+    hear({ source, data }) {
+      if (source !== this.frame.contentWindow || !data || data.token !== this.token) return;
+      for (const line of data.lines) this.lines.push(line);
+      if (data.done) this.end(data.ended, data.steps);
+      else if (this.lines.length > this.limits.lines) this.end({ why: 'lines', detail: this.limits.lines, line: data.at });
+    }
+
+    stop() {
+      this.end({ why: 'stopped', detail: '', line: null });
+    }
+
+    end(ended, steps = null) {
+      clearTimeout(this.timer);
+      window.removeEventListener('message', this.hear);
+      this.frame.remove();
+      const { focused } = this;
+      if (focused && focused !== document.activeElement && focused.isConnected) focused.focus({ preventScroll: true });
+      this.resolve({ lines: this.lines, ended, steps, milliseconds: Math.round(performance.now() - this.begun) });
+    }
+  }
+
+  function inFrame(code, message, limits = {}, host = document.body) {
+    return new FrameRun(code, message, { ...LIMITS, ...limits }, host);
   }
 
   // The words of the command line that a browser can follow: the page's URL and the boundary.
@@ -89,14 +101,17 @@ var CepageBrowser = globalThis.CepageBrowser || {};
     return { url: given('--url', 'http://page.test/'), boundary: given('--boundary', 'cepageboundary') };
   }
 
-  // Runs a script; `words` are those of the command line.
-  async function run(script, words = [], limits = {}) {
+  // Begins the run of a script; `words` are those of the command line. Its `result` is a promise.
+  function begin(script, words = [], limits = {}, host = document.body) {
     const forms = CepageBrowser.read(script);
-    const result = await inFrame(codeOfRunner(), { forms, words: wordsOf(words) }, { ...LIMITS, ...limits });
-    return { ...result, forms };
+    const run = inFrame(codeOfRunner(), { forms, words: wordsOf(words) }, limits, host);
+    run.result = run.result.then((result) => ({ ...result, forms }));
+    return run;
   }
+
+  const run = (script, words, limits) => begin(script, words, limits).result;
 
   const describeEnd = ({ why, detail }) => ENDS[why](detail);
 
-  Object.assign(CepageBrowser, { run, inFrame, describeEnd, LIMITS });
+  Object.assign(CepageBrowser, { begin, run, inFrame, describeEnd, LIMITS });
 })();
