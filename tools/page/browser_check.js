@@ -75,11 +75,14 @@ function summary(all) {
   };
 }
 
-// What a page of the repository must not do: ask for anything but its files, or complain.
-function checkPage(page) {
-  const faults = page.requests.filter((url) => !/^(file|about|blob):/.test(url)).map((url) => `a request left the page: ${url}`);
+// What the page must not do: complain, and ask for anything but its files.
+function complaintsOf(page) {
   const complaints = page.complaints.filter((text) => !EXPECTED.some((expected) => expected.test(text)));
-  return [...faults, ...complaints.map((text) => `the console: ${text}`)];
+  return complaints.map((text) => `the console: ${text}`);
+}
+
+function requestsOf(page) {
+  return page.requests.filter((url) => !/^(file|about|blob):/.test(url)).map((url) => `a request left the page: ${url}`);
 }
 
 async function main(words) {
@@ -96,11 +99,12 @@ async function main(words) {
   const found = summary(all);
   console.log(JSON.stringify(found));
   const faults = found.unexplained ? [`${found.unexplained} lines differ without a reason`] : [];
+  faults.push(...complaintsOf(page));
   if (!names.length) {
     if (found.forms < FORMS_WANTED) faults.push(`only ${found.forms} scripts on forms run whole`);
     faults.push(...await checkWrong(page, all), ...await checkHostile(page));
   }
-  faults.push(...checkPage(page));
+  faults.push(...requestsOf(page));
   if (words.includes('--write')) fs.writeFileSync(TABLE, tableOf(all, found, await browser.version()));
   await browser.close();
   for (const fault of faults) console.error(`browser_check: ${fault}`);

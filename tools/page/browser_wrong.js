@@ -6,10 +6,7 @@
 function wrongInPage(name, transcript) {
   const result = globalThis.results[name];
   const lines = transcript.split('\n').filter((text) => text && text[0] !== '~');
-  const same = new Set();
-  for (const { rows } of CepageBrowser.compare(result, transcript).commands) {
-    for (const row of rows) if (row.mark === 'same') same.add(row.program.text);
-  }
+  const rows = CepageBrowser.compare(result, transcript).commands.flatMap((command) => command.rows).filter(({ program }) => program);
   const others = { yes: 'no', no: 'yes', ok: 'throw TypeError', valid: 'valueMissing', custom: 'uncustomized', uncustomized: 'custom', null: '"x"', empty: '#1' };
   function wrongs(text) {
     const [, begin = '', answer = ''] = /^(\d+: |ask )(.*)$/.exec(text) || [];
@@ -23,7 +20,7 @@ function wrongInPage(name, transcript) {
   const found = { wrong: 0, explained: {} };
   const hasUnexplained = (text) => CepageBrowser.compare(result, text).counts.unexplained > 0;
   lines.forEach((text, at) => {
-    if (!same.has(text)) return;
+    if (rows[at].mark !== 'same') return;
     for (const wrong of wrongs(text)) {
       const changed = [...lines.slice(0, at), ...(wrong === null ? [] : [wrong]), ...lines.slice(at + 1)].join('\n');
       found.wrong++;

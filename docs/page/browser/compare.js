@@ -24,7 +24,7 @@ var CepageBrowser = globalThis.CepageBrowser || {};
     }
     return {
       disablesShadow: (name) => disabled.has(definitions.get(name)),
-      memory: { emptied: new Set(), names: new Set(), owners: new Set(), variables: new Map() },
+      memory: { emptied: new Map(), names: new Set(), owners: new Set(), variables: new Map() },
     };
   }
 

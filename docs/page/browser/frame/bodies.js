@@ -52,9 +52,14 @@ CepageBrowser.frame.push(function bodies(run) {
   function act(action, here) {
     run.step();
     if (actions[action.word]) return actions[action.word](action.args, here);
-    run.asked = undefined;
-    const reply = run.operate(action, here);
-    if (action.word.startsWith('ask ')) run.write(`ask ${reply}`, run.asked);
+    const outer = run.asked;
+    try {
+      run.asked = undefined;
+      const reply = run.operate(action, here);
+      if (action.word.startsWith('ask ')) run.write(`ask ${reply}`, run.asked);
+    } finally {
+      run.asked = outer;
+    }
   }
 
   run.body = (owner, list, { self, at, base }) => {

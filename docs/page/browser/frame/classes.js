@@ -165,7 +165,7 @@ CepageBrowser.frame.push(function classes(run) {
     const owner = run.classOf(node);
     return Boolean(owner && owner.associated && owner.defined.extended === undefined);
   };
-  run.constructed = () => [...constructing].map(run.number);
+  run.constructed = () => [...constructing];
   run.isConstructing = (node) => constructing.has(node);
   run.isLost = (node) => byPrototype.has(Object.getPrototypeOf(node)) && !run.classOf(node);
   run.definitionNamed = (name) => [...known.values()].find((owner) => owner.defined && owner.defined.name === name);

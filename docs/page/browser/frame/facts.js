@@ -9,6 +9,8 @@ CepageBrowser.frame.push(function facts(run) {
   const flags = new WeakMap();
   const sets = { edited: new WeakSet(), valueSet: new WeakSet(), retyped: new WeakSet(), moved: new WeakSet(), shallowCopy: new WeakSet() };
   const isValues = new WeakMap();
+  const rawValues = new WeakMap();
+  const ownAttributes = new WeakMap();
   const isRadio = (node) => node instanceof HTMLInputElement && run.typeOf(node) === 'radio';
 
   // The radio buttons of a group, in tree order; one without a name is alone.
@@ -89,18 +91,52 @@ CepageBrowser.frame.push(function facts(run) {
   }
 
   function kindFacts(node) {
-    if (isRadio(node)) return radioFacts(node);
+    if (isRadio(node)) return { kept: run.quote(keptValue(node)), ...radioFacts(node) };
     if (node instanceof HTMLSelectElement) return selectFacts(node);
     if (node instanceof HTMLOptionElement) return optionFacts(node);
-    if (node instanceof HTMLInputElement) return { derived: isFlagged(node) };
+    if (node instanceof HTMLInputElement) return { kept: run.quote(keptValue(node)), derived: isFlagged(node) };
     if (!(node instanceof HTMLFormElement)) return {};
     const others = run.elementsOf(node).filter((one) => !run.is.listed(one));
-    return { otherControls: others.map(run.number), constructed: run.constructed() };
+    return { otherControls: others.map(run.number), constructed: run.constructed().filter((one) => ownerOf(one) === node).map(run.number) };
   }
 
   function formFacts(node) {
     if (!run.is.submittable(node)) return {};
-    return { inDatalist: Boolean(node.closest('datalist')), empty: run.is.text(node) && node.value === '' };
+    const [above, owner] = [formAbove(node), ownerOf(node)].map((form) => (form ? run.number(form) : 'null'));
+    return { formAbove: above, owner, offByTree: isOffByTree(node), empty: run.is.text(node) && node.value === '' };
+  }
+
+  // ---- form owners and disabled states, by the tree as it is
+
+  const formAbove = (node) => (node.parentNode instanceof Element ? node.parentNode.closest('form') : null);
+
+  function ownerOf(node) {
+    if (!node.isConnected || !node.hasAttribute('form')) return formAbove(node);
+    const id = node.getAttribute('form');
+    const found = id ? node.getRootNode().querySelector(`[id="${CSS.escape(id)}"]`) : null;
+    return found instanceof HTMLFormElement ? found : null;
+  }
+
+  function isSpared(node, fieldset) {
+    const legend = [...fieldset.children].find((child) => child instanceof HTMLLegendElement);
+    return Boolean(legend) && legend.contains(node);
+  }
+
+  function isOffByTree(node) {
+    if (node.hasAttribute('disabled')) return true;
+    for (let above = node.parentNode; above instanceof Element; above = above.parentNode) {
+      if (above instanceof HTMLFieldSetElement && above.hasAttribute('disabled') && !isSpared(node, above)) return true;
+    }
+    return false;
+  }
+
+  // The value of an input where what was set stays with it, whatever its type is since.
+  function keptValue(node) {
+    const own = ownAttributes.has(node) ? ownAttributes.get(node) : node.getAttribute('value');
+    const attribute = (otherwise) => (own === null ? otherwise : own);
+    if (run.is.checkable(node)) return attribute('on');
+    if (!run.is.text(node)) return attribute('');
+    return (rawValues.has(node) ? rawValues.get(node) : attribute('')).replace(/[\r\n]/g, '');
   }
 
   // A class that disables shadow is that of the `is` value, and not of the local name.
@@ -144,8 +180,10 @@ CepageBrowser.frame.push(function facts(run) {
   function watchSet(word, isTyped) {
     watch(word, (args, here) => {
       const node = nodeOf(args, here);
+      const text = run.value(args[1], here);
       return () => {
         sets.valueSet.add(node);
+        rawValues.set(node, text);
         if (isTyped) sets.edited.add(node);
         else sets.edited.delete(node);
       };
@@ -178,6 +216,7 @@ CepageBrowser.frame.push(function facts(run) {
     for (const control of run.elementsOf(form)) {
       for (const node of control instanceof HTMLSelectElement ? optionsOf(control) : [control]) flags.delete(node);
       sets.valueSet.delete(control);
+      rawValues.delete(control);
       sets.edited.delete(control);
     }
   }
@@ -187,6 +226,7 @@ CepageBrowser.frame.push(function facts(run) {
     if (node instanceof HTMLInputElement || node instanceof HTMLTextAreaElement) {
       if (flags.has(node)) flags.set(copy, flags.get(node));
       if (isSet) sets.valueSet.add(copy);
+      for (const map of [rawValues, ownAttributes]) if (map.has(node)) map.set(copy, map.get(node));
       for (const set of [sets.retyped, sets.moved]) if (set.has(node)) set.add(copy);
       if (!deep && !isSet && node instanceof HTMLTextAreaElement) sets.shallowCopy.add(copy);
     }
@@ -199,11 +239,23 @@ CepageBrowser.frame.push(function facts(run) {
       const node = nodeOf(args, here);
       if (!(node instanceof HTMLInputElement) || args[1].toLowerCase() !== 'type') return undefined;
       const before = node.type;
+      const own = node.getAttribute('value');
       return () => {
         if (node.type === before) return;
+        if (!ownAttributes.has(node)) ownAttributes.set(node, own);
         sets.retyped.add(node);
         if (sets.valueSet.has(node)) sets.moved.add(node);
       };
+    });
+  }
+
+  // The `value` attribute that the lines have set, where a browser has changed it with the type.
+  function watchOwn(word) {
+    watch(word, (args, here) => {
+      const node = nodeOf(args, here);
+      if (!ownAttributes.has(node) || args[1].toLowerCase() !== 'value') return undefined;
+      const own = word === 'setattr' ? run.value(args[2], here) : null;
+      return () => ownAttributes.set(node, own);
     });
   }
 
@@ -237,14 +289,20 @@ CepageBrowser.frame.push(function facts(run) {
     return () => copied(node, run.variables.get(variable), Boolean(deep));
   });
   watch('create', ([variable, , is]) => () => { if (is !== undefined) isValues.set(run.variables.get(variable), is); });
-  for (const word of ['setattr', 'delattr']) watchType(word);
+  for (const word of ['setattr', 'delattr']) {
+    watchType(word);
+    watchOwn(word);
+  }
   watchUpgrade('upgrade', 0, isUpgraded);
   for (const word of ['append', 'before']) watchUpgrade(word, 1, run.isConstructing);
   for (const word of ['internals', 'formvalue', 'formlist', 'formnull', 'validity', 'shadow', 'append', 'before', 'clone', 'user press', 'request']) {
     watch(word, (args, here) => {
       const at = { shadow: 1, append: 1, before: 1, clone: 1, request: args[1] ? 1 : 0 }[word] || 0;
       const asked = { subject: run.facts(run.node(args[at], here)) };
-      if (['append', 'before'].includes(word)) asked.subject.parent = run.number(run.node(args[0], here));
+      if (['append', 'before'].includes(word)) {
+        asked.subject.parent = run.number(run.node(args[0], here));
+        asked.subject.children = [...run.node(args[1], here).childNodes].map(run.number);
+      }
       run.asked = asked;
       return () => { run.asked = asked; };
     });

@@ -29,16 +29,16 @@ var CepageBrowser = globalThis.CepageBrowser || {};
 
   const formTold = (block) => (/^call (#\d+) formAssociated (\S+)\n/.exec(block.text) || []).slice(1);
 
-  // Blocks of the browser's that tell an element with a `form` attribute of no form, and the next time of a form, and
-  // of which the program has no such first one.
+  // Blocks of the browser's that tell an element with a `form` attribute, which has left, of no form, and the next
+  // time of the form above it, and of which the program has no such first one.
   function toldTwice(program, browser) {
     const wanted = texts(program);
     return browser.flatMap((block, index) => {
       const [node, form] = formTold(block);
       const { subject } = block.rows[0].browser;
-      if (form !== 'null' || !subject || !subject.form || wanted.includes(block.text)) return [];
+      if (form !== 'null' || !subject || !subject.form || subject.connected || wanted.includes(block.text)) return [];
       const next = browser.slice(index + 1).find((other) => formTold(other)[0] === node);
-      return next && formTold(next)[1] !== 'null' ? [block, next] : [];
+      return next && formTold(next)[1] === subject.formAbove ? [block, next] : [];
     });
   }
 
@@ -121,7 +121,7 @@ var CepageBrowser = globalThis.CepageBrowser || {};
       const [program, browser] = [linesOf(rows, 'program'), linesOf(rows, 'browser')];
       const isDropped = browser.length < program.length;
       if (!isWithin(browser, program) || (isDropped && !program.some((text) => /^report /.test(text)))) return [];
-      return rows.filter((one) => !one.same && !one.reason);
+      return rows.filter((one) => !one.same && !one.reason && !isReply((one.program || one.browser).text));
     });
 
   anyRow('a definition that extends an element, of a form-associated class',
@@ -135,7 +135,7 @@ var CepageBrowser = globalThis.CepageBrowser || {};
   const inConstructor = browsers('a-form-owner-in-the-constructor-of-an-upgrade');
   row('a form owner in a constructor', inConstructor,
     'in Chromium an element has no form owner until its constructor has ended',
-    ({ was, is, what, facts }) => what === 'owner' && facts.constructing && /^#/.test(was) && is === 'null');
+    ({ was, is, what, facts }) => what === 'owner' && facts.constructing && was === facts.owner && is === 'null');
 
   row('the controls of a form in a constructor', inConstructor,
     'in Chromium an element has no form owner until its constructor has ended',
@@ -148,12 +148,12 @@ var CepageBrowser = globalThis.CepageBrowser || {};
 
   row('disabled in a constructor', inConstructor,
     'in Chromium an element is not disabled until its constructor has ended',
-    ({ was, is, what, facts }) => what === 'disabled' && facts.constructing && facts.associated && was === 'yes' && is === 'no');
+    ({ was, is, what, facts }) => what === 'disabled' && facts.constructing && facts.offByTree && was === 'yes' && is === 'no');
 
   row('a candidate in a constructor', browsers('a-candidate-in-the-constructor-of-an-upgrade'),
     'in Chromium a constructor does not see that its element is barred',
     ({ was, is, what, facts }) => what === 'candidate' && facts.constructing && was === 'no' && is === 'yes'
-      && (facts.ownDisabled || facts.readonly || facts.disabled));
+      && (facts.offByTree || facts.readonly));
 
   // ---- behind one that threw
 

@@ -59,7 +59,7 @@ var CepageBrowser = globalThis.CepageBrowser || {};
     ({ was, what, facts }) => what === 'value' && facts.kind === 'textarea' && facts.shallowCopy && was === '""');
 
   row('a change of type', profile('left-out'), 'a browser moves the value where the type of an input changes',
-    ({ what, facts }) => what === 'value' && facts.kind === 'input' && facts.moved);
+    ({ was, what, facts }) => what === 'value' && facts.kind === 'input' && facts.moved && was === facts.kept);
 
   anyRow('a change of type sets the attribute', profile('left-out'),
     'a browser moves the value where the type of an input changes, so its `value` attribute changes',
@@ -68,7 +68,7 @@ var CepageBrowser = globalThis.CepageBrowser || {};
       && Boolean(browser.subject) && browser.subject.kind === 'input' && browser.subject.valueSet);
 
   row('a type that is not here', profile('types'), 'a browser reads the value as its type wants it',
-    ({ what, facts }) => what === 'value' && facts.kind === 'input' && CONVERTED.includes(facts.type));
+    ({ was, what, facts }) => what === 'value' && facts.kind === 'input' && CONVERTED.includes(facts.type) && was === facts.kept);
 
   // ---- what a form owns
 

@@ -12,13 +12,17 @@ var CepageBrowser = globalThis.CepageBrowser || {};
     ({ was, is, facts, command, run }) => {
       const holds = isWord(command, 'append', 'before') && was === 'throw HierarchyRequestError' && is === 'ok'
         && facts.kind === '#document-fragment';
-      if (holds) run.memory.emptied.add(facts.number).add(facts.parent);
+      if (holds) for (const parent of [facts.number, facts.parent]) run.memory.emptied.set(parent, facts.children);
       return holds;
     });
 
   row('a shadow root was inserted', browsers('a-shadow-root-is-not-inserted'),
     'the children of the shadow root have gone to another parent, in a line before',
-    ({ what, facts, run }) => what === 'kids' && run.memory.emptied.has(facts.number));
+    ({ was, is, what, facts, run: { memory } }) => {
+      const moved = memory.emptied.get(facts.number);
+      const others = (list) => list.split(' ').filter((number) => number !== 'empty' && !moved.includes(number)).join(' ');
+      return what === 'kids' && Boolean(moved) && others(was) === others(is);
+    });
 
   row('a document is cloned', browsers('a-document-is-not-cloned'), 'a browser gives a copy of a document',
     ({ was, is, facts, command }) => isWord(command, 'clone') && was === 'throw NotSupportedError' && isNode(is)
@@ -31,7 +35,7 @@ var CepageBrowser = globalThis.CepageBrowser || {};
 
   row('local names', browsers('local-names'), 'Chromium takes local names by the wider rule',
     ({ was, is, command }) => isWord(command, 'create') && was === 'throw InvalidCharacterError' && isNode(is)
-      && /^([:_]|[^\0-\x7f])[^\0\s/>]*$/u.test(command.form.args[1]));
+      && /^([:_]|[^\0-\x7f])[^\0\t\n\f\r />]*$/u.test(command.form.args[1]));
 
   row('a shadow root for another local name', browsers('a-shadow-root-for-an-element-that-only-names-a-definition'),
     'Chromium looks at the `is` value without the local name',
@@ -51,7 +55,7 @@ var CepageBrowser = globalThis.CepageBrowser || {};
 
   // ---- names: what the browser defines by them, and the program does not
 
-  const isWider = (name) => /^[a-z][^A-Z\0\s/>]*$/u.test(name) && name.includes('-');
+  const isWider = (name) => /^[a-z][^A-Z\0\t\n\f\r />]*$/u.test(name) && name.includes('-');
   const NEW_ELEMENTS = ['geolocation', 'selectedcontent', 'fencedframe'];
 
   function noteDefinition(memory, { args: [name, owner] }) {
@@ -78,9 +82,12 @@ var CepageBrowser = globalThis.CepageBrowser || {};
   // Behind such a definition the class and the name are taken.
   row('a definition of a line before', browsers('names-of-custom-elements'),
     'the class or the name has a definition in the browser since a line before, and is taken',
-    ({ is, command: { form }, run: { memory } }) => {
-      const holds = Boolean(form) && form.word === 'define' && is === 'throw NotSupportedError'
-        && (memory.owners.has(form.args[1]) || memory.names.has(form.args[0]));
+    ({ was, is, command: { form }, run: { memory } }) => {
+      if (!form || form.word !== 'define' || is !== 'throw NotSupportedError') return false;
+      const [name, owner, extended] = form.args;
+      const isWanted = was === 'ok' ? !NEW_ELEMENTS.includes(extended)
+        : was === 'throw SyntaxError' && isWider(name) && !/^[a-z0-9._-]*$/.test(name);
+      const holds = isWanted && (memory.owners.has(owner) || memory.names.has(name));
       if (holds) memory.names.add(form.args[0]);
       return holds;
     });

@@ -21,8 +21,9 @@ var CepageBrowser = globalThis.CepageBrowser || {};
   }
 
   // The program's session ended there; the browser has no fuel and went on.
+  const isBehindAll = (one, { rows }) => rows.slice(rows.indexOf(one)).every(({ program }) => !program || program.text === 'fuel');
   notAsked('fuel', 'what-is-not-to-be-asked', 'a browser has no fuel; the program\'s was spent here',
-    ({ program }, command) => command.fuelEnded && (!program || program.text === 'fuel'));
+    (one, command) => command.fuelEnded && isBehindAll(one, command));
 
   notAsked('boundary', 'what-is-not-to-be-asked', 'a browser makes a boundary at random, so none occurs in the entries',
     ({ program, browser }) => Boolean(program && browser) && / blocked boundary$/.test(program.text)

@@ -28,6 +28,7 @@ var CepageBrowser = globalThis.CepageBrowser || {};
     ({ program, browser }, command) => {
       if (!command.form || !['user press', 'request'].includes(command.form.word) || !isImage(command)) return false;
       if (isSubmit(browser)) return !program;
-      return Boolean(program && browser) && program.text.endsWith(': throw TypeError') && browser.text.endsWith(': ok');
+      return command.form.word === 'request' && Boolean(program && browser)
+        && program.text.endsWith(': throw TypeError') && browser.text.endsWith(': ok');
     });
 })();

@@ -17,7 +17,7 @@ var CepageBrowser = globalThis.CepageBrowser || {};
 
   row('a required radio button without a name', browsers('a-required-radio-button-without-a-name'),
     'in Chromium it is never missing',
-    ({ was, is, what, facts }) => what === 'valid' && isInput(facts, 'radio') && !facts.named && facts.required
+    ({ was, is, what, facts }) => what === 'valid' && isInput(facts, 'radio') && !facts.named && facts.required && !facts.derived
       && was.includes('valueMissing') && less(was, 'valueMissing') === is);
 
   row('`readonly` on other inputs than texts', browsers('readonly-on-a-checkbox'),
