@@ -3,8 +3,8 @@
 # a line, where that file is there. Compares what it writes with NAME.transcript, and its exit status with the file
 # NAME.status (0 where there is none). Then the trace alone may differ: with `--trace` it writes the same as without,
 # but for lines that begin with `~`. A row of NAME.fuel says that with so many units of fuel it writes so many lines of
-# the transcript, the last of which follows, and then `fuel`. Last, which words are refused. `rt ci` and `rt run` build
-# the program.
+# the transcript, the last of which follows, and then `fuel`. Then which words are refused. Last, that the examples of the
+# page (docs/page) are these. `rt ci` and `rt run` build the program.
 
 program=crates/cepage/out/cepage
 LC_ALL=C
@@ -274,6 +274,9 @@ if ends "$room/script"; then
     tail -n 2 "$room/transcript" >"$room/last"
     same "$room/wanted" "$room/last" "10,001 creations: the transcript ends otherwise"
 fi
+
+# The page of docs/page has the examples as the program gives them.
+python3 tools/page_examples.py --check --program "$program" || fail "docs/page/examples.js is stale, or could not be checked"
 
 echo "examples: $passed passed, $failed failed"
 [ "$failed" -eq 0 ]

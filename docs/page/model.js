@@ -119,7 +119,7 @@ globalThis.Cepage ??= {};
         }
 
         // The elements of which a reaction waits in the backup element queue.
-        left() {
+        inBackup() {
             const waiting = this.backup.filter((reaction) => !reaction.ended);
             this.backup.length = 0;
             return [...new Set(waiting.map((reaction) => reaction.node))];

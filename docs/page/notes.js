@@ -40,7 +40,7 @@ globalThis.Cepage ??= {};
         const where = run.spent ? "Where the fuel ended" : "Where the transcript ends";
         if (open > 0 || waits) notes.push(`${where}, ${[left, waits].filter(Boolean).join(", and ")}.`);
         else if (run.command >= 0 && !run.spent) notes.push("The transcript ends within a command: no reply is its last line.");
-        if (!run.ended && run.lines.length > 0) notes.push("The last line of the transcript has no line feed: it may be cut off there.");
+        if (!run.ended && run.left === 0 && run.lines.length > 0) notes.push("The last line of the transcript has no line feed: it may be cut off there.");
         return notes;
     }
 
@@ -49,6 +49,10 @@ globalThis.Cepage ??= {};
             return ["There is no transcript, so nothing is drawn. Write one by crates/cepage/out/cepage --trace < your.script, and open it too."];
         }
         const notes = [];
+        if (run.left > 0) {
+            const { length } = run.lines;
+            notes.push(`The transcript has ${(length + run.left).toLocaleString("en")} lines. The first ${length.toLocaleString("en")} are read and shown, and no more.`);
+        }
         if (run.returns) notes.push("The lines of the transcript end in CR LF. The carriage returns are left out here; cepage writes none.");
         if (!run.traced && run.counts.due === 0) {
             notes.push("The transcript has no lines of the trace, so the page can't tell what ran within what, or what waited. Run the script with --trace.");

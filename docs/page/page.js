@@ -63,7 +63,8 @@ globalThis.Cepage ??= {};
             find("example").value = example.name;
             this.opener.forget();
             const words = example.words.length > 0 ? `, run with ${example.words.join(" ")}` : "";
-            this.show(example.script, example.trace, `examples/${example.name}.script${words}`, example);
+            const source = `examples/${example.name}.script${words}, status ${example.status}`;
+            this.show(example.script, example.trace, source, example);
             if (line) this.choseTranscript(this.places.indexOf(Number(line) - 1));
         }
 
@@ -82,6 +83,7 @@ globalThis.Cepage ??= {};
             this.rowOfScriptLine = new Map();
             for (const index of this.run.commands) this.rowOfScriptLine.set(this.run.rows[index].scriptLine, index);
             find("source").textContent = source;
+            find("source").title = source;
             find("summary").textContent = this.summary();
             const { lines, kinds } = this.run.script;
             this.scriptList.show(lines, (at) => String(at + 1), (at) => kinds[at]);
@@ -93,9 +95,8 @@ globalThis.Cepage ??= {};
 
         summary() {
             const { counts, lines } = this.run;
-            const status = this.example ? ` · status ${this.example.status}` : "";
-            return `${Cepage.many(lines.length, "line", "lines")} · ${Cepage.many(counts.due, "reaction", "reactions")}: `
-                + `${counts.ran.toLocaleString("en")} ran, ${counts.dropped.toLocaleString("en")} dropped, ${counts.waits.toLocaleString("en")} wait${status}`;
+            return `${Cepage.many(lines.length, "line", "lines")} · ${counts.due.toLocaleString("en")} due: `
+                + `${counts.ran.toLocaleString("en")} ran, ${counts.dropped.toLocaleString("en")} dropped, ${counts.waits.toLocaleString("en")} wait`;
         }
 
         note() {

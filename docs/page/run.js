@@ -5,6 +5,9 @@
 globalThis.Cepage ??= {};
 
 (function () {
+    // So many lines of a transcript are read: a browser lays out no list that is much longer.
+    const MOST = 1000000;
+
     // The class that a `create` has constructed for the node that it gives, or "".
     function constructed(run, command) {
         let type = "";
@@ -67,10 +70,13 @@ globalThis.Cepage ??= {};
     // Reads a run from the text of a script and that of its transcript.
     function readRun(scriptText, transcriptText) {
         const cut = Cepage.cutLines(transcriptText);
-        const run = new Cepage.Run(cut.lines, new Cepage.Script(scriptText));
+        const length = cut.lines.length;
+        const lines = length > MOST ? cut.lines.slice(0, MOST) : cut.lines;
+        const run = new Cepage.Run(lines, new Cepage.Script(scriptText));
+        run.left = length - lines.length;
         run.returns = cut.returns;
         run.ended = cut.ended;
-        cut.lines.forEach((text, line) => {
+        lines.forEach((text, line) => {
             const event = Cepage.readEvent(text);
             if (run.spent) run.problem(line, "it stands behind the line fuel, which is the last");
             else Cepage.steps[event.kind](run, event, line);

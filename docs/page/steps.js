@@ -35,7 +35,7 @@ globalThis.Cepage ??= {};
     function drain(run, event, line) {
         if (event.queue === 0) {
             run.begin(line);
-            run.push("checkpoint", run.add("checkpoint", line, { queue: 0, nodes: run.left() }),
+            run.push("checkpoint", run.add("checkpoint", line, { queue: 0, nodes: run.inBackup() }),
                 { number: 0, drained: true });
             return;
         }
