@@ -33,7 +33,7 @@ const ROWS = [
   { name: 'a script that never ends', script: BRANCHING, why: 'steps' },
   { name: 'a thousand nested callbacks', script: NESTED, why: 'depth' },
   { name: 'code that calls itself for ever', code: 'addEventListener("message", () => { (function f() { f(); f(); })(); });', limits: { milliseconds: 1500 }, why: 'time' },
-  { name: 'code that writes for ever', limits: { milliseconds: 4000, lines: 5000 }, why: 'lines',
+  { name: 'code that writes for ever', limits: { milliseconds: 10000, lines: 2000 }, why: 'lines',
     code: `addEventListener("message", ({ data: { token } }) => setInterval(() => parent.postMessage({ token, at: 1,
       lines: Array.from({ length: 500 }, () => ({ text: "x", line: 1 })) }, "*"), 0));` },
   { name: 'code that reloads', code: 'addEventListener("message", () => location.reload());', why: 'anew' },

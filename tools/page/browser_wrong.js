@@ -20,8 +20,10 @@ function wrongInPage(name, transcript) {
   const found = { wrong: 0, explained: {} };
   const hasUnexplained = (text) => CepageBrowser.compare(result, text).counts.unexplained > 0;
   lines.forEach((text, at) => {
-    if (rows[at].mark !== 'same') return;
+    const { mark, browser } = rows[at];
+    if (mark !== 'same' && mark !== 'explained') return;
     for (const wrong of wrongs(text)) {
+      if (browser && browser.text === wrong) continue;
       const changed = [...lines.slice(0, at), ...(wrong === null ? [] : [wrong]), ...lines.slice(at + 1)].join('\n');
       found.wrong++;
       if (hasUnexplained(changed)) continue;

@@ -23,6 +23,7 @@ var CepageBrowser = globalThis.CepageBrowser || {};
       if (word === 'define' && !definitions.has(args[0])) definitions.set(args[0], args[1]);
     }
     return {
+      classNamed: (name) => definitions.get(name),
       disablesShadow: (name) => disabled.has(definitions.get(name)),
       memory: { emptied: new Map(), names: new Set(), owners: new Set(), variables: new Map() },
     };

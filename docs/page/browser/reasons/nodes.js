@@ -35,7 +35,7 @@ var CepageBrowser = globalThis.CepageBrowser || {};
 
   row('local names', browsers('local-names'), 'Chromium takes local names by the wider rule',
     ({ was, is, command }) => isWord(command, 'create') && was === 'throw InvalidCharacterError' && isNode(is)
-      && /^([:_]|[^\0-\x7f])[^\0\t\n\f\r />]*$/u.test(command.form.args[1]));
+      && /^([:_]|[^\0-\x7f])([A-Za-z0-9.:_-]|[^\0-\x7f])*$/u.test(command.form.args[1]));
 
   row('a shadow root for another local name', browsers('a-shadow-root-for-an-element-that-only-names-a-definition'),
     'Chromium looks at the `is` value without the local name',
@@ -47,7 +47,8 @@ var CepageBrowser = globalThis.CepageBrowser || {};
   anyRow('a select whose class disables shadow', browsers('a-select-whose-class-disables-shadow'),
     'Chromium can\'t create such a select, since it has a shadow tree of its own',
     ({ program, browser }, command, run) => {
-      const holds = isSelectWithoutShadow(command, run) && (program ? /^construct /.test(program.text) && !browser
+      const holds = isSelectWithoutShadow(command, run)
+        && (program ? program.text === `construct ${run.classNamed(command.form.args[2])}` && !browser
         : browser.text === 'report NotSupportedError');
       if (holds) run.memory.variables.set(command.form.args[0], 'a select whose class disables shadow');
       return holds;
@@ -55,7 +56,10 @@ var CepageBrowser = globalThis.CepageBrowser || {};
 
   // ---- names: what the browser defines by them, and the program does not
 
-  const isWider = (name) => /^[a-z][^A-Z\0\t\n\f\r />]*$/u.test(name) && name.includes('-');
+  // The characters of a custom element's name by the older rule.
+  const OF_TABLE = new RegExp('^[a-z][-.0-9_a-z\\xb7\\xc0-\\xd6\\xd8-\\xf6\\xf8-\\u037d\\u037f-\\u1fff\\u200c\\u200d\\u203f\\u2040'
+    + '\\u2070-\\u218f\\u2c00-\\u2fef\\u3001-\\ud7ff\\uf900-\\ufdcf\\ufdf0-\\ufffd\\u{10000}-\\u{effff}]*$', 'u');
+  const isWider = (name) => /^[a-z][^A-Z\0\t\n\f\r />]*$/u.test(name) && name.includes('-') && !OF_TABLE.test(name);
   const NEW_ELEMENTS = ['geolocation', 'selectedcontent', 'fencedframe'];
 
   function noteDefinition(memory, { args: [name, owner] }) {
@@ -85,8 +89,8 @@ var CepageBrowser = globalThis.CepageBrowser || {};
     ({ was, is, command: { form }, run: { memory } }) => {
       if (!form || form.word !== 'define' || is !== 'throw NotSupportedError') return false;
       const [name, owner, extended] = form.args;
-      const isWanted = was === 'ok' ? !NEW_ELEMENTS.includes(extended)
-        : was === 'throw SyntaxError' && isWider(name) && !/^[a-z0-9._-]*$/.test(name);
+      const isWanted = was === 'ok' ? OF_TABLE.test(name) && !NEW_ELEMENTS.includes(extended)
+        : was === 'throw SyntaxError' && isWider(name);
       const holds = isWanted && (memory.owners.has(owner) || memory.names.has(name));
       if (holds) memory.names.add(form.args[0]);
       return holds;
@@ -95,8 +99,8 @@ var CepageBrowser = globalThis.CepageBrowser || {};
   anyRow('an element of a definition of a line before', browsers('names-of-custom-elements'),
     'the name has another definition in the browser since a line before',
     ({ program, browser }, { form }, { memory }) => {
-      const line = program || browser;
-      if (!form || !/^construct /.test(line.text) || (program && browser)) return false;
+      const [, owner] = /^construct (\w+)$/.exec((program || browser).text) || [];
+      if (!form || (program && browser) || !memory.owners.has(owner)) return false;
       return form.word === 'create' && (memory.names.has(form.args[1]) || memory.names.has(form.args[2]));
     });
 
