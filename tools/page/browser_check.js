@@ -1,22 +1,23 @@
 'use strict';
 // Runs each script of examples/ in a headless Chromium by the page's own runner, and compares what it did with the
 // program's transcript. It prints the counts of the marks of each; a difference without a reason is an error. Then
-// come the runs that must be ended, and wrong transcripts, which no reason may explain.
+// come what docs/ say of it, wrong transcripts, which no reason may explain, and runs that must be ended.
 //
 //   node tools/page/browser_check.js             all of it
 //   node tools/page/browser_check.js NAME ..     the examples whose names have NAME in them, with each row that differs
-//   node tools/page/browser_check.js --write     all of it, and docs/page/browser.md anew
+//   node tools/page/browser_check.js --write     all of it, and docs/in-chromium.md anew
 
 const fs = require('fs');
 const path = require('path');
 const { launch } = require('./chromium.js');
+const { checkDocs } = require('./browser_docs.js');
 const { tableOf } = require('./browser_table.js');
 const { checkHostile } = require('./browser_hostile.js');
 const { checkWrong } = require('./browser_wrong.js');
 
 const TOP = path.resolve(__dirname, '../..');
 const PAGE = path.join(TOP, 'docs/page/index.html');
-const TABLE = path.join(TOP, 'docs/page/browser.md');
+const TABLE = path.join(TOP, 'docs/in-chromium.md');
 const FORMS_WANTED = 30;
 // Lines that are about forms and their controls.
 const FORM_LINES = new RegExp(['associate \\w', 'user \\w', 'formvalue|formlist|formnull|validity|custom|value|check|choose|reset|submit|request',
@@ -102,7 +103,7 @@ async function main(words) {
   faults.push(...complaintsOf(page));
   if (!names.length) {
     if (found.forms < FORMS_WANTED) faults.push(`only ${found.forms} scripts on forms run whole`);
-    faults.push(...await checkWrong(page, all), ...await checkHostile(page));
+    faults.push(...await checkDocs(browser, page), ...await checkWrong(page, all), ...await checkHostile(page));
   }
   faults.push(...requestsOf(page));
   if (words.includes('--write')) fs.writeFileSync(TABLE, tableOf(all, found, await browser.version()));

@@ -39,12 +39,12 @@ async function checkTab(page, faults) {
   await show(page, 'trace');
   await page.evaluate('document.activeElement.blur(); getSelection().removeAllRanges(); document.body.focus()');
   const reached = [];
-  for (let at = 0; at < 9; at++) {
+  for (let at = 0; at < 10; at++) {
     await page.key('Tab');
     reached.push(await page.evaluate('document.activeElement.id || document.activeElement.tagName'));
   }
   faults.same('Tab reaches', reached,
-    ['example', 'open', 'brief', 'find', 'script-lines', 'tree', 'traced', 'transcript-lines', 'SUMMARY']);
+    ['example', 'open', 'brief', 'find', 'script-lines', 'tree', 'traced', 'compare', 'transcript-lines', 'SUMMARY']);
 }
 
 // Each key of the outline goes where it says.

@@ -141,7 +141,7 @@ var CepageBrowser = globalThis.CepageBrowser || {};
       this.running = CepageBrowser.begin(withBytes(script, transcript), words, {}, this.element);
       const result = await this.running.result;
       this.running = null;
-      this.button.textContent = 'Run in this browser';
+      this.button.textContent = 'Run again';
       this.fill(CepageBrowser.compare(result, transcript), result);
     }
 
