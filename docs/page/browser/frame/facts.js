@@ -51,6 +51,8 @@ CepageBrowser.frame.push(function facts(run) {
     return one ? [one] : [];
   }
 
+  Object.assign(run, { chosenOf, isOff, isDerivedOn: (radio) => groupOf(radio).filter(isFlagged).at(-1) === radio });
+
   function radioFacts(node) {
     const group = groupOf(node);
     const flagged = group.filter(isFlagged);
@@ -295,14 +297,27 @@ CepageBrowser.frame.push(function facts(run) {
   }
   watchUpgrade('upgrade', 0, isUpgraded);
   for (const word of ['append', 'before']) watchUpgrade(word, 1, run.isConstructing);
-  for (const word of ['internals', 'formvalue', 'formlist', 'formnull', 'validity', 'shadow', 'append', 'before', 'clone', 'user press', 'request']) {
+  // The facts of a reply: which operand they are about.
+  const ABOUT = {
+    internals: 0, formvalue: 0, formlist: 0, formnull: 0, validity: 0, shadow: 1, clone: 1, 'user press': 0, request: -1,
+    append: 1, before: 1, remove: 1, detach: 0, adopt: 1,
+  };
+  const formsWithin = (node) => [node, ...node.querySelectorAll('form')].filter((one) => one instanceof HTMLFormElement).map(run.number);
+
+  function factsOfReply(word, args, here) {
+    const node = run.node(args.filter(Boolean).at(ABOUT[word]), here);
+    const subject = run.facts(node);
+    if (['append', 'before'].includes(word)) {
+      subject.parent = run.number(run.node(args[0], here));
+      subject.children = [...node.childNodes].map(run.number);
+    }
+    if (node instanceof Element && ['append', 'before', 'remove', 'detach', 'adopt'].includes(word)) subject.forms = formsWithin(node);
+    return subject;
+  }
+
+  for (const word of Object.keys(ABOUT)) {
     watch(word, (args, here) => {
-      const at = { shadow: 1, append: 1, before: 1, clone: 1, request: args[1] ? 1 : 0 }[word] || 0;
-      const asked = { subject: run.facts(run.node(args[at], here)) };
-      if (['append', 'before'].includes(word)) {
-        asked.subject.parent = run.number(run.node(args[0], here));
-        asked.subject.children = [...run.node(args[1], here).childNodes].map(run.number);
-      }
+      const asked = { subject: factsOfReply(word, args, here) };
       run.asked = asked;
       return () => { run.asked = asked; };
     });

@@ -81,6 +81,33 @@ CepageBrowser.frame.push(function submit(run) {
     return left;
   }
 
+  // What a radio button or a select gives, and what it would give where its flags were derived.
+  function choicesOf(control) {
+    const name = control.getAttribute('name');
+    const isIn = name && !control.matches(':disabled');
+    if (control instanceof HTMLSelectElement) {
+      const on = [...control.options].filter((option) => option.selected && !option.disabled).map((option) => [name, option.value]);
+      return { given: on, derived: isIn ? run.chosenOf(control).filter((option) => !run.isOff(option)).map((option) => [name, option.value]) : [] };
+    }
+    return { given: control.checked ? [[name, control.value]] : [], derived: isIn && run.isDerivedOn(control) ? [[name, control.value]] : [] };
+  }
+
+  const isChoice = (control) => control instanceof HTMLSelectElement || (control instanceof HTMLInputElement && run.typeOf(control) === 'radio');
+
+  // The entries with those of radio buttons and selects as they were derived: each control takes its own from the front.
+  function withDerived(entries, controls) {
+    const left = [...entries];
+    return [...controls.flatMap((control) => {
+      const { given, derived } = isChoice(control) ? choicesOf(control) : { given: givenBy(control) };
+      const taken = given.filter(([name, value]) => {
+        const isNext = left.length > 0 && left[0][0] === name && left[0][1] === value;
+        if (isNext) left.shift();
+        return isNext;
+      });
+      return derived || taken;
+    }), ...left];
+  }
+
   // The same submission with one thing otherwise, in which the docs say that a browser and cepage part: for the
   // reasons of the comparison.
   function variantsOf(form, submitter, { entries, url }) {
@@ -95,6 +122,7 @@ CepageBrowser.frame.push(function submit(run) {
       const own = entries.findIndex((entry) => entry[0] === name && entry[1] !== '');
       variants.label = { url, entries: entries.map((entry, index) => (index === own ? [name, ''] : entry)) };
     }
+    if (run.elementsOf(form).some(isChoice)) variants.derived = { url, entries: withDerived(entries, run.elementsOf(form)) };
     const action = said(form, submitter, 'action');
     if (document.querySelector('base[href]') && action) variants.base = { entries, url: new URL(action, run.words.url) };
     if (/\|/.test(action)) variants.bar = { entries, url: { href: url.href.replace(/%7C/g, '|'), hash: url.hash } };

@@ -29,23 +29,26 @@ var CepageBrowser = globalThis.CepageBrowser || {};
 
   const formTold = (block) => (/^call (#\d+) formAssociated (\S+)\n/.exec(block.text) || []).slice(1);
 
-  // Blocks of the browser's that tell an element with a `form` attribute, which has left, of no form, and the next
-  // time of the form above it, and of which the program has no such first one.
-  function toldTwice(program, browser) {
+  // Blocks of the browser's that tell an element with a `form` attribute of no form, and the next time of the form
+  // above it, which has left or moved with it, and of which the program has no such first one.
+  function toldTwice(program, browser, left) {
     const wanted = texts(program);
     return browser.flatMap((block, index) => {
       const [node, form] = formTold(block);
       const { subject } = block.rows[0].browser;
-      if (form !== 'null' || !subject || !subject.form || subject.connected || wanted.includes(block.text)) return [];
+      if (form !== 'null' || !subject || !subject.form || wanted.includes(block.text)) return [];
       const next = browser.slice(index + 1).find((other) => formTold(other)[0] === node);
-      return next && formTold(next)[1] === subject.formAbove ? [block, next] : [];
+      const again = next && formTold(next)[1];
+      return again && again === subject.formAbove && left.includes(again) ? [block, next] : [];
     });
   }
+
+  const formsLeft = (rows) => rows.flatMap(({ browser }) => (browser && browser.reply && browser.subject && browser.subject.forms) || []);
 
   command('a form leaves that its control names', browsers('a-form-leaves-and-in-it-a-control-that-names-it'),
     'Chromium tells the control that it has no form owner, and then of the same form again', (rows, { form }) => {
       if (!form || !['detach', 'remove', 'append', 'before', 'adopt'].includes(form.word)) return [];
-      return differing(toldTwice(blocksOf(rows, 'program'), blocksOf(rows, 'browser')));
+      return differing(toldTwice(blocksOf(rows, 'program'), blocksOf(rows, 'browser'), formsLeft(rows)));
     });
 
   // What each element hears in a command, in order: A is its form owner, D its disabled state, c that it came or left.
@@ -60,35 +63,37 @@ var CepageBrowser = globalThis.CepageBrowser || {};
     return heard;
   }
 
-  // The same in cepage's order: of each run of form callbacks the form owner first, and `behind`: the run before the
-  // `connected` or `disconnected` that it follows.
-  function inOrder(list, behind) {
-    const ordered = [];
-    for (let at = 0; at < list.length;) {
-      const came = behind && list[at].kind === 'c' ? [list[at++]] : [];
-      let end = at;
-      while (end < list.length && 'AD'.includes(list[end].kind)) end++;
-      const run = list.slice(at, end);
-      ordered.push(...['A', 'D'].flatMap((kind) => run.filter((one) => one.kind === kind)), ...came);
-      if (end === at && !came.length) ordered.push(list[end++]);
-      at = end;
+  const of = (list, kinds) => list.filter(({ kind }) => kinds.includes(kind)).map(({ text }) => text);
+
+  // How many form callbacks stand before each other one.
+  function countsBefore(list) {
+    const counts = [];
+    let before = 0;
+    for (const { kind } of list) {
+      if ('AD'.includes(kind)) before++;
+      else counts.push(before);
     }
-    return ordered.map(({ text }) => text);
+    return counts;
+  }
+
+  // What an element hears is the same, and in the same order but for its form callbacks, which come later in the
+  // browser, if at all elsewhere.
+  function isHeardLater(told, heard) {
+    const [wanted, given] = [countsBefore(told), countsBefore(heard)];
+    return ['A', 'D', 'co'].every((kinds) => isSameList(of(told, kinds), of(heard, kinds)))
+      && given.every((count, at) => count <= wanted[at]);
   }
 
   function isHeardOtherwise(program, browser) {
     const [told, heard] = [heardBy(program), heardBy(browser)];
-    return told.size === heard.size && [...told].every(([node, list]) => {
-      const wanted = list.map(({ text }) => text);
-      return heard.has(node) && [true, false].some((behind) => isSameList(inOrder(heard.get(node), behind), wanted));
-    });
+    return told.size === heard.size && [...told].every(([node, list]) => heard.has(node) && isHeardLater(list, heard.get(node)));
   }
 
   const firsts = (blocks) => [...heardBy(blocks).keys()];
-  const isNamed = (rows) => rows.some(({ browser }) => browser && browser.subject && browser.subject.form);
+  const isNamed = (blocks) => blocks.some((block) => isForm(block) && block.rows[0].browser.subject && block.rows[0].browser.subject.form);
 
-  // Each element hears the same, but for its form callbacks behind `connected` and the other way round. Elements hear
-  // it in the same order, unless some have a `form` attribute. All other callbacks stand as they do.
+  // Each element hears the same, with its form callbacks behind `connected` and `disconnected`. Elements hear it in the
+  // same order, unless some have a `form` attribute. All other callbacks stand as they do.
   command('told before connected', browsers('a-form-owner-is-told-before-connected'),
     'Chromium tells of form owners and disabled states in another order: behind `connected`, and by IDs', (rows, { form }) => {
       if (!form) return [];
@@ -97,7 +102,7 @@ var CepageBrowser = globalThis.CepageBrowser || {};
       const others = (blocks) => texts(blocks.filter((block) => !isForm(block)));
       const explained = [...differing(program), ...differing(browser)];
       const isExplained = isSameList(others(program), others(browser)) && isHeardOtherwise(program, browser)
-        && (isSameList(firsts(program), firsts(browser)) || isNamed(explained));
+        && (isSameList(firsts(program), firsts(browser)) || isNamed(browser));
       return isExplained ? explained : [];
     });
 

@@ -4,7 +4,7 @@
 var CepageBrowser = globalThis.CepageBrowser || {};
 
 (() => {
-  const { row, anyRow, browsers } = CepageBrowser.reasonOf;
+  const { row, anyRow, browsers, profile } = CepageBrowser.reasonOf;
   const isSubmit = (line) => Boolean(line) && /^submit /.test(line.text);
 
   function variant(name, key, anchor, text) {
@@ -12,6 +12,8 @@ var CepageBrowser = globalThis.CepageBrowser || {};
   }
 
   variant('controls in a datalist', 'datalist', 'controls-in-a-datalist', 'in Chromium what is below a datalist gives its entries');
+  row('what is checked and chosen', profile('controls'), 'a browser keeps what is checked and chosen, where it is derived here',
+    ({ was, browser }) => isSubmit(browser) && Boolean(browser.variants) && browser.variants.derived === was);
   variant('the label of a submit input', 'label', 'the-label-of-a-submit-input', 'a browser sends the label that the button shows');
   variant('an action and the `base` element', 'base', 'an-action-and-the-base-element', 'a browser parses an action against the base URL');
   variant('a bar in a path', 'bar', 'a-space-in-a-host-a-bar-in-a-path', 'Chromium writes it as `%7C`');
