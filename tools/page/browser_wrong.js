@@ -1,6 +1,6 @@
 'use strict';
-// Wrong transcripts: one line of each example's is made wrong where browser and program agree, and the comparison has
-// to find it without a reason. What a reason explains all the same is counted by its name.
+// Wrong transcripts: one line of each example's is made wrong, left out, or changes places with the next one, and the
+// comparison has to find a line without a reason. What a reason explains all the same is counted by its name.
 
 // Runs in the page, with the result of an example's run: what becomes of each wrong line.
 function wrongInPage(name, transcript) {
@@ -19,18 +19,27 @@ function wrongInPage(name, transcript) {
   }
   const found = { wrong: 0, explained: {} };
   const hasUnexplained = (text) => CepageBrowser.compare(result, text).counts.unexplained > 0;
+  function tryWrong(changed, what, wrong) {
+    found.wrong++;
+    if (hasUnexplained(changed.join('\n'))) return;
+    const all = CepageBrowser.compare(result, changed.join('\n')).commands.flatMap((command) => command.rows);
+    const reason = all.find((row) => row.reason && row.mark !== 'same' && row.program && row.program.text === wrong);
+    const key = `${reason ? reason.reason.name : 'no line is wrong'} | ${what}`;
+    found.explained[key] = (found.explained[key] || 0) + 1;
+  }
+  const isEvent = (text) => text !== undefined && !/^\d+: /.test(text);
   lines.forEach((text, at) => {
     const { mark, browser } = rows[at];
     if (mark !== 'same' && mark !== 'explained') return;
+    const [before, behind] = [lines.slice(0, at), lines.slice(at + 1)];
     for (const wrong of wrongs(text)) {
       if (browser && browser.text === wrong) continue;
-      const changed = [...lines.slice(0, at), ...(wrong === null ? [] : [wrong]), ...lines.slice(at + 1)].join('\n');
-      found.wrong++;
-      if (hasUnexplained(changed)) continue;
-      const all = CepageBrowser.compare(result, changed).commands.flatMap(({ rows }) => rows);
-      const reason = all.find((row) => row.reason && row.mark !== 'same' && row.program && row.program.text === wrong);
-      const key = `${reason ? reason.reason.name : 'no line is wrong'} | ${text.slice(0, 60)} -> ${wrong === null ? 'left out' : wrong.slice(0, 60)}`;
-      found.explained[key] = (found.explained[key] || 0) + 1;
+      const what = `${text.slice(0, 60)} -> ${wrong === null ? 'left out' : wrong.slice(0, 60)}`;
+      tryWrong([...before, ...(wrong === null ? [] : [wrong]), ...behind], what, wrong);
+    }
+    const [next, ...rest] = behind;
+    if (isEvent(text) && isEvent(next) && next !== text && mark === 'same' && rows[at + 1].mark === 'same') {
+      tryWrong([...before, next, text, ...rest], `${text.slice(0, 60)} <-> ${next.slice(0, 60)}`, text);
     }
   });
   return found;

@@ -65,23 +65,26 @@ var CepageBrowser = globalThis.CepageBrowser || {};
 
   const of = (list, kinds) => list.filter(({ kind }) => kinds.includes(kind)).map(({ text }) => text);
 
-  // How many form callbacks stand before each other one.
-  function countsBefore(list) {
+  // How many callbacks of some kinds stand before each one of others.
+  function countsBefore(list, kinds, others) {
     const counts = [];
     let before = 0;
     for (const { kind } of list) {
-      if ('AD'.includes(kind)) before++;
-      else counts.push(before);
+      if (kinds.includes(kind)) before++;
+      else if (others.includes(kind)) counts.push(before);
     }
     return counts;
   }
 
-  // What an element hears is the same, and in the same order but for its form callbacks, which come later in the
-  // browser, if at all elsewhere.
+  const isAtMost = (counts, most) => counts.every((count, at) => count <= most[at]);
+
+  // What an element hears is the same, and in the same order but for its form callbacks: these come later in the
+  // browser, and that of the form owner may come behind that of the disabled state.
   function isHeardLater(told, heard) {
-    const [wanted, given] = [countsBefore(told), countsBefore(heard)];
     return ['A', 'D', 'co'].every((kinds) => isSameList(of(told, kinds), of(heard, kinds)))
-      && given.every((count, at) => count <= wanted[at]);
+      && isAtMost(countsBefore(heard, 'AD', 'c'), countsBefore(told, 'AD', 'c'))
+      && isSameList(countsBefore(heard, 'AD', 'o'), countsBefore(told, 'AD', 'o'))
+      && isAtMost(countsBefore(told, 'D', 'A'), countsBefore(heard, 'D', 'A'));
   }
 
   function isHeardOtherwise(program, browser) {
@@ -111,21 +114,41 @@ var CepageBrowser = globalThis.CepageBrowser || {};
   const linesOf = (rows, side) => rows.filter((one) => one[side] && !isReply(one[side].text))
     .map((one) => asState(one[side].reading || one[side].text));
 
-  function isWithin(fewer, more) {
-    const left = [...more];
-    return fewer.every((text) => {
-      const at = left.indexOf(text);
-      return at >= 0 && left.splice(at, 1).length > 0;
-    });
+  // How many lines from here on are the same on both sides.
+  function sameFrom(program, at, browser, from) {
+    let length = 0;
+    while (at + length < program.length && program[at + length] === browser[from + length]) length++;
+    return length;
+  }
+
+  // Whether the program's lines are the browser's with calls moved to the front, or with calls besides, where an
+  // upgrade has thrown: these were dropped in the browser.
+  function isCalledEarlier(program, browser) {
+    const left = [...browser];
+    const isThrown = program.some((text) => /^report /.test(text));
+    for (let at = 0; at < program.length;) {
+      if (program[at] === left[at]) { at++; continue; }
+      if (!/^call /.test(program[at])) return false;
+      const from = left.indexOf(program[at], at);
+      if (from < 0 && !isThrown) return false;
+      const length = from < 0 ? dropped(program, at, left[at]) : sameFrom(program, at, left, from);
+      if (from < 0) left.splice(at, 0, ...program.slice(at, at + length));
+      else left.splice(at, 0, ...left.splice(from, length));
+      at += length;
+    }
+    return left.length === program.length;
+  }
+
+  // A call that the browser has not, with what it wrote: until the line that the browser has.
+  function dropped(program, at, next) {
+    const end = program.indexOf(next, at);
+    return (end < 0 ? program.length : end) - at;
   }
 
   command('an upgrade of an element that is custom', browsers('a-call-of-upgrade-for-an-element-that-is-custom-already'),
     'Chromium enqueues nothing for an element that is no longer undefined: what waits there runs later, or is dropped where the upgrade throws',
     (rows, { noted }) => {
-      if (!noted.includes('upgrade')) return [];
-      const [program, browser] = [linesOf(rows, 'program'), linesOf(rows, 'browser')];
-      const isDropped = browser.length < program.length;
-      if (!isWithin(browser, program) || (isDropped && !program.some((text) => /^report /.test(text)))) return [];
+      if (!noted.includes('upgrade') || !isCalledEarlier(linesOf(rows, 'program'), linesOf(rows, 'browser'))) return [];
       return rows.filter((one) => !one.same && !one.reason && !isReply((one.program || one.browser).text));
     });
 
@@ -147,7 +170,7 @@ var CepageBrowser = globalThis.CepageBrowser || {};
     ({ was, is, what, facts }) => {
       const shown = is.split(' ');
       const left = was.split(' ').filter((number) => !shown.includes(number));
-      return what === 'controls' && left.length > 0 && isWithin(shown, was.split(' '))
+      return what === 'controls' && left.length > 0 && isSameList(shown, was.split(' ').filter((number) => !left.includes(number)))
         && left.every((number) => (facts.constructed || []).includes(number));
     });
 
