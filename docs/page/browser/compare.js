@@ -41,14 +41,16 @@ var CepageBrowser = globalThis.CepageBrowser || {};
     return line > ended.line;
   }
 
+  // What the program wrote behind the browser's last line, where the run ended before or in this command.
   function markEnd(command, ended, last) {
     const behind = isBehindEnd(command, ended, last);
     const isThere = ended && (ended.line === command.line || (ended.line === null && command.line >= last));
-    for (const row of command.rows) {
-      if (row.same || row.browser || command.fuelEnded) continue;
-      if (behind) mark(row, 'notRun');
-      else if (isThere && ended.why === 'line') mark(row, 'notAsked', NO_COUNTERPART);
-      else if (isThere) mark(row, 'notRun');
+    if (!behind && !isThere) return;
+    const rest = command.rows.slice(command.rows.findLastIndex((row) => row.browser) + 1);
+    for (const row of rest) {
+      if (row.program.text === 'fuel') continue;
+      if (!behind && ended.why === 'line') mark(row, 'notAsked', NO_COUNTERPART);
+      else mark(row, 'notRun');
     }
   }
 
