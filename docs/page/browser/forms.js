@@ -31,6 +31,9 @@ var CepageBrowser = globalThis.CepageBrowser || {};
     place, parts: spelling.match(/\[[^\]]*\]|\S+/g),
   })));
 
+  const BY_WORD = new Map();
+  for (const form of FORMS) BY_WORD.set(form.parts[0], [...(BY_WORD.get(form.parts[0]) || []), form]);
+
   const isVariable = (text) => /^\$[a-z][a-z0-9_]{0,31}$/.test(text);
   const bare = (test, read) => (token) => (!token.quoted && test(token.text) ? read(token.text) : undefined);
   const textIn = (token) => (token.quoted || !/^[$@]/.test(token.text) ? token.text : undefined);
@@ -126,7 +129,9 @@ var CepageBrowser = globalThis.CepageBrowser || {};
   }
 
   function readForm(reader, depth = 0) {
-    let forms = FORMS;
+    if (!reader.left) throw new Refused('arity');
+    const { quoted, text } = reader.tokens[reader.at];
+    let forms = (!quoted && BY_WORD.get(text)) || FORMS;
     const read = [];
     for (let index = 0; index < forms[0].parts.length; index++) {
       forms = narrow(reader, forms, index);

@@ -5,7 +5,7 @@
 var CepageBrowser = globalThis.CepageBrowser || {};
 
 (() => {
-  const LIMITS = { steps: 20000, depth: 40, milliseconds: 5000, lines: 100000 };
+  const LIMITS = { steps: 20000, depth: 40, milliseconds: 10000, lines: 100000 };
   // 40, since Chromium calls 43 callbacks within each other and then no more, and says nothing of it.
   const ENDS = {
     line: (detail) => `\`${detail}\` has no counterpart in a browser`,
@@ -91,20 +91,22 @@ var CepageBrowser = globalThis.CepageBrowser || {};
     return new FrameRun(code, message, { ...LIMITS, ...limits }, host);
   }
 
-  // The words of the command line that a browser can follow: the page's URL and the boundary.
+  // The words of the command line that count here: the page's URL, the boundary, and as many steps as there is fuel.
   function wordsOf(words) {
     const given = (name, otherwise) => {
       const at = words.findIndex((word) => word === name || word.startsWith(`${name}=`));
       if (at < 0) return otherwise;
       return words[at] === name ? words[at + 1] : words[at].slice(name.length + 1);
     };
-    return { url: given('--url', 'http://page.test/'), boundary: given('--boundary', 'cepageboundary') };
+    return { url: given('--url', 'http://page.test/'), boundary: given('--boundary', 'cepageboundary'), fuel: Number(given('--fuel', 0)) };
   }
 
   // Begins the run of a script; `words` are those of the command line. Its `result` is a promise.
   function begin(script, words = [], limits = {}, host = document.body) {
     const forms = CepageBrowser.read(script);
-    const run = inFrame(codeOfRunner(), { forms, words: wordsOf(words) }, limits, host);
+    const read = wordsOf(words);
+    const steps = Math.max(LIMITS.steps, read.fuel);
+    const run = inFrame(codeOfRunner(), { forms, words: read }, { steps, ...limits }, host);
     run.result = run.result.then((result) => ({ ...result, forms }));
     return run;
   }

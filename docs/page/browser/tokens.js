@@ -8,13 +8,16 @@ var CepageBrowser = globalThis.CepageBrowser || {};
   const LONGEST = 4096;
   const SHORT_ESCAPES = { '\\': '\\', '"': '"', n: '\n', r: '\r', t: '\t' };
 
+  const encoder = new TextEncoder();
+  const decoder = new TextDecoder('utf-8', { fatal: true, ignoreBOM: true });
+
   // The bytes of a text. A surrogate from U+DC80 to U+DCFF that stands alone is a byte that is not UTF-8.
   function bytesOf(text) {
+    if (!/[\udc80-\udcff]/u.test(text)) return encoder.encode(text);
     const bytes = [];
-    const encoder = new TextEncoder();
-    for (const piece of text.split(/([\udc80-\udcff](?<![\ud800-\udbff].))/)) {
-      if (/^[\udc80-\udcff]$/.test(piece)) bytes.push(piece.charCodeAt(0) - 0xdc00);
-      else for (const byte of encoder.encode(piece)) bytes.push(byte);
+    for (const sign of text) {
+      if (/[\udc80-\udcff]/u.test(sign)) bytes.push(sign.charCodeAt(0) - 0xdc00);
+      else for (const byte of encoder.encode(sign)) bytes.push(byte);
     }
     return Uint8Array.from(bytes);
   }
@@ -32,7 +35,7 @@ var CepageBrowser = globalThis.CepageBrowser || {};
 
   function textOf(bytes) {
     try {
-      return new TextDecoder('utf-8', { fatal: true, ignoreBOM: true }).decode(bytes);
+      return decoder.decode(bytes);
     } catch {
       return null;
     }

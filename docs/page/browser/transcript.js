@@ -42,10 +42,11 @@ var CepageBrowser = globalThis.CepageBrowser || {};
   class Numbers {
     constructor() {
       this.known = new Map([[1, 1]]);
+      this.highest = 1;
     }
 
     of(number) {
-      let below = number;
+      let below = Math.min(number, this.highest);
       while (!this.known.has(below)) below--;
       return this.known.get(below) + number - below;
     }
@@ -68,7 +69,9 @@ var CepageBrowser = globalThis.CepageBrowser || {};
       const of = (text) => pieces(text).filter((piece) => piece[0] !== '"').join(' ').match(/(?<=^|\s)#\d+/g) || [];
       const theirs = of(browser);
       of(program).forEach((number, index) => {
-        if (theirs[index]) this.known.set(Number(number.slice(1)), Number(theirs[index].slice(1)));
+        if (!theirs[index]) return;
+        this.known.set(Number(number.slice(1)), Number(theirs[index].slice(1)));
+        this.highest = Math.max(this.highest, Number(number.slice(1)));
       });
     }
 

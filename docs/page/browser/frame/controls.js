@@ -38,9 +38,10 @@ CepageBrowser.frame.push(function controls(run) {
 
   const isFocused = (node) => node.getRootNode().activeElement === node;
 
-  // As near to typing as a script comes: the text takes the place of what is there, and is cut at `maxlength`.
-  // What can't be focused gets its value set.
-  function type(node, text) {
+  // As near to typing as a script comes: the text takes the place of what is there, and is cut at `maxlength`. No newline
+  // can be typed into an input. What can't be focused gets its value set.
+  function type(node, whole) {
+    const text = node instanceof HTMLInputElement ? whole.replace(/[\r\n]/g, '') : whole;
     node.focus({ preventScroll: true });
     if (isFocused(node)) {
       node.select();

@@ -96,6 +96,7 @@ CepageBrowser.frame.push(function facts(run) {
     if (isRadio(node)) return { kept: run.quote(keptValue(node)), ...radioFacts(node) };
     if (node instanceof HTMLSelectElement) return selectFacts(node);
     if (node instanceof HTMLOptionElement) return optionFacts(node);
+    if (node instanceof HTMLTextAreaElement) return { kept: run.quote(keptValue(node)) };
     if (node instanceof HTMLInputElement) return { kept: run.quote(keptValue(node)), derived: isFlagged(node) };
     if (!(node instanceof HTMLFormElement)) return {};
     const others = run.elementsOf(node).filter((one) => !run.is.listed(one));
@@ -105,7 +106,11 @@ CepageBrowser.frame.push(function facts(run) {
   function formFacts(node) {
     if (!run.is.submittable(node)) return {};
     const [above, owner] = [formAbove(node), ownerOf(node)].map((form) => (form ? run.number(form) : 'null'));
-    return { formAbove: above, owner, offByTree: isOffByTree(node), empty: run.is.text(node) && node.value === '' };
+    const isCut = run.is.text(node) && node.maxLength >= 0;
+    return {
+      formAbove: above, owner, offByTree: isOffByTree(node), empty: run.is.text(node) && node.value === '',
+      cut: isCut ? run.quote(keptValue(node).slice(0, node.maxLength)) : null,
+    };
   }
 
   // ---- form owners and disabled states, by the tree as it is
@@ -132,8 +137,9 @@ CepageBrowser.frame.push(function facts(run) {
     return false;
   }
 
-  // The value of an input where what was set stays with it, whatever its type is since.
+  // The value of an input where what was set stays with it, whatever its type is since; of a textarea what was set.
   function keptValue(node) {
+    if (node instanceof HTMLTextAreaElement) return rawValues.has(node) ? rawValues.get(node).replace(/\r\n|\r/g, '\n') : node.value;
     const own = ownAttributes.has(node) ? ownAttributes.get(node) : node.getAttribute('value');
     const attribute = (otherwise) => (own === null ? otherwise : own);
     if (run.is.checkable(node)) return attribute('on');

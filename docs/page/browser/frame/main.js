@@ -9,12 +9,20 @@ CepageBrowser.frame.push(function main(run) {
   const PIECE = 200;
   const atTop = { self: () => { throw new TypeError('no body'); }, at: [] };
 
-  // A turn of the event loop: what waits in the backup element queue has run behind it.
-  const turn = () => new Promise((resolve) => {
-    const { port1, port2 } = new MessageChannel();
-    port2.onmessage = resolve;
-    port1.postMessage(null);
-  });
+  const TURN = 20;
+  let last = performance.now();
+
+  // What waits in the backup element queue is a microtask, which has run behind an `await`. Now and then, and behind
+  // what the user does, it is a turn of the event loop.
+  async function turn({ word }) {
+    if (!word.startsWith('user ') && performance.now() - last < TURN) return;
+    await new Promise((resolve) => {
+      const { port1, port2 } = new MessageChannel();
+      port2.onmessage = resolve;
+      port1.postMessage(null);
+    });
+    last = performance.now();
+  }
 
   function post(more = {}) {
     parent.postMessage({ token: run.token, lines: run.lines.splice(0), ...more }, '*');
@@ -48,7 +56,7 @@ CepageBrowser.frame.push(function main(run) {
     run.noted.clear();
     const reply = replyTo(form);
     const { asked } = run;
-    await turn();
+    await turn(form);
     await Promise.all(run.pending.splice(0));
     run.write(`${form.line}: ${reply}`, { reply: true, noted: [...run.noted], ...asked });
   }

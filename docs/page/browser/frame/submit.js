@@ -174,11 +174,17 @@ CepageBrowser.frame.push(function submit(run) {
   }
 
   function tried(form, act) {
+    const controls = run.elementsOf(form).map(run.facts);
     const { submitted, submitter, invalid } = listen(form, act);
-    if (submitted) return void goes(form, submitter);
+    const at = run.lines.length;
+    if (submitted) {
+      goes(form, submitter);
+      if (run.lines[at]) run.lines[at].controls = controls;
+      return;
+    }
     const why = invalid.length ? `invalid ${invalid.map(run.number).join(' ')}`
       : isInPage(form) ? 'by nothing that the browser tells' : 'disconnected';
-    run.write(`submit ${run.number(form)} blocked ${why}`, { subject: run.facts(form) });
+    run.write(`submit ${run.number(form)} blocked ${why}`, { subject: run.facts(form), controls });
   }
 
   function request([operand, button], here) {

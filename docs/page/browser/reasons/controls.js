@@ -58,6 +58,9 @@ var CepageBrowser = globalThis.CepageBrowser || {};
     'in a browser the copy has the value of the one that was cloned',
     ({ was, what, facts }) => what === 'value' && facts.kind === 'textarea' && facts.shallowCopy && was === '""');
 
+  row('typing is cut', browsers('limits-that-are-no-digits'), 'in a browser what the user types is cut at `maxlength`',
+    ({ was, is, what, facts }) => what === 'value' && facts.edited && was === facts.kept && is === facts.cut);
+
   row('a change of type', profile('left-out'), 'a browser moves the value where the type of an input changes',
     ({ was, what, facts }) => what === 'value' && facts.kind === 'input' && facts.moved && was === facts.kept);
 

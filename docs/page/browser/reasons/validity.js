@@ -29,6 +29,35 @@ var CepageBrowser = globalThis.CepageBrowser || {};
     'in Chromium each newline of a message is one line feed',
     ({ was, is, what }) => what === 'message' && /\\r/.test(was) && was.replace(/\\r\\n|\\r/g, '\\n') === is);
 
+  // ---- which controls block a form
+
+  const OTHERS = {
+    'typed by the user': ({ edited }, isHere) => isHere && edited,
+    'a required radio button without a name': (facts, isHere) => isHere && isInput(facts, 'radio') && !facts.named && facts.required,
+    '`readonly` on other inputs than texts': (facts, isHere) => isHere && facts.kind === 'input' && facts.readonly
+      && !isInput(facts, ...TEXTS, ...OTHER_TYPES),
+    'a select that is missing': (facts, isHere) => facts.kind === 'select' && facts.required && facts.noneFlagged
+      && facts.derivedMissing === isHere,
+    'a type that is not here': (facts) => isInput(facts, ...OTHER_TYPES),
+  };
+  const blocking = (text) => (/ blocked invalid (.*)$/.exec(text) || ['', ''])[1].split(' ').filter(Boolean);
+
+  // Why a control blocks on one side alone; `isHere`: in the program's transcript.
+  function whyOf(number, isHere, controls) {
+    const facts = controls.find((one) => one.number === number);
+    return facts && Object.keys(OTHERS).find((name) => OTHERS[name](facts, isHere));
+  }
+
+  row('which controls are invalid', browsers('how-they-were-compared'),
+    'a control is invalid on one side alone, for a reason of its own: `ask valid` of it says which',
+    ({ was, is, browser: { controls } }) => {
+      if (!/^submit /.test(was) || !controls) return false;
+      const [here, there] = [blocking(was), blocking(is)];
+      const alone = [...here.filter((one) => !there.includes(one)).map((one) => [one, true]),
+        ...there.filter((one) => !here.includes(one)).map((one) => [one, false])];
+      return alone.length > 0 && alone.every(([number, isHere]) => whyOf(number, isHere, controls));
+    });
+
   row('the validity of a type that is not here', profile('types'), 'a browser validates the value as its type wants it',
     ({ what, facts }) => what === 'valid' && isInput(facts, ...OTHER_TYPES));
 })();
