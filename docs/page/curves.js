@@ -1,6 +1,6 @@
 // The lanes and the bars behind the rows that are seen, as one picture (SVG). A lane goes from `due` to where its
 // reaction ended, as in a picture of branches; where a reaction has no lane a stub stands at each end. A bar at the left
-// of what stands within a row ends where that ends.
+// of what stands within a row ends where that ends. Follows docs/page.md ("What is seen": lanes, bars).
 "use strict";
 globalThis.Cepage ??= {};
 

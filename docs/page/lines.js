@@ -10,9 +10,9 @@ globalThis.Cepage ??= {};
     const FAULT = "((?:Type|Reference|Syntax|NotSupported|HierarchyRequest|NotFound|InvalidCharacter)Error|user "
         + QUOTED + ")";
     const CALLBACKS = "connected|disconnected|adopted|attribute|formAssociated|formDisabled|formReset|formStateRestore";
-    const whole = (pattern) => new RegExp("^" + pattern + "$", "u");
+    const whole = (pattern) => new RegExp("^" + pattern + "$", "s");
 
-    const QUOTED_TEXTS = new RegExp(QUOTED, "gu");
+    const QUOTED_TEXTS = new RegExp(QUOTED, "g");
     const NODES = new RegExp("#" + NUMBER, "g");
     const VALUE = "(?:null|" + QUOTED + ")";
 

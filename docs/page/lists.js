@@ -8,11 +8,13 @@ globalThis.Cepage ??= {};
     const MARGIN = 4;
 
     class LineList {
-        // `name` is that of the list; `onChoose` is told of a line that the reader goes to.
-        constructor(element, name, onChoose) {
+        // `name` is that of the list; `onChoose` is told of a line that the reader goes to, and `onEnter` where Enter or
+        // a second press goes on from it.
+        constructor(element, name, onChoose, onEnter) {
             this.element = element;
             this.name = name;
             this.onChoose = onChoose;
+            this.onEnter = onEnter;
             this.room = Cepage.make("div", "room");
             element.append(this.room);
             element.tabIndex = 0;
@@ -24,6 +26,7 @@ globalThis.Cepage ??= {};
             element.addEventListener("keydown", (event) => this.pressed(event));
             this.texts = [];
             this.chosen = -1;
+            this.soon = false;
             this.lit = () => "";
             this.look = () => "";
         }
@@ -64,7 +67,17 @@ globalThis.Cepage ??= {};
             this.lit = lit;
             this.chosen = at;
             if (at >= 0) this.reveal(at);
-            this.render();
+            this.renderSoon();
+        }
+
+        // Renders behind all that is done now: to scroll a pane while another one is changed would lay it out twice.
+        renderSoon() {
+            if (this.soon) return;
+            this.soon = true;
+            queueMicrotask(() => {
+                this.soon = false;
+                this.render();
+            });
         }
 
         reveal(at) {
@@ -108,18 +121,22 @@ globalThis.Cepage ??= {};
 
         clicked(event) {
             const line = event.target.closest(".line");
-            if (line) this.choose(Number(line.dataset.at));
+            if (!line) return;
+            const at = Number(line.dataset.at);
+            if (at === this.chosen) this.onEnter();
+            else this.choose(at);
         }
 
         choose(at) {
             if (this.texts.length === 0) return;
             this.chosen = Math.max(0, Math.min(at, this.texts.length - 1));
             this.reveal(this.chosen);
-            this.render();
+            this.renderSoon();
             this.onChoose(this.chosen);
         }
 
         pressed(event) {
+            if (event.key === "Enter") this.onEnter();
             const page = Math.max(1, Math.floor(this.height / HEIGHT) - 1);
             const moves = { ArrowDown: 1, ArrowUp: -1, PageDown: page, PageUp: -page, Home: -Infinity, End: Infinity };
             if (!Object.hasOwn(moves, event.key) || event.ctrlKey || event.altKey || event.metaKey) return;

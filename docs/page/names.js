@@ -1,7 +1,7 @@
 // Which action of a body a row is: the trace doesn't tell. All the ways in which the body can have written what stands
-// directly in its bracket are gone through, action by action; a row is named where they all agree. Follows
-// docs/language.md ("Bodies", "Callbacks within callbacks") and docs/transcript.md ("The order of the lines of one
-// command").
+// directly in its bracket are gone through, action by action, with each `if` taken or not where what it compares is not
+// told; a row is named where all ways agree. Follows docs/language.md ("Bodies", "Callbacks within callbacks") and
+// docs/transcript.md ("The order of the lines of one command").
 "use strict";
 globalThis.Cepage ??= {};
 
@@ -38,12 +38,39 @@ globalThis.Cepage ??= {};
             items: threw < 0 ? items : items.slice(0, threw + 1) };
     }
 
+    // What `@1`, `@2` and `@3` say in the body that runs in a bracket.
+    function argumentTexts(row) {
+        if (row.kind !== "run" || !row.args) return [];
+        if (row.text === "formStateRestore") return [Cepage.unquoted(Cepage.quotedTexts(row.args)[0]), row.args.split(" ").pop()];
+        const parts = row.text === "attribute" ? row.args.match(/"(?:[^"\\]|\\.)*"|null/g) : row.args.split(" ");
+        return parts.map((part) => part === "null" ? "" : part.startsWith('"') ? Cepage.unquoted(part) : part);
+    }
+
+    // The text that a value says, or null for what the class remembers, which no line tells.
+    function valueText(token, texts) {
+        if (/^@[123]$/.test(token)) return texts[token[1] - 1] ?? "";
+        return token.startsWith("@") ? null : Cepage.said(token);
+    }
+
+    // Tells whether an action runs by what is tested before it: null where that can't be told.
+    function passes(action, texts) {
+        let sure = true;
+        for (const { equal, one, other } of action.tests) {
+            const [first, second] = [valueText(one, texts), valueText(other, texts)];
+            if (first === null || second === null) sure = false;
+            else if ((first === second) !== equal) return false;
+        }
+        return sure ? true : null;
+    }
+
     // Tells whether a log of these values can have written these texts.
-    function logs(action, text) {
-        const texts = Cepage.quotedTexts(text);
+    function logs(action, text, texts) {
+        const written = Cepage.quotedTexts(text);
         const values = action.tokens.slice(1);
-        return texts.length === values.length && values.every((value, at) => value.startsWith("@")
-            || Cepage.said(value) === Cepage.unquoted(texts[at]));
+        return written.length === values.length && values.every((value, at) => {
+            const said = valueText(value, texts);
+            return said === null || said === Cepage.unquoted(written[at]);
+        });
     }
 
     // The kind of row that an action writes where nothing is thrown before: "" for none.
@@ -51,12 +78,12 @@ globalThis.Cepage ??= {};
 
     // Goes through the ways of a body.
     class Ways {
-        constructor(run, body, whole) {
+        constructor(run, body, whole, row) {
             this.body = body;
+            this.values = argumentTexts(row);
             this.kinds = body.items.map((at) => run.rows[at].kind);
             this.texts = body.items.map((at) => run.rows[at].text);
             this.whole = whole;
-            this.states = new Map();
         }
 
         // Tells whether the body can have ended before this item.
@@ -82,9 +109,11 @@ globalThis.Cepage ??= {};
                 if (action.tried && this.kinds[next] === "caught") go(next + 1, used);
                 if (action.tried ? !this.whole && next === this.kinds.length : this.throws(next)) go(-1, used);
             };
-            if (action.tested) go(item, -1);
+            const runs = passes(action, this.values);
+            if (runs !== true) go(item, -1);
+            if (runs === false) return steps;
             const kind = written(action);
-            if (kind && this.kinds[item] === kind && (kind !== "log" || logs(action, this.texts[item]))) {
+            if (kind && this.kinds[item] === kind && (kind !== "log" || logs(action, this.texts[item], this.values))) {
                 go(item + 1, item);
                 if (action.pushes) fault(item + 1, item);
             }
@@ -139,7 +168,7 @@ globalThis.Cepage ??= {};
         const names = new Map();
         const body = bodyIn(run, index);
         if (!body || body.actions.some((action) => action.word === "new")) return names;
-        const writers = new Ways(run, body, !run.open.has(index)).alive();
+        const writers = new Ways(run, body, !run.open.has(index), run.rows[index]).alive();
         (writers ?? []).forEach((set, at) => {
             if (set.size === 1) names.set(body.items[at], body.actions[[...set][0]]);
         });

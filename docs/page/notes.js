@@ -11,11 +11,13 @@ globalThis.Cepage ??= {};
             if (!reply || run.script.lines.length === 0) continue;
             const kind = run.script.kinds[reply.line - 1];
             if (kind === undefined) {
-                return `The transcript answers line ${reply.line}, and the script has ${Cepage.many(run.script.lines.length, "line", "lines")}: they don't belong together.`;
+                return `The transcript answers line ${reply.line}, and the script has `
+                    + `${Cepage.many(run.script.lines.length, "line", "lines")}: they don't belong together.`;
             }
             const silent = kind === "blank" || kind === "comment";
             if (silent && reply.answer !== "bad") {
-                return `The transcript answers line ${reply.line}, which is ${kind === "blank" ? "blank" : "a comment"} in the script: they don't belong together.`;
+                return `The transcript answers line ${reply.line}, which is ${kind === "blank" ? "blank" : "a comment"} in the `
+                    + "script: they don't belong together.";
             }
         }
         return null;
@@ -26,8 +28,15 @@ globalThis.Cepage ??= {};
         const { lines } = run.script;
         const returned = lines.findIndex((line) => line.endsWith("\r"));
         if (lines.length === 0) notes.push("There is no script, so commands have numbers and no text.");
+        if (lines.length > Cepage.MOST_LINES) {
+            notes.push(`Of the script the first ${Cepage.grouped(Cepage.MOST_LINES)} lines are shown.`);
+        }
+        if (lines[0]?.startsWith("\uFEFF")) {
+            notes.push("The script begins with a byte order mark: cepage refuses its first line.");
+        }
         if (returned >= 0) {
-            notes.push(`Line ${returned + 1} of the script ends in a carriage return: cepage refuses such a line, but for comments.`);
+            notes.push(`Line ${returned + 1} of the script ends in a carriage return: cepage refuses such a line, but for `
+                + "comments.");
         }
         return notes;
     }
@@ -35,27 +44,37 @@ globalThis.Cepage ??= {};
     function endNotes(run) {
         const notes = [];
         const open = [...run.open].filter((index) => run.rows[index].kind !== "command").length;
-        const waits = run.counts.waits > 0 ? `${Cepage.many(run.counts.waits, "reaction waits", "reactions wait")}` : "";
+        const waits = run.counts.waits > 0 ? Cepage.many(run.counts.waits, "reaction waits", "reactions wait") : "";
         const left = open > 0 ? `${Cepage.many(open, "row is", "rows are")} still open` : "";
         const where = run.spent ? "Where the fuel ended" : "Where the transcript ends";
         if (open > 0 || waits) notes.push(`${where}, ${[left, waits].filter(Boolean).join(", and ")}.`);
-        else if (run.command >= 0 && !run.spent) notes.push("The transcript ends within a command: no reply is its last line.");
-        if (!run.ended && run.left === 0 && run.lines.length > 0) notes.push("The last line of the transcript has no line feed: it may be cut off there.");
+        else if (run.command >= 0 && !run.spent) {
+            notes.push("The transcript ends within a command: its last line is no reply.");
+        }
+        if (!run.ended && run.left === 0 && run.lines.length > 0) {
+            notes.push("The last line of the transcript has no line feed: it may be cut off there.");
+        }
         return notes;
     }
 
     function transcriptNotes(run) {
         if (run.lines.length === 0) {
-            return ["There is no transcript, so nothing is drawn. Write one by crates/cepage/out/cepage --trace < your.script, and open it too."];
+            return ["There is no transcript, so nothing is drawn. Write one by crates/cepage/out/cepage --trace < your.script, "
+                + "and open it too."];
         }
         const notes = [];
         if (run.left > 0) {
             const { length } = run.lines;
-            notes.push(`The transcript has ${(length + run.left).toLocaleString("en")} lines. The first ${length.toLocaleString("en")} are read and shown, and no more.`);
+            notes.push(`The transcript has ${Cepage.grouped(length + run.left)} lines. The first `
+                + `${Cepage.grouped(length)} are read and shown, and no more.`);
         }
-        if (run.returns) notes.push("The lines of the transcript end in CR LF. The carriage returns are left out here; cepage writes none.");
+        if (run.marked) notes.push("The transcript begins with a byte order mark. It is left out here; cepage writes none.");
+        if (run.returns) {
+            notes.push("The lines of the transcript end in CR LF. The carriage returns are left out here; cepage writes none.");
+        }
         if (!run.traced && run.counts.due === 0) {
-            notes.push("The transcript has no lines of the trace, so the page can't tell what ran within what, or what waited. Run the script with --trace.");
+            notes.push("The transcript has no lines of the trace, so the page can't tell what ran within what, or what waited. "
+                + "Run the script with --trace.");
         }
         const wrong = misfit(run);
         if (wrong) notes.push(wrong);
@@ -69,8 +88,8 @@ globalThis.Cepage ??= {};
         if (problems.length > 0) {
             const [first] = problems;
             const all = Cepage.many(problems.length, "line of the transcript does", "lines of the transcript do");
-            notes.unshift({ text: `${all} not fit. ${problems.length > 1 ? "The first is line" : "It is line"} ${first.line + 1}: ${first.text}.`,
-                row: run.rowOfLine[first.line] });
+            const which = problems.length > 1 ? "The first is line" : "It is line";
+            notes.unshift({ text: `${all} not fit. ${which} ${first.line + 1}: ${first.text}.`, row: run.rowOfLine[first.line] });
         }
         return notes;
     }

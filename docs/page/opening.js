@@ -1,11 +1,14 @@
 // What the reader opens: an example, files that are chosen or dropped, or text that is pasted. Which of the two a text is,
-// a script or a transcript, is told from its lines. Nothing is sent anywhere: files are read by the browser itself.
+// a script or a transcript, is told from its lines. Nothing is sent anywhere: files are read by the browser itself. Follows
+// docs/page.md ("A run of your own").
 "use strict";
 globalThis.Cepage ??= {};
 
 (function () {
     // So many lines are looked at to tell what a text is.
     const LOOKS = 400;
+    // A text of more characters is not shown in a box.
+    const LONG = 200000;
 
     // Tells whether a text is a transcript, by whether more of its lines are events or lines of a script.
     function isTranscript(text) {
@@ -32,8 +35,10 @@ globalThis.Cepage ??= {};
             const find = (id) => document.getElementById(id);
             this.boxes = { script: find("paste-script"), transcript: find("paste-transcript") };
             this.files = { script: find("file-script"), transcript: find("file-transcript") };
+            this.read = {};
             for (const kind of ["script", "transcript"]) {
                 this.files[kind].addEventListener("change", () => this.chosen(kind));
+                this.boxes[kind].addEventListener("input", () => delete this.read[kind]);
             }
             find("open").addEventListener("click", () => dialog.showModal());
             find("cancel").addEventListener("click", () => dialog.close());
@@ -50,12 +55,11 @@ globalThis.Cepage ??= {};
             addEventListener("drop", (event) => {
                 event.preventDefault();
                 document.body.classList.remove("dropping");
-                this.dropped(event.dataTransfer);
+                this.dropped(event.dataTransfer, "dropped text");
             });
             addEventListener("paste", (event) => {
                 if (event.target.closest?.("textarea, input")) return;
-                const text = event.clipboardData.getData("text/plain");
-                if (text) this.take([{ text, name: "pasted text" }]);
+                this.dropped(event.clipboardData, "pasted text");
             });
         }
 
@@ -63,17 +67,23 @@ globalThis.Cepage ??= {};
             this.own = { script: "", transcript: "", names: {} };
         }
 
+        // A file that was chosen is kept as it is: a box would change its line ends. A long one is not put into the box.
         async chosen(kind) {
             const [file] = this.files[kind].files;
-            if (file) this.boxes[kind].value = await readFile(file);
+            if (!file) return;
+            const text = await readFile(file);
+            this.boxes[kind].value = text.length > LONG ? "" : text;
+            this.boxes[kind].placeholder = `${file.name}, ${Cepage.many(text.length, "character", "characters")}`;
+            this.read[kind] = { text, name: file.name };
         }
 
-        async dropped(data) {
+        // What was dropped or pasted: files, or else a text, which gets this name.
+        async dropped(data, name) {
             const texts = [];
             const files = [...data.files];
             const text = data.getData("text/plain");
             for (const file of files) texts.push({ text: await readFile(file), name: file.name });
-            if (files.length === 0 && text) texts.push({ text, name: "dropped text" });
+            if (files.length === 0 && text) texts.push({ text, name });
             if (texts.length > 0) this.take(texts);
         }
 
@@ -91,9 +101,14 @@ globalThis.Cepage ??= {};
             this.onOpen(this.own);
         }
 
+        // Draws what is in the two boxes. Where each is in the other's place they are taken as what they are.
         draw() {
-            this.own = { script: this.boxes.script.value, transcript: this.boxes.transcript.value,
-                names: { script: "the text that was put in", transcript: "the text that was put in" } };
+            const given = (kind) => this.read[kind] ?? { text: this.boxes[kind].value, name: "the text that was put in" };
+            let [script, transcript] = [given("script"), given("transcript")];
+            const swapped = isTranscript(script.text) && transcript.text && !isTranscript(transcript.text);
+            if (swapped) [script, transcript] = [transcript, script];
+            this.own = { script: script.text, transcript: transcript.text,
+                names: { script: script.name, transcript: transcript.name } };
             this.dialog.close();
             this.onOpen(this.own);
         }

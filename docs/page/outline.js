@@ -84,8 +84,9 @@ globalThis.Cepage ??= {};
             }
             this.place = Math.max(0, Math.min(place, this.view.shown.length - 1));
             this.reveal();
-            this.render();
+            // The other panes scroll before anything is changed.
             this.onFocus(this.index);
+            this.render();
         }
 
         focusRow(index) {

@@ -1,4 +1,5 @@
-// The page: it puts the panes together, links them line by line, and hears keys.
+// The page: it puts the panes together, links them line by line, and hears keys. Follows docs/page.md ("Keys", "A run of
+// your own").
 "use strict";
 globalThis.Cepage ??= {};
 
@@ -10,9 +11,10 @@ globalThis.Cepage ??= {};
             this.outline = new Cepage.Outline(find("tree"), (index) => this.focused(index));
             this.outline.onSeen = (seen) => this.seen(seen);
             this.strip = new Cepage.Strip(find("strip"), (place) => this.outline.look(place));
-            this.scriptList = new Cepage.LineList(find("script-lines"), "Lines of the script", (at) => this.choseScript(at));
+            this.scriptList = new Cepage.LineList(find("script-lines"), "Lines of the script",
+                (at) => this.choseScript(at), () => this.toDrawing());
             this.transcriptList = new Cepage.LineList(find("transcript-lines"), "Lines of the transcript",
-                (at) => this.choseTranscript(at));
+                (at) => this.choseTranscript(at), () => this.toDrawing());
             this.tabs = new Cepage.Tabs(find("tabs"));
             this.opener = new Cepage.Opener(find("opener"), (own) => this.showOwn(own));
             this.kept = -1;
@@ -36,7 +38,7 @@ globalThis.Cepage ??= {};
 
         listen() {
             find("example").addEventListener("change", (event) => {
-                location.hash = encodeURI(event.target.value);
+                location.hash = event.target.value;
             });
             find("brief").addEventListener("change", () => this.changeView());
             find("traced").addEventListener("change", () => this.listTranscript());
@@ -44,11 +46,6 @@ globalThis.Cepage ??= {};
             find("find").addEventListener("keydown", (event) => {
                 if (event.key === "Enter") this.seek(event.target.value, !event.shiftKey);
             });
-            for (const list of [this.scriptList, this.transcriptList]) {
-                list.element.addEventListener("keydown", (event) => {
-                    if (event.key === "Enter") this.toDrawing();
-                });
-            }
             addEventListener("hashchange", () => this.openHash());
             matchMedia("(prefers-color-scheme: dark)").addEventListener("change", () => this.showStrip());
             this.watch();
@@ -56,7 +53,7 @@ globalThis.Cepage ??= {};
 
         // Opens the example that the address names, behind it the line of its transcript: `#trace:40`.
         openHash() {
-            const [, name, line] = /^#(.*?)(?::([0-9]+))?$/.exec(decodeURI(location.hash) || "#") ?? [];
+            const [, name, line] = /^#(.*?)(?::([0-9]+))?$/.exec(location.hash || "#");
             const example = Cepage.examples.find((one) => one.name === name)
                 ?? (this.run ? null : Cepage.examples.find((one) => one.name === "trace"));
             if (!example) return;
@@ -82,11 +79,12 @@ globalThis.Cepage ??= {};
             this.texts = { script, transcript };
             this.rowOfScriptLine = new Map();
             for (const index of this.run.commands) this.rowOfScriptLine.set(this.run.rows[index].scriptLine, index);
+            document.title = example ? `${example.name} · A run, drawn` : "A run, drawn";
             find("source").textContent = source;
             find("source").title = source;
             find("summary").textContent = this.summary();
             const { lines, kinds } = this.run.script;
-            this.scriptList.show(lines, (at) => String(at + 1), (at) => kinds[at]);
+            this.scriptList.show(lines.slice(0, Cepage.MOST_LINES), (at) => String(at + 1), (at) => kinds[at]);
             this.listTranscript();
             this.note();
             this.changeView();
@@ -95,8 +93,9 @@ globalThis.Cepage ??= {};
 
         summary() {
             const { counts, lines } = this.run;
-            return `${Cepage.many(lines.length, "line", "lines")} · ${counts.due.toLocaleString("en")} due: `
-                + `${counts.ran.toLocaleString("en")} ran, ${counts.dropped.toLocaleString("en")} dropped, ${counts.waits.toLocaleString("en")} wait`;
+            return `${Cepage.many(lines.length, "line", "lines")} · ${Cepage.grouped(counts.due)} due: `
+                + `${Cepage.grouped(counts.ran)} ran, ${Cepage.grouped(counts.dropped)} dropped, `
+                + `${Cepage.grouped(counts.waits)} wait`;
         }
 
         note() {
@@ -123,7 +122,7 @@ globalThis.Cepage ??= {};
             const shown = this.places.map((at) => lines[at]);
             const look = (at) => shown[at].startsWith("~") ? "traced" : /^[0-9]/.test(shown[at]) ? "reply" : "event";
             this.transcriptList.show(shown, (at) => String(this.places[at] + 1), look);
-            if (this.view) this.lightTranscript(this.outline.index);
+            if (this.view?.run === this.run) this.lightTranscript(this.outline.index);
         }
 
         // Shows the rows anew, with the focus where it was.
@@ -132,7 +131,7 @@ globalThis.Cepage ??= {};
             this.view = new Cepage.View(this.run, find("brief").checked);
             this.outline.show(this.view, this.view.nearest(before));
             this.showStrip();
-            if (this.view.shown.length === 0) find("words").textContent = "There is nothing to draw.";
+            if (this.view.shown.length === 0) this.say("There is nothing to draw.");
         }
 
         seen(seen) {
@@ -140,15 +139,20 @@ globalThis.Cepage ??= {};
             const index = this.view.shown[Math.min(top, this.view.shown.length - 1)];
             find("path").textContent = Cepage.pathWords(this.view, index);
             const waits = top > 0 ? seen.lanes.waiting[this.view.shown[top - 1]] : 0;
-            find("waiting").textContent = waits > 0 ? `${waits.toLocaleString("en")} ${waits === 1 ? "waits" : "wait"}` : "";
+            find("waiting").textContent = waits > 0 ? `${Cepage.grouped(waits)} ${waits === 1 ? "waits" : "wait"}` : "";
             if (this.strip.view === this.view) this.strip.seen(this.outline.top, this.outline.height);
+        }
+
+        // Writes the line below the drawing.
+        say(text) {
+            find("words").textContent = text;
         }
 
         // Tells of the row in focus, and lights its lines.
         focused(index) {
-            find("words").textContent = Cepage.rowWords(this.view, index);
             this.lightScript(index);
             this.lightTranscript(index);
+            this.say(Cepage.rowWords(this.view, index));
         }
 
         lightScript(index) {
@@ -162,7 +166,11 @@ globalThis.Cepage ??= {};
         lightTranscript(index) {
             const other = index >= 0 ? this.outline.otherEnd(index) : -1;
             const rowAt = (at) => this.run.rowOfLine[this.places[at]];
-            const lit = (at) => index < 0 ? "" : rowAt(at) === index ? "lit" : other >= 0 && rowAt(at) === other ? "lit other" : "";
+            const lit = (at) => {
+                const row = rowAt(at);
+                if (index < 0 || (row !== index && row !== other)) return "";
+                return row === index ? "lit" : "lit other";
+            };
             this.transcriptList.light(lit, this.kept >= 0 ? this.kept : this.firstLineOf(index));
         }
 
@@ -188,7 +196,7 @@ globalThis.Cepage ??= {};
             const heading = this.rowOfScriptLine.get(at + 1);
             const row = heading ?? this.namedAfter(at + 1);
             if (row >= 0) this.goTo(row);
-            else find("words").textContent = `Line ${at + 1} of the script has no row of its own: ${this.run.script.line(at + 1) ?? ""}`;
+            else this.say(`Line ${at + 1} of the script has no row of its own: ${this.run.script.line(at + 1) ?? ""}`);
         }
 
         // The next row behind the one in focus that is named after an action of this line; from the top behind the last.
@@ -217,7 +225,7 @@ globalThis.Cepage ??= {};
                 this.outline.focusRow(index);
                 return;
             }
-            find("words").textContent = `${Cepage.rowWords(this.view, index)} It is left out of the drawing.`;
+            this.say(`${Cepage.rowWords(this.view, index)} It is left out of the drawing.`);
             this.lightScript(index);
             this.lightTranscript(index);
         }
@@ -234,7 +242,7 @@ globalThis.Cepage ??= {};
                 this.goTo(rowOfLine[at]);
                 return;
             }
-            find("words").textContent = `No line of the transcript has: ${text}`;
+            this.say(`No line of the transcript has: ${text}`);
         }
 
         toDrawing(index) {
@@ -261,7 +269,7 @@ globalThis.Cepage ??= {};
             const sizes = new ResizeObserver((entries) => {
                 for (const { target } of entries) this.resized(target);
             });
-            for (const element of [this.outline.tree, this.scriptList.element, this.transcriptList.element]) sizes.observe(element);
+            for (const pane of [this.outline.tree, this.scriptList.element, this.transcriptList.element]) sizes.observe(pane);
         }
 
         resized(element) {

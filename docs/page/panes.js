@@ -1,5 +1,5 @@
 // The panes: which of them are seen, as tabs where the window is narrow. Follows the ARIA practices for tabs. The style
-// says at which widths there are three panes, two or one.
+// says at which widths there are three panes, two or one (docs/page.md, "What is seen").
 "use strict";
 globalThis.Cepage ??= {};
 

@@ -29,7 +29,8 @@ globalThis.Cepage ??= {};
     }
 
     const tag = (number) => make("span", "tag", String(number));
-    const queue = (number) => make("span", "queue", number === 0 ? "backup queue" : `queue ${number}`);
+    const queueName = (number) => number === 0 ? "backup queue" : `queue ${number}`;
+    const queue = (number) => make("span", "queue", queueName(number));
     const soft = (text) => make("span", "soft", text);
     const code = (text) => make("span", "code", text);
     const strong = (text) => make("b", "what", text);
@@ -40,10 +41,8 @@ globalThis.Cepage ??= {};
         const line = run.script.line(row.scriptLine);
         const parts = [make("span", "number", row.scriptLine || "?"), make("b", "code", line?.trim() ?? "a command")];
         const { reply } = row;
-        if (!reply) parts.push(make("span", "answer fault", "→ no reply"));
-        else if (reply.answer === "bad" || reply.answer === "throw") parts.push(make("span", "answer fault", `→ ${reply.text}`));
-        else parts.push(make("span", "answer", `→ ${reply.text}`));
-        return parts;
+        const wrong = !reply || reply.answer === "bad" || reply.answer === "throw";
+        return [...parts, make("span", wrong ? "answer fault" : "answer", `→ ${reply?.text ?? "no reply"}`)];
     }
 
     function called(run, row) {
@@ -53,8 +52,8 @@ globalThis.Cepage ??= {};
 
     function ran(run, row) {
         const parts = [mark("▶"), tag(row.reaction), ...called(run, row)];
-        if (row.early) parts.push(make("span", "early", `early, from ${row.queue === 0 ? "the backup queue" : `queue ${row.queue}`}`));
-        if (!row.told) parts.push(soft(row.text === "upgrade" ? "nothing to upgrade any more" : "it was not called"));
+        if (row.early) parts.push(make("span", "early", `early, from ${queueName(row.queue)}`));
+        if (!row.told) parts.push(soft(row.text === "upgrade" ? "nothing to upgrade" : "it was not called"));
         return parts;
     }
 
@@ -75,8 +74,10 @@ globalThis.Cepage ??= {};
         command,
         operation,
         run: ran,
-        due: (run, row) => [soft("due"), tag(row.reaction), chip(run, row.node), make("span", "what", row.text), queue(row.queue)],
-        drop: (run, row) => [mark("⊘", "fault"), tag(row.reaction), chip(run, row.node), make("s", "what", row.text), fault("dropped")],
+        due: (run, row) => [soft("due"), tag(row.reaction), chip(run, row.node), make("span", "what", row.text),
+            queue(row.queue)],
+        drop: (run, row) => [mark("⊘", "fault"), tag(row.reaction), chip(run, row.node), make("s", "what", row.text),
+            fault("dropped")],
         upgrade: (run, row) => [mark("▶"), chip(run, row.node), strong("upgrade"), soft("in its creation")],
         call: (run, row) => [mark("▶"), ...called(run, row)],
         construct: (run, row) => [soft("construct"), strong(row.text)],
@@ -86,7 +87,8 @@ globalThis.Cepage ??= {};
         caught: (run, row) => [mark("↩", "fault"), fault("caught"), code(row.text)],
         log: (run, row) => [soft("log"), code(row.text)],
         ask: (run, row) => [soft("ask"), code(row.text)],
-        submit: (run, row) => [soft("submit"), chip(run, row.node), row.text.startsWith("blocked") ? fault(row.text) : code(row.text)],
+        submit: (run, row) => [soft("submit"), chip(run, row.node),
+            row.text.startsWith("blocked") ? fault(row.text) : code(row.text)],
         drain: (run, row) => drained(run, row.nodes, `queue ${row.queue} is drained`),
         checkpoint: (run, row) => drained(run, row.nodes, row.nodes.length > 0 ? "checkpoint: the backup queue is drained"
             : "checkpoint: nothing waits"),
@@ -105,7 +107,6 @@ globalThis.Cepage ??= {};
         element.setAttribute("aria-posinset", view.position[index]);
         element.setAttribute("aria-setsize", view.siblings(index));
         element.setAttribute("aria-label", Cepage.rowWords(view, index));
-        if (row.end > index) element.setAttribute("aria-expanded", "true");
         element.dataset.row = index;
         if (row.reaction) element.dataset[row.kind === "due" ? "due" : "end"] = row.reaction;
         const body = make("div", "body");

@@ -5,7 +5,7 @@
 globalThis.Cepage ??= {};
 
 (function () {
-    // So many lines of a transcript are read: a browser lays out no list that is much longer.
+    // So many lines of a transcript are read, and of a script shown: a browser lays out no list that is much longer.
     const MOST = 1000000;
 
     // The class that a `create` has constructed for the node that it gives, or "".
@@ -59,7 +59,9 @@ globalThis.Cepage ??= {};
         }
         run.counts.waits = run.counts.due - run.counts.ran - run.counts.dropped;
         run.faults = [...new Set(run.faults)].sort((one, other) => one - other);
-        run.script.gather(run.refused);
+        // What stands behind the last command that was reached was not read.
+        const reached = run.commands.reduce((most, index) => Math.max(most, run.rows[index].scriptLine), 0);
+        run.script.gather(run.refused, reached);
         for (const element of run.elements.values()) {
             const returns = run.script.body(element.constructs, "constructor")
                 .some((action) => action.word === "return" && action.tokens.length > 1);
@@ -69,11 +71,13 @@ globalThis.Cepage ??= {};
 
     // Reads a run from the text of a script and that of its transcript.
     function readRun(scriptText, transcriptText) {
-        const cut = Cepage.cutLines(transcriptText);
+        const marked = transcriptText.startsWith("\uFEFF");
+        const cut = Cepage.cutLines(marked ? transcriptText.slice(1) : transcriptText);
         const length = cut.lines.length;
         const lines = length > MOST ? cut.lines.slice(0, MOST) : cut.lines;
         const run = new Cepage.Run(lines, new Cepage.Script(scriptText));
         run.left = length - lines.length;
+        run.marked = marked;
         run.returns = cut.returns;
         run.ended = cut.ended;
         lines.forEach((text, line) => {
@@ -85,6 +89,7 @@ globalThis.Cepage ??= {};
         return run;
     }
 
+    Cepage.MOST_LINES = MOST;
     Cepage.endCommand = endCommand;
     Cepage.readRun = readRun;
 })();

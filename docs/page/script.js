@@ -27,17 +27,20 @@ globalThis.Cepage ??= {};
         return PUSHING.has(first) || QUIET.has(first) ? "command" : "other";
     }
 
-    // An action without the `try` and `if` that stand before it: its first word, its tokens, and what stood before it.
+    const TEST = /^if +(eq|ne) +("(?:[^"\\]|\\.)*"|[^ ]+) +("(?:[^"\\]|\\.)*"|[^ ]+) +: +/;
+
+    // An action without the `try` and `if` that stand before it: its first word and its tokens; whether it is tried, and
+    // what is tested before it.
     function readAction(text) {
         let rest = text.trim();
-        const action = { text: rest, tried: false, tested: false };
+        const action = { text: rest, tried: false, tests: [] };
         for (;;) {
-            const tested = /^if +(?:eq|ne) +("(?:[^"\\]|\\.)*"|[^ ]+) +("(?:[^"\\]|\\.)*"|[^ ]+) +: +/.exec(rest);
+            const test = TEST.exec(rest);
             const tried = /^try +/.exec(rest);
-            if (!tested && !tried) break;
-            if (tested) action.tested = true;
-            if (tried) action.tried = true;
-            rest = rest.slice((tested ?? tried)[0].length);
+            if (!test && !tried) break;
+            if (test) action.tests.push({ equal: test[1] === "eq", one: test[2], other: test[3] });
+            else action.tried = true;
+            rest = rest.slice((test ?? tried)[0].length);
         }
         action.tokens = rest.match(TOKEN) ?? [];
         action.word = action.tokens[0] ?? "";
@@ -80,11 +83,11 @@ globalThis.Cepage ??= {};
             return index + 1;
         }
 
-        // Gathers the bodies and the definitions of the lines that were not refused.
-        gather(refused) {
-            this.lines.forEach((line, index) => {
+        // Gathers the bodies and the definitions of the lines up to this one that were not refused.
+        gather(refused, upTo) {
+            this.lines.slice(0, upTo).forEach((line, index) => {
                 if (refused.has(index + 1)) return;
-                const part = /^ *on +([A-Z][A-Za-z0-9_]*) +([A-Za-z]+) +: +(.*)$/.exec(line);
+                const part = /^ *on +([A-Z][A-Za-z0-9_]*) +([A-Za-z]+) +: +(.*)$/s.exec(line);
                 if (part) this.addAction(`${part[1]} ${part[2]}`, index + 1, part[3]);
                 const defined = /^ *define +/.test(line) ? line.match(TOKEN) : null;
                 if (defined && defined.length === 3) this.definitions.set(said(defined[1]), defined[2]);

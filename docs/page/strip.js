@@ -1,5 +1,6 @@
 // The strip beside the outline: the whole run at once. Each row is a mark in its element's hue, the deeper the further to
-// the right; faults have a narrow column of their own at the left. A frame shows what is seen; pressing goes there.
+// the right; faults have a narrow column of their own at the left. A frame shows what is seen; pressing goes there. Follows
+// docs/page.md ("What is seen": the strip).
 "use strict";
 globalThis.Cepage ??= {};
 
@@ -73,10 +74,11 @@ globalThis.Cepage ??= {};
 
         paintFaults(pen, colour) {
             const { shown, run } = this.view;
+            const height = Math.max(3, this.tall / shown.length - 1);
             pen.fillStyle = colour;
             for (const index of run.faults) {
                 const place = this.view.placeOf(index);
-                if (place >= 0) pen.fillRect(0, place / shown.length * this.tall, FAULTS, Math.max(3, this.tall / shown.length - 1));
+                if (place >= 0) pen.fillRect(0, place / shown.length * this.tall, FAULTS, height);
             }
         }
 

@@ -1,5 +1,5 @@
 // Which rows of a run are shown, and where: all, or without the commands that nothing came of. Each row has a place, from
-// 0, and the levels give the indentation of the rows that are seen together.
+// 0, and the levels give the indentation of the rows that are seen together. Follows docs/page.md ("What is seen").
 "use strict";
 globalThis.Cepage ??= {};
 

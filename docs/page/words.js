@@ -6,7 +6,12 @@ globalThis.Cepage ??= {};
     const REASONS = { long: "it is too long", utf8: "it is not UTF-8", quote: "a quote is wrong", escape: "an escape is wrong",
         word: "a word is wrong", arity: "a word is missing or left over", place: "it may not stand there" };
 
-    const many = (count, one, more) => `${count.toLocaleString("en")} ${count === 1 ? one : more}`;
+    // So many elements of a queue are named.
+    const NAMED = 100;
+    const FORMAT = new Intl.NumberFormat("en");
+    // A number with its digits in groups of three.
+    const grouped = (number) => FORMAT.format(number);
+    const many = (count, one, more) => `${grouped(count)} ${count === 1 ? one : more}`;
 
     // An element: its number, its variable and its name, or its class.
     function elementWords(run, node) {
@@ -67,10 +72,11 @@ globalThis.Cepage ??= {};
         const line = script.line(row.scriptLine);
         const text = row.scriptLine ? `Line ${row.scriptLine}${line === undefined ? "" : `: ${line.trim()}`}.` : "A command.";
         const { reply } = row;
-        if (!reply) return `${text} It has no reply: the transcript ends within it.`;
+        const pushed = row.queue > 0 ? ` It pushes queue ${row.queue}.` : "";
+        if (!reply) return `${text}${pushed} It has no reply: the transcript ends within it.`;
         if (reply.answer === "bad") return `${text} It is refused: ${REASONS[reply.text.slice(4)]} (${reply.text}).`;
-        if (reply.answer === "throw") return `${text} It throws ${reply.text.slice(6)}.`;
-        return `${text} It answers ${reply.text}.`;
+        if (reply.answer === "throw") return `${text}${pushed} It throws ${reply.text.slice(6)}.`;
+        return `${text}${pushed} It answers ${reply.text}.`;
     }
 
     function operation(view, row, index) {
@@ -87,7 +93,12 @@ globalThis.Cepage ??= {};
         return `Form ${form} is submitted by ${way.toUpperCase()}: ${rest.join(" ")}`;
     }
 
-    const nodes = (view, list) => list.map((node) => elementWords(view.run, node)).join(", ");
+    // The elements of a list, the first hundred by name.
+    function nodes(view, list) {
+        const names = list.slice(0, NAMED).map((node) => elementWords(view.run, node));
+        if (list.length > NAMED) names.push(`and ${grouped(list.length - NAMED)} more`);
+        return names.join(", ");
+    }
 
     const WORDS = {
         command, due, operation,
@@ -120,6 +131,7 @@ globalThis.Cepage ??= {};
         return WORDS[row.kind](view, row, index) + open;
     }
 
+    Cepage.grouped = grouped;
     Cepage.many = many;
     Cepage.elementWords = elementWords;
     Cepage.queueWords = queueWords;

@@ -2,66 +2,91 @@
 // The drawing, checked in the browser: each run is scrolled through from top to bottom, and what is seen on the way is
 // held against the lines of its trace.
 
-// Runs in the page. Looks at what is seen now, and adds it to what was seen before.
-function lookAtDrawing(found) {
-  const tree = document.getElementById('tree');
+// These run in the page. What they find is kept in one object: for each reaction the rows where it became due and where it
+// ended, what was drawn at each of them, the colour of each element, and what is wrong.
+
+function nothingFound() {
+  return { due: {}, end: {}, lane: {}, stub: {}, hues: {}, faults: [], most: 0, views: 0 };
+}
+
+function middleOf(row) {
+  const box = row.getBoundingClientRect();
+  return (box.top + box.bottom) / 2;
+}
+
+// The rows that are seen whole, from the top.
+function rowsSeen(tree) {
   const frame = tree.getBoundingClientRect();
-  const picture = tree.querySelector('svg');
-  const say = (text) => { if (found.faults.length < 20) found.faults.push(text); };
-  if (!picture) return;
-  const top = picture.getBoundingClientRect().top;
-  const ends = (group) => {
-    const path = group.querySelector('path');
-    const length = path.getTotalLength();
-    return { from: top + path.getPointAtLength(0).y, to: top + path.getPointAtLength(length).y };
-  };
-  const middle = (row) => { const box = row.getBoundingClientRect(); return (box.top + box.bottom) / 2; };
-  const rows = [...tree.querySelectorAll('.row')].filter((row) => {
+  return [...tree.querySelectorAll('.row')].filter((row) => {
     const box = row.getBoundingClientRect();
     return box.top >= frame.top - 1 && box.bottom <= frame.bottom + 1;
-  });
-  rows.sort((one, other) => middle(one) - middle(other)).forEach((row, at) => {
-    if (at > 0 && Math.abs(middle(row) - middle(rows[at - 1]) - row.offsetHeight) > 1) say(`row ${row.id} leaves a gap`);
-  });
-  for (const row of rows) {
-    if (parseFloat(row.firstChild.style.paddingLeft) > tree.clientWidth * 0.75) say(`row ${row.id} is out of sight`);
+  }).sort((one, other) => middleOf(one) - middleOf(other));
+}
+
+// No row leaves a gap or is out of sight, and each element has one colour.
+function lookAtRows(found, tree, rows) {
+  rows.forEach((row, at) => {
+    const gap = at > 0 ? middleOf(row) - middleOf(rows[at - 1]) - row.offsetHeight : 0;
+    if (Math.abs(gap) > 1) found.faults.push(`row ${row.id} leaves a gap`);
+    if (parseFloat(row.firstChild.style.paddingLeft) > tree.clientWidth * 0.75) found.faults.push(`row ${row.id} is out of sight`);
     for (const chip of row.querySelectorAll('.chip')) {
       const node = chip.querySelector('b').textContent;
       const hue = chip.style.getPropertyValue('--hue');
-      if ((found.hues[node] ??= hue) !== hue) say(`${node} has two colours`);
+      if ((found.hues[node] ??= hue) !== hue) found.faults.push(`${node} has two colours`);
     }
-  }
-  found.most = Math.max(found.most, tree.querySelectorAll('.row').length);
-  for (const row of rows) {
-    for (const kind of ['due', 'end']) {
-      const number = row.dataset[kind];
-      if (number === undefined) continue;
-      (found[kind][number] ??= []).push(row.id);
-      // What is drawn of the reaction has to begin or end at this row.
-      const lane = picture.querySelector(`[data-lane="${number}"]`);
-      const stubs = [...picture.querySelectorAll(`[data-stub="${number}"]`)];
-      const side = kind === 'due' ? 'from' : 'to';
-      const laneFits = lane && Math.abs(ends(lane)[side] - middle(row)) < 1.5;
-      const stub = stubs.find((one) => Math.abs(ends(one).from - middle(row)) < 1.5);
-      const stubFits = stub && stub.querySelector('text').textContent === number;
-      if (laneFits) found.lane[`${kind} ${number}`] = true;
-      if (stubFits) found.stub[`${kind} ${number}`] = true;
-      if (!laneFits && !stubFits) say(`reaction ${number}: nothing is drawn at its row ${kind}`);
-      const word = row.querySelector('.tag')?.textContent;
-      if (word !== number) say(`reaction ${number}: its row ${kind} says ${word}`);
-    }
-  }
-  const lanes = [...picture.querySelectorAll('.lane:not(.strong) > path:first-child')].map((path) => path.getBBox());
-  lanes.sort((one, other) => one.x - other.x || one.y - other.y).forEach((box, at) => {
-    const last = lanes[at - 1];
-    if (last && Math.abs(last.x - box.x) < 1 && last.y + last.height > box.y + 1) say('two lanes lie over each other');
   });
 }
 
-// Runs in the page. Scrolls through the run that is shown.
+// At a row where a reaction became due its lane or a stub begins; at one where it ended its lane ends, or a stub is there.
+function lookAtEnds(found, picture, row, kind) {
+  const number = row.dataset[kind];
+  if (number === undefined) return;
+  const top = picture.getBoundingClientRect().top;
+  const at = (group, end) => {
+    const path = group.querySelector('path');
+    const y = top + path.getPointAtLength(end ? path.getTotalLength() : 0).y;
+    return Math.abs(y - middleOf(row)) < 1.5;
+  };
+  const lane = picture.querySelector(`[data-lane="${number}"]`);
+  const stubs = [...picture.querySelectorAll(`[data-stub="${number}"]`)];
+  const hasLane = lane !== null && at(lane, kind === 'end');
+  const hasStub = stubs.some((stub) => at(stub, false) && stub.querySelector('text').textContent === number);
+  (found[kind][number] ??= []).push(row.id);
+  if (hasLane) found.lane[`${kind} ${number}`] = true;
+  if (hasStub) found.stub[`${kind} ${number}`] = true;
+  if (!hasLane && !hasStub) found.faults.push(`reaction ${number}: nothing is drawn at its row ${kind}`);
+  const dropped = lane !== null && lane.classList.contains('dropped') !== row.classList.contains('drop');
+  if (kind === 'end' && dropped) found.faults.push(`reaction ${number}: its lane does not say whether it was dropped`);
+  const tag = row.querySelector('.tag')?.textContent;
+  if (tag !== number) found.faults.push(`reaction ${number}: its row ${kind} says ${tag}`);
+}
+
+// No two lanes lie over each other.
+function lookAtLanes(found, picture) {
+  const boxes = [...picture.querySelectorAll('.lane:not(.strong) > path:first-child')].map((path) => path.getBBox());
+  boxes.sort((one, other) => one.x - other.x || one.y - other.y).forEach((box, at) => {
+    const last = boxes[at - 1];
+    const over = last && Math.abs(last.x - box.x) < 1 && last.y + last.height > box.y + 1;
+    if (over) found.faults.push('two lanes lie over each other');
+  });
+}
+
+// Looks at what is seen now.
+function lookAtDrawing(found) {
+  const tree = document.getElementById('tree');
+  const picture = tree.querySelector('svg');
+  if (!picture) return;
+  const rows = rowsSeen(tree);
+  found.most = Math.max(found.most, tree.querySelectorAll('.row').length);
+  lookAtRows(found, tree, rows);
+  for (const row of rows) for (const kind of ['due', 'end']) lookAtEnds(found, picture, row, kind);
+  lookAtLanes(found, picture);
+}
+
+// Scrolls through the run that is shown.
 async function scrollThrough() {
   const tree = document.getElementById('tree');
-  const found = { due: {}, end: {}, lane: {}, stub: {}, hues: {}, faults: [], most: 0, views: 0 };
+  const found = nothingFound();
   const frame = () => new Promise((resolve) => requestAnimationFrame(() => setTimeout(resolve)));
   tree.scrollTop = 0;
   await frame();
@@ -88,7 +113,7 @@ function told(trace) {
 
 // Holds what was seen against the trace.
 function compare(name, trace, found) {
-  const faults = found.faults.map((text) => `${name}: ${text}`);
+  const faults = found.faults.slice(0, 20).map((text) => `${name}: ${text}`);
   const { due, ended } = told(trace);
   const once = (kind, number) => new Set(found[kind][number] ?? []).size;
   for (const number of due) {
@@ -104,14 +129,15 @@ function compare(name, trace, found) {
 }
 
 async function prepare(page) {
-  await page.evaluate(`${lookAtDrawing}\n${scrollThrough}\nundefined`);
+  const parts = [nothingFound, middleOf, rowsSeen, lookAtRows, lookAtEnds, lookAtLanes, lookAtDrawing, scrollThrough];
+  await page.evaluate(`${parts.join('\n')}\nundefined`);
 }
 
 // Scrolls through each example.
 async function checkDrawing(page, examples) {
   await prepare(page);
   const faults = [];
-  const sums = { due: 0, lanes: 0, stubs: 0, views: 0 };
+  const sums = { due: 0, lanes: 0, views: 0 };
   for (const { name, trace } of examples) {
     await page.evaluate(`location.hash = encodeURI(${JSON.stringify(name)})`);
     await page.until(`Cepage.page.example?.name === ${JSON.stringify(name)}`);
@@ -121,7 +147,8 @@ async function checkDrawing(page, examples) {
     sums.lanes += Object.keys(found.lane).filter((key) => key.startsWith('due')).length;
     sums.views += found.views;
   }
-  return { faults, told: `drawing: ${examples.length} examples in ${sums.views} views, ${sums.due} reactions, ${sums.lanes} with a lane` };
+  const told = `drawing: ${examples.length} examples in ${sums.views} views, ${sums.due} reactions, ${sums.lanes} with a lane`;
+  return { faults, told };
 }
 
 // Shows a run of the reader's own, and tells how long that took until it was seen.
@@ -156,11 +183,17 @@ async function checkLong(page, runs) {
   const faults = [];
   const tells = [];
   for (const { name, script, trace } of Object.values(runs)) {
-    const shown = await showOwn(page, script, trace);
+    // The quickest of three, since the machine may have other work.
+    const times = [];
+    for (let again = 0; again < 3; again++) times.push(await showOwn(page, script, trace));
+    const shown = Math.min(...times);
     const { middle, longest, most } = await page.evaluate(jump);
     if (shown > 1000) faults.push(`${name}: shown in ${Math.round(shown)} ms`);
     if (most > 80) faults.push(`${name}: ${most} rows are made`);
+    // A tall window has fewer views.
+    await page.size(1280, 2400);
     const found = await page.evaluate('scrollThrough()');
+    await page.size(1280, 800);
     faults.push(...compare(name, trace, found));
     tells.push(`${name}: ${trace.split('\n').length - 1} lines shown in ${Math.round(shown)} ms, a jump ${middle.toFixed(1)} ms, `
       + `${longest.toFixed(1)} at most, ${most} rows made; ${Object.keys(found.due).length} reactions in ${found.views} views, `

@@ -1,6 +1,35 @@
 'use strict';
 // The model of a run, checked without a browser: over every example, over each of them cut off, and over damaged ones.
 
+// Lines, and the kind of event that each is: those that are the text of none stand last.
+const LINES = {
+  open: ['~ open 1'], enq: ['~ enq 1 #2 upgrade 0', '~ enq 12 #30 formStateRestore 4'], drain: ['~ drain 0'],
+  start: ['~ start 3'], finish: ['~ finish 3'], up: ['~ up #2'], done: ['~ done #2'], drop: ['~ drop 3'],
+  threw: ['~ threw #2'], close: ['~ close 0'], construct: ['construct A', 'construct Item_2'],
+  call: ['call #2 connected', 'call #2 attribute "k" null ""', 'call #2 attribute "k" "\u2028" "\\"\\\\"', 'call #2 adopted #1 #7',
+    'call #2 formAssociated null', 'call #2 formDisabled true', 'call #2 formStateRestore "a b" autocomplete'],
+  log: ['log "a"', 'log "" "\\n\\u{0}" "é\u0085\u2028"'], ask: ['ask #1 #2', 'ask empty', 'ask "x" "y"', 'ask valueMissing customError'],
+  submit: ['submit #3 get "http://a/?"', 'submit #3 post "u" "t" "b"', 'submit #3 blocked invalid #4 #5', 'submit #3 blocked size'],
+  caught: ['caught TypeError', 'caught user "no"'], report: ['report user ""'], fuel: ['fuel'],
+  reply: ['4: ok', '4: ignored', '4: #5', '4: "a\u2029"', '4: bad arity', '4: throw user "x y"', '4: throw NotFoundError', '4: tooShort'],
+  unreadable: ['', ' ', '~', '~ ', '~open 1', ' ~ open 1', '~ open', '~ open 01', '~ open 1 ', '~ open -1', '~ enq 1 #2 foo 3', '~ up 2',
+    '~ finish #2', 'construct', 'construct a', 'call #2', 'call #2 constructor', 'call #2 connected x', 'call #2 attribute "k" null',
+    'call #2 formDisabled', 'call #2 adopted #1', 'log', 'log a', 'log "a" ', 'log "a""b"', 'log "a\\q"', 'log "a', 'log "\t"', 'ask',
+    'ask state $e', 'ask yes no', 'submit #3', 'submit #3 get', 'submit #3 blocked', 'submit #3 blocked invalid', 'caught', 'report no',
+    'report user', 'fuel ', 'fuel 3', '4:', '4: ', '4:ok', '4: okay', '4: bad', '4: bad later', '4: throw', '-4: ok', 'ok', '4: ok\r'],
+};
+
+function checkLines(Cepage) {
+  const faults = [];
+  for (const [kind, lines] of Object.entries(LINES)) {
+    for (const line of lines) {
+      const read = Cepage.readEvent(line).kind;
+      if (read !== kind) faults.push(`the line ${JSON.stringify(line)} is read as ${read}, and not as ${kind}`);
+    }
+  }
+  return faults;
+}
+
 // How often the lines of a text begin so.
 const count = (text, beginning) => text.split('\n').filter((line) => line.startsWith(beginning)).length;
 
@@ -19,11 +48,55 @@ function faultsOf(Cepage, name, script, transcript) {
     }
     if (!Cepage.rowWords(view, index)) faults.push(`${name}: row ${index} has no words`);
   });
-  for (const { due: from, end } of run.reactions.values()) {
-    if (end >= 0 && end <= from) faults.push(`${name}: a reaction ends before it is due`);
+  const kinds = { ran: 'run', dropped: 'drop' };
+  for (const { number, due: from, end, ended } of run.reactions.values()) {
+    if (end >= 0 && end <= from) faults.push(`${name}: reaction ${number} ends before it is due`);
+    if (run.rows[end]?.kind !== kinds[ended]) faults.push(`${name}: reaction ${number} has ended as ${ended || 'none'}`);
   }
   Cepage.notesOn(run);
   return { faults, run };
+}
+
+// A reaction has no lane only where more wait than there are lanes, and no lane is used beyond those that wait at once.
+function checkLanes(Cepage, name, run) {
+  const faults = [];
+  for (const most of [6, 14]) {
+    const lanes = new Cepage.Lanes(run, most);
+    let waits = 0;
+    run.rows.forEach((row, index) => {
+      waits += { due: 1, run: -1, drop: -1 }[row.kind] ?? 0;
+      if (lanes.waiting[index] !== waits) faults.push(`${name}: at row ${index} ${waits} wait`);
+      const lane = row.kind === 'due' ? lanes.laneOf.get(row.reaction) : 0;
+      if (lane < 0 ? waits <= most : lane >= waits && row.kind === 'due') faults.push(`${name}: reaction ${row.reaction} has lane ${lane}`);
+    });
+  }
+  return faults;
+}
+
+// What a row that is named after an action may not have within it: another attribute than the action's, another class
+// than that of the name that it creates.
+function checkNames(Cepage, name, run) {
+  const faults = [];
+  let named = 0;
+  run.rows.forEach((row, index) => {
+    const action = row.kind === 'operation' ? Cepage.actionOf(run, index) : null;
+    if (!action) return;
+    named++;
+    for (let at = index + 1; at <= row.end; at++) {
+      const inner = run.rows[at];
+      if (inner.parent !== index) continue;
+      const [word, , second] = action.tokens;
+      const told = inner.kind === 'run' && inner.text === 'attribute' && inner.queue === row.queue;
+      if (told && !(/^(set|del)attr$/.test(word) && Cepage.unquoted(inner.args.split(' ')[0]) === Cepage.said(second).toLowerCase())) {
+        faults.push(`${name}: row ${index} is named ${action.text}, and tells of ${inner.args}`);
+      }
+      const type = run.script.definitions.get(Cepage.said(second ?? ''));
+      if (inner.kind === 'construct' && !(word === 'create' && type === inner.text)) {
+        faults.push(`${name}: row ${index} is named ${action.text}, and constructs ${inner.text}`);
+      }
+    }
+  });
+  return { faults, named, operations: run.rows.filter((row) => row.kind === 'operation').length };
 }
 
 // An example as the program gave it: nothing is left that the page can't read, and the numbers are those of the lines.
@@ -37,7 +110,10 @@ function checkExample(Cepage, { name, script, trace }) {
     const row = run.rows[index];
     if (run.script.line(row.scriptLine) === undefined) faults.push(`${name}: a command has no line of the script`);
   }
-  return { faults, counts: { due, ran, dropped, waits: run.counts.waits } };
+  faults.push(...checkLanes(Cepage, name, run));
+  const names = checkNames(Cepage, name, run);
+  faults.push(...names.faults);
+  return { faults, counts: { due, ran, dropped, waits: run.counts.waits, named: names.named, operations: names.operations } };
 }
 
 // A small generator of numbers, so that a run of the check is the same as the last one.
@@ -108,20 +184,19 @@ function checkCuts(Cepage, { name, script, trace }) {
 
 function checkModel(Cepage) {
   const { examples } = Cepage;
-  const faults = [];
-  const sums = { due: 0, ran: 0, dropped: 0, waits: 0 };
+  const faults = checkLines(Cepage);
+  const sums = { due: 0, ran: 0, dropped: 0, waits: 0, named: 0, operations: 0 };
   for (const example of examples) {
     const { faults: found, counts } = checkExample(Cepage, example);
     faults.push(...found);
     for (const key of Object.keys(sums)) sums[key] += counts[key];
   }
-  const small = examples.filter(({ trace }) => trace.length < 6000);
-  for (const example of small) faults.push(...checkCuts(Cepage, example));
+  for (const example of examples) faults.push(...checkCuts(Cepage, example));
   const { faults: found, runs } = checkDamaged(Cepage, examples);
   faults.push(...found);
   const told = `model: ${examples.length} examples, ${sums.due} due = ${sums.ran} ran + ${sums.dropped} dropped + ${sums.waits} wait; `
-    + `${small.length} cut at each line; ${runs} damaged`;
+    + `${sums.named} of ${sums.operations} operations named; each cut behind each line; ${runs} damaged`;
   return { faults, told };
 }
 
-module.exports = { checkModel, checkExample };
+module.exports = { checkModel, damaged, numbers };

@@ -49,27 +49,37 @@ async function take(page, folder, name, show) {
   return taken;
 }
 
-async function main() {
-  const given = process.argv.slice(2);
-  const at = given.indexOf('--program');
-  const program = at < 0 ? PROGRAM : given.splice(at, 2)[1];
-  const folder = given[0] ?? path.join(PAGE, 'pictures');
-  const runs = made(program);
-  const browser = await launch();
+// Takes all of them, and tells how long each is.
+async function takePictures(browser, runs, folder = path.join(PAGE, 'pictures')) {
   const page = await browser.open(path.join(PAGE, 'index.html'));
   const taken = [];
   for (const [name, address] of Object.entries(EXAMPLES)) {
     taken.push(...await take(page, folder, name, () => showExample(page, address)));
   }
   taken.push(...await take(page, folder, 'long', () => showLong(page, runs.deep)));
-  await browser.close();
-  for (const [file, bytes] of taken) {
-    console.log(`${path.relative(process.cwd(), file)} ${bytes}`);
-    if (bytes > MOST) process.exitCode = 1;
-  }
+  await page.close();
+  const faults = taken.filter(([, bytes]) => bytes > MOST).map(([file, bytes]) => `${file} has ${bytes} bytes`);
+  const told = `pictures: ${taken.length}, of ${Math.min(...taken.map(([, bytes]) => bytes))} to `
+    + `${Math.max(...taken.map(([, bytes]) => bytes))} bytes`;
+  return { faults, told };
 }
 
-main().catch((error) => {
-  console.error(error);
-  process.exit(1);
-});
+async function main() {
+  const given = process.argv.slice(2);
+  const at = given.indexOf('--program');
+  const program = at < 0 ? PROGRAM : given.splice(at, 2)[1];
+  const browser = await launch();
+  const { faults, told } = await takePictures(browser, made(program), given[0]);
+  await browser.close();
+  console.log([told, ...faults].join('\n'));
+  process.exitCode = faults.length === 0 ? 0 : 1;
+}
+
+if (require.main === module) {
+  main().catch((error) => {
+    console.error(error);
+    process.exit(1);
+  });
+}
+
+module.exports = { takePictures };

@@ -3,6 +3,7 @@
 // dark, and with texts that it can't read.
 
 const { showOwn } = require('./drawing.js');
+const { damaged, numbers } = require('./model.js');
 
 const frame = (page) => page.evaluate('new Promise((resolve) => requestAnimationFrame(() => setTimeout(resolve)))');
 
@@ -37,14 +38,15 @@ class Faults {
 async function checkTab(page, faults) {
   await page.size(1280, 800);
   await show(page, 'trace');
-  await page.evaluate('document.activeElement.blur(); getSelection().removeAllRanges(); document.body.focus()');
-  const reached = [];
-  for (let at = 0; at < 10; at++) {
+  const order = ['example', 'open', 'brief', 'find', 'script-lines', 'tree', 'traced', 'transcript-lines', 'SUMMARY'];
+  await page.evaluate('document.getElementById("example").focus()');
+  const reached = ['example'];
+  while (reached.length < 30 && reached.at(-1) !== order.at(-1)) {
     await page.key('Tab');
     reached.push(await page.evaluate('document.activeElement.id || document.activeElement.tagName'));
   }
-  faults.same('Tab reaches', reached,
-    ['example', 'open', 'brief', 'find', 'script-lines', 'tree', 'traced', 'compare', 'transcript-lines', 'SUMMARY']);
+  // Other buttons may stand between them.
+  faults.same('Tab reaches', reached.filter((id) => order.includes(id)), order);
 }
 
 // Each key of the outline goes where it says.
@@ -141,6 +143,20 @@ async function checkFind(page, faults) {
   faults.same('what is not there', words, 'No line of the transcript has: connected nowhere');
 }
 
+// The row in focus stays in the page where it is scrolled out of sight.
+async function keepsFocus(page, faults) {
+  await show(page, 'abandoned');
+  await page.evaluate('document.getElementById("tree").focus()');
+  const [first] = await press(page, 'Home');
+  await page.evaluate('document.getElementById("tree").scrollTop = 1e6');
+  await frame(page);
+  const kept = await page.evaluate(`(() => {
+    const rows = [...document.querySelectorAll('#tree .row')].map((row) => Number(row.dataset.row));
+    return [rows[0], rows.length > 10 && rows[1] > 10, rows.every((row, at) => at === 0 || row > rows[at - 1])];
+  })()`);
+  faults.same('the row in focus is kept, before the others', kept, [first, true, true]);
+}
+
 // What a screen reader is told: the rows in their order, each in words, and the one in focus.
 async function checkReader(page, faults) {
   await show(page, 'trace');
@@ -154,6 +170,7 @@ async function checkReader(page, faults) {
   faults.same('rows are read', items.length > 10, true);
   const said = await page.evaluate('document.getElementById("words").textContent');
   faults.same('the line below says', said, words[6]);
+  await keepsFocus(page, faults);
   faults.same('panes are named', ['Script', 'Drawing', 'Transcript and trace'].every((name) => tree.some((node) => node.name === name)), true);
   faults.same('each button and field has a name', tree.filter(({ role, name }) => ['button', 'checkbox', 'combobox', 'tab'].includes(role) && !name).length, 0);
 }
@@ -269,6 +286,43 @@ async function checkWrong(page, faults, example) {
   return texts.length;
 }
 
+// Examples that are damaged in two places are drawn, and gone through by each key: an exception shows on the console.
+async function checkDamaged(page, faults, examples) {
+  const next = numbers(7);
+  const before = page.complaints.length;
+  const texts = examples.filter((one, at) => at % 4 === 0)
+    .map(({ script, trace }) => ({ script, transcript: damaged(damaged(trace, next), next), names: {} }));
+  await page.evaluate(async (given) => {
+    for (const own of given) {
+      Cepage.page.opener.onOpen(own);
+      for (const key of ['End', 'p', 'Enter', 'ArrowLeft', '[', 'PageUp', ' ', 'n', 'ArrowRight', ']', 'PageDown', 'Home']) {
+        Cepage.page.outline.act(key)();
+      }
+      Cepage.page.transcriptList.choose(Cepage.page.run.lines.length >> 1);
+      Cepage.page.scriptList.choose(Cepage.page.run.script.lines.length >> 1);
+      await new Promise((resolve) => requestAnimationFrame(() => setTimeout(resolve)));
+    }
+  }, texts);
+  for (const text of page.complaints.slice(before)) faults.list.push(`a damaged transcript: ${text}`);
+  return texts.length;
+}
+
+// Chooses two files in the dialog, and draws them.
+function choose(page, texts) {
+  return page.evaluate(async (given) => {
+    for (const [at, kind] of ['script', 'transcript'].entries()) {
+      const data = new DataTransfer();
+      data.items.add(new File([given[at]], `a.${kind}`));
+      const input = document.getElementById(`file-${kind}`);
+      input.files = data.files;
+      input.dispatchEvent(new Event('change'));
+    }
+    await new Promise((resolve) => setTimeout(resolve, 50));
+    document.getElementById('draw').click();
+    return [Cepage.page.run.script.lines.length, Cepage.page.run.lines.length];
+  }, texts);
+}
+
 // Files that are dropped, and texts that are pasted, alone and together.
 async function checkDrops(page, faults, { script, trace }) {
   const drop = (files) => page.evaluate(async (given) => {
@@ -293,6 +347,11 @@ async function checkDrops(page, faults, { script, trace }) {
   faults.same('a transcript dropped behind it', await drop([{ name: 'b', text: plain }]), [count(script), count(plain)]);
   faults.same('a script pasted', await paste(script), [count(script), 0]);
   faults.same('a transcript pasted', await paste(trace), [count(script), count(trace)]);
+  faults.same('both in the other box', await choose(page, [trace, script]), [count(script), count(trace)]);
+  const returned = await choose(page, [script.replaceAll('\n', '\r\n'), trace]);
+  faults.same('files that are chosen', returned, [count(script), count(trace)]);
+  const notes = await page.evaluate('document.getElementById("notes").textContent');
+  faults.same('a file that is chosen keeps its line ends', notes.includes('ends in a carriage return'), true);
 }
 
 // Each example's script is taken for a script, and its transcript for a transcript, with and without the trace.
@@ -314,7 +373,7 @@ async function checkDialog(page, faults) {
   faults.same('Escape closes it', await page.evaluate('[document.getElementById("opener").open, document.activeElement.id]'), [false, 'open']);
   await page.key('Enter');
   for (const [name, text] of [['script', 'create $a p'], ['transcript', '1: #2']]) {
-    await page.evaluate(`document.getElementById("paste-${name}").focus()`);
+    await page.evaluate(`document.getElementById("paste-${name}").select()`);
     await page.send('Input.insertText', { text });
   }
   await page.key('Tab');
@@ -335,10 +394,13 @@ async function checkUse(browser, page, runs) {
   await checkGuesses(page, faults);
   const example = await page.evaluate('Cepage.examples.find(({ name }) => name === "trace")');
   const wrong = await checkWrong(page, faults, example);
+  const broken = await checkDamaged(page, faults, await page.evaluate('Cepage.examples'));
   await checkDrops(page, faults, example);
   await checkDialog(page, faults);
   await showOwn(page, runs.deep.script, runs.deep.trace);
-  return { faults: faults.list, told: `use: keys, links, what is read, seven widths, contrast in light and dark, ${wrong} texts that don't fit, drops and pastes` };
+  const said = `use: keys, links, what is read, seven widths, contrast in light and dark, ${wrong} texts that don't fit, `
+    + `${broken} damaged ones, drops and pastes`;
+  return { faults: faults.list, told: said };
 }
 
 module.exports = { checkUse };
