@@ -87,9 +87,9 @@ CepageBrowser.frame.push(function submit(run) {
     const isIn = name && !control.matches(':disabled');
     if (control instanceof HTMLSelectElement) {
       const on = [...control.options].filter((option) => option.selected && !option.disabled).map((option) => [name, option.value]);
-      return { given: on, derived: isIn ? run.chosenOf(control).filter((option) => !run.isOff(option)).map((option) => [name, option.value]) : [] };
+      return { given: on, derived: isIn ? run.derived.chosenOf(control).filter((option) => !run.derived.isOff(option)).map((option) => [name, option.value]) : [] };
     }
-    return { given: control.checked ? [[name, control.value]] : [], derived: isIn && run.isDerivedOn(control) ? [[name, control.value]] : [] };
+    return { given: control.checked ? [[name, control.value]] : [], derived: isIn && run.derived.isDerivedOn(control) ? [[name, control.value]] : [] };
   }
 
   const isChoice = (control) => control instanceof HTMLSelectElement || (control instanceof HTMLInputElement && run.typeOf(control) === 'radio');
