@@ -13,6 +13,7 @@ const { launch } = require('./chromium.js');
 const { checkDocs } = require('./browser_docs.js');
 const { tableOf } = require('./browser_table.js');
 const { checkHostile } = require('./browser_hostile.js');
+const { checkUse } = require('./browser_use.js');
 const { checkWrong } = require('./browser_wrong.js');
 
 const TOP = path.resolve(__dirname, '../..');
@@ -103,7 +104,7 @@ async function main(words) {
   faults.push(...complaintsOf(page));
   if (!names.length) {
     if (found.forms < FORMS_WANTED) faults.push(`only ${found.forms} scripts on forms run whole`);
-    faults.push(...await checkDocs(browser, page), ...await checkWrong(page, all), ...await checkHostile(page));
+    faults.push(...await checkDocs(browser, page), ...await checkUse(page), ...await checkWrong(page, all), ...await checkHostile(page));
   }
   faults.push(...requestsOf(page));
   if (words.includes('--write')) fs.writeFileSync(TABLE, tableOf(all, found, await browser.version()));

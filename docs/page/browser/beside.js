@@ -12,8 +12,8 @@ var CepageBrowser = globalThis.CepageBrowser || {};
     const { texts: { script, transcript }, example } = Cepage.page;
     document.body.classList.add('compares');
     pane = CepageBrowser.show(find('browser-pane'), { script, words: example ? example.words : [], transcript });
-    pane.start();
     find('browser-close').focus();
+    pane.start();
   }
 
   function close() {

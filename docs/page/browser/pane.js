@@ -29,6 +29,12 @@ var CepageBrowser = globalThis.CepageBrowser || {};
     return element;
   }
 
+  function docsLink(link, text) {
+    const anchor = make('a', '', text);
+    anchor.href = DOCS + link;
+    return anchor;
+  }
+
   function browserName() {
     const found = /(Firefox|Edg|Chrome)\/(\d+)/.exec(navigator.userAgent) || /(?<=Version)(\/)(\d+).*Safari/.exec(navigator.userAgent);
     if (!found) return 'This browser';
@@ -54,9 +60,8 @@ var CepageBrowser = globalThis.CepageBrowser || {};
 
   function reasonElement({ mark, reason: { name, link, text } }) {
     const element = make('p', 'browser-reason');
-    const anchor = make('a', '', `docs/${link.split('#')[0]}`);
-    anchor.href = DOCS + link;
-    element.append(make('b', '', `${MARKS[mark].label}: ${name}. `), `${text[0].toUpperCase()}${text.slice(1)}. `, anchor);
+    const sentence = `${text[0].toUpperCase()}${text.slice(1)}. `;
+    element.append(make('b', '', `${MARKS[mark].label}: ${name}. `), sentence, docsLink(link, `docs/${link.split('#')[0]}`));
     return element;
   }
 
@@ -95,7 +100,7 @@ var CepageBrowser = globalThis.CepageBrowser || {};
       label.append(this.onlyDiffering, ' only what differs');
       for (const button of [this.button, this.next]) button.type = 'button';
       this.next.disabled = true;
-      bar.append(this.button, this.next, label, this.status);
+      bar.append(this.button, this.next, label, docsLink('porting.md', 'Porting a test'), this.status);
       this.ended = make('p', 'browser-ended');
       this.list = make('div', 'browser-list');
       this.list.tabIndex = 0;
@@ -109,6 +114,7 @@ var CepageBrowser = globalThis.CepageBrowser || {};
     listen() {
       this.button.addEventListener('click', () => (this.running ? this.running.stop() : this.start()));
       this.next.addEventListener('click', () => this.toNext());
+      this.list.addEventListener('keydown', ({ key }) => { if (key === 'n' && !this.next.disabled) this.toNext(); });
       this.onlyDiffering.addEventListener('change', () => this.list.classList.toggle('browser-brief', this.onlyDiffering.checked));
     }
 
@@ -121,10 +127,8 @@ var CepageBrowser = globalThis.CepageBrowser || {};
         part.append(make('b', '', `${head}: `), text);
         details.append(part);
       }
-      const porting = make('a', '', 'docs/porting.md');
-      porting.href = `${DOCS}porting.md`;
       const more = make('p', '', 'How a test of a browser becomes a script, and a script a test: ');
-      more.append(porting);
+      more.append(docsLink('porting.md', 'docs/porting.md'));
       this.text = make('pre', 'browser-text');
       this.text.tabIndex = 0;
       this.text.setAttribute('aria-label', 'The browser\'s transcript');
