@@ -13,6 +13,7 @@ const { launch } = require('./chromium.js');
 const { checkDocs } = require('./browser_docs.js');
 const { tableOf } = require('./browser_table.js');
 const { checkHostile } = require('./browser_hostile.js');
+const { checkLeaving } = require('./browser_leaving.js');
 const { checkUse } = require('./browser_use.js');
 const { checkWrong } = require('./browser_wrong.js');
 
@@ -107,6 +108,7 @@ async function main(words) {
     faults.push(...await checkDocs(browser, page), ...await checkUse(page), ...await checkWrong(page, all), ...await checkHostile(page));
   }
   faults.push(...requestsOf(page));
+  if (!names.length) faults.push(...await checkLeaving(page));
   if (words.includes('--write')) fs.writeFileSync(TABLE, tableOf(all, found, await browser.version()));
   await browser.close();
   for (const fault of faults) console.error(`browser_check: ${fault}`);
