@@ -25,7 +25,7 @@ globalThis.CepageBrowser ??= {};
         return {
             classNamed: (name) => definitions.get(name),
             disablesShadow: (name) => disabled.has(definitions.get(name)),
-            memory: { emptied: new Map(), names: new Set(), owners: new Set(), variables: new Map() },
+            memory: { emptied: new Map(), variables: new Map() },
         };
     }
 
@@ -76,7 +76,7 @@ globalThis.CepageBrowser ??= {};
 
     function follow(name, line, reason) {
         const text = `$${name} holds another node since line ${line}: ${reason.text}`;
-        return { name: `${reason.name}, before`, link: reason.link, text };
+        return { name: `${reason.name}, in a line before`, link: reason.link, text };
     }
 
     function noteVariable({ form, line, rows }, { memory }) {

@@ -99,7 +99,7 @@ globalThis.CepageBrowser ??= {};
 
     // Each element hears the same, with its form callbacks behind `connected` and `disconnected`. Elements hear it in the
     // same order, unless some have a `form` attribute. All other callbacks stand as they do.
-    command("told before connected", browsers("a-form-owner-is-told-before-connected"),
+    command("the order of form callbacks", browsers("a-form-owner-is-told-before-connected"),
         "Chromium tells of form owners and disabled states in another order: behind `connected`, and by IDs",
         (rows, { form }) => {
             if (!form) return [];

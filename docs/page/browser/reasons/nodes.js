@@ -64,51 +64,59 @@ globalThis.CepageBrowser ??= {};
     const isWider = (name) => /^[a-z][^A-Z\0\t\n\f\r />]*$/u.test(name) && name.includes("-") && !OF_TABLE.test(name);
     const NEW_ELEMENTS = ["geolocation", "selectedcontent", "fencedframe"];
 
-    function noteDefinition(memory, { args: [name, owner] }) {
-        memory.names.add(name);
-        memory.owners.add(owner);
+    // A definition that the browser makes and the program does not, with what follows from it: its class and its name are
+    // taken since, and an element of the name is another one.
+    const ANOTHER = "the name has another definition in the browser since a line before";
+    const memoryOf = (run, source) => (run.memory[source] ??= { names: new Set(), owners: new Set() });
+
+    function whereDefined(source, link, text, isWanted) {
+        row(source, link, text, ({ was, is, command, run }) => {
+            const holds = isWord(command, "define") && is === "ok" && isWanted(was, command.form.args);
+            if (holds) {
+                memoryOf(run, source).names.add(command.form.args[0]);
+                memoryOf(run, source).owners.add(command.form.args[1]);
+            }
+            return holds;
+        });
     }
 
-    row("names of custom elements", browsers("names-of-custom-elements"), "Chromium takes names by the wider rule",
-        ({ was, is, command, run }) => {
-            const holds = isWord(command, "define") && was === "throw SyntaxError" && is === "ok"
-                && isWider(command.form.args[0]);
-            if (holds) noteDefinition(run.memory, command.form);
+    function whereTaken(source, link, isFollowed) {
+        const text = "the class or the name has a definition in the browser since a line before";
+        row(`${source}: what is taken since`, link, text, ({ was, is, command, run }) => {
+            if (!isWord(command, "define") || is !== "throw NotSupportedError") return false;
+            const [name, owner] = command.form.args;
+            const { names, owners } = memoryOf(run, source);
+            const holds = isFollowed(was, command.form.args) && (owners.has(owner) || names.has(name));
+            if (holds) names.add(name);
             return holds;
         });
+    }
 
-    row("elements that a definition may extend", browsers("elements-that-a-definition-may-extend"),
-        "Chromium knows three elements more",
-        ({ was, is, command, run }) => {
-            const holds = isWord(command, "define") && was === "throw NotSupportedError" && is === "ok"
-                && NEW_ELEMENTS.includes(command.form.args[2]);
-            if (holds) noteDefinition(run.memory, command.form);
-            return holds;
-        });
-
-    // Behind such a definition the class and the name are taken.
-    row("a definition of a line before", browsers("names-of-custom-elements"),
-        "the class or the name has a definition in the browser since a line before, and is taken",
-        ({ was, is, command: { form }, run: { memory } }) => {
-            if (!form || form.word !== "define" || is !== "throw NotSupportedError") return false;
-            const [name, owner, extended] = form.args;
-            const isWanted = was === "ok" ? OF_TABLE.test(name) && !NEW_ELEMENTS.includes(extended)
-                : was === "throw SyntaxError" && isWider(name);
-            const holds = isWanted && (memory.owners.has(owner) || memory.names.has(name));
-            if (holds) memory.names.add(form.args[0]);
-            return holds;
-        });
-
-    anyRow("an element of a definition of a line before", browsers("names-of-custom-elements"),
-        "the name has another definition in the browser since a line before",
-        ({ program, browser }, { form }, { memory }) => {
+    function whereMade(source, link) {
+        anyRow(`${source}: an element of the name`, link, ANOTHER, ({ program, browser }, { form }, run) => {
             const [, owner] = /^construct (\w+)$/.exec((program || browser).text) || [];
-            if (!form || (program && browser) || !memory.owners.has(owner)) return false;
-            return form.word === "create" && (memory.names.has(form.args[1]) || memory.names.has(form.args[2]));
+            const { names, owners } = memoryOf(run, source);
+            if (!form || form.word !== "create" || (program && browser) || !owners.has(owner)) return false;
+            return names.has(form.args[1]) || names.has(form.args[2]);
         });
+        row(`${source}: the state of such an element`, link, ANOTHER, ({ what, facts, run }) => {
+            const { names } = memoryOf(run, source);
+            return what === "state" && (names.has(facts.kind) || names.has(facts.is));
+        });
+    }
 
-    row("the state of an element of a definition of a line before", browsers("names-of-custom-elements"),
-        "the name has another definition in the browser since a line before",
-        ({ what, facts, run: { memory } }) => what === "state"
-            && (memory.names.has(facts.kind) || memory.names.has(facts.is)));
+    function definition(source, link, text, isWanted, isFollowed) {
+        whereDefined(source, link, text, isWanted);
+        whereTaken(source, link, isFollowed);
+        whereMade(source, link);
+    }
+
+    definition("names of custom elements", browsers("names-of-custom-elements"), "Chromium takes names by the wider rule",
+        (was, [name]) => was === "throw SyntaxError" && isWider(name),
+        (was, [name]) => (was === "ok" ? OF_TABLE.test(name) : was === "throw SyntaxError" && isWider(name)));
+
+    definition("elements that a definition may extend", browsers("elements-that-a-definition-may-extend"),
+        "Chromium knows three elements more",
+        (was, [, , extended]) => was === "throw NotSupportedError" && NEW_ELEMENTS.includes(extended),
+        (was, [, , extended]) => was === "ok" && !NEW_ELEMENTS.includes(extended));
 })();
