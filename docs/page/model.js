@@ -45,7 +45,7 @@ globalThis.Cepage ??= {};
             const row = {
                 kind, line, last: line, end: this.rows.length,
                 depth: bracket ? bracket.inside : within ? 1 : 0,
-                parent: bracket ? bracket.row : within ? this.command : -1,
+                parent: bracket ? bracket.parent : within ? this.command : -1,
                 node: 0, reaction: 0, queue: -1, text: "", ...fields,
             };
             this.deepest = Math.max(this.deepest, row.depth);
@@ -74,12 +74,14 @@ globalThis.Cepage ??= {};
             return true;
         }
 
-        // Opens a bracket. The heading of a command, a checkpoint and an upgrade in its reaction indent no further.
+        // Opens a bracket. The heading of a command, a checkpoint and an upgrade in its reaction indent no further; what is
+        // run at a checkpoint stands beside its row, as behind the drain of a queue.
         push(kind, row, fields) {
-            const opener = this.rows[row].kind;
-            const folded = opener === "command" || kind === "checkpoint" || (kind === "upgrade" && opener === "run");
-            const inside = folded ? this.top()?.inside ?? 1 : this.rows[row].depth + 1;
-            this.stack.push({ kind, row, inside, ...fields });
+            const opener = this.rows[row];
+            const folded = opener.kind === "command" || kind === "checkpoint" || (kind === "upgrade" && opener.kind === "run");
+            const inside = folded ? this.top()?.inside ?? 1 : opener.depth + 1;
+            const parent = kind === "checkpoint" ? opener.parent : row;
+            this.stack.push({ kind, row, parent, inside, ...fields });
         }
 
         problem(line, text) {
@@ -107,7 +109,7 @@ globalThis.Cepage ??= {};
         leaveTo(count) {
             while (this.stack.length > count) {
                 const bracket = this.stack.pop();
-                this.rows[bracket.row].end = this.rows.length - 1;
+                if (bracket.parent === bracket.row) this.rows[bracket.row].end = this.rows.length - 1;
                 if (bracket.kind === "operation") this.queues.delete(bracket.number);
             }
         }

@@ -12,6 +12,7 @@ const { checkModel, numbers } = require('./model.js');
 const { checkTruth } = require('./truth.js');
 const { checkDrawing, checkLong } = require('./drawing.js');
 const { checkUse } = require('./use.js');
+const { checkOpened } = require('./opened.js');
 const { takePictures } = require('./pictures.js');
 const { made, PROGRAM } = require('./made.js');
 
@@ -46,8 +47,11 @@ async function main() {
   tell(checkTruth(Cepage, program, numbers(20261130), 60));
   const page = await browser.open(path.join(PAGE, 'index.html'), 1280, 800);
   if (!quick) tell(await checkDrawing(page, Cepage.examples));
+  if (!quick) tell(await checkDrawing(page, Cepage.examples.filter((example, at) => at % 8 === 0), 390));
+  await page.size(1280, 800);
   tell(await checkLong(page, runs));
-  tell(await checkUse(browser, page, runs));
+  tell(await checkUse(page));
+  tell(await checkOpened(page));
   tell(checkQuiet(page));
   if (pictures) tell(await takePictures(browser, runs));
   await browser.close();

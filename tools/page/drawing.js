@@ -37,6 +37,21 @@ function lookAtRows(found, tree, rows) {
   });
 }
 
+// The bars at a row are of what it stands within, that of the row right around it among them.
+function lookAtBars(found, picture, rows) {
+  const bars = [...picture.querySelectorAll('rect')].map((bar) => ({ box: bar.getBoundingClientRect(), within: Number(bar.dataset.within) }));
+  const { run } = Cepage.page;
+  for (const row of rows) {
+    const index = Number(row.dataset.row);
+    const y = middleOf(row);
+    const here = bars.filter(({ box }) => box.top < y && y < box.bottom).map(({ within }) => within);
+    const around = [...Cepage.page.view.around(index)];
+    const { parent } = run.rows[index];
+    const lacks = parent >= 0 && run.rows[parent].kind !== 'command' && !here.includes(parent);
+    if (lacks || here.some((within) => !around.includes(within))) found.faults.push(`row ${index} has bars of ${here}`);
+  }
+}
+
 // At a row where a reaction became due its lane or a stub begins; at one where it ended its lane ends, or a stub is there.
 function lookAtEnds(found, picture, row, kind) {
   const number = row.dataset[kind];
@@ -79,6 +94,7 @@ function lookAtDrawing(found) {
   const rows = rowsSeen(tree);
   found.most = Math.max(found.most, tree.querySelectorAll('.row').length);
   lookAtRows(found, tree, rows);
+  lookAtBars(found, picture, rows);
   for (const row of rows) for (const kind of ['due', 'end']) lookAtEnds(found, picture, row, kind);
   lookAtLanes(found, picture);
 }
@@ -129,12 +145,13 @@ function compare(name, trace, found) {
 }
 
 async function prepare(page) {
-  const parts = [nothingFound, middleOf, rowsSeen, lookAtRows, lookAtEnds, lookAtLanes, lookAtDrawing, scrollThrough];
+  const parts = [nothingFound, middleOf, rowsSeen, lookAtRows, lookAtBars, lookAtEnds, lookAtLanes, lookAtDrawing, scrollThrough];
   await page.evaluate(`${parts.join('\n')}\nundefined`);
 }
 
-// Scrolls through each example.
-async function checkDrawing(page, examples) {
+// Scrolls through each example, at this width.
+async function checkDrawing(page, examples, width = 1280) {
+  await page.size(width, 800);
   await prepare(page);
   const faults = [];
   const sums = { due: 0, lanes: 0, views: 0 };
@@ -147,7 +164,7 @@ async function checkDrawing(page, examples) {
     sums.lanes += Object.keys(found.lane).filter((key) => key.startsWith('due')).length;
     sums.views += found.views;
   }
-  const told = `drawing: ${examples.length} examples in ${sums.views} views, ${sums.due} reactions, ${sums.lanes} with a lane`;
+  const told = `drawing, ${width} pixels: ${examples.length} examples in ${sums.views} views, ${sums.due} reactions, ${sums.lanes} with a lane`;
   return { faults, told };
 }
 

@@ -57,6 +57,36 @@ function faultsOf(Cepage, name, script, transcript) {
   return { faults, run };
 }
 
+// For each line of a trace the lines that stand open around it, read off the text alone: of brackets that have a row of
+// their own. A command's own queue, a checkpoint and the upgrade of a reaction have none.
+function openAround(trace) {
+  const stack = [];
+  let last = 'reply';
+  return trace.split('\n').slice(0, -1).map((line, at) => {
+    const around = stack.filter(({ folded }) => !folded).map((bracket) => bracket.line);
+    const word = line.startsWith('~ ') ? line.split(' ')[1] : /^[0-9]+: /.test(line) ? 'reply' : 'plain';
+    if (word === 'open') stack.push({ line: at, folded: stack.length === 0 && last === 'reply' });
+    if (word === 'start') stack.push({ line: at });
+    if (word === 'up') stack.push({ line: at, folded: last === 'start' });
+    if (line === '~ drain 0') stack.push({ line: at, folded: true });
+    if (['finish', 'close', 'done', 'threw'].includes(word)) stack.pop();
+    last = word;
+    return around;
+  });
+}
+
+// Each row stands within the rows of what stands open around its line.
+function checkNesting(name, run, trace) {
+  const around = openAround(trace);
+  return run.rows.flatMap((row, index) => {
+    if (row.kind === 'command') return [];
+    const lines = [];
+    for (let at = row.parent; run.rows[at].kind !== 'command'; at = run.rows[at].parent) lines.unshift(run.rows[at].line);
+    return String(lines) === String(around[row.line]) && row.depth === lines.length + 1 ? []
+      : [`${name}: row ${index} stands within lines ${lines}, and not within ${around[row.line]}`];
+  });
+}
+
 // A reaction has no lane only where more wait than there are lanes, and no lane is used beyond those that wait at once.
 function checkLanes(Cepage, name, run) {
   const faults = [];
@@ -110,7 +140,7 @@ function checkExample(Cepage, { name, script, trace }) {
     const row = run.rows[index];
     if (run.script.line(row.scriptLine) === undefined) faults.push(`${name}: a command has no line of the script`);
   }
-  faults.push(...checkLanes(Cepage, name, run));
+  faults.push(...checkNesting(name, run, trace), ...checkLanes(Cepage, name, run));
   const names = checkNames(Cepage, name, run);
   faults.push(...names.faults);
   return { faults, counts: { due, ran, dropped, waits: run.counts.waits, named: names.named, operations: names.operations } };

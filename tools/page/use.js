@@ -1,38 +1,8 @@
 'use strict';
 // How the page is used, checked in the browser: by keys alone, in a screen reader's order, at each width, in light and
-// dark, and with texts that it can't read.
+// dark.
 
-const { showOwn } = require('./drawing.js');
-const { damaged, numbers } = require('./model.js');
-
-const frame = (page) => page.evaluate('new Promise((resolve) => requestAnimationFrame(() => setTimeout(resolve)))');
-
-async function show(page, name) {
-  await page.evaluate(`location.hash = ${JSON.stringify(name)}`);
-  await page.until(`Cepage.page.example?.name === ${JSON.stringify(name)}`);
-}
-
-// Presses a key some times, and gives the row in focus behind each press.
-async function press(page, key, times = 1) {
-  const rows = [];
-  for (let at = 0; at < times; at++) {
-    await page.key(key);
-    rows.push(await page.evaluate('Number(document.getElementById("tree").getAttribute("aria-activedescendant").slice(4))'));
-  }
-  return rows;
-}
-
-class Faults {
-  constructor() {
-    this.list = [];
-  }
-
-  same(what, given, wanted) {
-    if (JSON.stringify(given) !== JSON.stringify(wanted)) {
-      this.list.push(`${what}: ${JSON.stringify(given)} and not ${JSON.stringify(wanted)}`);
-    }
-  }
-}
+const { Faults, frame, show, press } = require('./common.js');
 
 // Tab alone reaches each part, in the order of reading, and goes round.
 async function checkTab(page, faults) {
@@ -195,9 +165,10 @@ async function checkTabs(page, faults, width, panes) {
   for (const name of names) {
     await page.click(`#tab-${name}`);
     await frame(page);
-    const seen = await page.evaluate(`document.getElementById(${JSON.stringify(name)}).offsetParent !== null
-      && document.querySelectorAll('#${name} .line, #${name} .row').length > 5`);
-    faults.same(`at ${width} pixels the tab ${name} shows its pane`, seen, true);
+    const seen = await page.evaluate(`[document.getElementById('${name}').offsetParent !== null,
+      document.querySelectorAll('#${name} .line, #${name} .row').length > 5,
+      [...document.querySelectorAll('.pane')].filter((pane) => pane.offsetParent).length]`);
+    faults.same(`at ${width} pixels the tab ${name} shows its pane`, seen, [true, true, panes]);
   }
   await page.key('ArrowLeft');
   const chosen = await page.evaluate('document.querySelector("[role=tab][aria-selected=true]").id');
@@ -250,139 +221,7 @@ async function checkContrast(page, faults) {
   await page.scheme('light');
 }
 
-// The texts that a reader may open by mistake, and what the page has to say of each.
-function wrongTexts({ script, trace }) {
-  const lines = trace.split('\n');
-  return [
-    ['an empty transcript', script, '', 'There is no transcript'],
-    ['no script', '', trace, 'There is no script'],
-    ['neither', '', '', 'There is no transcript'],
-    ['CRLF', script, trace.replaceAll('\n', '\r\n'), 'end in CR LF'],
-    ['a script with CRLF', script.replaceAll('\n', '\r\n'), trace, 'ends in a carriage return'],
-    ['without the trace', script, lines.filter((line) => !line.startsWith('~')).join('\n'), 'no lines of the trace'],
-    ['cut within a line', script, trace.slice(0, trace.indexOf('~ enq 3') + 9), 'does not fit. It is line'],
-    ['cut within a command', script, `${lines.slice(0, 33).join('\n')}\n`, 'reactions wait'],
-    ['cut without a line feed', script, lines.slice(0, 30).join('\n'), 'no line feed'],
-    ['a line too many', script, trace.replace('~ finish 1', '~ finish 1\nhello'), 'it is the text of no event'],
-    ['a line twice', script, trace.replace('~ finish 2', '~ finish 2\n~ finish 2'), 'which is not open'],
-    ['another script', script.split('\n').slice(0, 6).join('\n'), trace, "don't belong together"],
-    ['no text at all', '\u0000\u0001\uFFFD', '~ \u0000\n\u0001\uFFFD"\n', 'do not fit'],
-    ['lines behind the fuel', script, `fuel\n${trace}`, 'behind the line fuel'],
-  ];
-}
-
-async function checkWrong(page, faults, example) {
-  const texts = wrongTexts(example);
-  for (const [name, script, transcript, says] of texts) {
-    await page.evaluate(([one, other]) => {
-      Cepage.page.opener.onOpen({ script: one, transcript: other, names: { script: 'one', transcript: 'other' } });
-    }, [script, transcript]);
-    await frame(page);
-    const notes = await page.evaluate('document.getElementById("notes").textContent');
-    if (!notes.includes(says)) faults.list.push(`${name}: the page says only: ${notes}`);
-    await page.evaluate('document.getElementById("tree").focus()');
-    for (const key of ['End', 'ArrowUp', 'Enter', 'n', 'p', '[', ']', 'ArrowLeft', 'Home']) await page.key(key);
-  }
-  return texts.length;
-}
-
-// Examples that are damaged in two places are drawn, and gone through by each key: an exception shows on the console.
-async function checkDamaged(page, faults, examples) {
-  const next = numbers(7);
-  const before = page.complaints.length;
-  const texts = examples.filter((one, at) => at % 4 === 0)
-    .map(({ script, trace }) => ({ script, transcript: damaged(damaged(trace, next), next), names: {} }));
-  await page.evaluate(async (given) => {
-    for (const own of given) {
-      Cepage.page.opener.onOpen(own);
-      for (const key of ['End', 'p', 'Enter', 'ArrowLeft', '[', 'PageUp', ' ', 'n', 'ArrowRight', ']', 'PageDown', 'Home']) {
-        Cepage.page.outline.act(key)();
-      }
-      Cepage.page.transcriptList.choose(Cepage.page.run.lines.length >> 1);
-      Cepage.page.scriptList.choose(Cepage.page.run.script.lines.length >> 1);
-      await new Promise((resolve) => requestAnimationFrame(() => setTimeout(resolve)));
-    }
-  }, texts);
-  for (const text of page.complaints.slice(before)) faults.list.push(`a damaged transcript: ${text}`);
-  return texts.length;
-}
-
-// Chooses two files in the dialog, and draws them.
-function choose(page, texts) {
-  return page.evaluate(async (given) => {
-    for (const [at, kind] of ['script', 'transcript'].entries()) {
-      const data = new DataTransfer();
-      data.items.add(new File([given[at]], `a.${kind}`));
-      const input = document.getElementById(`file-${kind}`);
-      input.files = data.files;
-      input.dispatchEvent(new Event('change'));
-    }
-    await new Promise((resolve) => setTimeout(resolve, 50));
-    document.getElementById('draw').click();
-    return [Cepage.page.run.script.lines.length, Cepage.page.run.lines.length];
-  }, texts);
-}
-
-// Files that are dropped, and texts that are pasted, alone and together.
-async function checkDrops(page, faults, { script, trace }) {
-  const drop = (files) => page.evaluate(async (given) => {
-    const data = new DataTransfer();
-    for (const { name, text } of given) data.items.add(new File([text], name));
-    document.body.dispatchEvent(new DragEvent('drop', { dataTransfer: data, bubbles: true, cancelable: true }));
-    await new Promise((resolve) => setTimeout(resolve, 50));
-    return [Cepage.page.run.script.lines.length, Cepage.page.run.lines.length];
-  }, files);
-  const paste = (text) => page.evaluate(async (given) => {
-    const data = new DataTransfer();
-    data.setData('text/plain', given);
-    document.body.dispatchEvent(new ClipboardEvent('paste', { clipboardData: data, bubbles: true, cancelable: true }));
-    await new Promise((resolve) => setTimeout(resolve, 50));
-    return [Cepage.page.run.script.lines.length, Cepage.page.run.lines.length];
-  }, text);
-  const plain = trace.split('\n').filter((line) => !line.startsWith('~')).join('\n');
-  const count = (text) => text.split('\n').length - 1;
-  const both = [{ name: 'a.transcript', text: trace }, { name: 'a.script', text: script }];
-  faults.same('both dropped', await drop(both), [count(script), count(trace)]);
-  faults.same('a script dropped', await drop([both[1]]), [count(script), 0]);
-  faults.same('a transcript dropped behind it', await drop([{ name: 'b', text: plain }]), [count(script), count(plain)]);
-  faults.same('a script pasted', await paste(script), [count(script), 0]);
-  faults.same('a transcript pasted', await paste(trace), [count(script), count(trace)]);
-  faults.same('both in the other box', await choose(page, [trace, script]), [count(script), count(trace)]);
-  const returned = await choose(page, [script.replaceAll('\n', '\r\n'), trace]);
-  faults.same('files that are chosen', returned, [count(script), count(trace)]);
-  const notes = await page.evaluate('document.getElementById("notes").textContent');
-  faults.same('a file that is chosen keeps its line ends', notes.includes('ends in a carriage return'), true);
-}
-
-// Each example's script is taken for a script, and its transcript for a transcript, with and without the trace.
-async function checkGuesses(page, faults) {
-  const wrong = await page.evaluate(`Cepage.examples.flatMap(({ name, script, trace }) => {
-    const plain = trace.split('\\n').filter((line) => !line.startsWith('~')).join('\\n');
-    return Cepage.isTranscript(script) || (trace && !Cepage.isTranscript(trace)) || (plain && !Cepage.isTranscript(plain)) ? [name] : [];
-  })`);
-  faults.same('examples whose two texts are taken for each other', wrong, []);
-}
-
-// The dialog is opened, filled and closed by keys.
-async function checkDialog(page, faults) {
-  await show(page, 'trace');
-  await page.evaluate('document.getElementById("open").focus()');
-  await page.key('Enter');
-  faults.same('Enter opens the dialog', await page.evaluate('document.getElementById("opener").open'), true);
-  await page.key('Escape');
-  faults.same('Escape closes it', await page.evaluate('[document.getElementById("opener").open, document.activeElement.id]'), [false, 'open']);
-  await page.key('Enter');
-  for (const [name, text] of [['script', 'create $a p'], ['transcript', '1: #2']]) {
-    await page.evaluate(`document.getElementById("paste-${name}").select()`);
-    await page.send('Input.insertText', { text });
-  }
-  await page.key('Tab');
-  await page.key('Enter');
-  const drawn = await page.evaluate('[Cepage.page.run.script.lines, Cepage.page.run.lines, document.getElementById("opener").open]');
-  faults.same('what is written into the dialog is drawn', drawn, [['create $a p'], ['1: #2'], false]);
-}
-
-async function checkUse(browser, page, runs) {
+async function checkUse(page) {
   const faults = new Faults();
   await checkTab(page, faults);
   await checkKeys(page, faults);
@@ -391,16 +230,7 @@ async function checkUse(browser, page, runs) {
   await checkReader(page, faults);
   await checkWidths(page, faults);
   await checkContrast(page, faults);
-  await checkGuesses(page, faults);
-  const example = await page.evaluate('Cepage.examples.find(({ name }) => name === "trace")');
-  const wrong = await checkWrong(page, faults, example);
-  const broken = await checkDamaged(page, faults, await page.evaluate('Cepage.examples'));
-  await checkDrops(page, faults, example);
-  await checkDialog(page, faults);
-  await showOwn(page, runs.deep.script, runs.deep.trace);
-  const said = `use: keys, links, what is read, seven widths, contrast in light and dark, ${wrong} texts that don't fit, `
-    + `${broken} damaged ones, drops and pastes`;
-  return { faults: faults.list, told: said };
+  return { faults: faults.list, told: 'use: keys, links, what is read, seven widths, contrast in light and dark' };
 }
 
 module.exports = { checkUse };
