@@ -4,7 +4,7 @@
 globalThis.CepageBrowser ??= {};
 
 (() => {
-    const PIECE = 300;
+    const PIECE = 300, WIDEST = 20000, LONGEST = 2000000;
     const DOCS = "../";
     const MARKS = {
         same: { sign: "=", label: "the same" },
@@ -27,6 +27,11 @@ globalThis.CepageBrowser ??= {};
         if (className) element.className = className;
         element.textContent = text;
         return element;
+    }
+
+    // A text as long as a page can show it; the rest is told by its length.
+    function cut(text, most) {
+        return text.length <= most ? text : `${text.slice(0, most)} … and ${text.length - most} characters more`;
     }
 
     function docsLink(link, text) {
@@ -55,8 +60,8 @@ globalThis.CepageBrowser ??= {};
         const mark = make("span", "browser-mark", sign);
         mark.setAttribute("role", "img");
         mark.setAttribute("aria-label", label);
-        element.append(mark, make("code", "browser-program", row.program ? row.program.text : ""),
-            make("code", "browser-browser", row.browser ? row.browser.text : ""));
+        element.append(mark, make("code", "browser-program", row.program ? cut(row.program.text, WIDEST) : ""),
+            make("code", "browser-browser", row.browser ? cut(row.browser.text, WIDEST) : ""));
         return element;
     }
 
@@ -163,11 +168,12 @@ globalThis.CepageBrowser ??= {};
                 .map((mark) => `${counts[mark]} ${MARKS[mark].label}`);
             this.status.textContent = `${browserName()}, ${result.milliseconds} ms. Lines: ${told.join(", ")}.`;
             if (ended) {
-                const place = ended.line === null ? "" : ` in line ${ended.line}`;
+                const behind = result.lines.length ? ` behind line ${result.lines.at(-1).line}` : "";
+                const place = ended.line === null ? behind : ` in line ${ended.line}`;
                 const why = CepageBrowser.describeEnd(ended);
                 this.ended.textContent = `The run ended${place}: ${why}. What follows was not run.`;
             }
-            this.text.textContent = result.lines.map(({ text }) => `${text}\n`).join("");
+            this.text.textContent = cut(result.lines.map(({ text }) => `${text}\n`).join(""), LONGEST);
             this.next.disabled = !comparison.commands.some(differs);
             this.shown = 0;
             const heads = make("div", "browser-row browser-heads");

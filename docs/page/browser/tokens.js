@@ -5,7 +5,7 @@ globalThis.CepageBrowser ??= {};
 
 (() => {
     const SPACE = 0x20, LINE_FEED = 0x0a, QUOTE = '"', BACKSLASH = "\\";
-    const LONGEST = 4096;
+    const LONGEST = 4096, MOST = 16777216;
     const SHORT_ESCAPES = { "\\": "\\", '"': '"', n: "\n", r: "\r", t: "\t" };
 
     const encoder = new TextEncoder();
@@ -22,14 +22,16 @@ globalThis.CepageBrowser ??= {};
         return Uint8Array.from(bytes);
     }
 
-    function cutLines(bytes) {
+    // Of a longer script the lines are read that end within the limit.
+    function cutLines(all) {
+        const bytes = all.subarray(0, MOST);
         const lines = [];
         let begin = 0;
         for (let end = bytes.indexOf(LINE_FEED); end >= 0; end = bytes.indexOf(LINE_FEED, begin)) {
             lines.push(bytes.subarray(begin, end));
             begin = end + 1;
         }
-        if (begin < bytes.length) lines.push(bytes.subarray(begin));
+        if (begin < bytes.length && all.length <= MOST) lines.push(bytes.subarray(begin));
         return lines;
     }
 
