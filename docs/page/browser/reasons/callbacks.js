@@ -30,17 +30,30 @@ globalThis.CepageBrowser ??= {};
 
     const formTold = (block) => (/^call (#\d+) formAssociated (\S+)\n/.exec(block.text) || []).slice(1);
 
-    // Blocks of the browser's that tell an element with a `form` attribute of no form, and the next time of the form
-    // above it, which has left or moved with it, and of which the program has no such first one.
+    // What the browser told of an element besides what the program told, compared from the end.
+    function besides(told, blocks) {
+        const left = [...told];
+        const more = [];
+        for (const block of [...blocks].reverse()) {
+            if (left.length && left.at(-1) === formTold(block)[1]) left.pop();
+            else more.unshift(block);
+        }
+        return left.length ? [] : more;
+    }
+
+    // The blocks of an element with a `form` attribute that has left, or moved, with the form above it, where two are
+    // besides: of no form or of that one, and then of the one that is told last, which is its form owner.
     function toldTwice(program, browser, left) {
-        const wanted = texts(program);
-        return browser.flatMap((block, index) => {
-            const [node, form] = formTold(block);
-            const { subject } = block.rows[0].browser;
-            if (form !== "null" || !subject || !subject.form || wanted.includes(block.text)) return [];
-            const next = browser.slice(index + 1).find((other) => formTold(other)[0] === node);
-            const again = next && formTold(next)[1];
-            return again && again === subject.formAbove && left.includes(again) ? [block, next] : [];
+        const nodes = new Set(browser.map((block) => formTold(block)[0]).filter(Boolean));
+        return [...nodes].flatMap((node) => {
+            const [there, blocks] = [program, browser].map((side) => side.filter((block) => formTold(block)[0] === node));
+            const told = there.map((block) => formTold(block)[1]);
+            const { form, formAbove, owner } = blocks.at(-1).rows[0].browser.subject || {};
+            const more = besides(told, blocks);
+            const isKnown = more.every((block) => ["null", formAbove, owner].includes(formTold(block)[1]));
+            const isEnd = formTold(blocks.at(-1))[1] === owner;
+            const isTwice = form && more.length === 2 && isKnown && isEnd && left.includes(formAbove);
+            return isTwice ? [...there, ...blocks] : [];
         });
     }
 
