@@ -88,6 +88,7 @@ globalThis.Cepage ??= {};
             this.listTranscript();
             this.note();
             this.changeView();
+            this.onShown?.();
         }
 
         summary() {

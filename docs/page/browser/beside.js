@@ -1,0 +1,32 @@
+// Puts the pane into the page: the button beside the transcript opens it in place of the drawing, and runs the script
+// that the page shows. Another script that is chosen closes it.
+"use strict";
+globalThis.CepageBrowser ??= {};
+
+(() => {
+    if (typeof document === "undefined") return;
+    const find = (id) => document.getElementById(id);
+    let pane = null;
+
+    function open() {
+        const { texts: { script, transcript }, example } = Cepage.page;
+        document.body.classList.add("compares");
+        pane = CepageBrowser.show(find("browser-pane"), { script, words: example ? example.words : [], transcript });
+        find("browser-close").focus();
+        pane.start();
+    }
+
+    function close() {
+        if (!pane) return;
+        if (pane.running) pane.running.stop();
+        pane = null;
+        document.body.classList.remove("compares");
+        find("browser-pane").replaceChildren();
+        find("compare").focus();
+    }
+
+    find("compare").addEventListener("click", open);
+    find("browser-close").addEventListener("click", close);
+    find("browser").addEventListener("keydown", (event) => { if (event.key === "Escape") close(); });
+    Cepage.page.onShown = close;
+})();

@@ -1,0 +1,97 @@
+// The circumstances of a node when a line was written: what the reasons for a difference look at. The function's own text
+// runs in the frame.
+"use strict";
+globalThis.CepageBrowser ??= {};
+CepageBrowser.frame ??= [];
+
+CepageBrowser.frame.push(function facts(run) {
+    const { flags, sets, isValues } = run.kept;
+    const { isRadio, groupOf, optionsOf, selectOf, isFlagged, isOff, chosenOf } = run.derived;
+    const { formAbove, ownerOf, isOffByTree, keptValue } = run.derived;
+
+    function radioFacts(node) {
+        const group = groupOf(node);
+        const flagged = group.filter(isFlagged);
+        const turnedOn = (one) => flags.get(one) === false && one.hasAttribute("checked") && one.checked;
+        return {
+            derived: flagged.at(-1) === node, manyFlagged: flagged.length > 1,
+            turnedOn: group.some(turnedOn), groupRequired: group.some((one) => one.hasAttribute("required")),
+        };
+    }
+
+    const isSetOff = (option) => flags.get(option) === false;
+
+    function selectFacts(select) {
+        const options = optionsOf(select);
+        const shown = [...select.options];
+        const derived = chosenOf(select);
+        return {
+            multiple: select.multiple, derived: run.quote(derived.length ? derived[0].value : ""),
+            derivedMissing: isMissing(select, options, derived), noneFlagged: !options.some(isFlagged),
+            deepOption: shown.some((option) => selectOf(option) !== select),
+            setOff: shown.some((option) => isSetOff(option) && option.hasAttribute("selected") && option.selected),
+        };
+    }
+
+    // Whether a required select has nothing chosen, or its placeholder alone.
+    function isMissing(select, options, chosen) {
+        if (!select.hasAttribute("required")) return false;
+        const [first] = options;
+        const isPlaceholder = (option) => option === first && option.parentNode === select && option.value === "";
+        return !chosen.length || (!select.multiple && isPlaceholder(chosen[0]));
+    }
+
+    function optionFacts(option) {
+        const group = option.closest("optgroup[disabled]");
+        const select = option.closest("select");
+        return {
+            groupFurtherUp: Boolean(group) && option.parentNode !== group && !isOff(option),
+            selectOff: Boolean(select) && select.matches(":disabled") && !isOff(option),
+        };
+    }
+
+    function kindFacts(node) {
+        if (isRadio(node)) return { kept: run.quote(keptValue(node)), ...radioFacts(node) };
+        if (node instanceof HTMLSelectElement) return selectFacts(node);
+        if (node instanceof HTMLOptionElement) return optionFacts(node);
+        if (node instanceof HTMLTextAreaElement) return { kept: run.quote(keptValue(node)) };
+        if (node instanceof HTMLInputElement) return { kept: run.quote(keptValue(node)), derived: isFlagged(node) };
+        if (!(node instanceof HTMLFormElement)) return {};
+        const others = run.elementsOf(node).filter((one) => !run.is.listed(one));
+        const constructed = run.constructed().filter((one) => ownerOf(one) === node);
+        return { otherControls: others.map(run.number), constructed: constructed.map(run.number) };
+    }
+
+    function formFacts(node) {
+        if (!run.is.submittable(node)) return {};
+        const [above, owner] = [formAbove(node), ownerOf(node)].map((form) => (form ? run.number(form) : "null"));
+        const isCut = run.is.text(node) && node.maxLength >= 0;
+        return {
+            formAbove: above, owner, offByTree: isOffByTree(node), empty: run.is.text(node) && node.value === "",
+            cut: isCut ? run.quote(keptValue(node).slice(0, node.maxLength)) : null,
+        };
+    }
+
+    // A class that disables shadow is that of the `is` value, and not of the local name.
+    function isOfAnother(node) {
+        const owner = isValues.has(node) && run.definitionNamed(isValues.get(node));
+        return Boolean(owner && owner.disabled.includes("shadow") && owner.defined.extended !== node.localName);
+    }
+
+    run.facts = (node) => {
+        if (!(node instanceof Element)) return { kind: node.nodeName, number: run.number(node) };
+        const has = (name) => node.hasAttribute(name);
+        const owner = run.classOf(node);
+        return {
+            kind: node.localName, type: run.typeOf(node), number: run.number(node),
+            named: Boolean(node.getAttribute("name")), disabled: node.matches(":disabled"),
+            readonly: has("readonly"), required: has("required"),
+            form: has("form"), connected: node.isConnected, defined: node.matches(":defined"), lost: run.isLost(node),
+            constructing: run.isConstructing(node), internals: run.internals.has(node), associated: run.isAssociated(node),
+            extendsAssociated: Boolean(owner && owner.associated && owner.defined.extended !== undefined),
+            isOfAnother: isOfAnother(node), is: isValues.get(node),
+            ...Object.fromEntries(Object.entries(sets).map(([name, set]) => [name, set.has(node)])),
+            ...formFacts(node), ...kindFacts(node),
+        };
+    };
+});
