@@ -93,11 +93,14 @@ add words-url "$(pwd)/examples/submission/actions.script" --url mailto:a
 add words-boundary "$(pwd)/examples/review.script" --boundary a-b --trace
 echo "bindings: $(wc -l <"$list") runs, of examples/ and of $(ls "$room/worked" | wc -l) worked scripts"
 
-# The library, of the archive that rt makes.
+# The library, of the archive that rt makes. It is made where it is missing or older than some source.
+archive=${CEPAGE_C_ARCHIVE:-crates/cepage_c/out/libcepage_c.a}
 if [ -z "$CEPAGE_C_ARCHIVE" ] && [ -d crates/cepage_c ] && command -v rt >/dev/null; then
-    if ! (cd crates/cepage_c && rt lib) >"$room/build" 2>&1; then
-        echo "bindings: rt lib did not make the archive of cepage_c: $(tail -n 1 "$room/build")" >&2
-        exit 1
+    if [ ! -f "$archive" ] || [ -n "$(find crates/*/src -name '*.rt' -newer "$archive" | head -n 1)" ]; then
+        if ! (cd crates/cepage_c && rt lib) >"$room/build" 2>&1; then
+            echo "bindings: rt lib did not make the archive of cepage_c: $(tail -n 1 "$room/build")" >&2
+            exit 1
+        fi
     fi
 fi
 if sh bindings/c/build.sh "$library" >"$room/build" 2>&1; then
