@@ -2,7 +2,7 @@
 # Holds the bindings to the program: for each script of examples/ with its words, and each worked script of runner_tests, all
 # once more with the trace or without it, the bytes and the status that C, Python, Node and Rust give have to be the program's,
 # by the program and by the library; and the three readers have to make the same of each line. Then each package's own tests
-# are run. What is not there is left out, and named: a language without its tool, and the library without rt, which makes the archive of
+# are run. What is not there is left out, and named: a language without its tool, and the library without the archive of
 # cepage_c. CEPAGE names another program than that of the gate, and CEPAGE_C_ARCHIVE another archive.
 
 cd "$(dirname "$0")/.." || exit 1
@@ -93,14 +93,13 @@ add words-url "$(pwd)/examples/submission/actions.script" --url mailto:a
 add words-boundary "$(pwd)/examples/review.script" --boundary a-b --trace
 echo "bindings: $(wc -l <"$list") runs, of examples/ and of $(ls "$room/worked" | wc -l) worked scripts"
 
-# The library, of the archive that rt makes.
-if [ -z "$CEPAGE_C_ARCHIVE" ] && [ -d crates/cepage_c ] && command -v rt >/dev/null; then
-    if ! (cd crates/cepage_c && rt lib) >"$room/build" 2>&1; then
-        echo "bindings: rt lib did not make the archive of cepage_c: $(tail -n 1 "$room/build")" >&2
-        exit 1
-    fi
-fi
-if sh bindings/c/build.sh "$library" >"$room/build" 2>&1; then
+# The library, where the archive is there and is not older than some source. `rt lib` in crates/cepage_c makes it, over what
+# `rt check` proved, so not in the gate.
+archive=${CEPAGE_C_ARCHIVE:-crates/cepage_c/out/libcepage_c.a}
+if [ -z "$CEPAGE_C_ARCHIVE" ] && [ -f "$archive" ] && [ -n "$(find crates/*/src -name '*.rt' -newer "$archive" | head -n 1)" ]; then
+    archive=
+    echo "bindings: left out: the library: its archive is older than its source"
+elif sh bindings/c/build.sh "$library" >"$room/build" 2>&1; then
     shared=$library/libcepage.so
     archive=$library/libcepage.a
     addon=$library/cepage.node

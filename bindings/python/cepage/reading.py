@@ -28,6 +28,8 @@ TOKEN = re.compile(rf'"((?:[^"\\\x00-\x1f\x7f]|\\[\\"nrt]|\\u\{{[0-9a-f]{{1,2}}\
 ESCAPE = re.compile(r"\\(?:u\{([0-9a-f]+)\}|(.))")
 SIGNS = {"n": "\n", "r": "\r", "t": "\t"}
 REPLY = re.compile(rf"({NUMBER}):")
+WHOLE_NUMBER = re.compile(NUMBER)
+CLASS_NAME = re.compile(r"[A-Z][A-Za-z0-9_]{0,31}")
 
 Reader = Callable[[Any], Any]
 CommandBehind = Callable[[int], Optional[int]]
@@ -76,7 +78,7 @@ def word(token: Any) -> str:
 
 
 def number(token: Any) -> int:
-    if re.fullmatch(NUMBER, word(token)):
+    if WHOLE_NUMBER.fullmatch(word(token)):
         return int(token.text)
     raise Unfit
 
@@ -98,7 +100,7 @@ def truth(token: Any) -> bool:
 
 
 def class_name(token: Any) -> str:
-    return word(token) if re.fullmatch(r"[A-Z][A-Za-z0-9_]{0,31}", word(token)) else fail()
+    return word(token) if CLASS_NAME.fullmatch(word(token)) else fail()
 
 
 def read_each(readers: Tuple[Reader, ...], tokens: List[Any]) -> Tuple[Any, ...]:
@@ -248,7 +250,7 @@ def read_line(line: str, place: int = 1, command: Optional[int] = None) -> Line:
         if isinstance(first, Word) and first.text in ROWS:
             kind, read = ROWS[first.text]
             return kind(line, place, command, **read(rest))
-        if isinstance(first, Word) and re.fullmatch(REPLY, first.text):
+        if isinstance(first, Word) and REPLY.fullmatch(first.text):
             return Reply(line, place, command, read_reply(rest))
     except Unfit:
         pass

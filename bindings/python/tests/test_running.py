@@ -1,5 +1,7 @@
 """A script that is run."""
+import atexit
 import os
+import shutil
 import stat
 import tempfile
 import unittest
@@ -15,7 +17,9 @@ FIRST = example("first.script")
 
 def program_of(text: str) -> str:
     """A program of the shell in a folder of its own."""
-    file = os.path.join(tempfile.mkdtemp(), "program")
+    folder = tempfile.mkdtemp()
+    atexit.register(shutil.rmtree, folder)
+    file = os.path.join(folder, "program")
     with open(file, "w", encoding="utf-8") as program:
         program.write(f"#!/bin/sh\n{text}\n")
     os.chmod(file, stat.S_IRWXU)

@@ -16,7 +16,7 @@ pub fn example(name: &str) -> String {
 pub fn program_of(text: &str) -> PathBuf {
     static MADE: AtomicU32 = AtomicU32::new(0);
     let number = MADE.fetch_add(1, Ordering::Relaxed);
-    let file = std::env::temp_dir().join(format!("cepage-{}-{number}", std::process::id()));
+    let file = Path::new(env!("CARGO_TARGET_TMPDIR")).join(format!("cepage-{}-{number}", std::process::id()));
     // A program that is still open for writing in any process can't be started, and a test beside this one may fork: so it
     // is written by the shell.
     let write = "printf '#!/bin/sh\\n%s\\n' \"$1\" > \"$0\"";
