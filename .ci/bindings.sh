@@ -97,7 +97,7 @@ echo "bindings: $(wc -l <"$list") runs, of examples/ and of $(ls "$room/worked" 
 # `rt check` proved, so not in the gate.
 archive=${CEPAGE_C_ARCHIVE:-crates/cepage_c/out/libcepage_c.a}
 if [ -z "$CEPAGE_C_ARCHIVE" ] && [ -f "$archive" ] && [ -n "$(find crates/*/src -name '*.rt' -newer "$archive" | head -n 1)" ]; then
-    archive=
+    shared= archive= addon=
     echo "bindings: left out: the library: its archive is older than its source"
 elif sh bindings/c/build.sh "$library" >"$room/build" 2>&1; then
     shared=$library/libcepage.so
