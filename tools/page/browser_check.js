@@ -22,8 +22,9 @@ const PAGE = path.join(TOP, 'docs/page/index.html');
 const TABLE = path.join(TOP, 'docs/in-chromium.md');
 const FORMS_WANTED = 30;
 // Lines that are about forms and their controls.
-const FORM_LINES = new RegExp(['associate \\w', 'user \\w', 'formvalue|formlist|formnull|validity|custom|value|check|choose|reset|submit|request',
-  'ask (owner|controls|disabled|candidate|valid|message|value|checked|saved)'].map((part) => `^(on \\w+ \\w+ : )?(${part}) `).join('|'), 'm');
+const FORM_WORDS = ['associate', 'user', 'formvalue', 'formlist', 'formnull', 'validity', 'custom', 'value', 'check', 'choose',
+  'reset', 'submit', 'request', 'ask (owner|controls|disabled|candidate|valid|message|value|checked|saved)'];
+const FORM_LINES = new RegExp(`^(on \\w+ \\w+ : )?(${FORM_WORDS.join('|')}) `, 'm');
 // What Chromium says of a form that is not in the page, and of a `base` element, which the page's policy takes out.
 const EXPECTED = [/Form submission canceled because the form is not connected/, /Setting the document's base URI/];
 
@@ -54,7 +55,7 @@ async function compareInPage({ name, bytes, words, transcript }) {
   globalThis.results = { ...globalThis.results, [name]: result };
   const { counts, commands, ended } = CepageBrowser.compare(result, transcript);
   const rows = commands.flatMap(({ line, rows: all }) => all.map(({ mark, reason, program, browser }) => ({
-    line, mark, reason: reason && { name: reason.name, link: reason.link }, program: program && program.text, browser: browser && browser.text,
+    line, mark, reason: reason && { name: reason.name, link: reason.link }, program: program?.text, browser: browser?.text,
   })));
   return { counts, rows, ended, end: ended && CepageBrowser.describeEnd(ended), milliseconds: result.milliseconds };
 }
@@ -64,7 +65,8 @@ function printExample({ name }, { counts, rows, ended, end }, isWhole) {
   console.log(`${name}: ${told || 'no lines'}${ended ? `; it ended${ended.line ? ` in line ${ended.line}` : ''}: ${end}` : ''}`);
   for (const row of rows) {
     if (row.mark === 'same' || (row.mark !== 'unexplained' && !isWhole)) continue;
-    console.log(`    ${row.line}: ${row.mark}${row.reason ? ` (${row.reason.name})` : ''}\n        program: ${row.program}\n        browser: ${row.browser}`);
+    console.log(`    ${row.line}: ${row.mark}${row.reason ? ` (${row.reason.name})` : ''}`);
+    console.log(`        program: ${row.program}\n        browser: ${row.browser}`);
   }
 }
 
@@ -105,7 +107,8 @@ async function main(words) {
   faults.push(...complaintsOf(page));
   if (!names.length) {
     if (found.forms < FORMS_WANTED) faults.push(`only ${found.forms} scripts on forms run whole`);
-    faults.push(...await checkDocs(browser, page), ...await checkUse(page), ...await checkWrong(page, all), ...await checkHostile(page));
+    faults.push(...await checkDocs(browser, page), ...await checkUse(page));
+    faults.push(...await checkWrong(page, all), ...await checkHostile(page));
   }
   faults.push(...requestsOf(page));
   if (!names.length) faults.push(...await checkLeaving(page));

@@ -11,11 +11,13 @@ const BLANK = 'data:text/html,<!doctype html><title>test</title>';
 // The anchors of a page, as GitHub names them.
 function anchorsOf(file) {
   const text = fs.readFileSync(path.join(DOCS, file), 'utf8').replace(/^```[^]*?^```/gm, '');
-  return [...text.matchAll(/^#+ +(.*?) *$/gm)].map(([, title]) => title.toLowerCase().replace(/[^a-z0-9 _-]/g, '').replace(/ /g, '-'));
+  const anchorOf = ([, title]) => title.toLowerCase().replace(/[^a-z0-9 _-]/g, '').replace(/ /g, '-');
+  return [...text.matchAll(/^#+ +(.*?) *$/gm)].map(anchorOf);
 }
 
 async function checkLinks(page) {
-  const links = await page.evaluate(`[...CepageBrowser.reasons.rows, ...CepageBrowser.reasons.commands].map(({ name, link }) => [name, link])`);
+  const links = await page.evaluate(`[...CepageBrowser.reasons.rows, ...CepageBrowser.reasons.commands]
+    .map(({ name, link }) => [name, link])`);
   return links.filter(([, link]) => !anchorsOf(link.split('#')[0]).includes(link.split('#')[1]))
     .map(([name, link]) => `the reason "${name}" leads to ${link}, which is not there`);
 }

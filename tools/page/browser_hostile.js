@@ -13,9 +13,10 @@ ask attr $e k
 `;
 
 // Each value sets the next one twice, so there is no deep nesting, and no end.
+const twice = (none, at) => `on A attribute : if eq @3 ${at} : setattr this k ${at + 1}\n`.repeat(2);
 const BRANCHING = `class A
 observe A k
-${Array.from({ length: 30 }, (none, at) => `on A attribute : if eq @3 ${at} : setattr this k ${at + 1}\n`.repeat(2)).join('')}define x-a A
+${Array.from({ length: 30 }, twice).join('')}define x-a A
 create $e x-a
 setattr $e k 0
 `;
@@ -29,15 +30,18 @@ append $html $meta
 `;
 
 const ROWS = [
-  { name: 'code that never ends', code: 'addEventListener("message", () => { for (;;); });', limits: { milliseconds: 3000 }, why: 'time' },
+  { name: 'code that never ends', limits: { milliseconds: 3000 }, why: 'time',
+    code: 'addEventListener("message", () => { for (;;); });' },
   { name: 'a script that never ends', script: BRANCHING, why: 'steps' },
   { name: 'a thousand nested callbacks', script: NESTED, why: 'depth' },
-  { name: 'code that calls itself for ever', code: 'addEventListener("message", () => { (function f() { f(); f(); })(); });', limits: { milliseconds: 1500 }, why: 'time' },
+  { name: 'code that calls itself for ever', limits: { milliseconds: 1500 }, why: 'time',
+    code: 'addEventListener("message", () => { (function f() { f(); f(); })(); });' },
   { name: 'code that writes for ever', limits: { milliseconds: 10000, lines: 2000 }, why: 'lines',
     code: `addEventListener("message", ({ data: { token } }) => setInterval(() => parent.postMessage({ token, at: 1,
       lines: Array.from({ length: 500 }, () => ({ text: "x", line: 1 })) }, "*"), 0));` },
   { name: 'code that reloads', code: 'addEventListener("message", () => location.reload());', why: 'anew' },
-  { name: 'code that goes elsewhere', code: 'addEventListener("message", () => { location.href = "about:blank"; });', why: 'anew' },
+  { name: 'code that goes elsewhere', why: 'anew',
+    code: 'addEventListener("message", () => { location.href = "about:blank"; });' },
   { name: 'code that sends a form', code: `addEventListener("message", () => { const form = document.createElement("form");
     document.documentElement.append(form); form.submit(); });`, limits: { milliseconds: 1500 }, why: /^(anew|time)$/ },
   { name: 'code that would move the page', code: 'addEventListener("message", () => { top.location.href = "about:blank"; });',

@@ -12,18 +12,19 @@ const FOLDER = path.join(TOP, 'docs/page/pictures');
 const LARGEST = 150000;
 // The line of the script that stands at the top of the pane.
 const PICTURES = [
-  { file: 'browser-departs.png', example: 'browsers/upgrade_of_a_custom_element', line: 18, width: 1280, height: 620, scheme: 'light' },
+  { file: 'browser-departs.png', example: 'browsers/upgrade_of_a_custom_element', line: 18, width: 1280, height: 642, scheme: 'light' },
   { file: 'browser-departs-narrow-dark.png', example: 'browsers/upgrade_of_a_custom_element', line: 18, width: 390, height: 700, scheme: 'dark' },
-  { file: 'browser-blocked.png', example: 'submission/sign_up', line: 33, width: 1280, height: 740, scheme: 'light' },
+  { file: 'browser-blocked.png', example: 'submission/sign_up', line: 33, width: 1280, height: 752, scheme: 'light' },
 ];
 
-// Runs in the page: puts the command of a line to the top.
+// Runs in the page: puts the command of a line to the top. All have their heights then, also what is out of sight.
 function scrollTo(line) {
   const list = document.querySelector('.browser-list');
+  for (const one of list.querySelectorAll('.browser-command')) one.style.contentVisibility = 'visible';
   const command = [...list.querySelectorAll('.browser-command')]
     .find((one) => one.querySelector('.browser-number').textContent === String(line));
-  command.scrollIntoView({ block: 'start' });
-  list.scrollTop -= list.querySelector('.browser-heads').offsetHeight;
+  const top = (element) => element.getBoundingClientRect().top;
+  list.scrollTop += top(command) - top(list) - list.querySelector('.browser-heads').offsetHeight;
 }
 
 async function take(page, { file, example, line, width, height, scheme }) {

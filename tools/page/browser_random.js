@@ -91,7 +91,8 @@ function controlLines(chance) {
   const option = (variable) => [`create $${variable} option`, `setattr $${variable} value ${chance.of(['""', 'a', 'b'])}`,
     ...optional(`setattr $${variable} selected ""`, `setattr $${variable} disabled ""`), `append $s $${variable}`];
   return [...placed(input, INPUTS), ...placed(radio, RADIOS), 'create $s select', 'setattr $s name s',
-    ...optional('setattr $s multiple ""'), ...optional('setattr $s required ""'), ...OPTIONS.flatMap(option), 'append $~B $s', 'create $bt button',
+    ...optional('setattr $s multiple ""'), ...optional('setattr $s required ""'), ...OPTIONS.flatMap(option),
+    'append $~B $s', 'create $bt button',
     `setattr $bt type ${chance.of(['submit', 'reset', 'button'])}`, 'append $~B $bt', ...placed(field, FIELDS), 'let $other $x0'];
 }
 

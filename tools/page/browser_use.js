@@ -91,7 +91,8 @@ async function checkLong(page, faults) {
     await running;
     return document.querySelector('#alone .browser-ended').textContent;
   })()`);
-  faults.same('the button Stop', stopped, 'The run ended: the reader stopped it, and the frame was taken away. What follows was not run.');
+  faults.same('the button Stop', stopped,
+    'The run ended: the reader stopped it, and the frame was taken away. What follows was not run.');
   await page.evaluate('document.getElementById("alone").remove()');
 }
 

@@ -6,8 +6,12 @@
 function wrongInPage(name, transcript) {
   const result = globalThis.results[name];
   const lines = transcript.split('\n').filter((text) => text && text[0] !== '~');
-  const rows = CepageBrowser.compare(result, transcript).commands.flatMap((command) => command.rows).filter(({ program }) => program);
-  const others = { yes: 'no', no: 'yes', ok: 'throw TypeError', valid: 'valueMissing', custom: 'uncustomized', uncustomized: 'custom', null: '"x"', empty: '#1' };
+  const { commands } = CepageBrowser.compare(result, transcript);
+  const rows = commands.flatMap((command) => command.rows).filter(({ program }) => program);
+  const others = {
+    yes: 'no', no: 'yes', ok: 'throw TypeError', valid: 'valueMissing', custom: 'uncustomized', uncustomized: 'custom',
+    null: '"x"', empty: '#1',
+  };
   function wrongs(text) {
     const [, begin = '', answer = ''] = /^(\d+: |ask )(.*)$/.exec(text) || [];
     if (!begin) return [`${text} x`, null];
