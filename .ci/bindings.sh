@@ -145,8 +145,8 @@ in_rust() {
     mkdir -p "$room/repository/bindings" || return
     cp -R bindings/rust "$room/repository/bindings/" && ln -s "$(pwd)/examples" "$room/repository/examples" || return
     cd "$room/repository/bindings/rust" || return
-    CARGO_TARGET_DIR=$room/target CARGO_PROFILE_DEV_DEBUG=false CARGO_TERM_COLOR=never
-    export CARGO_TARGET_DIR CARGO_PROFILE_DEV_DEBUG CARGO_TERM_COLOR
+    CARGO_HOME=$room/cargo CARGO_TARGET_DIR=$room/target CARGO_PROFILE_DEV_DEBUG=false CARGO_TERM_COLOR=never
+    export CARGO_HOME CARGO_TARGET_DIR CARGO_PROFILE_DEV_DEBUG CARGO_TERM_COLOR
     cargo run --offline --quiet --example compare -- "$list" "$cases" "$room/rust" || return
     if [ -n "$archive" ]; then
         CEPAGE_ARCHIVE=$archive
@@ -181,7 +181,7 @@ there() {
     if ! command -v "$1" >/dev/null; then
         echo "bindings: left out: $part: there is no $1"
     elif ! "$@" >/dev/null 2>&1; then
-        echo "bindings: left out: $part: $1 is too old"
+        echo "bindings: left out: $part: $1 is too old, or does not run"
     else
         return 0
     fi
