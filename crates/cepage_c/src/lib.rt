@@ -39,7 +39,8 @@ pub extern "C" fn cepage_run(
     written: &mut usize,
 ) -> u8
     ensures usage { result ≡ usage → asked fuel trace url.now boundary.now ≡ None }
-    ensures refused { asked fuel trace url.now boundary.now ≡ None → ((result ≡ usage) ⊎ (result ≡ no_memory)) × (written.new ≡ 0) × (out.new ≡ out.old) }
+    ensures refused { asked fuel trace url.now boundary.now ≡ None
+        → ((result ≡ usage) ⊎ (result ≡ no_memory)) × (written.new ≡ 0) × (out.new ≡ out.old) }
 
     // Where the transcript fits, it is there whole, with its status.
     ensures whole { (set : Options) → asked fuel trace url.now boundary.now ≡ Some set → length (script_transcript set script.now) ≤ length out.old
@@ -52,7 +53,8 @@ pub extern "C" fn cepage_run(
         → length out.old < length (script_transcript set script.now) }
 
     // With each status what was written is the front of the transcript.
-    ensures front { (set : Options) → asked fuel trace url.now boundary.now ≡ Some set → Holds (script_transcript set script.now) out.old out.new written.new }
+    ensures front { (set : Options) → asked fuel trace url.now boundary.now ≡ Some set
+        → Holds (script_transcript set script.now) out.old out.new written.new }
     ensures within { written.new ≤ length out.old }
 {
     *written = 0;
