@@ -6,9 +6,10 @@ ghost use Rattle.form_controls.specs.Filling.{IsFilled};
 
 use crate::InternalsTable;
 use crate::table::place_of;
-use ce_base::{Fault, Flags, NoMemory, NodeNo, Refused, Text, Texts};
+use ce_base::{Fault, Flags, NoMemory, NodeNo, Refused, Text};
 use form_controls::{Attach, Internals, Value};
 use std::alloc::Global;
+use text_set::TextSet;
 
 /// Internals as they are attached.
 fn new_internals(alloc: Global) -> Internals
@@ -19,7 +20,7 @@ fn new_internals(alloc: Global) -> Internals
         saved: Value::Nothing,
         flags: Flags([false; 10]),
         message: Text::from(String::new(alloc)),
-        states: Texts::make(alloc),
+        states: TextSet::make(alloc),
     }
 }
 

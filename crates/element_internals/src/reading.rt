@@ -3,8 +3,9 @@ ghost use Rattle.std.specs.Prelude.{◌≡◌, true};
 ghost use Rattle.form_controls.specs.Internals.{is_attached, kept_by};
 
 use crate::InternalsTable;
-use ce_base::{Flags, NodeNo, Texts};
+use ce_base::{Flags, NodeNo};
 use form_controls::{Internals, Value};
+use text_set::TextSet;
 
 impl InternalsTable {
     fn kept(&self, n: NodeNo) -> &Internals
@@ -50,7 +51,7 @@ impl InternalsTable {
 
     /// The custom states of an element, in the order of adding (HTML Standard, section "Custom state pseudo-class",
     /// "states set").
-    pub fn states(&self, n: NodeNo) -> &Texts
+    pub fn states(&self, n: NodeNo) -> &TextSet
         requires { is_attached self.now n ≡ true }
         ensures { result.now ≡ (kept_by self.now n).states }
     {

@@ -1,31 +1,13 @@
 // Custom states.
-ghost use Rattle.std.specs.Prelude.{◌≡◌, true, bytes_eq, OnOk};
-ghost use Rattle.std.specs.List.{list_any};
-ghost use Rattle.form_controls.specs.Internals.{add_state, clear_states, delete_state, is_attached, may_change_states, with_state};
+ghost use Rattle.std.specs.Prelude.{◌≡◌, true, OnOk};
+ghost use Rattle.form_controls.specs.Internals.{add_state, clear_states, delete_state, is_attached, may_change_states};
 ghost use Rattle.element_internals.specs.Calls.{Changes, Writes};
 
 use crate::InternalsTable;
 use crate::table::place_of;
-use ce_base::{Fault, NoMemory, NodeNo, Refused, Text, Texts};
+use ce_base::{Fault, NoMemory, NodeNo, Refused, Text};
 use form_controls::Internals;
 use std::alloc::Global;
-
-/// Whether a state is among others.
-fn has_state(states: &Texts, s: &str) -> bool
-    ensures { result ≡ list_any (bytes_eq s.now) states.now }
-{
-    states.as_slice().iter().any(|t| s == t.as_str())
-}
-
-/// Puts a state behind others, where it is not among them.
-fn put_state(alloc: Global, states: &mut Texts, s: Text) -> Result<(), NoMemory>
-    ensures { OnOk result (states.new ≡ with_state states.old s) }
-{
-    if has_state(states, s.as_str()) {
-        return Ok(());
-    }
-    states.push(alloc, s)
-}
 
 /// Puts a state behind those of an element that has internals, where it is not among them.
 fn write_state(
@@ -39,7 +21,7 @@ fn write_state(
 {
     match &mut rows[place_of(n)] {
         None => unreachable!(),
-        Some(kept) => put_state(alloc, &mut kept.states, s)?,
+        Some(kept) => kept.states.add(alloc, s)?,
     }
     Ok(())
 }

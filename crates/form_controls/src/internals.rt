@@ -1,6 +1,7 @@
 // What ElementInternals keeps.
 use crate::Value;
-use ce_base::{Flags, Text, Texts};
+use ce_base::{Flags, Text};
+use text_set::TextSet;
 
 /// What ElementInternals keeps of an element (HTML Standard, section "Element internals").
 #[derive(Drop)]
@@ -14,5 +15,5 @@ pub struct Internals {
     /// The validation message, which is empty where no flag is set.
     pub message: Text,
     /// The custom states, each once, in the order of adding.
-    pub states: Texts,
+    pub states: TextSet,
 }

@@ -204,7 +204,7 @@ fn states(alloc: Global, page: &Page, n: NodeNo) -> Result<Texts, NoMemory>
     if !page.inner().attached(n) {
         return Ok(Texts::make(alloc));
     }
-    page.inner().states(n).copy(alloc)
+    page.inner().states(n).listed(alloc)
 }
 
 /// Whether the node is disabled (HTML Standard, section "Enabling and disabling form controls: the disabled attribute").
