@@ -12,3 +12,4 @@ pub mod Calls
 pub mod AttributeLemmas
 pub mod FinderLemmas
 pub mod MarkLemmas
+pub mod ShadowOrder

@@ -88,11 +88,12 @@ impl Tree {
         if !was && !is {
             return marks;
         }
+        let _count = self.count();
         let mark = Mark::of(is);
         let mut at = n;
         loop {
             set_mark(&mut marks, at, mark);
-            match self.next_in_order(at, n) {
+            match self.next_in_shadow_order(at, n) {
                 Some(next) => at = next,
                 None => return marks,
             }

@@ -1,10 +1,9 @@
 // Tree order and the shadow-including order.
-ghost use Rattle.std.specs.Prelude.{◌≡◌, ◌<◌, ℕ, None, true, IfOk, IfSome, All};
+ghost use Rattle.std.specs.Prelude.{◌≡◌, ℕ, None, true, IfOk, IfSome, All};
 ghost use Rattle.node_trees.specs.Orders.{order_of, tree_order_of};
 ghost use Rattle.node_trees.specs.Paths.{connected, is_among};
-ghost use Rattle.node_trees.specs.Nodes.{IsNode, IsNodeOrNone, IsTidy, times};
+ghost use Rattle.node_trees.specs.Nodes.{IsNode, IsNodeOrNone, IsTidy};
 ghost use Rattle.node_trees.specs.Spots.{after, spot_at, shadow_at, first_child_at};
-ghost use Rattle.node_trees.specs.Trees.{tree_of};
 ghost use Rattle.tree_laws.specs.Walks.{parent_or};
 
 use crate::Tree;
@@ -69,15 +68,18 @@ impl Tree {
         first_of(node.shadow, node.first)
     }
 
-    // What comes behind a node in the shadow-including tree order of `root`: what is first below it, or else the next sibling
-    // of the nearest of it and what is above it that has one, below `root`. Behind a shadow tree comes its host's first child.
-    pub(crate) fn next_in_order(&self, at: NodeNo, root: NodeNo) -> Option<NodeNo>
-        requires at { IsNode self.now at }
+    /// What comes behind a node in the shadow-including tree order of `root` (DOM Standard, section "Interface ShadowRoot",
+    /// "shadow-including tree order"): its shadow root, or else its first child, or else the next sibling of the nearest of it
+    /// and what is above it that has one, below `root`. Behind a shadow tree comes its host's first child. None exactly behind
+    /// the last. No memory is taken.
+    pub fn next_in_shadow_order(&self, at: NodeNo, root: NodeNo) -> Option<NodeNo>
         requires root { IsNode self.now root }
-        requires inside { IsTidy self.now → 0 < times at (tree_of root self.now) }
+        requires inside { is_among at (order_of self.now root) ≡ true }
         ensures next { result ≡ after at (order_of self.now root) }
-        ensures tidy { IsTidy self.now }
+        ensures node { IsNodeOrNone self.now result }
+        ensures inside { IfSome result (λ n. is_among n (order_of self.now root) ≡ true) }
     {
+        let _count = self.count();
         let below = self.first_below(at);
         if below.is_some() {
             return below;
@@ -121,11 +123,12 @@ impl Tree {
         ensures nodes { IfOk result (All (IsNode self.now)) }
         ensures connected { IfOk result (All (λ m. connected self.now m ≡ connected self.now n)) }
     {
+        let _count = self.count();
         let mut out = Nodes::make(alloc);
         let mut at = n;
         loop {
             out.push(alloc, at)?;
-            match self.next_in_order(at, n) {
+            match self.next_in_shadow_order(at, n) {
                 Some(next) => at = next,
                 None => return Ok(out),
             }
