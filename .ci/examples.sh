@@ -3,8 +3,8 @@
 # a line, where that file is there. Compares what it writes with NAME.transcript, and its exit status with the file
 # NAME.status (0 where there is none). Then the trace alone may differ: with `--trace` it writes the same as without,
 # but for lines that begin with `~`. A row of NAME.fuel says that with so many units of fuel it writes so many lines of
-# the transcript, the last of which follows, and then `fuel`. Then which words are refused. Last, that the examples of the
-# page (docs/page) are these. `rt ci` and `rt run` build the program.
+# the transcript, the last of which follows, and then `fuel`. Then which words are refused, also by the programs
+# that read traces and bodies. Last, that the examples of the page (docs/page) are these. `rt ci` builds the programs.
 
 program=crates/cepage/out/cepage
 LC_ALL=C
@@ -274,6 +274,28 @@ if ends "$room/script"; then
     tail -n 2 "$room/transcript" >"$room/last"
     same "$room/wanted" "$room/last" "10,001 creations: the transcript ends otherwise"
 fi
+
+# Words that the programs that read traces and bodies refuse: they write nothing but the usage text, to standard error,
+# which has each of the texts behind ` => `.
+while IFS= read -r row; do
+    eval "set -- ${row% => *}"
+    reader=$1
+    shift
+    printf 'a=1' | "crates/$reader/out/$reader" "$@" >"$room/transcript" 2>"$room/usage"
+    status=$?
+    if [ "$status" != 2 ] || [ -s "$room/transcript" ]; then
+        fail "the words ${row% => *}: the status is $status, standard output has $(cat "$room/transcript")"
+    fi
+    eval "set -- ${row#* => }"
+    for text in "$@"; do
+        grep -q -F -e "$text" "$room/usage" || fail "the words ${row% => *}: the usage text lacks $text"
+    done
+done <<'END'
+cecheck lawful => cecheck
+cecheck '' => cecheck
+formread multipart => formread 'urlencoded, plain or multipart' BOUNDARY
+formread plain plain => formread 'urlencoded, plain or multipart' BOUNDARY
+END
 
 # The page of docs/page has the examples as the program gives them.
 python3 tools/page_examples.py --check --program "$program" || fail "docs/page/examples.js is stale, or could not be checked"

@@ -1,8 +1,6 @@
 //! Checks a trace from standard input against the law of order, and writes the verdict to standard output.
 #![tactic(auto)]
 
-#[cfg(test)]
-mod tests;
 mod usage;
 
 use ce_base::{StdSink, StdSource};

@@ -1,8 +1,6 @@
 //! Runs a script from standard input, and writes its transcript to standard output.
 #![tactic(auto)]
 
-#[cfg(test)]
-mod tests;
 mod usage;
 
 use ce_base::{StdSink, StdSource};

@@ -5,6 +5,8 @@ mod asked;
 mod bounded;
 mod run;
 mod script;
+#[cfg(test)]
+mod tests;
 
 ghost use Rattle.std.specs.Prelude.{◌≡◌, ◌≤◌, ◌<◌, ◌⊎◌, Some, None, length};
 ghost use Rattle.command_words.specs.declared.words.Options.{Options};

@@ -1,8 +1,6 @@
 //! Reads the body of a request from standard input, and writes its entries to standard output.
 #![tactic(auto)]
 
-#[cfg(test)]
-mod tests;
 mod usage;
 
 use body_reader::{ReadStatus, read_run};

@@ -79,21 +79,44 @@ fn a_read_beyond_the_end_is_not_made(rt: HostRuntime) -> Result<(), Fail> {
     Ok(())
 }
 
-// Runs the form that is submitted into a sink that takes seven bytes a call, and whose write with this number fails.
-fn ran_short(alloc: Global, write: u64) -> Result<(Status, ShortSink), Fail> {
+// A sink that takes seven bytes a call, and whose write with this number fails.
+fn short_sink(alloc: Global, write: u64) -> Result<ShortSink, Fail> {
+    Ok(ShortSink::make(7, vec![in alloc; write]?))
+}
+
+// Runs the form that is submitted into a sink.
+fn status_into(alloc: Global, sink: &mut ShortSink) -> Result<Status, Fail> {
     let script = script_of(alloc, SUBMITTED)?;
     let mut source = source_of(alloc, script.as_bytes(), 65_536)?;
-    let mut sink = ShortSink::make(7, vec![in alloc; write]?);
-    Ok((status_of(alloc, &mut source, &mut sink), sink))
+    Ok(status_of(alloc, &mut source, sink))
 }
 
 // Sees that no more than the writes before this one took is written, and that it is a front of the transcript.
-fn stops_at_write(rt: &impl Abort, alloc: Global, write: usize) -> Result<(), Fail> {
-    let transcript = transcript_of(alloc, SUBMITTED)?;
-    let (status, sink) = ran_short(alloc, write as u64)?;
-    assert_eq!(rt; status, Status::WriteFault);
+fn stops_at_write(
+    rt: &impl Abort,
+    alloc: Global,
+    transcript: &str,
+    write: usize,
+) -> Result<(), Fail> {
+    let mut sink = short_sink(alloc, write as u64)?;
+    let status = status_into(alloc, &mut sink);
+    assert!(rt; matches!(status, Ok(Status::WriteFault)));
     assert!(rt; sink.bytes().len() <= write.saturating_sub(1).saturating_mul(7));
     assert!(rt; transcript.as_bytes().starts_with(sink.bytes()));
+    Ok(())
+}
+
+// Sees that all of it is written where the write with this number is not made.
+fn goes_on_to_the_end(
+    rt: &impl Abort,
+    alloc: Global,
+    transcript: &str,
+    write: usize,
+) -> Result<(), Fail> {
+    let mut sink = short_sink(alloc, write as u64)?;
+    let status = status_into(alloc, &mut sink);
+    assert!(rt; matches!(status, Ok(Status::Done)));
+    assert!(rt; sink.bytes() == transcript.as_bytes());
     Ok(())
 }
 
@@ -103,23 +126,30 @@ fn each_write_may_fail(rt: HostRuntime) -> Result<(), Fail> {
     let transcript = transcript_of(alloc, SUBMITTED)?;
     let writes = transcript.len().div_ceil(7);
     for write in 0..writes {
-        stops_at_write(&rt, alloc, write + 1)?;
+        stops_at_write(&rt, alloc, transcript.as_str(), write + 1)?;
     }
-    let (status, sink) = ran_short(alloc, (writes as u64).saturating_add(1))?;
-    assert_eq!(&rt; status, Status::Done);
-    assert!(&rt; sink.bytes() == transcript.as_bytes());
-    Ok(())
+    goes_on_to_the_end(&rt, alloc, transcript.as_str(), writes.saturating_add(1))
+}
+
+// A source of one line, whose second read fails.
+fn one_line(alloc: Global) -> Result<MemSource, Fail> {
+    let script = b"create $a div\n".to_vec(alloc)?;
+    let fails = vec![in alloc; 2]?;
+    Ok(MemSource::make(script, 65_536, fails))
+}
+
+fn fuel_of_one(alloc: Global) -> Result<Vec<String>, Fail> {
+    let mut words = Vec::new(alloc);
+    words.push(String::from_str(alloc, "--fuel=1")?)?;
+    Ok(words)
 }
 
 // The script comes in one read, and the second one fails.
 #[test]
 fn fuel_ends_before_the_source_is_asked_again(rt: HostRuntime) -> Result<(), Fail> {
     let alloc = rt.alloc();
-    let mut words = Vec::new(alloc);
-    words.push(String::from_str(alloc, "--fuel")?)?;
-    words.push(String::from_str(alloc, "1")?)?;
-    let script = b"create $a div\n".to_vec(alloc)?;
-    let mut source = MemSource::make(script, 65_536, vec![in alloc; 2]?);
+    let words = fuel_of_one(alloc)?;
+    let mut source = one_line(alloc)?;
     let mut sink = SureSink::make(alloc);
     assert_eq!(&rt; run(alloc, &words, &mut source, &mut sink), Status::Fuel);
     assert_eq!(&rt; source.faults(), 0);

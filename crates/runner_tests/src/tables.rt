@@ -115,8 +115,9 @@ fn stands(rt: &impl Abort, alloc: Global, text: &str) -> Result<(), Fail> {
 
 #[test]
 fn the_table_is_what_is_read_off_the_tree(rt: HostRuntime) -> Result<(), Fail> {
-    for text in [OWNERS, DISABLED, SUBMITTED, INVALID, MOVED] {
-        stands(&rt, rt.alloc(), text)?;
-    }
-    Ok(())
+    stands(&rt, rt.alloc(), OWNERS)?;
+    stands(&rt, rt.alloc(), DISABLED)?;
+    stands(&rt, rt.alloc(), SUBMITTED)?;
+    stands(&rt, rt.alloc(), INVALID)?;
+    stands(&rt, rt.alloc(), MOVED)
 }

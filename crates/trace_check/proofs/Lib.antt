@@ -1,9 +1,6 @@
-pub mod CountLemmas
 pub mod ExitLaws
 pub mod LineLaws
-pub mod OpenLemmas
 pub mod PassLaws
-pub mod SlotLemmas
 pub mod StepLaws
 pub mod TellLaws
 pub mod TraceLaws

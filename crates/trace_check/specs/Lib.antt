@@ -1,7 +1,4 @@
 pub mod Next
-pub mod Opened
-pub mod Sets
-pub mod Slots
 pub mod Table
 pub mod Told
 pub mod Traces

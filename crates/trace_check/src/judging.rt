@@ -6,12 +6,12 @@ ghost use Rattle.trace_check.specs.Traces.{AreLawful};
 ghost use Rattle.trace_check.specs.Verdict.{BreaksAt, IsVerdict};
 
 use crate::Verdict;
-use crate::checker::Checker;
 use crate::laws::each_trace_has_one_verdict;
 use ce_base::NoMemory;
 use ce_events::Event;
 use ce_lines::{EventRefused, read_event};
 use event_reader::texts_tell_steps;
+use order_checker::Checker;
 use std::alloc::Global;
 
 // The first line, without its line feed, and what stands behind it.

@@ -3,18 +3,12 @@
 //! The law is that of `order_law`; what is checked is the text alone, whoever wrote it.
 #![tactic(auto)]
 
-mod brackets;
-mod checker;
-mod clauses;
-mod elements;
 mod judging;
 mod laws;
 mod status;
 mod telling;
 mod top;
 mod verdict;
-mod waits;
-mod writing;
 
 pub use judging::check;
 pub use laws::{each_front_of_a_trace_is_lawful, each_trace_has_one_verdict};
