@@ -17,12 +17,15 @@ any-append : {X : Type 0} (p : X → Bool) (xs ys : List X) → list_any p (xs +
 any-append p [] ys = refl
 any-append p (x ∷ xs) ys = let more = any-append p xs ys in grind (arith, more)
 
+-- one more behind a list
+any-last : {X : Type 0} (p : X → Bool) (xs : List X) (x : X) → list_any p (xs ++ x ∷ []) ≡ (list_any p xs || p x)
+any-last p xs x = any-append p xs (x ∷ []) ∙ grind arith
+
 any-more : {X : Type 0} (p : X → Bool) (xs : List X) (i : ℕ) (x : X) → slice_get xs i ≡ Some x → list_any p (take (i + 1) xs) ≡ (list_any p (take i xs) || p x)
 any-more p xs i x at =
     let read : get_or xs i x ≡ x = get_or_from_slice_get xs i x x at in
     ap (list_any p) (take_more xs i x (slice_get_within xs i x at) ∙ ap (λ y. take i xs ++ y ∷ []) read)
-    ∙ any-append p (take i xs) (x ∷ [])
-    ∙ grind arith
+    ∙ any-last p (take i xs) x
 
 among-any : (n : ℕ) (xs : List ℕ) → is_among n xs ≡ list_any (λ m. m == n) xs
 among-any n [] = refl
@@ -87,6 +90,10 @@ module _ {forest : Trees} {about : ℕ → Bool} where
   next-among xs i x at so_far more =
       less (λ n passes. sym (among-any n (take (i + 1) xs)) ∙ passes)
       (next (λ j n. j == n) xs i x at (less (λ n passes. among-any n (take i xs) ∙ passes) so_far) more)
+
+  -- behind a list
+  pub one-more : {X : Type 0} (by : X → ℕ → Bool) (xs : List X) (x : X) {old mid new : List ℕ} → Considers forest about (λ n. list_any (λ j. by j n) xs) old mid → Considers forest about (by x) mid new → Considers forest about (λ n. list_any (λ j. by j n) (xs ++ x ∷ [])) old new
+  one-more by xs x so_far more = less (λ n passes. sym (any-last (λ j. by j n) xs x) ∙ passes) (both so_far more)
 
   -- to its end
   pub whole : {X : Type 0} (by : X → ℕ → Bool) (xs : List X) (i : ℕ) {old new : List ℕ} → length xs ≤ i → Considers forest about (λ n. list_any (λ j. by j n) (take i xs)) old new → Considers forest about (λ n. list_any (λ j. by j n) xs) old new

@@ -36,6 +36,14 @@ is_named_by named (Some id) n = named id n
 abbrev pub is_named_among : Trees → (List ℕ → ℕ → Bool) → List ℕ → ℕ → Bool
 is_named_among forest named ns n = list_any (λ j. is_named_by named (attribute_at forest j (codes "id")) n) ns
 
+-- what is considered with one node: itself, and what names its ID
+abbrev pub is_with : Trees → (List ℕ → ℕ → Bool) → ℕ → ℕ → Bool
+is_with forest named n m = n == m || is_named_by named (attribute_at forest n (codes "id")) m
+
+-- or with one of these nodes
+abbrev pub is_with_among : Trees → (List ℕ → ℕ → Bool) → List ℕ → ℕ → Bool
+is_with_among forest named ns m = list_any (λ j. is_with forest named j m) ns
+
 -- n moved to a parent, or away from it
 
 -- a legend, and the parent is a fieldset, which may have another first legend now: what is in its tree

@@ -11,9 +11,11 @@ ghost use Rattle.form_controls.specs.Kinds.{is_a};
 ghost use Rattle.id_index.specs.Held.{is_held};
 ghost use Rattle.owner_rows.specs.OwnerRow.{row_of};
 ghost use Rattle.owner_rows.specs.Attributes.{seen_at};
-ghost use Rattle.form_owner.specs.Candidates.{Considers, is_concerned, is_named_among, is_named_by};
+ghost use Rattle.form_owner.specs.Candidates.{Considers, is_concerned, is_named_by, is_with};
+ghost use Rattle.form_owner.specs.Plain.{ArePlain};
 
 use crate::node_list::node_at;
+use crate::plain::Plain;
 use ce_base::{NoMemory, NodeNo, Nodes};
 use element_names::Native;
 use form_kinds::is_a;
@@ -24,7 +26,7 @@ use owner_reading::is_listed;
 use owner_rows::{Row, associated_in};
 
 /// Whether forms are about a node: it is listed, or an option.
-fn is_concerned(tree: &Tree, rows: &[Row], n: NodeNo) -> bool
+pub(crate) fn is_concerned(tree: &Tree, rows: &[Row], n: NodeNo) -> bool
     requires { IsNode tree.now n }
     ensures { result ≡ is_concerned tree.now rows.now n }
 {
@@ -100,20 +102,23 @@ pub(crate) fn consider_named(
     Ok(())
 }
 
-/// The same of those whose `form` attribute was seen to be the ID of one of some nodes.
-pub(crate) fn consider_named_among(
+/// The same of a node that moved, and of those whose `form` attribute was seen to be its ID.
+pub(crate) fn consider_moved(
     tree: &Tree,
     rows: &[Row],
     named: &IdIndex,
-    nodes: &Nodes,
+    plain: &Plain,
+    n: NodeNo,
     found: &mut NodeSet,
 ) -> Result<(), NoMemory>
-    requires { All (IsNode tree.now) nodes.now }
-    ensures { OnOk result (Considers tree.now (is_concerned tree.now rows.now) (is_named_among tree.now (is_held named.now) nodes.now) found.old found.new) }
+    requires node { IsNode tree.now n }
+    requires plain { ArePlain tree.now rows.now plain.now }
+    ensures { OnOk result (Considers tree.now (is_concerned tree.now rows.now) (is_with tree.now (is_held named.now) n) found.old found.new) }
 {
-    for i in 0..nodes.len() {
-        let id = tree.attr(node_at(tree, nodes, i), "id");
-        consider_named(tree, rows, named, id, found)?;
+    if plain.has(n) {
+        return Ok(());
     }
+    consider(tree, rows, n, found)?;
+    consider_named(tree, rows, named, tree.attr(n, "id"), found)?;
     Ok(())
 }

@@ -10,6 +10,7 @@ mod involved;
 mod laws;
 mod moving;
 mod node_list;
+mod plain;
 mod reach;
 mod reading;
 mod renewal;

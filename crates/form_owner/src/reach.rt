@@ -2,10 +2,13 @@
 ghost use Rattle.std.specs.Prelude.{◌==◌, [], true, IfOk, OnOk};
 ghost use Rattle.std.specs.Option.{option_copied};
 ghost use Rattle.node_trees.specs.Nodes.{IsNode, IsTidy};
+ghost use Rattle.node_trees.specs.Orders.{order_of};
 ghost use Rattle.id_index.specs.Held.{is_held};
-ghost use Rattle.form_owner.specs.Candidates.{Considers, is_concerned, is_of_change, is_of_group, is_of_ids, is_of_legend, is_of_move};
+ghost use Rattle.form_owner.specs.Candidates.{Considers, is_concerned, is_of_change, is_of_group, is_of_ids, is_of_legend, is_of_move, is_with_among};
+ghost use Rattle.form_owner.specs.Plain.{ArePlain};
 
-use crate::candidates::{consider, consider_all, consider_named, consider_named_among};
+use crate::candidates::{consider, consider_all, consider_moved, consider_named};
+use crate::plain::Plain;
 use ce_base::{NoMemory, NodeNo};
 use element_names::Native;
 use form_kinds::{has_disabled, is_a};
@@ -36,6 +39,31 @@ fn consider_fieldset(
     Ok(())
 }
 
+/// What moved with a node, and what names an ID of that. It goes along the links of the tree, and makes no list.
+fn consider_inside(
+    tree: &Tree,
+    rows: &[Row],
+    named: &IdIndex,
+    plain: &Plain,
+    n: NodeNo,
+    found: &mut NodeSet,
+) -> Result<(), NoMemory>
+    requires tidy { IsTidy tree.now }
+    requires node { IsNode tree.now n }
+    requires plain { ArePlain tree.now rows.now plain.now }
+    ensures { OnOk result (Considers tree.now (is_concerned tree.now rows.now)
+        (is_with_among tree.now (is_held named.now) (order_of tree.now n)) found.old found.new) }
+{
+    let mut at = n;
+    loop {
+        consider_moved(tree, rows, named, plain, at, found)?;
+        match tree.next_in_shadow_order(at, n) {
+            Some(next) => at = next,
+            None => return Ok(()),
+        }
+    }
+}
+
 /// What the move of a node to a parent, or away from it, may change: what moved, what names an ID of it, and what is in a
 /// fieldset that has another first legend.
 pub(crate) fn of_move(
@@ -43,18 +71,18 @@ pub(crate) fn of_move(
     tree: &Tree,
     rows: &[Row],
     named: &IdIndex,
+    plain: &Plain,
     n: NodeNo,
     parent: NodeNo,
 ) -> Result<NodeSet, NoMemory>
     requires tidy { IsTidy tree.now }
     requires node { IsNode tree.now n }
     requires parent { IsNode tree.now parent }
+    requires plain { ArePlain tree.now rows.now plain.now }
     ensures { IfOk result (Considers tree.now (is_concerned tree.now rows.now) (is_of_move tree.now (is_held named.now) n parent) []) }
 {
     let mut found = NodeSet::make(alloc);
-    let below = tree.shadow_order(alloc, n)?;
-    consider_all(tree, rows, &below, &mut found)?;
-    consider_named_among(tree, rows, named, &below, &mut found)?;
+    consider_inside(tree, rows, named, plain, n, &mut found)?;
     consider_fieldset(alloc, tree, rows, n, parent, &mut found)?;
     Ok(found)
 }

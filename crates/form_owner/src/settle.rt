@@ -10,6 +10,7 @@ ghost use Rattle.form_owner.specs.Told.{AreOfNodes};
 ghost use Rattle.form_owner.specs.Touches.{IsTouched, after_touch};
 ghost use Rattle.form_owner.specs.Writing.{IsPlaced, Noted, Written};
 
+use crate::plain::note_plain;
 use crate::reach::{of_change, of_mark, of_move};
 use crate::renewal::renew;
 use crate::seeing::see_touched;
@@ -66,13 +67,22 @@ impl OwnerTable {
         match touch {
             Touch::Inserted(node) => match tree.parent(node) {
                 None => Ok(NodeSet::make(alloc)),
-                Some(parent) => of_move(alloc, tree, &self.rows, &self.named, node, parent),
+                Some(parent) => of_move(
+                    alloc,
+                    tree,
+                    &self.rows,
+                    &self.named,
+                    &self.plain,
+                    node,
+                    parent,
+                ),
             },
             Touch::Removed { node, parent } => of_move(
                 alloc,
                 tree,
                 &self.rows,
                 &self.named,
+                &self.plain,
                 node,
                 parent,
             ),
@@ -97,6 +107,7 @@ impl OwnerTable {
         note(&mut self.rows, touch);
         let changes = renew(alloc, tree, &mut self.rows, &candidates)?;
         see_touched(alloc, tree, &mut self.rows, &mut self.named, touch)?;
+        note_plain(tree, &self.rows, &mut self.plain, touch)?;
         Ok(changes)
     }
 }

@@ -8,6 +8,7 @@ ghost use Rattle.form_controls.specs.Disabled.{is_disabled};
 ghost use Rattle.form_controls.specs.Owners.{Forms, controls_of, form_owner, is_associated, is_submittable};
 ghost use Rattle.form_owner.specs.Stands.{Stands};
 
+use crate::plain::Plain;
 use ce_base::NodeNo;
 use element_names::Native;
 use form_kinds::is_a;
@@ -18,12 +19,13 @@ use owner_rows::{Row, associated_in, controls_in, disabled_in, owner_in};
 use std::alloc::Global;
 use std::marker::Model;
 
-/// The form owner and the disabled state of each node, and the controls of each form. A contract sees a row for each
-/// node, that of node 1 first.
+/// The form owner and the disabled state of each node, and the controls of each form. A contract sees a row and a note for
+/// each node, those of node 1 first.
 #[derive(Drop)]
 pub struct OwnerTable {
     pub(crate) rows: Vec<Row>,
     pub(crate) named: IdIndex,
+    pub(crate) plain: Plain,
 }
 
 impl Model for OwnerTable {
@@ -36,7 +38,7 @@ impl Model for OwnerTable {
 
     ghost coded = { Prim.hlevel (codes, index.the_row.coded) };
 
-    ghost view = { λ t. record { rows = t.rows.items; named = t.named } };
+    ghost view = { λ t. record { rows = t.rows.items; named = t.named; plain = t.plain } };
 }
 
 impl OwnerTable {
@@ -47,6 +49,7 @@ impl OwnerTable {
         OwnerTable {
             rows: Vec::new(alloc),
             named: IdIndex::make(alloc),
+            plain: Plain::make(alloc),
         }
     }
 
