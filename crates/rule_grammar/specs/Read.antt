@@ -35,7 +35,8 @@ abbrev pub read_keys : List Key → List Token → Reads
 read_keys [] [] = Ok []
 read_keys [] (t ∷ ts) = Err Arity
 read_keys (key ∷ keys) [] = Ok (no_keys (key ∷ keys))
-read_keys (key ∷ keys) (t ∷ ts) = if is_word (keyword key.word) t then behind_key key.operand (read_keys keys) ts else with_front (read_as.NotThere ∷ []) (read_keys keys (t ∷ ts))
+read_keys (key ∷ keys) (t ∷ ts) =
+    if is_word (keyword key.word) t then behind_key key.operand (read_keys keys) ts else with_front (read_as.NotThere ∷ []) (read_keys keys (t ∷ ts))
 
 abbrev pub read_maybe : Kind → List Token → Reads
 read_maybe kind [] = Ok (read_as.NotThere ∷ [])
@@ -70,7 +71,8 @@ abbrev mutual
 
   pub read_row : (List Token → Reads) → Rows → Token → List Token → Reads
   read_row action (LastRow word wants) t ts = if is_word (spelling word) t then with_front (read_as.Word word ∷ []) (read action wants ts) else Err BadWord
-  read_row action (Row word wants rows) t ts = if is_word (spelling word) t then with_front (read_as.Word word ∷ []) (read action wants ts) else read_row action rows t ts
+  read_row action (Row word wants rows) t ts =
+      if is_word (spelling word) t then with_front (read_as.Word word ∷ []) (read action wants ts) else read_row action rows t ts
 
 -- the operands of a line, where an action may have so many tokens
 abbrev pub read_within : ℕ → List Token → Reads

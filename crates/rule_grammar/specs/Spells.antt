@@ -41,7 +41,8 @@ SpellBehind (Some kind) Rest ts gs = SpellOne kind Rest ts gs
 abbrev pub SpellKeys : List Key → Spelling
 SpellKeys [] ts gs = SpellNothing ts gs
 SpellKeys (key ∷ keys) [] gs = SpellMarked read_as.NotThere (SpellKeys keys) [] gs
-SpellKeys (key ∷ keys) (t ∷ ts) gs = either (is_word (keyword key.word) t) (SpellBehind key.operand (SpellKeys keys) ts gs) (SpellMarked read_as.NotThere (SpellKeys keys) (t ∷ ts) gs)
+SpellKeys (key ∷ keys) (t ∷ ts) gs =
+    either (is_word (keyword key.word) t) (SpellBehind key.operand (SpellKeys keys) ts gs) (SpellMarked read_as.NotThere (SpellKeys keys) (t ∷ ts) gs)
 
 -- one operand or none
 abbrev pub SpellMaybe : Kind → Spelling
@@ -75,7 +76,8 @@ abbrev mutual
 
   pub SpellRow : Spelling → Rows → Token → Spelling
   SpellRow Action (LastRow word wants) t ts gs = either (is_word (spelling word) t) (SpellMarked (read_as.Word word) (Spell Action wants) ts gs) ⊥
-  SpellRow Action (Row word wants rows) t ts gs = either (is_word (spelling word) t) (SpellMarked (read_as.Word word) (Spell Action wants) ts gs) (SpellRow Action rows t ts gs)
+  SpellRow Action (Row word wants rows) t ts gs =
+      either (is_word (spelling word) t) (SpellMarked (read_as.Word word) (Spell Action wants) ts gs) (SpellRow Action rows t ts gs)
 
 -- the tokens are a form and spell this, in which actions stand in actions up to so deep
 abbrev pub SpellWithin : ℕ → Spelling

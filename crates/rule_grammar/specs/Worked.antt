@@ -30,7 +30,8 @@ after_on action = bare (codes "on") ∷ bare (codes "A") ∷ bare (codes "connec
 -- actions in actions
 abbrev pub ActionRows : Type 0
 ActionRows =
-    IsRead (read_tokens (after_on (bare (codes "try") ∷ bare (codes "if") ∷ bare (codes "eq") ∷ bare (codes "@1") ∷ quoted (codes "x") ∷ bare (codes ":") ∷ bare (codes "bump") ∷ [])))
+    IsRead (read_tokens (after_on (bare (codes "try") ∷ bare (codes "if") ∷ bare (codes "eq") ∷ bare (codes "@1")
+    ∷ quoted (codes "x") ∷ bare (codes ":") ∷ bare (codes "bump") ∷ [])))
     × (read_tokens (after_on []) ≡ Err Arity)
     × (read_tokens (after_on (bare (codes "append") ∷ bare (codes "this") ∷ [])) ≡ Err Arity)
     × (read_tokens (after_on (bare (codes "log") ∷ [])) ≡ Err Arity)

@@ -62,5 +62,6 @@ abbrev pub act_code : Coded Act
 act_code =
     code_by (List Around × Inner)
     (coded× (coded_list (coded_option (coded× coded_bool (coded× val.the_row.coded val.the_row.coded))))
-    (coded⊎ op.the_row.coded (coded⊎ (coded_list val.the_row.coded) (coded⊎ (coded_option operand.the_row.coded) (coded⊎ val.the_row.coded (coded⊎ val.the_row.coded coded_ℕ))))))
+    (coded⊎ op.the_row.coded (coded⊎ (coded_list val.the_row.coded)
+    (coded⊎ (coded_option operand.the_row.coded) (coded⊎ val.the_row.coded (coded⊎ val.the_row.coded coded_ℕ))))))
     (λ a. (arounds a, innermost a)) (λ p. put_around p.0 (inner_act p.1)) act_back

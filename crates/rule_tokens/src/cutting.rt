@@ -2,7 +2,7 @@
 ghost use Rattle.std.specs.Prelude.{[]};
 ghost use Rattle.rule_tokens.specs.Cut.{cut, CutStep};
 ghost use Rattle.rule_tokens.specs.Gives.{GivesSeen, with_front};
-ghost use Rattle.rule_tokens.specs.declared.cutting.Within.TheVariants.{Gap};
+ghost use Rattle.rule_tokens.specs.declared.cutting.Within.TheVariants.{Bare, Gap, Quoted};
 
 use crate::chars::Chars;
 use crate::{Bad, LineRefused};
@@ -32,6 +32,45 @@ pub enum Within {
     Closed,
 }
 
+// What comes behind a bare token and one more character.
+#[tactic(auto, unfolding(crate::specs::Cut::cut))]
+fn bare_step(done: &mut Vec<Raw>, mut chars: Chars, c: char) -> Result<Within, LineRefused>
+    ensures { CutStep done.old.items (Bare chars) c done.new.items result }
+{
+    if c == ' ' {
+        done.push(Raw {
+            quoted: false,
+            chars,
+        })?;
+        return Ok(Within::Gap);
+    }
+    if c == '"' {
+        return Err(LineRefused::Bad(Bad::Quote));
+    }
+    chars.push(c)?;
+    Ok(Within::Bare(chars))
+}
+
+// What comes behind a quoted token, as far as it goes, and one more character.
+#[tactic(auto, unfolding(crate::specs::Cut::cut))]
+fn quoted_step(done: &mut Vec<Raw>, mut chars: Chars, c: char) -> Result<Within, LineRefused>
+    ensures { CutStep done.old.items (Quoted chars) c done.new.items result }
+{
+    if c == '"' {
+        done.push(Raw {
+            quoted: true,
+            chars,
+        })?;
+        return Ok(Within::Closed);
+    }
+    chars.push(c)?;
+    if c == '\\' {
+        return Ok(Within::Protected(chars));
+    }
+    Ok(Within::Quoted(chars))
+}
+
+// What comes behind one more character.
 #[tactic(auto, unfolding(crate::specs::Cut::cut))]
 fn step(alloc: Global, done: &mut Vec<Raw>, within: Within, c: char) -> Result<Within, LineRefused>
     ensures { CutStep done.old.items within c done.new.items result }
@@ -48,34 +87,8 @@ fn step(alloc: Global, done: &mut Vec<Raw>, within: Within, c: char) -> Result<W
             chars.push(c)?;
             Ok(Within::Bare(chars))
         }
-        Within::Bare(mut chars) => {
-            if c == ' ' {
-                done.push(Raw {
-                    quoted: false,
-                    chars,
-                })?;
-                return Ok(Within::Gap);
-            }
-            if c == '"' {
-                return Err(LineRefused::Bad(Bad::Quote));
-            }
-            chars.push(c)?;
-            Ok(Within::Bare(chars))
-        }
-        Within::Quoted(mut chars) => {
-            if c == '"' {
-                done.push(Raw {
-                    quoted: true,
-                    chars,
-                })?;
-                return Ok(Within::Closed);
-            }
-            chars.push(c)?;
-            if c == '\\' {
-                return Ok(Within::Protected(chars));
-            }
-            Ok(Within::Quoted(chars))
-        }
+        Within::Bare(chars) => bare_step(done, chars, c),
+        Within::Quoted(chars) => quoted_step(done, chars, c),
         Within::Protected(mut chars) => {
             chars.push(c)?;
             Ok(Within::Quoted(chars))
