@@ -58,9 +58,11 @@ ask_as asks.States = words.States
 
 -- what the tokens of a form are read as
 abbrev pub leaf_as_read : Leaf → List ReadAs
-leaf_as_read (leaves.Both (ops.Create var local is_value document)) = read_as.Word words.Create ∷ read_as.Variable var ∷ read_as.Chars local ∷ part read_as.Chars is_value ∷ part read_as.Node document ∷ []
+leaf_as_read (leaves.Both (ops.Create var local is_value document)) =
+    read_as.Word words.Create ∷ read_as.Variable var ∷ read_as.Chars local ∷ part read_as.Chars is_value ∷ part read_as.Node document ∷ []
 leaf_as_read (leaves.Both (ops.New var class)) = read_as.Word words.New ∷ read_as.Variable var ∷ read_as.Class class ∷ []
-leaf_as_read (leaves.Both (ops.MakeText var chars document)) = read_as.Word words.Text ∷ read_as.Variable var ∷ read_as.Chars chars ∷ part read_as.Node document ∷ []
+leaf_as_read (leaves.Both (ops.MakeText var chars document)) =
+    read_as.Word words.Text ∷ read_as.Variable var ∷ read_as.Chars chars ∷ part read_as.Node document ∷ []
 leaf_as_read (leaves.Both (ops.Shadow var host)) = read_as.Word words.Shadow ∷ read_as.Variable var ∷ read_as.Node host ∷ []
 leaf_as_read (leaves.Both (ops.Append parent target)) = read_as.Word words.Append ∷ read_as.Node parent ∷ read_as.Node target ∷ []
 leaf_as_read (leaves.Both (ops.Before parent target before)) = read_as.Word words.Before ∷ read_as.Node parent ∷ read_as.Node target ∷ read_as.Node before ∷ []
@@ -75,9 +77,11 @@ leaf_as_read (leaves.Both (ops.DelAttr target name)) = read_as.Word words.DelAtt
 leaf_as_read (leaves.Both (ops.Define name class base)) = read_as.Word words.Define ∷ read_as.Chars name ∷ read_as.Class class ∷ part read_as.Chars base ∷ []
 leaf_as_read (leaves.Both (ops.Upgrade target)) = read_as.Word words.Upgrade ∷ read_as.Node target ∷ []
 leaf_as_read (leaves.Both (ops.Internals target)) = read_as.Word words.Internals ∷ read_as.Node target ∷ []
-leaf_as_read (leaves.Both (ops.FormValue target val saved)) = read_as.Word words.FormValue ∷ read_as.Node target ∷ read_as.Value val ∷ part read_as.Value saved ∷ []
+leaf_as_read (leaves.Both (ops.FormValue target val saved)) =
+    read_as.Word words.FormValue ∷ read_as.Node target ∷ read_as.Value val ∷ part read_as.Value saved ∷ []
 leaf_as_read (leaves.Both (ops.FormNull target)) = read_as.Word words.FormNull ∷ read_as.Node target ∷ []
-leaf_as_read (leaves.Both (ops.Validity target flags message)) = read_as.Word words.Validity ∷ read_as.Node target ∷ read_as.Flags flags ∷ read_as.Value message ∷ []
+leaf_as_read (leaves.Both (ops.Validity target flags message)) =
+    read_as.Word words.Validity ∷ read_as.Node target ∷ read_as.Flags flags ∷ read_as.Value message ∷ []
 leaf_as_read (leaves.Both (ops.Custom target message)) = read_as.Word words.Custom ∷ read_as.Node target ∷ read_as.Value message ∷ []
 leaf_as_read (leaves.Both (ops.Reset form)) = read_as.Word words.Reset ∷ read_as.Node form ∷ []
 leaf_as_read (leaves.Both (ops.Value target val)) = read_as.Word words.Value ∷ read_as.Node target ∷ read_as.Value val ∷ []
@@ -114,7 +118,8 @@ leaf_as_read (leaves.DisableInternals class) = read_as.Word words.Disable ∷ re
 abbrev pub wrap_as_read : Wrap → List ReadAs
 wrap_as_read (wraps.On class call) = read_as.Word words.On ∷ read_as.Class class ∷ read_as.Callback call ∷ read_as.Word words.Colon ∷ []
 wrap_as_read wraps.Try = read_as.Word words.Try ∷ []
-wrap_as_read (wraps.If equal left right) = read_as.Word words.If ∷ read_as.Word (test equal) ∷ read_as.Value left ∷ read_as.Value right ∷ read_as.Word words.Colon ∷ []
+wrap_as_read (wraps.If equal left right) =
+    read_as.Word words.If ∷ read_as.Word (test equal) ∷ read_as.Value left ∷ read_as.Value right ∷ read_as.Word words.Colon ∷ []
 
 abbrev pub wraps_as_read : List Wrap → List ReadAs → List ReadAs
 wraps_as_read [] inside = inside

@@ -52,7 +52,8 @@ entry name val = record { name = name; value = val }
 abbrev pub entries_up_to : ℕ → List Token → Result (List Entry) Bad
 entries_up_to n [] = Ok []
 entries_up_to n (t ∷ []) = if n == 0 then Err Arity else (or_word (text t) >>= λ name. Err Arity)
-entries_up_to n (t ∷ u ∷ ts) = if n == 0 then Err Arity else (or_word (text t) >>= λ name. or_word (text u) >>= λ val. with_front (entry name val ∷ []) (entries_up_to (n - 1) ts))
+entries_up_to n (t ∷ u ∷ ts) =
+    if n == 0 then Err Arity else (or_word (text t) >>= λ name. or_word (text u) >>= λ val. with_front (entry name val ∷ []) (entries_up_to (n - 1) ts))
 
 -- a name and a value, and the tokens after them
 abbrev pub entry_at : List Token → Result (Entry × List Token) Bad

@@ -21,11 +21,16 @@ use Rattle.rule_reader.specs.AsRead.{mark, part, leaf_as_read, wrap_as_read}
 -- of a form without an action: those with keywords, and all others, each of whose operands has a token
 abbrev pub leaf_tokens : Leaf → List Token
 leaf_tokens (leaves.Both (ops.Create var local is_value document)) =
-    all_tokens (read_as.Word words.Create ∷ read_as.Variable var ∷ read_as.Chars local ∷ []) ++ (keyed keywords.Is (part read_as.Chars is_value) ++ (keyed keywords.In (part read_as.Node document) ++ []))
-leaf_tokens (leaves.Both (ops.MakeText var chars document)) = all_tokens (read_as.Word words.Text ∷ read_as.Variable var ∷ read_as.Chars chars ∷ []) ++ (keyed keywords.In (part read_as.Node document) ++ [])
-leaf_tokens (leaves.Both (ops.Clone var place deep)) = all_tokens (read_as.Word words.Clone ∷ read_as.Variable var ∷ read_as.Node place ∷ []) ++ (keyed keywords.Deep (mark deep) ++ [])
-leaf_tokens (leaves.Both (ops.Define name class base)) = all_tokens (read_as.Word words.Define ∷ read_as.Chars name ∷ read_as.Class class ∷ []) ++ (keyed keywords.Extends (part read_as.Chars base) ++ [])
-leaf_tokens (leaves.Both (ops.FormValue place val saved)) = all_tokens (read_as.Word words.FormValue ∷ read_as.Node place ∷ read_as.Value val ∷ []) ++ (keyed keywords.State (part read_as.Value saved) ++ [])
+    all_tokens (read_as.Word words.Create ∷ read_as.Variable var ∷ read_as.Chars local ∷ [])
+    ++ (keyed keywords.Is (part read_as.Chars is_value) ++ (keyed keywords.In (part read_as.Node document) ++ []))
+leaf_tokens (leaves.Both (ops.MakeText var chars document)) =
+    all_tokens (read_as.Word words.Text ∷ read_as.Variable var ∷ read_as.Chars chars ∷ []) ++ (keyed keywords.In (part read_as.Node document) ++ [])
+leaf_tokens (leaves.Both (ops.Clone var place deep)) =
+    all_tokens (read_as.Word words.Clone ∷ read_as.Variable var ∷ read_as.Node place ∷ []) ++ (keyed keywords.Deep (mark deep) ++ [])
+leaf_tokens (leaves.Both (ops.Define name class base)) =
+    all_tokens (read_as.Word words.Define ∷ read_as.Chars name ∷ read_as.Class class ∷ []) ++ (keyed keywords.Extends (part read_as.Chars base) ++ [])
+leaf_tokens (leaves.Both (ops.FormValue place val saved)) =
+    all_tokens (read_as.Word words.FormValue ∷ read_as.Node place ∷ read_as.Value val ∷ []) ++ (keyed keywords.State (part read_as.Value saved) ++ [])
 leaf_tokens leaf = all_tokens (leaf_as_read leaf)
 
 -- of what stands around an action
