@@ -3,7 +3,7 @@ ghost use Rattle.std.specs.Prelude.{◌≡◌, false, true};
 ghost use Rattle.rule_reader.specs.declared.form.Leaf.TheVariants as leaves;
 ghost use Rattle.rule_writer.specs.Canon.{leaf_tokens};
 ghost use Rattle.rule_writer.specs.Pieces.{phrase_tokens};
-ghost use Rattle.rule_writer.specs.Subjects.{is_for_control, is_on_tree};
+ghost use Rattle.rule_writer.specs.Subjects.{is_for_control, is_for_states, is_on_tree, sets_variable};
 
 use crate::operand_words::{ask_as, switch};
 use crate::piece::{Phrase, Piece};
@@ -32,6 +32,11 @@ fn control_phrase<'a>(op: &'a Op) -> Phrase<'a>
             Piece::Node(node),
             Piece::Word(switch(*on)),
         ),
+        Op::Custom { node, message } => Phrase::Two(
+            Word::Custom,
+            Piece::Node(node),
+            Piece::Value(message),
+        ),
         Op::Submit { form } => Phrase::One(Word::Submit, Piece::Node(form)),
         Op::Request { form, submitter } => Phrase::Two(
             Word::Request,
@@ -43,6 +48,33 @@ fn control_phrase<'a>(op: &'a Op) -> Phrase<'a>
             Piece::Word(ask_as(*word)),
             Piece::Node(node),
             Piece::MaybeChars(name),
+        ),
+        _ => unreachable!(),
+    }
+}
+
+// Of an operation on the custom states of an element.
+fn states_phrase<'a>(op: &'a Op) -> Phrase<'a>
+    requires { is_for_states op.now ≡ true }
+    ensures { phrase_tokens result ≡ leaf_tokens (leaves.Both op.now) }
+{
+    match op {
+        Op::StateAdd { node, word } => Phrase::Three(
+            Word::State,
+            Piece::Node(node),
+            Piece::Word(Word::Add),
+            Piece::Chars(word),
+        ),
+        Op::StateDelete { node, word } => Phrase::Three(
+            Word::State,
+            Piece::Node(node),
+            Piece::Word(Word::Delete),
+            Piece::Chars(word),
+        ),
+        Op::StateClear { node } => Phrase::Two(
+            Word::State,
+            Piece::Node(node),
+            Piece::Word(Word::Clear),
         ),
         _ => unreachable!(),
     }
@@ -84,29 +116,55 @@ fn element_phrase<'a>(op: &'a Op) -> Phrase<'a>
             Piece::Flags(flags),
             Piece::Value(message),
         ),
-        Op::StateAdd { node, word } => Phrase::Three(
-            Word::State,
-            Piece::Node(node),
-            Piece::Word(Word::Add),
-            Piece::Chars(word),
-        ),
-        Op::StateDelete { node, word } => Phrase::Three(
-            Word::State,
-            Piece::Node(node),
-            Piece::Word(Word::Delete),
-            Piece::Chars(word),
-        ),
-        Op::StateClear { node } => Phrase::Two(
-            Word::State,
-            Piece::Node(node),
-            Piece::Word(Word::Clear),
-        ),
-        Op::Custom { node, message } => Phrase::Two(
-            Word::Custom,
-            Piece::Node(node),
-            Piece::Value(message),
-        ),
+        Op::StateAdd { .. } | Op::StateDelete { .. } | Op::StateClear { .. } => states_phrase(op),
         _ => control_phrase(op),
+    }
+}
+
+// Of an operation on nodes that are there, or on their attributes, or of one on elements.
+fn tree_phrase<'a>(op: &'a Op) -> Phrase<'a>
+    requires { sets_variable op.now ≡ false }
+    ensures { phrase_tokens result ≡ leaf_tokens (leaves.Both op.now) }
+{
+    match op {
+        Op::Append { parent, node } => Phrase::Two(
+            Word::Append,
+            Piece::Node(parent),
+            Piece::Node(node),
+        ),
+        Op::Before {
+            parent,
+            node,
+            before,
+        } => Phrase::Three(
+            Word::Before,
+            Piece::Node(parent),
+            Piece::Node(node),
+            Piece::Node(before),
+        ),
+        Op::Remove { parent, node } => Phrase::Two(
+            Word::Remove,
+            Piece::Node(parent),
+            Piece::Node(node),
+        ),
+        Op::Detach { node } => Phrase::One(Word::Detach, Piece::Node(node)),
+        Op::SetAttr { node, name, value } => Phrase::Three(
+            Word::SetAttr,
+            Piece::Node(node),
+            Piece::Chars(name),
+            Piece::Value(value),
+        ),
+        Op::DelAttr { node, name } => Phrase::Two(
+            Word::DelAttr,
+            Piece::Node(node),
+            Piece::Chars(name),
+        ),
+        Op::Adopt { document, node } => Phrase::Two(
+            Word::Adopt,
+            Piece::Node(document),
+            Piece::Node(node),
+        ),
+        _ => element_phrase(op),
     }
 }
 
@@ -143,50 +201,13 @@ pub(crate) fn phrase_of<'a>(op: &'a Op) -> Phrase<'a>
             Piece::Variable(var),
             Piece::Node(host),
         ),
-        Op::Append { parent, node } => Phrase::Two(
-            Word::Append,
-            Piece::Node(parent),
-            Piece::Node(node),
-        ),
-        Op::Before {
-            parent,
-            node,
-            before,
-        } => Phrase::Three(
-            Word::Before,
-            Piece::Node(parent),
-            Piece::Node(node),
-            Piece::Node(before),
-        ),
-        Op::Remove { parent, node } => Phrase::Two(
-            Word::Remove,
-            Piece::Node(parent),
-            Piece::Node(node),
-        ),
-        Op::Detach { node } => Phrase::One(Word::Detach, Piece::Node(node)),
-        Op::SetAttr { node, name, value } => Phrase::Three(
-            Word::SetAttr,
-            Piece::Node(node),
-            Piece::Chars(name),
-            Piece::Value(value),
-        ),
-        Op::DelAttr { node, name } => Phrase::Two(
-            Word::DelAttr,
-            Piece::Node(node),
-            Piece::Chars(name),
-        ),
         Op::Clone { var, node, deep } => Phrase::Three(
             Word::Clone,
             Piece::Variable(var),
             Piece::Node(node),
             Piece::Marked(Keyword::Deep, *deep),
         ),
-        Op::Adopt { document, node } => Phrase::Two(
-            Word::Adopt,
-            Piece::Node(document),
-            Piece::Node(node),
-        ),
         Op::Let { var, node } => Phrase::Two(Word::Let, Piece::Variable(var), Piece::Node(node)),
-        _ => element_phrase(op),
+        _ => tree_phrase(op),
     }
 }
