@@ -42,9 +42,9 @@ Case limit bytes Place = WrongPlace bytes
 Case limit bytes b = LexicalCase limit bytes b
 
 -- the order in which the faults are looked for
-abbrev pub order : List Bad
-order = Long ∷ Utf8 ∷ Quote ∷ Escape ∷ Word ∷ Arity ∷ Place ∷ []
+abbrev pub fault_order : List Bad
+fault_order = Long ∷ Utf8 ∷ Quote ∷ Escape ∷ Word ∷ Arity ∷ Place ∷ []
 
 -- it is refused for the first case that holds
 abbrev pub RefusedFor : ℕ → List ℕ → Bad → Type 0
-RefusedFor limit bytes b = FirstOf (Case limit bytes) order b
+RefusedFor limit bytes b = FirstOf (Case limit bytes) fault_order b
