@@ -1,5 +1,5 @@
 -- Steps that read nothing of what classes do and remember. One lemma for each way to make a step.
-use Rattle.std.proofs.Common.{◌≡◌, ℕ, zero, suc, Bool, true, false, List, [], ◌∷◌, length, Option, Some, None, Result, Ok, Err, refl, ap, ◌∙◌, length-set}
+use Rattle.std.proofs.Common.{◌≡◌, ℕ, Bool, true, false, List, [], ◌∷◌, length, Option, Some, None, Result, Ok, Err, refl, ap, ◌∙◌, length-set}
 use Rattle.std.specs.Prelude.{if◌then◌else◌, ok_or}
 use Rattle.ce_base.specs.declared.fault.Fault.{Fault}
 use Rattle.ce_base.specs.declared.fault.Fault.TheVariants.{TypeError}
@@ -18,7 +18,7 @@ use Rattle.ce_algorithms.specs.declared.deed.Deed.{Deed}
 use Rattle.ce_algorithms.specs.declared.deed.Deed.TheVariants as deeds
 use Rattle.ce_algorithms.specs.Steps.{Step, Outcome, Goes, Throws, Spent, then_do, ◌>>=◌, ◌>>◌, give, done, throw, settle, read, throw_any, throw_if, found, find_or, throw_where, for_each, attempt, attempt_in}
 use Rattle.ce_algorithms.specs.Page.{Page, Work}
-use Rattle.ce_algorithms.specs.State.{State, Class, view, log, spend, spend_from, read_page, change_page, on_page, with_outcome, work_of, set_variable, change_class, class_of}
+use Rattle.ce_algorithms.specs.State.{State, Class, view, log, read_page, change_page, on_page, with_outcome, work_of, set_variable, change_class, class_of}
 use Rattle.ce_algorithms.specs.Forms.{forms_of, form_owner, is_disabled}
 use Rattle.ce_algorithms.specs.Define.{define_name}
 use Rattle.ce_algorithms.specs.Calls.{Again}
@@ -59,17 +59,6 @@ blind_set_variable v n = record { same = λ bs s. refl; classes = λ s. refl }
 
 pub blind_log : (e : Event) → IsBlind (log e)
 blind_log e = record { same = λ bs s. refl; classes = λ s. refl }
-
-spend_whole : (bs : List Behaviour) (n : ℕ) (s : State) → spend_from n (whole bs s) ≡ whole_in bs (spend_from n s)
-spend_whole bs zero s = refl
-spend_whole bs (suc n) s = refl
-
-spend_classes : (n : ℕ) (s : State) → length (state_in (spend_from n s)).classes ≡ length s.classes
-spend_classes zero s = refl
-spend_classes (suc n) s = refl
-
-pub blind_spend : IsBlind spend
-blind_spend = record { same = λ bs s. spend_whole bs s.fuel s; classes = λ s. spend_classes s.fuel s }
 
 outcome_whole : {A : Type 0} (bs : List Behaviour) (o : Outcome Work A) (s : State) → with_outcome o (whole bs s) ≡ whole_in bs (with_outcome o s)
 outcome_whole bs (Goes a w) s = refl

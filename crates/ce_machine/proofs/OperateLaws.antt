@@ -144,18 +144,7 @@ pub named_placed : (F : Trees) (var : Option (List ℕ)) (turn : Turn) (s : Stat
 named_placed F None turn s h = record { grows = h.grows; placed = h.placed }
 named_placed F (Some var) turn s h = record { grows = h.grows; placed = (h.gives, h.placed) }
 
--- its operands are read
-
-done_is : (this : Option ℕ) (find : View → Result Deed Fault) (var : Option (List ℕ)) (deed : Deed) (s : State) → find (view this s) ≡ Ok deed → named_turn var (deed_turn deed) s ≡ resolved_turn this find var s
-done_is this find var deed s is = ap (λ (r : Result Deed Fault). turn_after (settle r s) (λ d. named_turn var (deed_turn d))) (sym is)
-
-pub resolved_turns : (frames new : List Frame) (now : Came) (this : Option ℕ) (find : View → Result Deed Fault) (var : Option (List ℕ)) (deed : Deed) (s t : State) → find (view this s) ≡ Ok deed → Turns frames new now t (named_turn var (deed_turn deed) s) → Turns frames new now t (resolved_turn this find var s)
-resolved_turns frames new now this find var deed s t is h = turns_as frames new now t _ _ (done_is this find var deed s is) h
-
-pub resolved_placed : (F : Trees) (this : Option ℕ) (find : View → Result Deed Fault) (var : Option (List ℕ)) (deed : Deed) (s : State) → find (view this s) ≡ Ok deed → StaysPlaced F (named_turn var (deed_turn deed) s) → StaysPlaced F (resolved_turn this find var s)
-resolved_placed F this find var deed s is h = subst (StaysPlaced F) (done_is this find var deed s is) h
-
--- one of them is at fault
+-- one of its operands is at fault
 
 refused_is : (this : Option ℕ) (find : View → Result Deed Fault) (var : Option (List ℕ)) (f : Fault) (s : State) (r : Result Deed RefusedWith) → r ≡ Err (IsFault f) → Resolves r (find (view this s)) → ended (Throws f s) ≡ resolved_turn this find var s
 refused_is this find var f s r is h =
@@ -164,9 +153,6 @@ refused_is this find var f s r is h =
 
 pub refused_turns : (frames : List Frame) (this : Option ℕ) (find : View → Result Deed Fault) (var : Option (List ℕ)) (f : Fault) (s : State) (r : Result Deed RefusedWith) → r ≡ Err (IsFault f) → Resolves r (find (view this s)) → Turns frames frames (Threw f) s (resolved_turn this find var s)
 refused_turns frames this find var f s r is h = turns_as frames frames (Threw f) s _ _ (refused_is this find var f s r is h) (turns_same frames (Threw f) s (Throws f s) refl)
-
-pub refused_placed : (this : Option ℕ) (find : View → Result Deed Fault) (var : Option (List ℕ)) (f : Fault) (s : State) (r : Result Deed RefusedWith) → r ≡ Err (IsFault f) → Resolves r (find (view this s)) → StaysPlaced s.page.forest (resolved_turn this find var s)
-refused_placed this find var f s r is h = subst (StaysPlaced s.page.forest) (refused_is this find var f s r is h) (record { grows = omega arith; placed = tt })
 
 -- operands read no behaviour
 pub resolved_whole : (this : Option ℕ) (op : Op) (old : Stacked) (s : State) (r : Result Deed RefusedWith) → Resolves r (resolve (view this s) op) → Resolves r (resolve (view this (session old s)) op)

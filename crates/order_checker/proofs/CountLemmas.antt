@@ -9,7 +9,6 @@ use Rattle.std.proofs.lemmas.Bool.{cases_eq}
 use Rattle.std.proofs.lemmas.List.{length-append}
 use Rattle.order_law.specs.Book.{Entry}
 use Rattle.order_law.specs.Reads.{entry_of, without, none_of_queue}
-use Rattle.order_law.specs.Clauses.{is_none}
 use Rattle.order_checker.specs.Slots.{one, of_queue, kept, entry_of_slot, waiting_from, AreCounted}
 use Rattle.order_checker.specs.declared.waits.Slot.{Slot}
 use Rattle.order_checker.proofs.SlotLemmas.{eq_same, eq_apart, apart}
@@ -21,10 +20,6 @@ none_by_count_step false rest n same = same ∙ ap (λ k. k == 0) (omega arith)
 pub none_by_count : (q : ℕ) (ws : List Entry) → none_of_queue q ws ≡ (of_queue q ws == 0)
 none_by_count q [] = sym (eq_same 0)
 none_by_count q (w ∷ ws) = none_by_count_step (w.queue == q) (none_of_queue q ws) (of_queue q ws) (none_by_count q ws)
-
-pub none_by_length : (ws : List Entry) → is_none ws ≡ (length ws == 0)
-none_by_length [] = sym (eq_same 0)
-none_by_length (w ∷ ws) = sym (eq_apart (suc (length ws)) 0 (omega arith))
 
 pub of_queue_push : (q : ℕ) (ws : List Entry) (w : Entry) → of_queue q (ws ++ w ∷ []) ≡ of_queue q ws + one (w.queue == q)
 of_queue_push q [] w = omega arith

@@ -26,7 +26,7 @@ use Rattle.script_runner.specs.Ran.{Answered, fresh}
 use Rattle.script_runner.specs.Script.{is_bad, session, settings}
 use Rattle.script_runner.specs.Sitting.{Sitting}
 use Rattle.script_runner.proofs.LoopLaws.{answered_line}
-use Rattle.script_runner.proofs.SittingLaws.{answered_nothing, answered_more, answered_spent, ran_answers}
+use Rattle.script_runner.proofs.SittingLaws.{answered_more, answered_spent, ran_answers}
 
 -- ---- its lines
 
@@ -54,9 +54,6 @@ pub record MadeOn (a s : Sitting) (all left : List (List ℕ)) (held held' : Opt
   pub done : Answered a lines Replied s held held'
   pub number : s.line + length left ≤ a.line + length all
 
-pub made_nothing : (s : Sitting) (all : List (List ℕ)) (held : Option (List ℕ)) → s.state.log ≡ [] → MadeOn s s all all held held
-made_nothing s all held empty = record { lines = []; split = refl; done = answered_nothing s held empty; number = omega arith }
-
 module _ (a s t : Sitting) (all left next : List (List ℕ)) (line : List ℕ) (held mid held' : Option (List ℕ)) (on : MadeOn a s all left held mid) (gives : left ≡ line ∷ next) where
   pub made_room : s.line + length next + 1 ≤ a.line + length all
   made_room = omega (arith, on.number, ap length gives)
@@ -78,9 +75,6 @@ module _ (a s t : Sitting) (all left next : List (List ℕ)) (line : List ℕ) (
     made_spent spent =
         let rest = answered_spent s t (line ∷ []) next mid held' (subst (λ e. Answered s (line ∷ []) e t mid held') spent front) in
         subst (λ v. Answered a v FuelSpent t held held') (sym (on.split ∙ ap (λ v. on.lines ++ v) gives)) (answered_more a s t on.lines (line ∷ next) FuelSpent held mid held' on.done rest)
-
-pub made_all : (a s : Sitting) (all left : List (List ℕ)) (held held' : Option (List ℕ)) → MadeOn a s all left held held' → left ≡ [] → Answered a all Replied s held held'
-made_all a s all left held held' on e = subst (λ v. Answered a v Replied s held held') (sym (on.split ∙ ap (λ v. on.lines ++ v) e ∙ append-nil on.lines)) on.done
 
 -- ---- the whole of it
 

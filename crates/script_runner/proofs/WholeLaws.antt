@@ -8,7 +8,6 @@ use Rattle.ce_algorithms.specs.Session.{start, log_of}
 use Rattle.ce_algorithms.specs.State.{State}
 use Rattle.ce_algorithms.specs.Steps.{Step, Outcome, Goes, Throws, Spent, then_do, is_spent}
 use Rattle.ce_events.specs.Text.{text}
-use Rattle.script_runner.specs.Making.{MadeMeets, MadeRow, RunsMade}
 use Rattle.script_runner.specs.Script.{has_bad, session, settings}
 use Rattle.script_runner.specs.Table.{limit, counted, lines_that_count, spends_all, transcript, Call, ReadsAll, WritesAll, Row, IsAsSaid, RunMeets, RunsWhole, script_status}
 use Rattle.script_runner.specs.declared.status.Status.{Status}
@@ -102,18 +101,3 @@ pub runs_whole : (said : Meaning) (set : Options) (script : List ℕ) (status : 
 runs_whole said set script status left left' held held' ended sb sn kb kn meets is known within calm_source calm_sink =
     let P : Option (List ℕ) → Type 0 = λ o. Consumes o left' meets.taken in
     whole_row set script status _ held held' (of_script set status said _ is meets.as_said).0 (subst P known meets.took) meets.wrote within calm_source calm_sink
-
--- ---- a made script
-
-made_row : (set : Options) (n : ℕ) (status : Status) (written : List ℕ) (held held' : Option (List ℕ)) (kb kn : ℕ) → MadeRow status set n kb kn written → Appends held held' written → (Rose kb kn → ⊥) → RunsMade set n status held held'
-made_row set n Done written held held' kb kn row wrote calm = inl (rw row.0 refl, subst (Appends held held') row.1 wrote)
-made_row set n BadLines written held held' kb kn row wrote calm = absurd row
-made_row set n Usage written held held' kb kn row wrote calm = absurd row
-made_row set n Fuel written held held' kb kn row wrote calm = inl (rw row.0 refl, subst (Appends held held') row.1 wrote)
-made_row set n ReadFault written held held' kb kn row wrote calm = absurd row
-made_row set n WriteFault written held held' kb kn row wrote calm = absurd (calm row.0)
-made_row set n NoMemory written held held' kb kn row wrote calm = inr refl
-made_row set n TooLong written held held' kb kn row wrote calm = absurd row
-
-pub runs_made : (set : Options) (n : ℕ) (status : Status) (held held' : Option (List ℕ)) (kb kn : ℕ) → MadeMeets set n status held held' kb kn → (Rose kb kn → ⊥) → RunsMade set n status held held'
-runs_made set n status held held' kb kn meets calm = made_row set n status meets.written held held' kb kn meets.row meets.wrote calm
