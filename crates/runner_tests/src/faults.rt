@@ -99,8 +99,8 @@ fn stops_at_write(
     write: usize,
 ) -> Result<(), Fail> {
     let mut sink = short_sink(alloc, write as u64)?;
-    let status = status_into(alloc, &mut sink);
-    assert!(rt; matches!(status, Ok(Status::WriteFault)));
+    let status = status_into(alloc, &mut sink)?;
+    assert_eq!(rt; status, Status::WriteFault);
     assert!(rt; sink.bytes().len() <= write.saturating_sub(1).saturating_mul(7));
     assert!(rt; transcript.as_bytes().starts_with(sink.bytes()));
     Ok(())
@@ -114,8 +114,8 @@ fn goes_on_to_the_end(
     write: usize,
 ) -> Result<(), Fail> {
     let mut sink = short_sink(alloc, write as u64)?;
-    let status = status_into(alloc, &mut sink);
-    assert!(rt; matches!(status, Ok(Status::Done)));
+    let status = status_into(alloc, &mut sink)?;
+    assert_eq!(rt; status, Status::Done);
     assert!(rt; sink.bytes() == transcript.as_bytes());
     Ok(())
 }
