@@ -1,6 +1,5 @@
 -- Rows stand for one forest at most.
 use Rattle.std.specs.Prelude.{◌≡◌, ℕ, ◌+◌, ◌-◌, ◌<◌, ◌≤◌, ◌==◌, if◌then◌else◌, List, Option, Some, None, refl}
-use Rattle.std.specs.Coded.{Coded, Coded-set, code_by, coded×, coded_ℕ, coded_list, coded_option, ×_prop, Unit-prop, le_prop}
 use Rattle.std.proofs.Common.{arith, ap, sym, subst, inl, inr}
 use Rattle.std.proofs.lemmas.Bool.{cases_lt, cases_eq}
 use Rattle.std.proofs.lemmas.Bool.Decides.{nat_tests}
@@ -8,48 +7,8 @@ use Rattle.std.proofs.lemmas.Option.{slice_get_within}
 use Rattle.node_trees.specs.Facts.{Facts}
 use Rattle.node_trees.specs.Trees.{Trees, none, tree, roots}
 use Rattle.node_trees.specs.Spots.{Spot, spot_of}
-use Rattle.node_trees.specs.TreesCode.{facts_code}
-use Rattle.node_trees.specs.Nodes.{Rises, times, IsNode, IsTidy}
+use Rattle.node_trees.specs.Nodes.{Rises, times, IsNode}
 use Rattle.tree_laws.specs.Rows.{Stands, IsForest, row_at}
-
--- each of these facts has one proof at most
-
-abbrev row_code : Coded Spot
-row_code =
-    code_by (Facts × (Option ℕ × (Option ℕ × (List ℕ × List ℕ))))
-    (coded× facts_code (coded× (coded_option coded_ℕ) (coded× (coded_option coded_ℕ) (coded× (coded_list coded_ℕ) (coded_list coded_ℕ)))))
-    (λ r. (r.facts, (r.parent, (r.host, (r.shadow, r.children)))))
-    (λ p. record { facts = p.0; parent = p.1.0; host = p.1.1.0; shadow = p.1.1.1.0; children = p.1.1.1.1 }) (λ _. refl)
-
-Stands-prop : (rows : List Spot) (p h : Option ℕ) (f : Trees) → IsProp (Stands rows p h f)
-Stands-prop rows p h none = Unit-prop
-Stands-prop rows p h (tree m x s k r) =
-    let a = Stands-prop rows None (Some m) s in
-    let b = Stands-prop rows (Some m) None k in
-    let c = Stands-prop rows p h r in
-    let d = Coded-set (coded_option row_code) (row_at rows m) (Some (spot_of x p h s k)) in
-    hlevel (a, b, c, d, le_prop)
-
-Rises-prop : (low : ℕ) (f : Trees) → IsProp (Rises low f)
-Rises-prop low none = Unit-prop
-Rises-prop low (tree m x s k r) = ×_prop le_prop (Rises-prop m r)
-
-IsNode-prop : (f : Trees) (n : ℕ) → IsProp (IsNode f n)
-IsNode-prop f n = hlevel le_prop
-
-IsTidy-prop : (f : Trees) → IsProp (IsTidy f)
-IsTidy-prop f =
-    let a = Rises-prop 0 f in
-    let b = Coded-set coded_ℕ in
-    let c = IsNode-prop f in
-    hlevel (a, b, c, le_prop)
-
-pub IsForest-prop : (rows : List Spot) (f : Trees) → IsProp (IsForest rows f)
-IsForest-prop rows f =
-    let a = Stands-prop rows None None f in
-    let b = IsTidy-prop f in
-    let c = Coded-set coded_ℕ in
-    hlevel (a, b, c)
 
 -- trees with the same roots
 
@@ -65,7 +24,13 @@ Stands-roots rows p h (tree m x s k r) (tree n y t l q) a b e =
     let after : roots r ≡ roots q = cc in
     let b' : Stands rows p h (tree m y t l q) = subst (λ i. Stands rows p h (tree i y t l q)) (sym here) b in
     let same = same_row x y p h s t k l (cc (a.1, b'.1)) in
-    cc (here, same.0, Stands-roots rows None (Some m) s t a.2 b'.2 same.1, Stands-roots rows (Some m) None k l a.3 b'.3 same.2, Stands-roots rows p h r q a.4 b'.4 after)
+    cc (
+      here,
+      same.0,
+      Stands-roots rows None (Some m) s t a.2 b'.2 same.1,
+      Stands-roots rows (Some m) None k l a.3 b'.3 same.2,
+      Stands-roots rows p h r q a.4 b'.4 after,
+    )
 
 -- how many roots have the number n
 abbrev root_times : ℕ → Trees → ℕ
@@ -96,7 +61,8 @@ roots_agree low (tree m x s k r) (tree n y t l q) a b e =
 
 -- roots are the nodes whose rows have neither a parent nor a host
 
-root_row : (rows : List Spot) (p h : Option ℕ) (f : Trees) (n : ℕ) → Stands rows p h f → 0 < root_times n f → (0 < n) × ((row : Spot) × (row_at rows n ≡ Some row) × (row.parent ≡ p) × (row.host ≡ h))
+root_row : (rows : List Spot) (p h : Option ℕ) (f : Trees) (n : ℕ) → Stands rows p h f → 0 < root_times n f
+    → (0 < n) × ((row : Spot) × (row_at rows n ≡ Some row) × (row.parent ≡ p) × (row.host ≡ h))
 root_row rows p h none n st pos = absurd (omega arith)
 root_row rows p h (tree m x s k r) n st pos =
     elim (cases_eq m n) [
@@ -104,7 +70,8 @@ root_row rows p h (tree m x s k r) n st pos =
       | inr ne ↦ root_row rows p h r n st.4 (grind (arith, nat_tests))
     ]
 
-inner_row : (rows : List Spot) (p h : Option ℕ) (f : Trees) (n : ℕ) → Stands rows p h f → root_times n f ≡ 0 → 0 < times n f → (row : Spot) → row_at rows n ≡ Some row → row.parent ≡ None → row.host ≡ None → ⊥
+inner_row : (rows : List Spot) (p h : Option ℕ) (f : Trees) (n : ℕ) → Stands rows p h f → root_times n f ≡ 0 → 0 < times n f
+    → (row : Spot) → row_at rows n ≡ Some row → row.parent ≡ None → row.host ≡ None → ⊥
 inner_row rows p h none n st top pos row e pn hn = omega arith
 inner_row rows p h (tree m x s k r) n st top pos row e pn hn =
     elim (cases_lt 0 (times n r)) [
@@ -131,7 +98,8 @@ root_in_both rows f g n a b pos =
     elim (cases_lt 0 (root_times n g)) [
       | inl at ↦ at
       | inr not ↦
-          absurd (inner_row rows None None g n b.stands (omega arith) (omega (arith, b.tidy.once n (node_of_row rows g n from.1.0 b from.0 from.1.1))) from.1.0 from.1.1 from.1.2 from.1.3)
+          absurd (inner_row rows None None g n b.stands (omega arith)
+          (omega (arith, b.tidy.once n (node_of_row rows g n from.1.0 b from.0 from.1.1))) from.1.0 from.1.1 from.1.2 from.1.3)
     ]
 
 root_times_le : (n : ℕ) (f : Trees) → root_times n f ≤ times n f
