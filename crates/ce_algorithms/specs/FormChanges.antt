@@ -1,4 +1,5 @@
--- What a change of the trees changes of form owners and disabled states, and whom it tells (HTML Standard, section "Custom element reactions": formAssociatedCallback, formDisabledCallback).
+-- What a change of the trees changes of form owners and disabled states, and whom it tells
+-- (HTML Standard, section "Custom element reactions": formAssociatedCallback, formDisabledCallback).
 use Rattle.std.specs.Prelude.{ℕ, Bool, true, ◌==◌, not, List, filter, Option, Some, None}
 use Rattle.node_trees.specs.Paths.{is_among}
 use Rattle.reaction_queue.specs.declared.reaction.Reaction.TheVariants.{FormAssociated, FormDisabled}
