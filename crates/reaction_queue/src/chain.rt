@@ -31,7 +31,8 @@ pub(crate) fn put_last(
     number: ReactionNo,
     reaction: Reaction,
 ) -> Result<Ends, NoMemory>
-    ensures chain { IfOk result (λ e. (links : List Link) → IsChain cells.old place ends links → IsChain cells.new place (Some e) (with_last links e.last (number, reaction))) }
+    ensures chain { IfOk result (λ e. (links : List Link) → IsChain cells.old place ends links
+        → IsChain cells.new place (Some e) (with_last links e.last (number, reaction))) }
     ensures others { OnOk result ((links : List Link) (j : ℕ) → IsChain cells.old place ends links → j ≢ place → SameFor j cells.old cells.new) }
     ensures count { OnOk result (slab_len cells.new ≡ slab_len cells.old + 1) }
     ensures err { OnErr result (cells.new ≡ record cells.old { capacity = cells.new.capacity }) }
