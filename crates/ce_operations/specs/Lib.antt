@@ -3,4 +3,5 @@ pub mod ByUser
 pub mod OnControls
 pub mod OnForms
 pub mod OnInternals
+pub mod OnTree
 pub mod Ready

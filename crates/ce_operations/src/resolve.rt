@@ -14,12 +14,12 @@ ghost use Rattle.ce_algorithms.specs.State.{view};
 ghost use Rattle.ce_operations.specs.OnControls.{is_on_controls};
 ghost use Rattle.ce_operations.specs.OnForms.{is_on_forms};
 ghost use Rattle.ce_operations.specs.OnInternals.{is_on_internals};
+ghost use Rattle.ce_operations.specs.OnTree.{is_on_tree};
 ghost use Rattle.ce_operations.specs.Ready.{IsReady};
 ghost use Rattle.page_calls.specs.Resolved.{Resolves};
 
-use crate::operands::{class, element, node, node_that};
-use attributes::{del_attr, set_attr};
-use ce_algorithms::{Deed, Fit, PageDeed};
+use crate::operands::{class, node};
+use ce_algorithms::{Deed, PageDeed};
 use ce_base::{NodeNo, Refused};
 use controls::{is_on_controls, on_controls};
 use forms::{is_on_forms, on_forms};
@@ -28,7 +28,7 @@ use rule_lines::Op;
 use session::{ask, define, let_node};
 use session_state::State;
 use std::alloc::Global;
-use tree::{adopt, append, before, create, make_text, remove};
+use tree::{create, is_on_tree, make_text, on_tree};
 pub use user::resolve_user;
 
 /// The deed of an operation, or the first fault of its operands, from the left. Nothing is done yet.
@@ -46,21 +46,19 @@ pub fn resolve(state: &State, alloc: Global, this: &Option<NodeNo>, op: Op) -> R
         on_internals(state, alloc, this, op)
     } else if is_on_forms(&op) {
         on_forms(state, this, op)
+    } else if is_on_tree(&op) {
+        on_tree(state, alloc, this, op)
     } else {
-        beside_forms(state, alloc, this, op)
+        beside_tree(state, this, op)
     }
 }
 
-// The deed of an operation that is neither about a control nor about internals nor about a form.
-fn beside_forms(
-    state: &State,
-    alloc: Global,
-    this: &Option<NodeNo>,
-    op: Op,
-) -> Result<Deed, Refused>
+// The deed of an operation that is neither about a control nor about internals nor about a form nor about the tree.
+fn beside_tree(state: &State, this: &Option<NodeNo>, op: Op) -> Result<Deed, Refused>
     requires no_control { is_on_controls op ≡ false }
     requires no_internals { is_on_internals op ≡ false }
     requires no_form { is_on_forms op ≡ false }
+    requires no_tree { is_on_tree op ≡ false }
     requires there { IfSome this.now (IsNode state.now.page.forest) }
     ensures deed { Resolves result (resolve (view this.now state.now) op) }
     ensures ready { IfOk result (IsReady state.now.page.forest) }
@@ -84,29 +82,6 @@ fn beside_forms(
             chars,
             document,
         } => make_text(state, this, chars, &document),
-        Op::Shadow { var: _, host } => {
-            let host = element(state, this, &host)?;
-            Ok(Deed::OnPage(PageDeed::Shadow { host }))
-        }
-        Op::Append {
-            parent,
-            node: child,
-        } => append(state, this, &parent, &child),
-        Op::Before {
-            parent,
-            node: child,
-            before: reference,
-        } => before(state, this, &parent, &child, &reference),
-        Op::Remove {
-            parent,
-            node: child,
-        } => remove(state, this, &parent, &child),
-        Op::Detach { node } => {
-            let node = node_that(Fit::ElementOrText, state, this, &node)?;
-            Ok(Deed::OnPage(PageDeed::Detach { node }))
-        }
-        Op::SetAttr { node, name, value } => set_attr(state, alloc, this, &node, name, value),
-        Op::DelAttr { node, name } => del_attr(state, this, &node, name),
         Op::Clone {
             var: _,
             node: operand,
@@ -115,10 +90,6 @@ fn beside_forms(
             let node = node(state, this, &operand)?;
             Ok(Deed::OnPage(PageDeed::Clone { node, deep }))
         }
-        Op::Adopt {
-            document,
-            node: operand,
-        } => adopt(state, this, &document, &operand),
         Op::Define {
             name,
             class: class_name,
