@@ -54,9 +54,6 @@ bound_of b is = record { low = low_of b is; cr = differs b 13 is (λ e. absurd c
     low_of : (x : ℕ) → is_ascii_alphanumeric x ≡ true → x < 128
     low_of x e = grind (arith, nat_tests)
 
-abbrev AreBound : List ℕ → Type 0
-AreBound boundary = AllByRecursion IsBound boundary
-
 bounds_of : (bs : List ℕ) → list_all is_ascii_alphanumeric bs ≡ true → AllByRecursion IsBound bs
 bounds_of [] are = tt
 bounds_of (b ∷ bs) are = let both = and_parts _ _ are in (bound_of b both.0, bounds_of bs both.1)

@@ -1,5 +1,5 @@
 -- A listing that is written an entry at a time.
-use Rattle.std.proofs.Common.{◌≡◌, ◌<◌, ◌+◌, ℕ, List, [], ◌∷◌, ◌++◌, length, take, drop, get_or, sym, ap, subst, ◌∙◌, append_assoc, append-nil}
+use Rattle.std.proofs.Common.{◌≡◌, ◌<◌, ◌+◌, ℕ, List, [], ◌∷◌, ◌++◌, length, take, drop, get_or, sym, ap, ◌∙◌, append_assoc, append-nil}
 use Rattle.std.proofs.KnownBytes.{Appends-trans}
 use Rattle.std.proofs.lemmas.List.{take_more, take-append-drop}
 use Rattle.std.proofs.lemmas.List.Concat.{flat_map-append}
@@ -15,11 +15,6 @@ one_more list i e small is =
     ap listing (take_more list i e small)
     ∙ (flat_map-append entry_line (take i list) (get_or list i e ∷ [])
     ∙ ap (λ (l : List ℕ). listing (take i list) ++ l) (append-nil (entry_line (get_or list i e)) ∙ ap entry_line (sym is)))
-
-pub wrote_one : (list : List Entry) (i : ℕ) (e : Entry) (old mid new : Option (List ℕ)) → i < length list → e ≡ get_or list i e
-    → Appends old mid (listing (take i list)) → Appends mid new (entry_line e) → Appends old new (listing (take (i + 1) list))
-wrote_one list i e old mid new small is before one =
-    subst (λ (l : List ℕ). Appends old new l) (sym (one_more list i e small is)) (Appends-trans old mid new (listing (take i list)) (entry_line e) before one)
 
 -- the whole listing, cut behind a front of the line of an entry
 cut_listing : (list : List Entry) (i : ℕ) (e : Entry) (part more : List ℕ) → i < length list → e ≡ get_or list i e → part ++ more ≡ entry_line e

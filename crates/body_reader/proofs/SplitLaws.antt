@@ -116,7 +116,3 @@ line_stopped NoMemory old new bytes rest part behind same cut none = tt
 pub last_empty : (bytes : List ℕ) → length bytes ≡ 0 → last_line bytes ≡ Some []
 last_empty [] e = refl
 last_empty (b ∷ bytes) e = absurd (omega arith)
-
-last_not : (bytes : List ℕ) → (length bytes ≡ 0 → ⊥) → last_line bytes ≡ None
-last_not [] e = absurd (e refl)
-last_not (b ∷ bytes) e = refl

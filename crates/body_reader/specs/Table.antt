@@ -82,12 +82,22 @@ IsAsSaid None status call = (status ≡ Usage) × (call.taken ≡ []) × (call.w
 IsAsSaid (Some body_type) status call = Row status body_type call
 
 -- some bytes were taken and some were written, as far as both ends tell them, and the call is as its words and its status say
-pub record RunMeets (said : Option BodyType) (status : ReadStatus) (left left' held held' : Option (List ℕ)) (ended : Bool) (source_before source_now sink_before sink_now : ℕ) : Type 0 where
+pub record RunMeets (said : Option BodyType) (status : ReadStatus) (left left' held held' : Option (List ℕ)) (ended : Bool)
+    (source_before source_now sink_before sink_now : ℕ) : Type 0 where
   pub taken : List ℕ
   pub written : List ℕ
   pub took : Consumes left left' taken
   pub wrote : Appends held held' written
-  pub as_said : IsAsSaid said status (record { taken = taken; written = written; ended = ended; left = left'; source_before = source_before; source_now = source_now; sink_before = sink_before; sink_now = sink_now })
+  pub as_said : IsAsSaid said status (record {
+    taken = taken;
+    written = written;
+    ended = ended;
+    left = left';
+    source_before = source_before;
+    source_now = source_now;
+    sink_before = sink_before;
+    sink_now = sink_now;
+  })
 
 -- a source was read whole: its bytes are a body, and its listing was written; or they are none, and the line that says so was
 -- written; or memory was refused
