@@ -30,7 +30,8 @@ pub record Finds {Y : Type 0} (names : BTreeMap (String Y) ℕ) (classes : BTree
 -- the maps find a definition that is put last with this number, where no other one has its name or its class
 abbrev pub Follows : {Y : Type 0} → BTreeMap (String Y) ℕ → BTreeMap ℕ ℕ → BTreeMap (String Y) ℕ → BTreeMap ℕ ℕ → Definition → ℕ → Type 0
 Follows names classes more_names more_classes d number =
-    (ds : List Definition) → Finds names classes ds → by_name ds d.name ≡ None → by_class ds d.class ≡ None → number ≡ length ds → Finds more_names more_classes (ds ++ d ∷ [])
+    (ds : List Definition) → Finds names classes ds → by_name ds d.name ≡ None → by_class ds d.class ≡ None → number ≡ length ds
+    → Finds more_names more_classes (ds ++ d ∷ [])
 
 -- the maps find what they found, where no definition has this one's class
 abbrev pub Stays : {Y : Type 0} → BTreeMap (String Y) ℕ → BTreeMap ℕ ℕ → BTreeMap (String Y) ℕ → BTreeMap ℕ ℕ → Definition → Type 0
