@@ -6,7 +6,7 @@ use Rattle.ce_frames.specs.Places.{Behaviour, Held, Homes, Stands}
 use Rattle.ce_frames.specs.Whole.{joined}
 use Rattle.ce_frames.proofs.Moves.{all_home}
 use Rattle.frame_stack.specs.Sessions.{session}
-use Rattle.frame_stack.specs.Stacked.{Stacked, at_home, behaviours_of}
+use Rattle.frame_stack.specs.Stacked.{Stacked, behaviours_of}
 use Rattle.ce_machine.specs.Ended.{IsAtRest}
 use Rattle.ce_machine.specs.Rested.{AreAtHome}
 

@@ -18,7 +18,7 @@ use Rattle.ce_algorithms.specs.Forms.{forms_of, form_owner, is_disabled}
 use Rattle.ce_algorithms.specs.State.{State, on_page}
 use Rattle.ce_algorithms.specs.Reset.{reset_form}
 use Rattle.ce_algorithms.specs.Controls.{ignored_or}
-use Rattle.ce_algorithms.specs.Submission.{cause, plan, submitted, submit, request, act_on, activate_in, activate, press, submit_steps}
+use Rattle.ce_algorithms.specs.Submission.{cause, plan, submitted, submit, request, act_on, activate_in, activate, submit_steps}
 use Rattle.order_law.proofs.Model.Invariant.{Hold}
 use Rattle.order_law.proofs.Model.Reading.{line_tests}
 use Rattle.order_law.proofs.Model.Lines.{Plain}
