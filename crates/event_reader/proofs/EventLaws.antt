@@ -1,5 +1,5 @@
 -- The text of an event is guessed as an event with this text.
-use Rattle.std.proofs.Common.{◌≡◌, ℕ, List, [], ◌∷◌, ◌++◌, length, Option, Some, None, Ok, refl, sym, ap, ◌∙◌, subst, arith}
+use Rattle.std.proofs.Common.{◌≡◌, ℕ, List, [], ◌∷◌, ◌++◌, length, Option, Some, Ok, refl, sym, ap, ◌∙◌, subst, arith}
 use Rattle.std.specs.Prelude.{codes}
 use Rattle.std.specs.Option.{option_map}
 use Rattle.std.specs.Str.{IsUtf8}
@@ -12,7 +12,6 @@ use Rattle.rule_tokens.specs.Tokens.{tokens_of}
 use Rattle.ce_events.specs.declared.event.Answer.{Answer}
 use Rattle.ce_events.specs.declared.event.Event.{Event}
 use Rattle.ce_events.specs.declared.event.Event.TheVariants.{Construct, Connected, Disconnected, Adopted, Attribute, FormAssociated, FormDisabled, FormReset, FormStateRestore, Logged, Caught, Reported, Asked, SubmitGet, SubmitPost, SubmitBlocked, Fine, Gave, Answered, Ignored, Threw, WasBad, FuelLine, QueueOpened, Enqueued, DrainBegun, Started, Finished, Dropped, QueueClosed, UpgradeBegun, UpgradeDone, UpgradeThrew}
-use Rattle.ce_events.specs.Step.{step_of}
 use Rattle.ce_events.specs.Text.{event_text}
 use Rattle.event_reader.specs.Answers.{answer_of}
 use Rattle.event_reader.specs.Guessed.{IsTextGuessed, TextsAreGuessed}

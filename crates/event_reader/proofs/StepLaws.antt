@@ -1,5 +1,5 @@
 -- Two events with one text are read as one event, which is the step of both.
-use Rattle.std.proofs.Common.{◌≡◌, ℕ, List, Some, sym, ap, ◌∙◌}
+use Rattle.std.proofs.Common.{◌≡◌, Some, sym, ap, ◌∙◌}
 use Rattle.ce_events.specs.declared.event.Event.{Event}
 use Rattle.ce_events.specs.Step.{step_of}
 use Rattle.event_reader.specs.Guessed.{TextsAreGuessed}
