@@ -1,5 +1,5 @@
 -- What reading a whole source took from it.
-use Rattle.std.specs.Prelude.{ℕ, ◌≡◌, ◌≤◌, ◌<◌, Bool, true, List, length, Result, Ok, Err}
+use Rattle.std.specs.Prelude.{ℕ, ◌≡◌, ◌≤◌, ◌<◌, Bool, true, false, List, length, Result, Ok, Err}
 use Rattle.std.specs.Io.KnownBytes.{Consumes, IsAtEnd}
 use Rattle.std.specs.declared.option.Option.{Option}
 use Rattle.ce_base.specs.Faults.{Rose}
@@ -19,10 +19,10 @@ pub record Taking : Type 0 where
   pub before : ℕ  -- the counts of faults
   pub now : ℕ
 
--- the row of each answer
+-- the row of each answer. A read that failed was the last one: another might have given the end
 abbrev pub ReadRow : ℕ → Result Read NoMemory → Taking → Type 0
 ReadRow limit (Ok (Whole bytes)) t = (bytes ≡ t.taken) × (t.ended ≡ true) × IsAtEnd t.left × (length t.taken ≤ limit)
-ReadRow limit (Ok Failed) t = Rose t.before t.now × (length t.taken ≤ limit)
+ReadRow limit (Ok Failed) t = Rose t.before t.now × (length t.taken ≤ limit) × (t.ended ≡ false)
 ReadRow limit (Ok TooLong) t = limit < length t.taken
 ReadRow limit (Err e) t = length t.taken ≤ limit
 
