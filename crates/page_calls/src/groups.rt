@@ -1,5 +1,5 @@
 // Radio button groups.
-ghost use Rattle.std.specs.Prelude.{◌≡◌, true, IfOk, OnOk};
+ghost use Rattle.std.specs.Prelude.{◌≡◌, false, true, IfErr, IfOk, OnOk};
 ghost use Rattle.node_trees.specs.Nodes.{IsNode};
 ghost use Rattle.element_names.specs.declared.input_kinds.InputKind.TheVariants.{Radio};
 ghost use Rattle.form_controls.specs.Checkedness.{group_of, is_checked};
@@ -62,7 +62,8 @@ fn group_of(alloc: Global, page: &Page, radio: NodeNo) -> Result<Nodes, NoMemory
 /// is not settled has no answer.
 pub(crate) fn is_checked(page: &Page, n: NodeNo) -> Result<bool, NoMemory>
     requires { IsNode page.now.forest n }
-    ensures { IfOk result (λ b. b ≡ is_checked (forms_of page.now) page.now.controls n) }
+    ensures checked { IfOk result (λ b. b ≡ is_checked (forms_of page.now) page.now.controls n) }
+    ensures memory { IfErr result (λ e. page.now.settled ≡ false) }
 {
     if !page.is_settled() {
         return Err(NoMemory);

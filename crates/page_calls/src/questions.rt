@@ -1,5 +1,5 @@
 // Questions about nodes.
-ghost use Rattle.std.specs.Prelude.{◌≡◌, ℕ, All, List, Option, option_copied, true, IfOk};
+ghost use Rattle.std.specs.Prelude.{◌≡◌, ℕ, All, List, Option, option_copied, false, true, IfErr, IfOk};
 ghost use Rattle.std.specs.Str.{str_to_ascii_lowercase};
 ghost use Rattle.node_trees.specs.Nodes.{IsNode, IsNodeOrNone};
 ghost use Rattle.node_trees.specs.Spots.{attribute_at, parent_at};
@@ -119,11 +119,12 @@ fn owner(page: &Page, n: NodeNo) -> Result<Answer, NoMemory>
     }
 }
 
-/// The form owner of a node (HTML Standard, section "Association of controls and forms", "form owner"). NoMemory: the page
-/// is not settled, so it has no answer.
+/// The form owner of a node (HTML Standard, section "Association of controls and forms", "form owner"). NoMemory comes
+/// only where the page is not settled.
 pub fn form_owner(page: &Page, n: NodeNo) -> Result<Option<NodeNo>, NoMemory>
     requires { IsNode page.now.forest n }
     ensures owner { IfOk result (λ o. o ≡ form_owner page.now n) }
+    ensures memory { IfErr result (λ e. page.now.settled ≡ false) }
     ensures node { IfOk result (IsNodeOrNone page.now.forest) }
 {
     if !page.is_settled() {
@@ -208,10 +209,11 @@ fn states(alloc: Global, page: &Page, n: NodeNo) -> Result<Texts, NoMemory>
 }
 
 /// Whether the node is disabled (HTML Standard, section "Enabling and disabling form controls: the disabled attribute").
-/// NoMemory: the page is not settled, so it has no answer.
+/// NoMemory comes only where the page is not settled.
 pub fn is_disabled(page: &Page, n: NodeNo) -> Result<bool, NoMemory>
     requires { IsNode page.now.forest n }
-    ensures { IfOk result (λ b. b ≡ is_disabled page.now n) }
+    ensures disabled { IfOk result (λ b. b ≡ is_disabled page.now n) }
+    ensures memory { IfErr result (λ e. page.now.settled ≡ false) }
 {
     if !page.is_settled() {
         return Err(NoMemory);

@@ -1,5 +1,5 @@
 // What is asked of constraint validation.
-ghost use Rattle.std.specs.Prelude.{◌≡◌, IfOk};
+ghost use Rattle.std.specs.Prelude.{◌≡◌, false, IfErr, IfOk};
 ghost use Rattle.node_trees.specs.Nodes.{IsNode};
 ghost use Rattle.form_controls.specs.Barred.{will_validate};
 ghost use Rattle.form_controls.specs.Internals.{kept_by};
@@ -14,7 +14,8 @@ use std::alloc::Global;
 /// `willValidate`). A page that is not settled has no answer.
 pub(crate) fn will_validate(page: &Page, n: NodeNo) -> Result<bool, NoMemory>
     requires { IsNode page.now.forest n }
-    ensures { IfOk result (λ b. b ≡ will_validate (forms_of page.now) n) }
+    ensures candidate { IfOk result (λ b. b ≡ will_validate (forms_of page.now) n) }
+    ensures memory { IfErr result (λ e. page.now.settled ≡ false) }
 {
     if !page.is_settled() {
         return Err(NoMemory);
@@ -26,7 +27,8 @@ pub(crate) fn will_validate(page: &Page, n: NodeNo) -> Result<bool, NoMemory>
 /// that is not settled has no answer.
 pub(crate) fn flags(page: &Page, n: NodeNo) -> Result<Flags, NoMemory>
     requires { IsNode page.now.forest n }
-    ensures { IfOk result (λ fs. fs ≡ flags (forms_of page.now) page.now.controls page.now.internals n) }
+    ensures flags { IfOk result (λ fs. fs ≡ flags (forms_of page.now) page.now.controls page.now.internals n) }
+    ensures memory { IfErr result (λ e. page.now.settled ≡ false) }
 {
     if !page.is_settled() {
         return Err(NoMemory);
