@@ -58,9 +58,10 @@ fn ends(
     status: CheckStatus,
     written: &str,
 ) -> Result<(), Fail> {
+    let (reads, writes) = (vec![in alloc; fails.0]?, vec![in alloc; fails.1]?);
     let bytes = trace.as_bytes().to_vec(alloc)?;
-    let mut source = MemSource::make(bytes, 7, vec![in alloc; fails.0]?);
-    let mut sink = MemSink::make(alloc, vec![in alloc; fails.1]?);
+    let mut source = MemSource::make(bytes, 7, reads);
+    let mut sink = MemSink::make(alloc, writes);
     let ended = check_run(alloc, &Vec::new(alloc), &mut source, &mut sink);
     assert_eq!(rt; ended, status);
     assert!(rt; sink.bytes() == written.as_bytes());

@@ -119,6 +119,23 @@ fn add(
     settle(alloc, tree, owners, Touch::Inserted(n))
 }
 
+// The children of the form (3), each behind the others.
+fn add_all(
+    rt: &impl Abort,
+    alloc: Global,
+    tree: &mut Tree,
+    owners: &mut OwnerTable,
+    children: &str,
+) -> Result<(), Fail>
+    requires { StandsFor owners.old tree.old }
+    ensures { OnOk result (StandsFor owners.new tree.new) }
+{
+    for child in children.split(" | ") {
+        add(rt, alloc, tree, owners, 3, child)?;
+    }
+    Ok(())
+}
+
 // A document with an `html` element (2), and in it a form (3) with its children.
 fn grow(
     rt: &impl Abort,
@@ -133,10 +150,29 @@ fn grow(
     let (form, children) = words.split_once(" | ").unwrap_or((words, ""));
     add(rt, alloc, tree, owners, 1, "html")?;
     add(rt, alloc, tree, owners, 2, form)?;
-    for child in children.split(" | ") {
-        add(rt, alloc, tree, owners, 3, child)?;
+    add_all(rt, alloc, tree, owners, children)
+}
+
+// Why nothing is sent, in words.
+fn why_word(why: &Why) -> &'static str {
+    match why {
+        Why::Disconnected => "disconnected",
+        Why::Invalid(_) => "invalid",
+        Why::Dialog => "dialog",
+        Why::Url => "url",
+        Why::Scheme => "scheme",
+        Why::Size => "size",
+        Why::Boundary => "boundary",
     }
-    Ok(())
+}
+
+// The same, with how many controls are invalid, if any is.
+fn blocked(alloc: Global, why: Why) -> Result<String, Fail> {
+    let word = why_word(&why);
+    match why {
+        Why::Invalid(nodes) => Ok(format!(in alloc; "blocked {word} {}", nodes.len())?),
+        _ => Ok(format!(in alloc; "blocked {word}")?),
+    }
 }
 
 // What a plan is, in words.
@@ -151,13 +187,7 @@ fn told(alloc: Global, plan: Plan) -> Result<Text, Fail> {
                 body.as_str()
             )?
         }
-        Plan::Blocked(Why::Invalid(nodes)) => format!(in alloc; "blocked invalid {}", nodes.len())?,
-        Plan::Blocked(Why::Disconnected) => "blocked disconnected".to_string(alloc)?,
-        Plan::Blocked(Why::Dialog) => "blocked dialog".to_string(alloc)?,
-        Plan::Blocked(Why::Url) => "blocked url".to_string(alloc)?,
-        Plan::Blocked(Why::Scheme) => "blocked scheme".to_string(alloc)?,
-        Plan::Blocked(Why::Size) => "blocked size".to_string(alloc)?,
-        Plan::Blocked(Why::Boundary) => "blocked boundary".to_string(alloc)?,
+        Plan::Blocked(why) => blocked(alloc, why)?,
     };
     Ok(Text::from(text))
 }

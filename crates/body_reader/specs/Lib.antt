@@ -1,12 +1,3 @@
 pub mod Asked
-pub mod Bodies
-pub mod Cuts
-pub mod Escapes
-pub mod Gives
 pub mod Listing
-pub mod ReadParts
-pub mod ReadPlain
-pub mod ReadUrl
-pub mod Reads
 pub mod Table
-pub mod Written

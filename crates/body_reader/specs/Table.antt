@@ -6,7 +6,7 @@ use Rattle.ce_base.specs.Outside.{IsPrefix}
 use Rattle.ce_base.specs.declared.entries.Entry.{Entry}
 use Rattle.ce_base.specs.declared.stop.Stop.{Stop}
 use Rattle.ce_base.specs.declared.stop.Stop.TheVariants.{NoMemory as StopMemory, WriteFault as StopWrite}
-use Rattle.body_reader.specs.Bodies.{UrlText, PlainText, PartText, IsBoundary}
+use Rattle.body_grammars.specs.Bodies.{UrlText, PlainText, PartText, IsBoundary}
 use Rattle.body_reader.specs.Listing.{listing, refused_line}
 use Rattle.body_reader.specs.declared.body_type.BodyType.{BodyType}
 use Rattle.body_reader.specs.declared.body_type.BodyType.TheVariants.{Urlencoded, Plain, Multipart}

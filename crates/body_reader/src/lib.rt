@@ -1,31 +1,15 @@
-//! Bodies of requests read back as entry lists: urlencoded, plain text and multipart, each exactly the bodies that spell a
-//! list as the encoders do (URL Standard, section "application/x-www-form-urlencoded"; HTML Standard, section "Plain text
-//! form data"; RFC 7578); and a whole run, from the words and the source to the sink and a status.
+//! A whole run of the reader of bodies, from the words and the source to the sink and a status: which type of body the words
+//! ask for, and its entries as lines.
 #![tactic(auto)]
 
 mod body_type;
 mod boundary;
-mod cuts;
-mod laws;
 mod listing;
-mod multipart;
-mod parts;
-mod plain;
-mod refused;
 mod run;
-mod spelled;
 mod status;
-mod texts;
-mod urlencoded;
-mod worked;
 
+pub use body_grammars::{BodyRefused, read_multipart, read_plain, read_urlencoded};
 pub use body_type::BodyType;
 pub use boundary::is_boundary;
-pub use laws::{multipart_is_read_back, one_list, plain_is_read_back, urlencoded_is_read_back};
-pub use multipart::read_multipart;
-pub use plain::read_plain;
-pub use refused::BodyRefused;
 pub use run::read_run;
 pub use status::ReadStatus;
-pub use urlencoded::read_urlencoded;
-pub use worked::worked_bodies;

@@ -6,12 +6,13 @@ ghost use Rattle.ce_base.specs.Outside.{AppendsPart};
 ghost use Rattle.ce_base.specs.declared.entries.Entry.{Entry};
 ghost use Rattle.body_reader.specs.Asked.{asked};
 ghost use Rattle.body_reader.specs.Listing.{refused_line};
-ghost use Rattle.body_reader.specs.Reads.{Reads};
+ghost use Rattle.body_grammars.specs.Reads.{Reads};
 ghost use Rattle.body_reader.specs.Table.{AnswerMeets, IsBody, IsReadable, RunMeets, RunsWhole, limit};
 
+use crate::ReadStatus;
 use crate::body_type::BodyType;
 use crate::listing::write_listing;
-use crate::{BodyRefused, ReadStatus, read_multipart, read_plain, read_urlencoded};
+use body_grammars::{BodyRefused, read_multipart, read_plain, read_urlencoded};
 use ce_base::{Entries, NoMemory, Read, Sink, Source, Stop, read_all, write_all};
 use std::alloc::Global;
 

@@ -54,37 +54,30 @@ fn plain_controls(
     Ok(controls)
 }
 
-// Sees that the table has of a node what is read off the tree.
-fn same_node(
-    rt: &impl Abort,
-    alloc: Global,
-    page: &Page,
-    number: u64,
-    line: &str,
-) -> Result<(), Fail> {
+// Sees that the table has of a node the form owner and the disabled state that are read off the tree.
+fn same_state(rt: &impl Abort, page: &Page, number: u64, line: &str) {
     let (tree, owners) = (page.tree(), page.owners());
     let n = node(rt, tree, number);
     let associated = page.is_form_associated(n);
-    assert_eq!(rt; owners.associated(n), associated, "of {number} at {line}");
-    assert_eq!(rt;
-        owners.owner(n),
-        plain_owner(rt, page, number),
-        "of {number} at {line}"
-    );
-    assert_eq!(rt;
-        owners.disabled(n),
-        disabled_of(tree, n, associated),
-        "of {number} at {line}"
-    );
+    let same = owners.associated(n) == associated
+        && owners.owner(n) == plain_owner(rt, page, number)
+        && owners.disabled(n) == disabled_of(tree, n, associated);
+    assert!(rt; same, "of {number} at {line}");
+}
+
+// Sees that the table has of it the controls that are.
+fn same_controls(rt: &impl Abort, alloc: Global, page: &Page, number: u64) -> Result<(), Fail> {
+    let n = node(rt, page.tree(), number);
     let controls = plain_controls(rt, alloc, page, n)?;
-    assert!(rt; owners.controls(n) == controls.as_slice());
+    assert!(rt; page.owners().controls(n) == controls.as_slice());
     Ok(())
 }
 
 fn same_page(rt: &impl Abort, alloc: Global, page: &Page, line: &str) -> Result<(), Fail> {
     assert!(rt; page.is_settled());
     for i in 0..page.tree().count() {
-        same_node(rt, alloc, page, i + 1, line)?;
+        same_state(rt, page, i + 1, line);
+        same_controls(rt, alloc, page, i + 1)?;
     }
     Ok(())
 }

@@ -1,0 +1,16 @@
+pub mod CutLaws
+pub mod FirstCuts
+pub mod FrontLaws
+pub mod GivesLaws
+pub mod MultipartLaws
+pub mod PartCuts
+pub mod PartLaws
+pub mod PlainLaws
+pub mod SpelledLaws
+pub mod SplitLaws
+pub mod TextCuts
+pub mod TextLaws
+pub mod UrlLaws
+pub mod WrittenMultipart
+pub mod WrittenPlain
+pub mod WrittenUrl

@@ -1,0 +1,9 @@
+pub mod Bodies
+pub mod Cuts
+pub mod Escapes
+pub mod Gives
+pub mod ReadParts
+pub mod ReadPlain
+pub mod ReadUrl
+pub mod Reads
+pub mod Written

@@ -1,5 +1,0 @@
-use Rattle.body_reader.proofs.WrittenPlain.{plain_back}
-use Rattle.body_reader.proofs.laws.plain_is_read_back.Goals as goal
-
-pub returns : goal.returns
-returns c = plain_back

@@ -1,5 +1,0 @@
-use Rattle.body_reader.proofs.WrittenUrl.{urlencoded_back}
-use Rattle.body_reader.proofs.laws.urlencoded_is_read_back.Goals as goal
-
-pub returns : goal.returns
-returns c = urlencoded_back
