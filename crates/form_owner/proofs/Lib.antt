@@ -10,7 +10,7 @@ pub mod Covered
 pub mod Renewing
 pub mod Touched
 pub mod Touching
-pub mod Plainness
+pub mod Looking
 pub mod Unchanged
 pub mod Naming
 pub mod Covering

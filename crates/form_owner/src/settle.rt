@@ -10,7 +10,7 @@ ghost use Rattle.form_owner.specs.Told.{AreOfNodes};
 ghost use Rattle.form_owner.specs.Touches.{IsTouched, after_touch};
 ghost use Rattle.form_owner.specs.Writing.{IsPlaced, Noted, Written};
 
-use crate::plain::note_plain;
+use crate::looks::note_looks;
 use crate::reach::{of_change, of_mark, of_move};
 use crate::renewal::renew;
 use crate::seeing::see_touched;
@@ -72,7 +72,7 @@ impl OwnerTable {
                     tree,
                     &self.rows,
                     &self.named,
-                    &self.plain,
+                    &self.looks,
                     node,
                     parent,
                 ),
@@ -82,7 +82,7 @@ impl OwnerTable {
                 tree,
                 &self.rows,
                 &self.named,
-                &self.plain,
+                &self.looks,
                 node,
                 parent,
             ),
@@ -107,7 +107,7 @@ impl OwnerTable {
         note(&mut self.rows, touch);
         let changes = renew(alloc, tree, &mut self.rows, &candidates)?;
         see_touched(alloc, tree, &mut self.rows, &mut self.named, touch)?;
-        note_plain(tree, &self.rows, &mut self.plain, touch)?;
+        note_looks(tree, &self.rows, &mut self.looks, touch)?;
         Ok(changes)
     }
 }

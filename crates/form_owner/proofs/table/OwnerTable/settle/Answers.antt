@@ -6,7 +6,7 @@ use Rattle.id_index.specs.Held.{is_held}
 use Rattle.owner_rows.specs.OwnerRow.{row_in}
 use Rattle.form_owner.specs.Candidates.{Covers}
 use Rattle.form_owner.specs.OwnerRows.{OwnerRows}
-use Rattle.form_owner.specs.Plain.{AreNotedBy}
+use Rattle.form_owner.specs.Looks.{AreNotedBy}
 use Rattle.form_owner.specs.Told.{AreOfNodes}
 use Rattle.form_owner.specs.Touches.{after_touch}
 use Rattle.form_owner.specs.Writing.{AreNoted, AreSeenBy}
@@ -48,8 +48,8 @@ returns-clause-stands c = λ before stood touched.
     (subst (λ rows. AreSeenBy c.args.touch c.args.tree.now c.renew.new.rows rows (is_held c.args.self.now.named) (is_held c.see_touched.new.named)) (sym last)
     (subst (λ index. AreSeenBy c.args.touch c.args.tree.now c.renew.new.rows c.see_touched.new.rows (is_held index) (is_held c.see_touched.new.named)) (ap (λ (t : OwnerRows). t.named) c.self.view_is)
     (subst (λ rows. AreSeenBy c.args.touch c.args.tree.now rows c.see_touched.new.rows (is_held c.self.inside.named) (is_held c.see_touched.new.named)) read c.in_ok-see_touched.ensures)))
-    (subst (λ rows. AreNotedBy c.args.touch c.args.tree.now rows c.args.self.now.plain c.note_plain.new.plain) c.deref.ensures.value
-    (subst (λ plain. AreNotedBy c.args.touch c.args.tree.now c.deref.result.now plain c.note_plain.new.plain) (ap (λ (t : OwnerRows). t.plain) c.self.view_is) c.in_ok-note_plain.ensures))
+    (subst (λ rows. AreNotedBy c.args.touch c.args.tree.now rows c.args.self.now.looks c.note_looks.new.looks) c.deref.ensures.value
+    (subst (λ looks. AreNotedBy c.args.touch c.args.tree.now c.deref.result.now looks c.note_looks.new.looks) (ap (λ (t : OwnerRows). t.looks) c.self.view_is) c.in_ok-note_looks.ensures))
 
 pub returns-clause-changes : goal.returns-clause-changes
 returns-clause-changes c = λ before stood touched.

@@ -1,0 +1,159 @@
+-- Notes of what a move looks at: how they are made, and what a touch leaves of them.
+use Rattle.std.proofs.Common.{◌≡◌, ◌≢◌, ◌⊎◌, ℕ, zero, suc, ◌+◌, ◌-◌, ◌<◌, ◌==◌, Bool, true, false, List, [], ◌∷◌, ◌++◌, length, Option, Some, None, refl, sym, ap, ◌∙◌, subst, arith, inl, inr}
+use Rattle.std.specs.Prelude.{◌||◌, codes, is_some}
+use Rattle.std.proofs.lemmas.Bool.{cases_eq, eqb-true}
+use Rattle.std.proofs.lemmas.Bool.Decides.{nat_tests}
+use Rattle.element_names.specs.declared.natives.Native.TheVariants.{OptionItem}
+use Rattle.element_names.specs.Natives.{native, same_native}
+use Rattle.node_trees.specs.Facts.{Facts, value_in}
+use Rattle.node_trees.specs.Trees.{Trees}
+use Rattle.node_trees.specs.Nodes.{IsNode}
+use Rattle.node_trees.specs.Paths.{is_among}
+use Rattle.node_trees.specs.Spots.{attribute_at, facts_at}
+use Rattle.form_controls.specs.Kinds.{has_attribute, is_a}
+use Rattle.form_controls.specs.Owners.{Forms, is_associated, is_listed_native}
+use Rattle.owner_reading.specs.Owners.{listed_by}
+use Rattle.owner_rows.specs.OwnerRow.{OwnerRow, row_in, row_of}
+use Rattle.form_owner.specs.declared.looks.Look.{Look}
+use Rattle.form_owner.specs.declared.looks.Look.TheVariants.{Whole, Id, Nothing}
+use Rattle.form_owner.specs.declared.touch.Touch.{Touch}
+use Rattle.form_owner.specs.declared.touch.Touch.TheVariants.{Inserted, Removed, Attr, Associated}
+use Rattle.form_owner.specs.Candidates.{Considers, is_concerned, is_named_by, is_with}
+use Rattle.form_owner.specs.Looks.{AreRight, IsRight, IsRightAt, IsTouching, is_touching, look_at}
+use Rattle.form_owner.specs.OwnerRows.{OwnerRows}
+use Rattle.form_owner.specs.Touches.{IsTouched, after_touch, associated_by}
+use Rattle.form_owner.proofs.Considering.{nothing}
+use Rattle.form_owner.proofs.Touched.{among-with, size-stays}
+use Rattle.form_owner.proofs.Touching.{facts-stay, is_changed}
+
+-- notes are made
+
+-- a note that is behind the others is the last
+noted-more : (looks : List Look) (look : Look) (i : ℕ) → (look_at (looks ++ look ∷ []) i ≡ look_at looks i) ⊎ ((i ≡ length looks) × (look_at (looks ++ look ∷ []) i ≡ look))
+noted-more [] look zero = inr (refl, refl)
+noted-more [] look (suc i) = inl refl
+noted-more (l ∷ ls) look zero = inl refl
+noted-more (l ∷ ls) look (suc i) = elim (noted-more ls look i) [
+  | inl same ↦ inl same
+  | inr last ↦ let at = last.0 in inr (omega (arith, at), last.1)
+]
+
+module _ (forest : Trees) (rows : List OwnerRow) (n : ℕ) (look : Look) (right : IsRight forest rows look n) where
+  here : (i : ℕ) → n ≡ i + 1 → (noted : Look) → noted ≡ look → IsRight forest rows noted (i + 1)
+  here i same noted is = subst (λ k. IsRight forest rows noted k) same (subst (λ l. IsRight forest rows l n) (sym is) right)
+
+  here-or-whole : (i : ℕ) → n ≡ i + 1 → (noted : Look) → (noted ≢ Whole → noted ≡ look) → IsRight forest rows noted (i + 1)
+  here-or-whole i same Whole is = tt
+  here-or-whole i same Id is = here i same Id (is (λ e. absurd cc))
+  here-or-whole i same Nothing is = here i same Nothing (is (λ e. absurd cc))
+
+  pub noted-next : (start old new : List Look) → n ≡ length old + 1 → new ≡ old ++ look ∷ [] → ((i : ℕ) → IsRightAt forest rows start i → IsRightAt forest rows old i) → (i : ℕ) → IsRightAt forest rows start i → IsRightAt forest rows new i
+  noted-next start old new place longer so_far i was = elim (noted-more old look i) [
+    | inl same ↦ subst (λ l. IsRight forest rows l (i + 1)) (sym (ap (λ v. look_at v i) longer ∙ same)) (so_far i was)
+    | inr last ↦ let at = last.0 in here i (omega (arith, at, place)) (look_at new i) (ap (λ v. look_at v i) longer ∙ last.1)
+  ]
+
+  pub noted-again : 0 < n → (old new : List Look) → (look_at new (n - 1) ≢ Whole → look_at new (n - 1) ≡ look) → ((i : ℕ) → i ≢ n - 1 → look_at new i ≡ look_at old i) → (i : ℕ) → (i ≢ n - 1 → IsRightAt forest rows old i) → IsRightAt forest rows new i
+  noted-again low old new at others i was = elim (cases_eq i (n - 1)) [
+    | inl e ↦ here-or-whole i (omega (arith, low, e)) (look_at new i) (subst (λ k. look_at new k ≢ Whole → look_at new k ≡ look) (sym e) at)
+    | inr ne ↦ subst (λ l. IsRight forest rows l (i + 1)) (sym (others i ne)) (was ne)
+  ]
+
+-- another place is that of another node
+pub other-node : (n i : ℕ) → 0 < n → i ≢ n - 1 → (n == i + 1) ≡ false
+other-node n i low ne = let other : n ≢ i + 1 = λ e. ne (omega (arith, e, low)) in grind (arith, nat_tests, other)
+
+-- what a touch says something of is a node
+pub on-node : (touch : Touch) (old new : Trees) → IsTouched touch old new → IsTouching touch new
+on-node (Inserted n) old new t = tt
+on-node (Removed n parent) old new t = tt
+on-node (Attr n) old new t = let low = t.element.node.low in let high = t.element.node.high in record { low = low; high = omega (arith, high, t.size_is) }
+on-node (Associated n on) old new t = subst (λ f. IsNode f n) (sym t.is) t.element.node
+
+-- what is passed over
+
+none-named : (named : List ℕ → ℕ → Bool) (o : Option (List ℕ)) (m : ℕ) → is_some o ≡ false → is_named_by named o m ≡ false
+none-named named None m e = refl
+none-named named (Some id) m e = absurd cc
+
+-- forms are not about n
+module _ (forest : Trees) (rows : List OwnerRow) (n : ℕ) (apart : is_concerned forest rows n ≡ false) where
+  pub passed-node : {test : ℕ → Bool} {old new : List ℕ} → Considers forest (is_concerned forest rows) test old new → Considers forest (is_concerned forest rows) (λ m. n == m || test m) old new
+  passed-node {test} {old} {new} all = record {
+    nodes = all.nodes;
+    kept = all.kept;
+    found = λ m node about passes. by_test m node about (n == m) refl passes;
+  }
+    where
+      by_test : (m : ℕ) → IsNode forest m → is_concerned forest rows m ≡ true → (b : Bool) → (n == m) ≡ b → (b || test m) ≡ true → is_among m new ≡ true
+      by_test m node about true e passes = absurd (let it : is_concerned forest rows m ≡ false = subst (λ k. is_concerned forest rows k ≡ false) (eqb-true n m e) apart in cc)
+      by_test m node about false e passes = all.found m node about passes
+
+module _ (forest : Trees) (rows : List OwnerRow) (looks : List Look) (are : AreRight forest rows looks) (n : ℕ) (node : IsNode forest n) where
+  right-of : (look : Look) → look ≡ look_at looks (n - 1) → IsRight forest rows look n
+  right-of look noted = let low = node.low in let same : (n - 1) + 1 ≡ n = omega (arith, low) in subst (λ k. IsRight forest rows look k) same (subst (λ l. IsRight forest rows l ((n - 1) + 1)) (sym noted) (are (n - 1)))
+
+  pub passed-id : Id ≡ look_at looks (n - 1) → {test : ℕ → Bool} {old new : List ℕ} → Considers forest (is_concerned forest rows) test old new → Considers forest (is_concerned forest rows) (λ m. n == m || test m) old new
+  passed-id noted all = passed-node forest rows n (right-of Id noted).apart all
+
+  pub passed-by : Nothing ≡ look_at looks (n - 1) → (named : List ℕ → ℕ → Bool) (set : List ℕ) → Considers forest (is_concerned forest rows) (is_with forest named n) set set
+  passed-by noted named set =
+      passed-node forest rows n (right-of Nothing noted).0.apart
+      (nothing (is_named_by named (attribute_at forest n (codes "id"))) set (λ m about. none-named named (attribute_at forest n (codes "id")) m (right-of Nothing noted).1))
+
+-- the notes of a table, lent
+pub looks-lent : (forest : Trees) (table : OwnerRows) (rows : List OwnerRow) (looks : List Look) → rows ≡ table.rows → looks ≡ table.looks → AreRight forest table.rows table.looks → AreRight forest rows looks
+looks-lent forest table rows looks same_rows same_looks are = subst (λ r. AreRight forest r looks) (sym same_rows) (subst (AreRight forest table.rows) (sym same_looks) are)
+
+-- what is right stays so
+
+pub right-still : (old new : Trees) (was is : List OwnerRow) (m : ℕ) → (IsNode old m → IsNode new m) → (IsNode old m → is_concerned new is m ≡ is_concerned old was m) → has_attribute new m (codes "id") ≡ has_attribute old m (codes "id") → (look : Look) → IsRight old was look m → IsRight new is look m
+right-still old new was is m node about id Whole right = tt
+right-still old new was is m node about id Id right = record { node = node right.node; apart = about right.node ∙ right.apart }
+right-still old new was is m node about id Nothing right = (record { node = node right.0.node; apart = about right.0.node ∙ right.0.apart }, id ∙ right.1)
+
+-- what a touch leaves
+
+unchanged-by : (touch : Touch) (m : ℕ) → is_touching touch m ≡ false → is_changed touch m ≡ false
+unchanged-by (Inserted n) m e = refl
+unchanged-by (Removed n parent) m e = refl
+unchanged-by (Attr n) m e = e
+unchanged-by (Associated n on) m e = refl
+
+same-members : (touch : Touch) (ns : List ℕ) (m : ℕ) → is_touching touch m ≡ false → is_among m (associated_by touch ns) ≡ is_among m ns
+same-members (Inserted n) ns m e = refl
+same-members (Removed n parent) ns m e = refl
+same-members (Attr n) ns m e = refl
+same-members (Associated n on) ns m e = among-with n m on ns ∙ grind (arith, e)
+
+module _ (touch : Touch) (before : Forms) (now : Trees) (touched : IsTouched touch before.forest now) where
+  node-now : (m : ℕ) → IsNode before.forest m → IsNode now m
+  node-now m node = let low = node.low in let high = node.high in record { low = low; high = omega (arith, high, size-stays touch before.forest now touched) }
+
+  module _ (m : ℕ) (apart : is_touching touch m ≡ false) where
+    facts-now : facts_at now m ≡ facts_at before.forest m
+    facts-now = facts-stay touch before.forest now touched m (unchanged-by touch m apart)
+
+    about-now : (rows : List OwnerRow) → is_concerned now rows m ≡ is_concerned before.forest rows m
+    about-now rows = ap (λ (x : Facts). (is_listed_native (native x.local) || (row_of rows m).associated) || same_native OptionItem (native x.local)) facts-now
+
+    id-now : has_attribute now m (codes "id") ≡ has_attribute before.forest m (codes "id")
+    id-now = ap (λ (x : Facts). is_some (value_in x.attributes (codes "id"))) facts-now
+
+  -- with the rows of before
+  pub looks-still : ((m : ℕ) → is_touching touch m ≡ false) → (rows : List OwnerRow) (looks : List Look) → AreRight before.forest rows looks → AreRight now rows looks
+  looks-still nowhere rows looks are i =
+      right-still before.forest now rows rows (i + 1) (node-now (i + 1)) (λ node. about-now (i + 1) (nowhere (i + 1)) rows) (id-now (i + 1) (nowhere (i + 1))) (look_at looks i) (are i)
+
+  -- with the rows as they are then
+  module _ (old new : List OwnerRow) (was : (i : ℕ) → (row_in old i).associated ≡ is_associated before (i + 1)) (is : (i : ℕ) → (row_in new i).associated ≡ is_associated (after_touch touch before now) (i + 1)) where
+    flag : (m : ℕ) → 0 < m → is_touching touch m ≡ false → (row_of new m).associated ≡ (row_of old m).associated
+    flag m low apart =
+        let same : (m - 1) + 1 ≡ m = omega (arith, low) in
+        is (m - 1) ∙ ap (is_associated (after_touch touch before now)) same ∙ same-members touch before.associated m apart ∙ sym (was (m - 1) ∙ ap (is_associated before) same)
+
+    pub looks-then : (looks : List Look) → AreRight before.forest old looks → (i : ℕ) → is_touching touch (i + 1) ≡ false → IsRightAt now new looks i
+    looks-then looks are i apart =
+        right-still before.forest now old new (i + 1) (node-now (i + 1))
+        (λ node. ap (λ b. listed_by now (i + 1) b || is_a OptionItem now (i + 1)) (flag (i + 1) (omega arith) apart) ∙ about-now (i + 1) apart old)
+        (id-now (i + 1) apart) (look_at looks i) (are i)
