@@ -11,6 +11,7 @@ pub mod Renewing
 pub mod Touched
 pub mod Touching
 pub mod Looking
+pub mod Minding
 pub mod Unchanged
 pub mod Naming
 pub mod Covering

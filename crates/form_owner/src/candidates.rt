@@ -112,7 +112,7 @@ pub(crate) fn consider_moved(
     found: &mut NodeSet,
 ) -> Result<(), NoMemory>
     requires node { IsNode tree.now n }
-    requires looks { AreRight tree.now rows.now looks.now }
+    requires looks { AreRight tree.now rows.now (is_held named.now) looks.now }
     ensures { OnOk result (Considers tree.now (is_concerned tree.now rows.now) (is_with tree.now (is_held named.now) n) found.old found.new) }
 {
     match looks.at(n) {

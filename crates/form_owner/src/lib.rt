@@ -17,6 +17,7 @@ mod renewal;
 mod seeing;
 mod settle;
 mod table;
+mod texts;
 mod touch;
 mod writing;
 

@@ -1,14 +1,16 @@
 // Notes of what a move looks at in each node, so that it passes over most.
-ghost use Rattle.std.specs.Prelude.{◌≡◌, ◌≢◌, ◌+◌, ◌-◌, ◌<◌, ◌++◌, ◌∷◌, [], ℕ, length, OnOk};
+ghost use Rattle.std.specs.Prelude.{◌≡◌, ◌≢◌, ◌+◌, ◌-◌, ◌<◌, ◌++◌, ◌∷◌, [], ℕ, length, true, OnOk};
 ghost use Rattle.node_trees.specs.Nodes.{IsNode};
-ghost use Rattle.form_owner.specs.declared.looks.Look.TheVariants.{Whole};
-ghost use Rattle.form_owner.specs.Looks.{AreNotedBy, IsRight, IsRightAt, IsTouching, look_at};
+ghost use Rattle.id_index.specs.Held.{is_held};
+ghost use Rattle.form_owner.specs.declared.looks.Look.TheVariants.{Nothing, Whole};
+ghost use Rattle.form_owner.specs.Looks.{AreNotedBy, IsRight, IsRightAt, IsTouching, IsUnnamed, SaysNoMore, look_at};
 
 use crate::Touch;
 use crate::candidates::is_concerned;
+use crate::seeing::is_named;
 use ce_base::{NoMemory, NodeNo};
-use form_kinds::has_attribute;
-use node_arena::Tree;
+use id_index::IdIndex;
+use node_arena::{NodeKind, Tree};
 use owner_rows::{Row, place_of};
 use std::alloc::Global;
 use std::marker::Model;
@@ -20,7 +22,7 @@ pub(crate) enum Look {
     Whole,
     /// Its ID alone: forms are not about the node.
     Id,
-    /// Nothing: forms are not about it, and it has no ID.
+    /// Nothing: forms are not about it, and nobody's `form` attribute is its ID.
     Nothing,
 }
 
@@ -82,52 +84,76 @@ impl Looks {
             self.items[place] = look;
         }
     }
+
+    /// From now on the ID of a node is looked at.
+    pub(crate) fn mind(&mut self, n: NodeNo)
+        ensures here { look_at self.new (n - 1) ≢ Nothing }
+        ensures less { (i : ℕ) → SaysNoMore (look_at self.old i) (look_at self.new i) }
+    {
+        if self.at(n) == Look::Nothing {
+            self.set(n, Look::Id);
+        }
+    }
+}
+
+/// Whether a node's ID is nobody's `form` attribute, by what was seen, or it has no `id` attribute. Where the text of that is
+/// no ID, since it is empty or no element has it, it is not told.
+fn is_unnamed(tree: &Tree, named: &IdIndex, n: NodeNo) -> bool
+    requires { IsNode tree.now n }
+    ensures { result ≡ true → IsUnnamed tree.now (is_held named.now) n }
+{
+    match tree.attr(n, "id") {
+        None => true,
+        Some(id) => !id.is_empty() && tree.kind(n) == NodeKind::Element && !is_named(named, id),
+    }
 }
 
 /// What a move looks at in a node.
-fn look_of(tree: &Tree, rows: &[Row], n: NodeNo) -> Look
+fn look_of(tree: &Tree, rows: &[Row], named: &IdIndex, n: NodeNo) -> Look
     requires { IsNode tree.now n }
-    ensures { IsRight tree.now rows.now result n }
+    ensures { IsRight tree.now rows.now (is_held named.now) result n }
 {
     if is_concerned(tree, rows, n) {
         return Look::Whole;
     }
-    if has_attribute(tree, n, "id") {
-        return Look::Id;
+    if is_unnamed(tree, named, n) {
+        return Look::Nothing;
     }
-    Look::Nothing
+    Look::Id
 }
 
 /// Notes the nodes that have no note yet.
-fn note_new(tree: &Tree, rows: &[Row], looks: &mut Looks) -> Result<(), NoMemory>
-    ensures { OnOk result ((i : ℕ) → IsRightAt tree.now rows.now looks.old i → IsRightAt tree.now rows.now looks.new i) }
+fn note_new(tree: &Tree, rows: &[Row], named: &IdIndex, looks: &mut Looks) -> Result<(), NoMemory>
+    ensures { OnOk result ((i : ℕ) →
+        IsRightAt tree.now rows.now (is_held named.now) looks.old i → IsRightAt tree.now rows.now (is_held named.now) looks.new i) }
 {
     let count = tree.count();
     while (looks.len() as u64) < count {
         let n = NodeNo(looks.len() as u64 + 1);
-        looks.push(look_of(tree, rows, n))?;
+        looks.push(look_of(tree, rows, named, n))?;
     }
     Ok(())
 }
 
 /// Notes a node anew.
-fn note_again(tree: &Tree, rows: &[Row], looks: &mut Looks, n: NodeNo)
+fn note_again(tree: &Tree, rows: &[Row], named: &IdIndex, looks: &mut Looks, n: NodeNo)
     requires { IsNode tree.now n }
-    ensures { (i : ℕ) → (i ≢ n - 1 → IsRightAt tree.now rows.now looks.old i) → IsRightAt tree.now rows.now looks.new i }
+    ensures { (i : ℕ) → (i ≢ n - 1 → IsRightAt tree.now rows.now (is_held named.now) looks.old i) →
+        IsRightAt tree.now rows.now (is_held named.now) looks.new i }
 {
-    looks.set(n, look_of(tree, rows, n));
+    looks.set(n, look_of(tree, rows, named, n));
 }
 
 /// Notes anew the node of which a touch says something, if it is of one.
-fn note_touched(tree: &Tree, rows: &[Row], looks: &mut Looks, touch: Touch)
+fn note_touched(tree: &Tree, rows: &[Row], named: &IdIndex, looks: &mut Looks, touch: Touch)
     requires { IsTouching touch tree.now }
-    ensures { AreNotedBy touch tree.now rows.now looks.old looks.new }
+    ensures { AreNotedBy touch tree.now rows.now (is_held named.now) looks.old looks.new }
 {
     match touch {
         Touch::Inserted(_) => {}
         Touch::Removed { .. } => {}
-        Touch::Attr(node) => note_again(tree, rows, looks, node),
-        Touch::Associated(node, _) => note_again(tree, rows, looks, node),
+        Touch::Attr(node) => note_again(tree, rows, named, looks, node),
+        Touch::Associated(node, _) => note_again(tree, rows, named, looks, node),
     }
 }
 
@@ -135,13 +161,14 @@ fn note_touched(tree: &Tree, rows: &[Row], looks: &mut Looks, touch: Touch)
 pub(crate) fn note_looks(
     tree: &Tree,
     rows: &[Row],
+    named: &IdIndex,
     looks: &mut Looks,
     touch: Touch,
 ) -> Result<(), NoMemory>
     requires { IsTouching touch tree.now }
-    ensures { OnOk result (AreNotedBy touch tree.now rows.now looks.old looks.new) }
+    ensures { OnOk result (AreNotedBy touch tree.now rows.now (is_held named.now) looks.old looks.new) }
 {
-    note_touched(tree, rows, looks, touch);
-    note_new(tree, rows, looks)?;
+    note_touched(tree, rows, named, looks, touch);
+    note_new(tree, rows, named, looks)?;
     Ok(())
 }

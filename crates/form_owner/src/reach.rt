@@ -50,7 +50,7 @@ fn consider_inside(
 ) -> Result<(), NoMemory>
     requires tidy { IsTidy tree.now }
     requires node { IsNode tree.now n }
-    requires looks { AreRight tree.now rows.now looks.now }
+    requires looks { AreRight tree.now rows.now (is_held named.now) looks.now }
     ensures { OnOk result (Considers tree.now (is_concerned tree.now rows.now)
         (is_with_among tree.now (is_held named.now) (order_of tree.now n)) found.old found.new) }
 {
@@ -78,7 +78,7 @@ pub(crate) fn of_move(
     requires tidy { IsTidy tree.now }
     requires node { IsNode tree.now n }
     requires parent { IsNode tree.now parent }
-    requires looks { AreRight tree.now rows.now looks.now }
+    requires looks { AreRight tree.now rows.now (is_held named.now) looks.now }
     ensures { IfOk result (Considers tree.now (is_concerned tree.now rows.now) (is_of_move tree.now (is_held named.now) n parent) []) }
 {
     let mut found = NodeSet::make(alloc);

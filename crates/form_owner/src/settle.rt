@@ -14,6 +14,7 @@ use crate::looks::note_looks;
 use crate::reach::{of_change, of_mark, of_move};
 use crate::renewal::renew;
 use crate::seeing::see_touched;
+use crate::texts::mind_touched;
 use crate::{Changes, OwnerTable, Touch};
 use ce_base::{NoMemory, NodeNo};
 use node_arena::Tree;
@@ -106,8 +107,9 @@ impl OwnerTable {
         fill(alloc, &mut self.rows, tree.count())?;
         note(&mut self.rows, touch);
         let changes = renew(alloc, tree, &mut self.rows, &candidates)?;
+        mind_touched(tree, &self.rows, &self.named, &mut self.looks, touch);
         see_touched(alloc, tree, &mut self.rows, &mut self.named, touch)?;
-        note_looks(tree, &self.rows, &mut self.looks, touch)?;
+        note_looks(tree, &self.rows, &self.named, &mut self.looks, touch)?;
         Ok(changes)
     }
 }
