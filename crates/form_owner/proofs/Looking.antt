@@ -96,9 +96,6 @@ module _ (forest : Trees) (rows : List OwnerRow) (named : List ℕ → ℕ → B
   right-of : (look : Look) → look ≡ look_at looks (n - 1) → IsRight forest rows named look n
   right-of look noted = let low = node.low in let same : (n - 1) + 1 ≡ n = omega (arith, low) in subst (λ k. IsRight forest rows named look k) same (subst (λ l. IsRight forest rows named l ((n - 1) + 1)) (sym noted) (are (n - 1)))
 
-  pub passed-id : Id ≡ look_at looks (n - 1) → {test : ℕ → Bool} {old new : List ℕ} → Considers forest (is_concerned forest rows) test old new → Considers forest (is_concerned forest rows) (λ m. n == m || test m) old new
-  passed-id noted all = passed-node forest rows n (right-of Id noted).apart all
-
   pub passed-by : Nothing ≡ look_at looks (n - 1) → (set : List ℕ) → Considers forest (is_concerned forest rows) (is_with forest named n) set set
   passed-by noted set =
       passed-node forest rows n (right-of Nothing noted).0.apart
@@ -123,15 +120,7 @@ right-still old new was is named m node about has same Id right = record { node 
 right-still old new was is named m node about has same Nothing right =
     (record { node = node right.0.node; apart = about right.0.node ∙ right.0.apart }, unnamed-still old new named named m (has right.0.node) same (λ id k. refl) right.1)
 
--- notes that say no more
-
-pub no-more : (a b c : Look) → SaysNoMore a b → SaysNoMore b c → SaysNoMore a c
-no-more a b Whole one two = tt
-no-more a Whole Id one two = absurd (two refl)
-no-more a Id Id one two = one
-no-more a Nothing Id one two = λ e. absurd (let it : Nothing ≡ Whole = sym one ∙ e in cc)
-no-more a b Nothing one two = subst (SaysNoMore a) two one
-
+-- a note says no more than itself
 pub the-same : (a : Look) → SaysNoMore a a
 the-same Whole = tt
 the-same Id = λ e. absurd cc

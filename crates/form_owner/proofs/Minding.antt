@@ -1,69 +1,30 @@
 -- Nodes whose ID comes to be looked at.
-use Rattle.std.proofs.Common.{Bor, ◌≡◌, ◌≢◌, ℕ, ◌+◌, ◌-◌, ◌<◌, ◌==◌, Bool, true, false, cond, List, [], ◌∷◌, Option, Some, None, refl, sym, ap, ◌∙◌, subst, arith, inl, inr}
-use Rattle.std.specs.Prelude.{not, ◌||◌, IsTrue, ◌↔◌, bytes_eq, codes, length}
+use Rattle.std.proofs.Common.{Bor, ◌≡◌, ◌≢◌, ℕ, ◌+◌, ◌-◌, ◌<◌, ◌==◌, Bool, true, false, cond, List, [], ◌∷◌, Option, Some, None, refl, sym, ap, ◌∙◌, subst, arith}
+use Rattle.std.specs.Prelude.{not, IsTrue, ◌↔◌, bytes_eq, codes, length}
 use Rattle.std.specs.BTreeSet.{BTreeSet, btree_set_len, contains}
 use Rattle.std.specs.Option.{option_copied, option_eq}
 use Rattle.std.specs.Ordering.{nat_cmp}
-use Rattle.std.proofs.lemmas.Bool.{cases_eq, false_from_ne_true}
+use Rattle.std.proofs.lemmas.Bool.{false_from_ne_true}
 use Rattle.std.proofs.lemmas.Bool.Decides.{nat_tests}
 use Rattle.std.proofs.lemmas.Slice.Eq.{bytes_eq-Decides}
-use Rattle.node_trees.specs.Ids.{has_id}
 use Rattle.node_trees.specs.Trees.{Trees}
 use Rattle.node_trees.specs.Paths.{is_among}
-use Rattle.node_trees.specs.Spots.{attribute_at, facts_at}
+use Rattle.node_trees.specs.Spots.{attribute_at}
 use Rattle.node_set.proofs.Members.{among-any}
 use Rattle.form_owner.specs.declared.looks.Look.{Look}
-use Rattle.form_owner.specs.declared.looks.Look.TheVariants.{Whole, Id, Nothing}
+use Rattle.form_owner.specs.declared.looks.Look.TheVariants.{Nothing}
 use Rattle.owner_rows.specs.OwnerRow.{OwnerRow, row_of}
 use Rattle.form_owner.specs.Attributes.{is_naming, is_text}
 use Rattle.form_owner.specs.Looks.{AreKept, IsNamed, IsUnnamed, IsUnnamedId, SaysNoMore, held_with, look_at}
 use Rattle.form_owner.specs.Writing.{AreNoted}
 use Rattle.form_owner.proofs.Considering.{is_passed}
-use Rattle.form_owner.proofs.Looking.{no-more, the-same}
-
--- one node
-
-after-nothing : (look : Look) → SaysNoMore Nothing look
-after-nothing Whole = tt
-after-nothing Id = λ e. absurd cc
-after-nothing Nothing = refl
-
-not-nothing : (look : Look) → (look ≢ Whole → look ≡ Id) → look ≢ Nothing
-not-nothing Whole is e = absurd cc
-not-nothing Id is e = absurd cc
-not-nothing Nothing is e = absurd (let it : Nothing ≡ Id = is (λ w. absurd cc) in cc)
-
-module _ (old new : List Look) (n : ℕ) where
-  pub minded-here : (look_at new (n - 1) ≢ Whole → look_at new (n - 1) ≡ Id) → look_at new (n - 1) ≢ Nothing
-  minded-here is = not-nothing (look_at new (n - 1)) is
-
-  pub minded-less : look_at old (n - 1) ≡ Nothing → ((i : ℕ) → i ≢ n - 1 → look_at new i ≡ look_at old i) → (i : ℕ) → SaysNoMore (look_at old i) (look_at new i)
-  minded-less was others i = elim (cases_eq i (n - 1)) [
-    | inl e ↦ subst (λ l. SaysNoMore l (look_at new i)) (sym (ap (look_at old) e ∙ was)) (after-nothing (look_at new i))
-    | inr ne ↦ subst (SaysNoMore (look_at old i)) (sym (others i ne)) (the-same (look_at old i))
-  ]
+use Rattle.form_owner.proofs.Looking.{the-same}
 
 -- nodes one after the other
 
 pub record Minding (keys left : List ℕ) (old new : List Look) : Type 0 where
   pub here : (n : ℕ) → is_passed keys left n ≡ true → look_at new (n - 1) ≢ Nothing
   pub less : (i : ℕ) → SaysNoMore (look_at old i) (look_at new i)
-
-pub minding-start : (keys left : List ℕ) (looks : List Look) → left ≡ keys → Minding keys left looks looks
-minding-start keys left looks same = record {
-  here = λ n passed. absurd (let it : is_among n left ≡ is_among n keys = ap (is_among n) same in grind (arith, it, passed));
-  less = λ i. the-same (look_at looks i);
-}
-
-module _ (keys left later : List ℕ) (x : ℕ) (old mid new : List Look) (is : left ≡ x ∷ later) (so_far : Minding keys left old mid) (minded : look_at new (x - 1) ≢ Nothing) (less : (i : ℕ) → SaysNoMore (look_at mid i) (look_at new i)) where
-  pub minding-next : Minding keys later old new
-  minding-next = record { here = λ n passed. by_test n passed (x == n) refl; less = λ i. no-more (look_at old i) (look_at mid i) (look_at new i) (so_far.less i) (less i) }
-    where
-      by_test : (n : ℕ) → is_passed keys later n ≡ true → (b : Bool) → (x == n) ≡ b → look_at new (n - 1) ≢ Nothing
-      by_test n passed true e = let same : x ≡ n = grind (arith, nat_tests, e) in subst (λ k. look_at new (k - 1) ≢ Nothing) same minded
-      by_test n passed false e = λ nothing.
-          let among : is_among n left ≡ (x == n || is_among n later) = ap (is_among n) is in
-          so_far.here n (grind (arith, among, e, passed)) (subst (SaysNoMore (look_at mid (n - 1))) nothing (less (n - 1)))
 
 pub minding-end : (keys left : List ℕ) (old new : List Look) → left ≡ [] → Minding keys left old new → (n : ℕ) → is_among n keys ≡ true → look_at new (n - 1) ≢ Nothing
 minding-end keys left old new none all n among = let out : is_among n left ≡ false = ap (is_among n) none in all.here n (grind (arith, among, out))
@@ -84,12 +45,6 @@ module _ (forest : Trees) (named : List ℕ → ℕ → Bool) (i : ℕ) (id : Li
   text-named is = false_from_ne_true (bytes_eq text id) (λ e.
       let same : text ≡ id = (bytes_eq-Decides text id).0 e in
       absurd (let yes = is.holds in let no : named text is.by ≡ false = subst (λ t. named t is.by ≡ false) (sym same) (un.unnamed is.by) in cc))
-
-  -- and so is one whose nodes come to be looked at
-  pub text-found : (has_id text (facts_at forest (i + 1)) ≡ true → ⊥) → bytes_eq text id ≡ false
-  text-found other = false_from_ne_true (bytes_eq text id) (λ e.
-      let same : text ≡ id = (bytes_eq-Decides text id).0 e in
-      other (subst (λ t. has_id t (facts_at forest (i + 1)) ≡ true) (sym same) un.has))
 
 module _ (n : ℕ) (forest : Trees) (named : List ℕ → ℕ → Bool) (old new : List Look) (less : (i : ℕ) → SaysNoMore (look_at old i) (look_at new i)) where
   pub kept-with : ((i : ℕ) → look_at new i ≡ Nothing → IsUnnamed forest named (i + 1) → (id : List ℕ) → attribute_at forest (i + 1) (codes "id") ≡ Some id → is_naming forest id n ≡ false) → AreKept forest named (held_with n forest named) old new
