@@ -10,7 +10,8 @@ pub mod Covered
 pub mod Renewing
 pub mod Touched
 pub mod Touching
-pub mod Plainness
+pub mod Looking
+pub mod Minding
 pub mod Unchanged
 pub mod Naming
 pub mod Covering

@@ -7,13 +7,13 @@ use Rattle.std.proofs.lemmas.Bool.Decides.{nat_tests}
 use Rattle.element_names.specs.declared.natives.Native.{Native}
 use Rattle.element_names.specs.declared.natives.Native.TheVariants.{Fieldset, Form, Legend, Optgroup, OptionItem}
 use Rattle.element_names.specs.Natives.{native, same_native}
-use Rattle.node_trees.specs.Facts.{Facts, value_in}
+use Rattle.node_trees.specs.Facts.{Facts, is_element, value_in}
 use Rattle.node_trees.specs.Trees.{Trees, none, tree, join, single, with_node, with_shadow, with_facts, with_document, roots, is_number}
 use Rattle.node_trees.specs.Nodes.{times, size, IsNode, IsTidy}
 use Rattle.node_trees.specs.Spots.{Spot, spot_in, or_spot, or_no_spot, facts_at, parent_at, children_at, attribute_at}
 use Rattle.node_trees.specs.Paths.{is_among, root_at, connected}
 use Rattle.node_trees.specs.Orders.{tree_order_of}
-use Rattle.node_trees.specs.Ids.{has_id, first_with_id}
+use Rattle.node_trees.specs.Ids.{has_id, is_id, first_with_id}
 use Rattle.node_trees.proofs.Absent.{is_among-append, spot-absent}
 use Rattle.node_trees.proofs.Weights.{weight-join, weight-shadow}
 use Rattle.tree_laws.proofs.Sums.{tidy-apart}
@@ -23,19 +23,22 @@ use Rattle.tree_laws.proofs.Alike.{attribute-alike, root-alike, named-alike, con
 use Rattle.tree_laws.proofs.NewNode.{alike_new, alike_hung}
 use Rattle.tree_laws.proofs.OtherFacts.{alike_facts}
 use Rattle.tree_laws.proofs.Changed.{size-with}
-use Rattle.form_controls.specs.Kinds.{has_attribute, native_at, is_a}
+use Rattle.id_index.specs.Held.{is_held}
+use Rattle.form_controls.specs.Kinds.{native_at, is_a}
 use Rattle.form_controls.specs.Owners.{Forms, is_associated, is_listed_native, owner_by, form_owner, where_form, named_form, nearest_form, ancestors_below, ancestors, is_owned_by, controls_of}
 use Rattle.form_controls.specs.Disabled.{has_disabled, first_legend, is_inside, disables, is_in_disabled_fieldset, is_in_disabled_group, is_option_disabled, is_disabled}
 use Rattle.owner_rows.specs.OwnerRow.{Seen, row_of}
 use Rattle.form_owner.specs.OwnerRows.{OwnerRows}
 use Rattle.form_owner.specs.Attributes.{is_text}
-use Rattle.form_owner.specs.Plain.{is_looked_at}
+use Rattle.form_owner.specs.Candidates.{is_concerned}
+use Rattle.form_owner.specs.Looks.{look_at}
 use Rattle.owner_reading.specs.Owners.{listed_by, owner_with}
 use Rattle.disabled_reading.specs.Disabled.{disabled_with}
 use Rattle.form_owner.specs.Stands.{Stands}
 use Rattle.owner_reading.proofs.Ancestors.{above-absent, ancestors-up}
 use Rattle.form_owner.proofs.Nodes.{absent, found-passes, not-a-form, not-listed, no-owner, not-disabled, no-controls, owner-form, filter-none, is-number}
 use Rattle.form_owner.proofs.Rows.{filter-members}
+use Rattle.form_owner.proofs.Looking.{right-still}
 
 -- what is above a node, and its children, are nodes
 
@@ -332,19 +335,26 @@ stands_alike table f made n tidy alike above_is more s = record {
   controls = λ i. s.controls i ∙ sym (controls-after f made tidy s.associated.nodes n alike above_is (i + 1));
   seen = λ i. s.seen i ∙ sym (ap seen_in (alike.attributes (i + 1)));
   named = λ id m. s.named id m ∙ sym (ap (λ items. is_text id (value_in items (codes "form"))) (alike.attributes m));
-  plain = λ i noted. let it = s.plain i noted in (node-made it.0, look-made (i + 1) it.0 ∙ it.1);
+  looks = λ i. right-still f.forest made table.rows table.rows (is_held table.named) (i + 1) node-made (about-made (i + 1)) (has-made (i + 1)) (attribute-alike n f.forest made alike (i + 1) (codes "id")) (look_at table.looks i) (s.looks i);
 }
   where
     node-made : {m : ℕ} → IsNode f.forest m → IsNode made m
     node-made node = record { low = node.low; high = omega (arith, node.high, more) }
 
-    -- a move looks where it did
-    look-made : (m : ℕ) → IsNode f.forest m → is_looked_at made table.rows m ≡ is_looked_at f.forest table.rows m
-    look-made m node =
-        let other : m ≢ n = λ e. outside f.forest made tidy n alike above_is (subst (IsNode f.forest) e node) in
-        ap (λ b. (b || is_a OptionItem made m) || has_attribute made m (codes "id")) (listed-made f.forest made tidy n alike above_is m (row_of table.rows m).associated other)
-        ∙ ap (λ b. (listed_by f.forest m (row_of table.rows m).associated || b) || has_attribute made m (codes "id")) (is_a-made f.forest made tidy n alike above_is OptionItem m other)
-        ∙ ap (λ o. (listed_by f.forest m (row_of table.rows m).associated || is_a OptionItem f.forest m) || is_some o) (attribute-alike n f.forest made alike m (codes "id"))
+    -- forms are about the same
+    other : (m : ℕ) → IsNode f.forest m → m ≢ n
+    other m node e = outside f.forest made tidy n alike above_is (subst (IsNode f.forest) e node)
+
+    about-made : (m : ℕ) → IsNode f.forest m → is_concerned made table.rows m ≡ is_concerned f.forest table.rows m
+    about-made m node =
+        ap (λ b. b || is_a OptionItem made m) (listed-made f.forest made tidy n alike above_is m (row_of table.rows m).associated (other m node))
+        ∙ ap (λ b. listed_by f.forest m (row_of table.rows m).associated || b) (is_a-made f.forest made tidy n alike above_is OptionItem m (other m node))
+
+    -- and have the same IDs
+    has-made : (m : ℕ) → IsNode f.forest m → (id : List ℕ) → has_id id (facts_at made m) ≡ has_id id (facts_at f.forest m)
+    has-made m node id =
+        ap (λ k. is_element k && is_id id (value_in (facts_at made m).attributes (codes "id"))) (alike.kind m (other m node))
+        ∙ ap (λ items. is_element (facts_at f.forest m).kind && is_id id (value_in items (codes "id"))) (alike.attributes m)
 
     -- what is seen among attributes
     seen_in : List (List ℕ × List ℕ) → Seen

@@ -29,7 +29,7 @@ module _ (f : Forms) (other : List ℕ) (same : (n : ℕ) → is_among n other �
     controls = λ i. s.controls i ∙ sym (controls-renamed (i + 1));
     seen = s.seen;
     named = s.named;
-    plain = s.plain;
+    looks = s.looks;
   }
 
 pub stands_renamed : (table : OwnerRows) (f : Forms) (other : List ℕ) → ((n : ℕ) → is_among n other ≡ is_among n f.associated) → Stands table f → Stands table (record f { associated = other })

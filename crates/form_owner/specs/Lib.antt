@@ -1,7 +1,7 @@
 pub mod OwnerRows
 pub mod Attributes
 pub mod Touches
-pub mod Plain
+pub mod Looks
 pub mod Stands
 pub mod Reading
 pub mod Writing

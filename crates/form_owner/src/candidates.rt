@@ -12,10 +12,10 @@ ghost use Rattle.id_index.specs.Held.{is_held};
 ghost use Rattle.owner_rows.specs.OwnerRow.{row_of};
 ghost use Rattle.owner_rows.specs.Attributes.{seen_at};
 ghost use Rattle.form_owner.specs.Candidates.{Considers, is_concerned, is_named_by, is_with};
-ghost use Rattle.form_owner.specs.Plain.{ArePlain};
+ghost use Rattle.form_owner.specs.Looks.{AreRight};
 
+use crate::looks::{Look, Looks};
 use crate::node_list::node_at;
-use crate::plain::Plain;
 use ce_base::{NoMemory, NodeNo, Nodes};
 use element_names::Native;
 use form_kinds::is_a;
@@ -107,18 +107,19 @@ pub(crate) fn consider_moved(
     tree: &Tree,
     rows: &[Row],
     named: &IdIndex,
-    plain: &Plain,
+    looks: &Looks,
     n: NodeNo,
     found: &mut NodeSet,
 ) -> Result<(), NoMemory>
     requires node { IsNode tree.now n }
-    requires plain { ArePlain tree.now rows.now plain.now }
+    requires looks { AreRight tree.now rows.now (is_held named.now) looks.now }
     ensures { OnOk result (Considers tree.now (is_concerned tree.now rows.now) (is_with tree.now (is_held named.now) n) found.old found.new) }
 {
-    if plain.has(n) {
-        return Ok(());
+    match looks.at(n) {
+        Look::Nothing => return Ok(()),
+        Look::Id => {}
+        Look::Whole => consider(tree, rows, n, found)?,
     }
-    consider(tree, rows, n, found)?;
     consider_named(tree, rows, named, tree.attr(n, "id"), found)?;
     Ok(())
 }

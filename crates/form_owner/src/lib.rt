@@ -8,15 +8,16 @@ mod controls;
 mod group;
 mod involved;
 mod laws;
+mod looks;
 mod moving;
 mod node_list;
-mod plain;
 mod reach;
 mod reading;
 mod renewal;
 mod seeing;
 mod settle;
 mod table;
+mod texts;
 mod touch;
 mod writing;
 

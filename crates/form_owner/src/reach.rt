@@ -5,10 +5,10 @@ ghost use Rattle.node_trees.specs.Nodes.{IsNode, IsTidy};
 ghost use Rattle.node_trees.specs.Orders.{order_of};
 ghost use Rattle.id_index.specs.Held.{is_held};
 ghost use Rattle.form_owner.specs.Candidates.{Considers, is_concerned, is_of_change, is_of_group, is_of_ids, is_of_legend, is_of_move, is_with_among};
-ghost use Rattle.form_owner.specs.Plain.{ArePlain};
+ghost use Rattle.form_owner.specs.Looks.{AreRight};
 
 use crate::candidates::{consider, consider_all, consider_moved, consider_named};
-use crate::plain::Plain;
+use crate::looks::Looks;
 use ce_base::{NoMemory, NodeNo};
 use element_names::Native;
 use form_kinds::{has_disabled, is_a};
@@ -44,19 +44,19 @@ fn consider_inside(
     tree: &Tree,
     rows: &[Row],
     named: &IdIndex,
-    plain: &Plain,
+    looks: &Looks,
     n: NodeNo,
     found: &mut NodeSet,
 ) -> Result<(), NoMemory>
     requires tidy { IsTidy tree.now }
     requires node { IsNode tree.now n }
-    requires plain { ArePlain tree.now rows.now plain.now }
+    requires looks { AreRight tree.now rows.now (is_held named.now) looks.now }
     ensures { OnOk result (Considers tree.now (is_concerned tree.now rows.now)
         (is_with_among tree.now (is_held named.now) (order_of tree.now n)) found.old found.new) }
 {
     let mut at = n;
     loop {
-        consider_moved(tree, rows, named, plain, at, found)?;
+        consider_moved(tree, rows, named, looks, at, found)?;
         match tree.next_in_shadow_order(at, n) {
             Some(next) => at = next,
             None => return Ok(()),
@@ -71,18 +71,18 @@ pub(crate) fn of_move(
     tree: &Tree,
     rows: &[Row],
     named: &IdIndex,
-    plain: &Plain,
+    looks: &Looks,
     n: NodeNo,
     parent: NodeNo,
 ) -> Result<NodeSet, NoMemory>
     requires tidy { IsTidy tree.now }
     requires node { IsNode tree.now n }
     requires parent { IsNode tree.now parent }
-    requires plain { ArePlain tree.now rows.now plain.now }
+    requires looks { AreRight tree.now rows.now (is_held named.now) looks.now }
     ensures { IfOk result (Considers tree.now (is_concerned tree.now rows.now) (is_of_move tree.now (is_held named.now) n parent) []) }
 {
     let mut found = NodeSet::make(alloc);
-    consider_inside(tree, rows, named, plain, n, &mut found)?;
+    consider_inside(tree, rows, named, looks, n, &mut found)?;
     consider_fieldset(alloc, tree, rows, n, parent, &mut found)?;
     Ok(found)
 }

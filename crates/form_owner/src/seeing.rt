@@ -1,9 +1,10 @@
 // What the table sees of an element's attributes.
-ghost use Rattle.std.specs.Prelude.{◌≡◌, ◌<◌, ◌==◌, ◌-◌, ◌&&◌, ◌||◌, not, ℕ, List, if◌then◌else◌, length, OnOk};
+ghost use Rattle.std.specs.Prelude.{◌≡◌, ◌<◌, ◌==◌, ◌-◌, ◌&&◌, ◌||◌, not, ℕ, List, false, true, if◌then◌else◌, length, OnOk};
 ghost use Rattle.std.specs.Option.{option_copied};
 ghost use Rattle.node_trees.specs.Nodes.{IsNode};
 ghost use Rattle.id_index.specs.Held.{is_held};
 ghost use Rattle.form_owner.specs.Attributes.{is_naming, is_text};
+ghost use Rattle.form_owner.specs.Looks.{IsNamed};
 ghost use Rattle.form_owner.specs.Writing.{AreNoted, AreSeen, AreSeenBy, IsSeenPlaced};
 
 use crate::Touch;
@@ -12,6 +13,17 @@ use id_index::IdIndex;
 use node_arena::Tree;
 use owner_rows::{Row, Seen, form_seen_in, place_of};
 use std::alloc::Global;
+
+/// Whether a text was seen to be anybody's `form` attribute.
+pub(crate) fn is_named(named: &IdIndex, id: &str) -> bool
+    ensures yes { result ≡ true → IsNamed (is_held named.now) id.now }
+    ensures no { result ≡ false → (m : ℕ) → is_held named.now id.now m ≡ false }
+{
+    match named.group(id) {
+        None => false,
+        Some(group) => !group.is_empty(),
+    }
+}
 
 /// Notes a node for the text of its `form` attribute, where it has one.
 fn note_form(

@@ -10,10 +10,11 @@ ghost use Rattle.form_owner.specs.Told.{AreOfNodes};
 ghost use Rattle.form_owner.specs.Touches.{IsTouched, after_touch};
 ghost use Rattle.form_owner.specs.Writing.{IsPlaced, Noted, Written};
 
-use crate::plain::note_plain;
+use crate::looks::note_looks;
 use crate::reach::{of_change, of_mark, of_move};
 use crate::renewal::renew;
 use crate::seeing::see_touched;
+use crate::texts::mind_touched;
 use crate::{Changes, OwnerTable, Touch};
 use ce_base::{NoMemory, NodeNo};
 use node_arena::Tree;
@@ -72,7 +73,7 @@ impl OwnerTable {
                     tree,
                     &self.rows,
                     &self.named,
-                    &self.plain,
+                    &self.looks,
                     node,
                     parent,
                 ),
@@ -82,7 +83,7 @@ impl OwnerTable {
                 tree,
                 &self.rows,
                 &self.named,
-                &self.plain,
+                &self.looks,
                 node,
                 parent,
             ),
@@ -106,8 +107,9 @@ impl OwnerTable {
         fill(alloc, &mut self.rows, tree.count())?;
         note(&mut self.rows, touch);
         let changes = renew(alloc, tree, &mut self.rows, &candidates)?;
+        mind_touched(tree, &self.rows, &self.named, &mut self.looks, touch);
         see_touched(alloc, tree, &mut self.rows, &mut self.named, touch)?;
-        note_plain(tree, &self.rows, &mut self.plain, touch)?;
+        note_looks(tree, &self.rows, &self.named, &mut self.looks, touch)?;
         Ok(changes)
     }
 }

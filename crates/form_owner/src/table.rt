@@ -8,7 +8,7 @@ ghost use Rattle.form_controls.specs.Disabled.{is_disabled};
 ghost use Rattle.form_controls.specs.Owners.{Forms, controls_of, form_owner, is_associated, is_submittable};
 ghost use Rattle.form_owner.specs.Stands.{Stands};
 
-use crate::plain::Plain;
+use crate::looks::Looks;
 use ce_base::NodeNo;
 use element_names::Native;
 use form_kinds::is_a;
@@ -25,7 +25,7 @@ use std::marker::Model;
 pub struct OwnerTable {
     pub(crate) rows: Vec<Row>,
     pub(crate) named: IdIndex,
-    pub(crate) plain: Plain,
+    pub(crate) looks: Looks,
 }
 
 impl Model for OwnerTable {
@@ -38,7 +38,7 @@ impl Model for OwnerTable {
 
     ghost coded = { Prim.hlevel (codes, index.the_row.coded) };
 
-    ghost view = { λ t. record { rows = t.rows.items; named = t.named; plain = t.plain } };
+    ghost view = { λ t. record { rows = t.rows.items; named = t.named; looks = t.looks } };
 }
 
 impl OwnerTable {
@@ -49,7 +49,7 @@ impl OwnerTable {
         OwnerTable {
             rows: Vec::new(alloc),
             named: IdIndex::make(alloc),
-            plain: Plain::make(alloc),
+            looks: Looks::make(alloc),
         }
     }
 

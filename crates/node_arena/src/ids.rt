@@ -1,5 +1,8 @@
 // Elements by their ids.
 ghost use Rattle.std.specs.Prelude.{◌≡◌, ℕ, List, true, false};
+ghost use Rattle.std.specs.BTreeSet.{contains};
+ghost use Rattle.std.specs.Option.{option_map_or};
+ghost use Rattle.std.specs.Ordering.{nat_cmp};
 ghost use Rattle.node_trees.specs.Spots.{facts_at};
 ghost use Rattle.node_trees.specs.Ids.{first_with_id, has_id};
 ghost use Rattle.node_trees.specs.Orders.{tree_order_of};
@@ -10,8 +13,17 @@ ghost use Rattle.node_trees.specs.Nodes.{IsNode, IsNodeOrNone, IsTidy};
 use crate::Tree;
 use ce_base::NodeNo;
 use node_trees::NodeKind;
+use std::collections::BTreeSet;
 
 impl Tree {
+    /// The numbers of the nodes that were noted for an ID (DOM Standard, section "Interface Element", "ID"). Each element
+    /// whose ID it is is among them, connected or not, and there may be others. None only where no element has the ID.
+    pub fn with_id(&self, id: &str) -> Option<&BTreeSet<u64>>
+        ensures { (m : ℕ) → has_id id.now (facts_at self.now m) ≡ true → option_map_or (λ s. contains nat_cmp s.now m) result false ≡ true }
+    {
+        self.ids.group(id)
+    }
+
     /// Of the node and what is below it in its own tree, the first element in tree order whose ID this is
     /// (DOM Standard, section "Mixin NonElementParentNode", `getElementById`). An empty text is no ID.
     /// None exactly where there is none.

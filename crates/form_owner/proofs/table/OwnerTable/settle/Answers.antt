@@ -6,7 +6,7 @@ use Rattle.id_index.specs.Held.{is_held}
 use Rattle.owner_rows.specs.OwnerRow.{row_in}
 use Rattle.form_owner.specs.Candidates.{Covers}
 use Rattle.form_owner.specs.OwnerRows.{OwnerRows}
-use Rattle.form_owner.specs.Plain.{AreNotedBy}
+use Rattle.form_owner.specs.Looks.{AreKept, AreNotedBy, held_by}
 use Rattle.form_owner.specs.Told.{AreOfNodes}
 use Rattle.form_owner.specs.Touches.{after_touch}
 use Rattle.form_owner.specs.Writing.{AreNoted, AreSeenBy}
@@ -27,6 +27,15 @@ renew-requires-clause-lists c =
     lists-now c.args.touch c.requires.stood.before c.args.tree.now c.count.ensures.tidy c.args.self.now c.fill.new.rows.items c.deref_mut.result.now c.note.new.rows c.deref_mut-2.result.now c.requires.stood.stands c.requires.stood.touched
     (λ i. c.in_ok-fill.ensures.same i ∙ ap (λ (t : OwnerRows). row_in t.rows i) c.self.view_is) c.deref_mut.ensures.value given c.note.ensures
 
+pub mind_touched-requires-clause-noted : goal.mind_touched-requires-clause-noted
+mind_touched-requires-clause-noted c =
+    let given : c.deref_mut-2.result.now ≡ c.note.new.rows = c.deref_mut-2.ensures.value ∙ with_items_is c.fill.new.rows c.note.new.rows (omega (arith, c.note.auto.rows, c.deref_mut.ensures.len)) in
+    let read : c.deref.result.now ≡ c.renew.new.rows = c.deref.ensures.value ∙ with_items_is (with_items c.fill.new.rows c.note.new.rows) c.renew.new.rows (omega (arith, c.renew.auto.rows, c.deref_mut-2.ensures.len)) in
+    subst (λ rows. AreNoted rows (is_held c.self.inside.named)) (sym read)
+    (subst (λ index. AreNoted c.renew.new.rows (is_held index)) (sym (ap (λ (t : OwnerRows). t.named) c.self.view_is))
+    (noted-now c.args.touch c.requires.stood.before c.args.tree.now c.count.ensures.tidy c.args.self.now c.fill.new.rows.items c.deref_mut.result.now c.note.new.rows c.deref_mut-2.result.now c.requires.stood.stands c.requires.stood.touched
+    (λ i. c.in_ok-fill.ensures.same i ∙ ap (λ (t : OwnerRows). row_in t.rows i) c.self.view_is) c.deref_mut.ensures.value given c.note.ensures c.renew.new.rows c.in_ok-changes.ensures.rows))
+
 pub see_touched-requires-clause-noted : goal.see_touched-requires-clause-noted
 see_touched-requires-clause-noted c =
     let given : c.deref_mut-2.result.now ≡ c.note.new.rows = c.deref_mut-2.ensures.value ∙ with_items_is c.fill.new.rows c.note.new.rows (omega (arith, c.note.auto.rows, c.deref_mut.ensures.len)) in
@@ -43,13 +52,14 @@ returns-clause-stands c = λ before stood touched.
     let last : (with_items (with_items (with_items c.fill.new.rows c.note.new.rows) c.renew.new.rows) c.see_touched.new.rows).items ≡ c.see_touched.new.rows = with_items_is (with_items (with_items c.fill.new.rows c.note.new.rows) c.renew.new.rows) c.see_touched.new.rows (omega (arith, c.see_touched.auto.rows, c.deref_mut-3.ensures.len)) in
     let long : length c.renew.new.rows ≡ size c.args.tree.now = omega (arith, c.renew.auto.rows, ap length given, c.note.auto.rows, ap length c.deref_mut.ensures.value, c.in_ok-fill.ensures.long, c.count.ensures.count) in
     settled c.args.touch before c.args.tree.now c.count.ensures.tidy c.args.self.now c.fill.new.rows.items c.deref_mut.result.now c.note.new.rows c.deref_mut-2.result.now stood touched
-    (λ i. c.in_ok-fill.ensures.same i ∙ ap (λ (t : OwnerRows). row_in t.rows i) c.self.view_is) c.deref_mut.ensures.value given c.note.ensures c.renew.new.rows long c.in_ok-changes.ensures.rows _
+    (λ i. c.in_ok-fill.ensures.same i ∙ ap (λ (t : OwnerRows). row_in t.rows i) c.self.view_is) c.deref_mut.ensures.value given c.note.ensures c.renew.new.rows long c.in_ok-changes.ensures.rows _ c.mind_touched.new.looks
     (omega (arith, ap length last, c.see_touched.auto.rows, ap length read, long))
     (subst (λ rows. AreSeenBy c.args.touch c.args.tree.now c.renew.new.rows rows (is_held c.args.self.now.named) (is_held c.see_touched.new.named)) (sym last)
     (subst (λ index. AreSeenBy c.args.touch c.args.tree.now c.renew.new.rows c.see_touched.new.rows (is_held index) (is_held c.see_touched.new.named)) (ap (λ (t : OwnerRows). t.named) c.self.view_is)
     (subst (λ rows. AreSeenBy c.args.touch c.args.tree.now rows c.see_touched.new.rows (is_held c.self.inside.named) (is_held c.see_touched.new.named)) read c.in_ok-see_touched.ensures)))
-    (subst (λ rows. AreNotedBy c.args.touch c.args.tree.now rows c.args.self.now.plain c.note_plain.new.plain) c.deref.ensures.value
-    (subst (λ plain. AreNotedBy c.args.touch c.args.tree.now c.deref.result.now plain c.note_plain.new.plain) (ap (λ (t : OwnerRows). t.plain) c.self.view_is) c.in_ok-note_plain.ensures))
+    (subst (λ index. AreKept c.args.tree.now (is_held index) (held_by c.args.touch c.args.tree.now (is_held index)) c.args.self.now.looks c.mind_touched.new.looks) (ap (λ (t : OwnerRows). t.named) c.self.view_is)
+    (subst (λ looks. AreKept c.args.tree.now (is_held c.self.inside.named) (held_by c.args.touch c.args.tree.now (is_held c.self.inside.named)) looks c.mind_touched.new.looks) (ap (λ (t : OwnerRows). t.looks) c.self.view_is) c.mind_touched.ensures))
+    (subst (λ rows. AreNotedBy c.args.touch c.args.tree.now rows (is_held c.see_touched.new.named) c.mind_touched.new.looks c.note_looks.new.looks) c.deref-2.ensures.value c.in_ok-note_looks.ensures)
 
 pub returns-clause-changes : goal.returns-clause-changes
 returns-clause-changes c = λ before stood touched.

@@ -1,4 +1,4 @@
-use Rattle.form_owner.proofs.plain.note_plain.Goals as goal
+use Rattle.form_owner.proofs.looks.note_looks.Goals as goal
 
 pub returns : goal.returns
 returns c = λ i was. c.in_ok-note_new.ensures i (c.note_touched.ensures i was)

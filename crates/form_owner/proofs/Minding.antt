@@ -1,0 +1,74 @@
+-- Nodes whose ID comes to be looked at.
+use Rattle.std.proofs.Common.{Bor, ◌≡◌, ◌≢◌, ℕ, ◌+◌, ◌-◌, ◌<◌, ◌==◌, Bool, true, false, cond, List, [], ◌∷◌, Option, Some, None, refl, sym, ap, ◌∙◌, subst, arith}
+use Rattle.std.specs.Prelude.{not, IsTrue, ◌↔◌, bytes_eq, codes, length}
+use Rattle.std.specs.BTreeSet.{BTreeSet, btree_set_len, contains}
+use Rattle.std.specs.Option.{option_copied, option_eq}
+use Rattle.std.specs.Ordering.{nat_cmp}
+use Rattle.std.proofs.lemmas.Bool.{false_from_ne_true}
+use Rattle.std.proofs.lemmas.Bool.Decides.{nat_tests}
+use Rattle.std.proofs.lemmas.Slice.Eq.{bytes_eq-Decides}
+use Rattle.node_trees.specs.Trees.{Trees}
+use Rattle.node_trees.specs.Paths.{is_among}
+use Rattle.node_trees.specs.Spots.{attribute_at}
+use Rattle.node_set.proofs.Members.{among-any}
+use Rattle.form_owner.specs.declared.looks.Look.{Look}
+use Rattle.form_owner.specs.declared.looks.Look.TheVariants.{Nothing}
+use Rattle.owner_rows.specs.OwnerRow.{OwnerRow, row_of}
+use Rattle.form_owner.specs.Attributes.{is_naming, is_text}
+use Rattle.form_owner.specs.Looks.{AreKept, IsNamed, IsUnnamed, IsUnnamedId, SaysNoMore, held_with, look_at}
+use Rattle.form_owner.specs.Writing.{AreNoted}
+use Rattle.form_owner.proofs.Considering.{is_passed}
+use Rattle.form_owner.proofs.Looking.{the-same}
+
+-- nodes one after the other
+
+pub record Minding (keys left : List ℕ) (old new : List Look) : Type 0 where
+  pub here : (n : ℕ) → is_passed keys left n ≡ true → look_at new (n - 1) ≢ Nothing
+  pub less : (i : ℕ) → SaysNoMore (look_at old i) (look_at new i)
+
+pub minding-end : (keys left : List ℕ) (old new : List Look) → left ≡ [] → Minding keys left old new → (n : ℕ) → is_among n keys ≡ true → look_at new (n - 1) ≢ Nothing
+minding-end keys left old new none all n among = let out : is_among n left ≡ false = ap (is_among n) none in all.here n (grind (arith, among, out))
+
+-- texts
+
+-- where an index has anybody for a text, there is one
+pub named-some : (named : List ℕ → ℕ → Bool) (id : List ℕ) (s : BTreeSet ℕ) (r : Bool) → (IsTrue r ↔ (btree_set_len s ≡ 0)) → not r ≡ true → ((m : ℕ) → contains nat_cmp s m ≡ named id m) → IsNamed named id
+named-some named id s r empty some held = by_keys s.keys refl
+  where
+    by_keys : (ks : List ℕ) → s.keys ≡ ks → IsNamed named id
+    by_keys [] is = absurd (let it : r ≡ true = empty.1 (ap length is) in cc)
+    by_keys (k ∷ ks) is = record { by = k; holds = sym (held k) ∙ among-any k s.keys ∙ ap (is_among k) is ∙ grind (arith, nat_tests) }
+
+module _ (forest : Trees) (named : List ℕ → ℕ → Bool) (i : ℕ) (id : List ℕ) (un : IsUnnamedId forest named (i + 1) id) (text : List ℕ) where
+  -- one that is somebody's `form` attribute is another
+  pub text-named : IsNamed named text → bytes_eq text id ≡ false
+  text-named is = false_from_ne_true (bytes_eq text id) (λ e.
+      let same : text ≡ id = (bytes_eq-Decides text id).0 e in
+      absurd (let yes = is.holds in let no : named text is.by ≡ false = subst (λ t. named t is.by ≡ false) (sym same) (un.unnamed is.by) in cc))
+
+module _ (n : ℕ) (forest : Trees) (named : List ℕ → ℕ → Bool) (old new : List Look) (less : (i : ℕ) → SaysNoMore (look_at old i) (look_at new i)) where
+  pub kept-with : ((i : ℕ) → look_at new i ≡ Nothing → IsUnnamed forest named (i + 1) → (id : List ℕ) → attribute_at forest (i + 1) (codes "id") ≡ Some id → is_naming forest id n ≡ false) → AreKept forest named (held_with n forest named) old new
+  kept-with other = record { less = less; unnamed = λ i nothing un id at. record { has = (un id at).has; unnamed = λ m. by_test i nothing un id at m (n == m) } }
+    where
+      by_test : (i : ℕ) → look_at new i ≡ Nothing → IsUnnamed forest named (i + 1) → (id : List ℕ) → attribute_at forest (i + 1) (codes "id") ≡ Some id → (m : ℕ) (b : Bool) → cond b (is_naming forest id n) (named id m) ≡ false
+      by_test i nothing un id at m true = other i nothing un id at
+      by_test i nothing un id at m false = (un id at).unnamed m
+
+-- notes that stay are kept with the texts that stay
+pub kept-still : (forest : Trees) (named : List ℕ → ℕ → Bool) (looks : List Look) → AreKept forest named named looks looks
+kept-still forest named looks = record { less = λ i. the-same (look_at looks i); unnamed = λ i nothing un. un }
+
+-- a `form` attribute that is the text that was seen is nobody's ID that was nobody's
+pub form-seen : (n : ℕ) (forest : Trees) (rows : List OwnerRow) (named : List ℕ → ℕ → Bool) → 0 < n → AreNoted rows named → (row_of rows n).seen.form ≡ attribute_at forest n (codes "form") → (i : ℕ) (id : List ℕ) → IsUnnamedId forest named i id → is_naming forest id n ≡ false
+form-seen n forest rows named low noted same i id un = ap (is_text id) (sym same) ∙ sym (noted id n low) ∙ un.unnamed n
+
+-- texts that are lent, and equal
+pub same-lent : (o p : Option (Bor (List ℕ))) → not (option_eq (λ a b. bytes_eq a.now b.now) o p) ≡ false → option_copied o ≡ option_copied p
+same-lent None None e = refl
+same-lent None (Some y) e = absurd cc
+same-lent (Some x) None e = absurd cc
+same-lent (Some x) (Some y) e = by_test (bytes_eq x.now y.now) refl e
+  where
+    by_test : (b : Bool) → bytes_eq x.now y.now ≡ b → not b ≡ false → option_copied (Some x) ≡ option_copied (Some y)
+    by_test true same e = ap Some ((bytes_eq-Decides x.now y.now).0 same)
+    by_test false same e = absurd cc
