@@ -109,7 +109,7 @@ fn is_unfit(state: &State, local: &str, document: NodeNo, n: NodeNo) -> bool
     ensures { result ≡ is_unfit state.now.page local.now document n }
 {
     let tree = state.tree();
-    tree.attr_count(n) != 0
+    tree.has_attributes(n)
         || tree.first_child(n).is_some()
         || tree.parent(n).is_some()
         || tree.document(n) != document

@@ -1,5 +1,5 @@
 -- What copying nodes leaves as it was.
-use Rattle.std.proofs.Common.{◌≡◌, ◌≢◌, ℕ, zero, suc, ◌+◌, ◌<◌, Bool, true, false, ◌&&◌, ◌||◌, if◌then◌else◌, List, [], ◌∷◌, drop, length, Some, None, refl, ap, ◌∙◌, subst, arith}
+use Rattle.std.proofs.Common.{◌≡◌, ◌≢◌, ℕ, zero, suc, ◌+◌, ◌<◌, Bool, true, false, ◌&&◌, ◌||◌, if◌then◌else◌, List, [], ◌∷◌, add-one, drop, drop-cons, get_or, length, Some, None, refl, ap, sym, ◌∙◌, subst, arith}
 use Rattle.std.specs.Prelude.{◌-◌, ◌≤◌, ◌++◌, map, reverse, slice_get}
 use Rattle.std.proofs.lemmas.Grind.{common_steps}
 use Rattle.std.proofs.lemmas.Bool.Decides.{nat_tests}
@@ -67,14 +67,9 @@ fresh_changed {f} {g} {h} {kind} {n} a b = let later = a.later in record {
   apart = λ m out. b.apart m (a.apart m out);
 }
 
--- the member at a place, and the list from there on
-pub member : {A : Type 0} (xs : List A) (i : ℕ) → i < length xs → (a : A) × ((slice_get xs i ≡ Some a) × (drop i xs ≡ a ∷ drop (i + 1) xs))
-member [] i lt = absurd (omega arith)
-member (x ∷ xs) zero lt = (x, (refl, refl))
-member (x ∷ xs) (suc i) lt =
-    let m = member xs i (omega arith) in
-    let back : suc (i + 1) ≡ suc i + 1 = omega arith in
-    (m.0, (m.1.0, subst (λ k. drop i xs ≡ m.0 ∷ drop k (x ∷ xs)) back m.1.1))
+-- the list from a member on
+pub from_member : {A : Type 0} (xs : List A) (i : ℕ) (a : A) → i < length xs → a ≡ get_or xs i a → drop i xs ≡ a ∷ drop (i + 1) xs
+from_member xs i a lt is = rw (add-one, drop-cons xs i a) (ap (λ y. y ∷ drop (suc i) xs) (sym is))
 
 -- a node that stands alone may be put into an element
 

@@ -1,5 +1,5 @@
 // Copies of nodes, each alone.
-ghost use Rattle.std.specs.Prelude.{◌≡◌, ◌≢◌, ◌+◌, ◌<◌, ◌^◌, ℕ, List, Some, true, false, length, slice_get, IfOk, OnOk};
+ghost use Rattle.std.specs.Prelude.{◌≡◌, ◌+◌, ◌<◌, ◌^◌, true, false, IfOk, OnOk};
 ghost use Rattle.node_trees.specs.declared.kind.NodeKind.TheVariants.{Element as ElementKind, TextNode};
 ghost use Rattle.node_trees.specs.Facts.{is_element};
 ghost use Rattle.node_trees.specs.Spots.{facts_at, kind_at};
@@ -121,34 +121,48 @@ impl Page {
     ) -> Result<(), PageStop>
         requires node { IsNode self.old.forest from }
         requires copy { IsElement self.old.forest n }
-        requires apart { from ≢ n }
         requires room { self.old.queues.reactions + fuel.old < 2 ^ 64 }
         ensures step { Does result (work self.new fuel.new) (for_each (facts_at self.old.forest from).attributes (copy_attribute n) (work self.old fuel.old)) }
         ensures within { StaysWithin self.old self.new fuel.old fuel.new }
         ensures changes { OnlyChanges n self.old.forest self.new.forest }
         ensures refused { NeverRefuses result }
     {
-        let count = self.tree.attr_count(from);
-        for i in 0..count {
-            self.copy_attribute(alloc, from, i, n, fuel)?;
+        let attributes = self.tree.attributes(alloc, from)?;
+        self.copy_each(alloc, &attributes, n, fuel)
+    }
+
+    /// A copy gets these attributes, in their order.
+    fn copy_each(
+        &mut self,
+        alloc: Global,
+        attributes: &[(Text, Text)],
+        n: NodeNo,
+        fuel: &mut Fuel,
+    ) -> Result<(), PageStop>
+        requires copy { IsElement self.old.forest n }
+        requires room { self.old.queues.reactions + fuel.old < 2 ^ 64 }
+        ensures step { Does result (work self.new fuel.new) (for_each attributes.now (copy_attribute n) (work self.old fuel.old)) }
+        ensures within { StaysWithin self.old self.new fuel.old fuel.new }
+        ensures changes { OnlyChanges n self.old.forest self.new.forest }
+        ensures refused { NeverRefuses result }
+    {
+        for attribute in attributes {
+            self.copy_attribute(alloc, attribute, n, fuel)?;
         }
         Ok(())
     }
 
-    /// A copy gets the attribute at a place.
+    /// A copy gets an attribute.
     fn copy_attribute(
         &mut self,
         alloc: Global,
-        from: NodeNo,
-        i: usize,
+        attribute: &(Text, Text),
         n: NodeNo,
         fuel: &mut Fuel,
     ) -> Result<(), PageStop>
-        requires node { IsNode self.old.forest from }
-        requires place { i < length (facts_at self.old.forest from).attributes }
         requires copy { IsElement self.old.forest n }
         requires room { self.old.queues.reactions + fuel.old < 2 ^ 64 }
-        ensures step { (a : List ℕ × List ℕ) → slice_get (facts_at self.old.forest from).attributes i ≡ Some a → Does result (work self.new fuel.new) (copy_attribute n a (work self.old fuel.old)) }
+        ensures step { Does result (work self.new fuel.new) (copy_attribute n attribute.now (work self.old fuel.old)) }
         ensures within { StaysWithin self.old self.new fuel.old fuel.new }
         ensures changes { OnlyChanges n self.old.forest self.new.forest }
         ensures refused { NeverRefuses result }
@@ -156,19 +170,8 @@ impl Page {
         if !fuel.spend() {
             return Err(PageStop::FuelSpent);
         }
-        let (name, value) = self.attribute_of(alloc, from, i)?;
+        let name = attribute.0.copy(alloc)?;
+        let value = attribute.1.copy(alloc)?;
         self.set_attribute(alloc, n, name, value, fuel)
-    }
-
-    /// The name and the value of the attribute at a place.
-    fn attribute_of(&self, alloc: Global, from: NodeNo, i: usize) -> Result<(Text, Text), NoMemory>
-        requires node { IsNode self.now.forest from }
-        requires place { i < length (facts_at self.now.forest from).attributes }
-        ensures { IfOk result (λ a. slice_get (facts_at self.now.forest from).attributes i ≡ Some (a.0, a.1)) }
-    {
-        let (name, value) = self.tree.attr_at(from, i);
-        let name = Text::of(alloc, name)?;
-        let value = Text::of(alloc, value)?;
-        Ok((name, value))
     }
 }

@@ -1,16 +1,30 @@
--- A list of attributes at the place of a name.
-use Rattle.std.proofs.Common.{◌≡◌, ℕ, suc, ◌<◌, ◌≤◌, ◌+◌, List, [], ◌∷◌, ◌++◌, Some, None, true, refl, ap, subst, sym, ◌∙◌, arith, length, take, drop, map, add-one, get_or}
+-- A list of attributes at the place of a name, and its names.
+use Rattle.std.proofs.Common.{◌≡◌, ℕ, zero, suc, ◌<◌, ◌≤◌, ◌+◌, List, [], ◌∷◌, ◌++◌, Option, Some, None, true, false, cond, refl, ap, sym, ◌∙◌, arith, length, take, drop, add-one, get_or}
+use Rattle.std.specs.Prelude.{Result, Ok, Err, OnOk, OnErr, bytes_eq, is_none}
+use Rattle.ce_base.specs.declared.memory.NoMemory.{NoMemory}
 use Rattle.std.proofs.Math.ListN.{set}
-use Rattle.std.proofs.Math.Seq.{map-set_same}
-use Rattle.std.proofs.lemmas.List.{get_or-map, take-map, drop-map, map-append, length-map, take_more}
-use Rattle.std.specs.List.{remove}
+use Rattle.std.proofs.lemmas.List.{take_more}
 use Rattle.std.proofs.lemmas.Bool.Decides.{nat_tests}
+use Rattle.std.proofs.lemmas.Slice.Eq.{bytes_eq-Decides}
 use Rattle.node_trees.specs.Facts.{value_in, with_value, without_value}
-use Rattle.node_arena.specs.Attributes.{name_place, names_of}
-use Rattle.node_arena.specs.Names.{place, is_once}
-use Rattle.node_arena.proofs.FinderLemmas.{once_next, place_once, same_name}
+use Rattle.node_arena.specs.Attributes.{name_place, is_once}
 
-pub value_in-place : (name : List ℕ) (xs : List (List ℕ × List ℕ)) (d : List ℕ × List ℕ) → name_place name xs < length xs → value_in xs name ≡ Some (get_or xs (name_place name xs) d).1
+same_name : (a b : List ℕ) → bytes_eq a b ≡ true → a ≡ b
+same_name a b e = (bytes_eq-Decides a b).0 e
+
+name_same : (a b : List ℕ) → a ≡ b → bytes_eq a b ≡ true
+name_same a b e = (bytes_eq-Decides a b).1 e
+
+bytes_sym : (a b : List ℕ) → bytes_eq a b ≡ bytes_eq b a
+bytes_sym a b = grind (arith, same_name a b, same_name b a, name_same a b, name_same b a)
+
+is_nothing : (o : Option (List ℕ)) → is_none o ≡ true → o ≡ None
+is_nothing None e = refl
+is_nothing (Some v) e = absurd cc
+
+-- ---- at the place of a name
+
+value_in-place : (name : List ℕ) (xs : List (List ℕ × List ℕ)) (d : List ℕ × List ℕ) → name_place name xs < length xs → value_in xs name ≡ Some (get_or xs (name_place name xs) d).1
 value_in-place name [] d lt = absurd (omega arith)
 value_in-place name (x ∷ xs) d lt = grind (arith, nat_tests, value_in-place name xs d, add-one (name_place name xs))
 
@@ -18,7 +32,7 @@ pub value_in-absent : (name : List ℕ) (xs : List (List ℕ × List ℕ)) → l
 value_in-absent name [] le = refl
 value_in-absent name (x ∷ xs) le = grind (arith, nat_tests, value_in-absent name xs)
 
-pub with_value-place : (name value : List ℕ) (xs : List (List ℕ × List ℕ)) (d : List ℕ × List ℕ) → name_place name xs < length xs → set xs (name_place name xs) ((get_or xs (name_place name xs) d).0, value) ≡ with_value name value xs
+with_value-place : (name value : List ℕ) (xs : List (List ℕ × List ℕ)) (d : List ℕ × List ℕ) → name_place name xs < length xs → set xs (name_place name xs) ((get_or xs (name_place name xs) d).0, value) ≡ with_value name value xs
 with_value-place name value [] d lt = absurd (omega arith)
 with_value-place name value (x ∷ xs) d lt =
     let same = same_name x.0 name in
@@ -28,7 +42,7 @@ pub with_value-absent : (name value : List ℕ) (xs : List (List ℕ × List ℕ
 with_value-absent name value [] le = refl
 with_value-absent name value (x ∷ xs) le = grind (arith, nat_tests, with_value-absent name value xs)
 
-pub without_value-place : (name : List ℕ) (xs : List (List ℕ × List ℕ)) → name_place name xs < length xs → take (name_place name xs) xs ++ drop (suc (name_place name xs)) xs ≡ without_value name xs
+without_value-place : (name : List ℕ) (xs : List (List ℕ × List ℕ)) → name_place name xs < length xs → take (name_place name xs) xs ++ drop (suc (name_place name xs)) xs ≡ without_value name xs
 without_value-place name [] lt = absurd (omega arith)
 without_value-place name (x ∷ xs) lt = grind (arith, nat_tests, without_value-place name xs, add-one (name_place name xs))
 
@@ -50,49 +64,54 @@ module _ (name : List ℕ) (xs : List (List ℕ × List ℕ)) (i : ℕ) (at : i 
       let same : d ≡ get_or xs (name_place name xs) d = rw at at is in
       rw (at, e) (ap (λ v. set xs (name_place name xs) (v.0, value)) same ∙ it)
 
--- ---- the names alone
+  pub without_there : i < length xs → take i xs ++ drop (suc i) xs ≡ without_value name xs
+  without_there lt = ap (λ k. take k xs ++ drop (suc k) xs) at ∙ without_value-place name xs (omega arith)
 
-pub name_place-names : (name : List ℕ) (xs : List (List ℕ × List ℕ)) → name_place name xs ≡ place name (names_of xs)
-name_place-names name [] = refl
-name_place-names name (x ∷ xs) = grind (arith, name_place-names name xs)
+-- ---- names that stand once
 
-pub names-length : (xs : List (List ℕ × List ℕ)) → length (names_of xs) ≡ length xs
-names-length xs = length-map xs (λ a. a.0)
+value_in-with : (name value q : List ℕ) (xs : List (List ℕ × List ℕ)) → value_in (with_value name value xs) q ≡ cond (bytes_eq name q) (Some value) (value_in xs q)
+value_in-with name value q [] = refl
+value_in-with name value q (x ∷ xs) = grind (arith, same_name x.0 name, same_name x.0 q, same_name name q, name_same x.0 name, value_in-with name value q xs)
 
-pub names-set : (xs : List (List ℕ × List ℕ)) (i : ℕ) (d : List ℕ × List ℕ) (new : List ℕ) → d ≡ get_or xs i d → names_of (set xs i (d.0, new)) ≡ names_of xs
-names-set xs i d new is = map-set_same (λ (a : List ℕ × List ℕ). a.0) xs i (d.0, new) d (ap (λ a. a.0) is)
+value_in-without : (name q : List ℕ) (xs : List (List ℕ × List ℕ)) → is_once xs ≡ true → value_in (without_value name xs) q ≡ cond (bytes_eq name q) None (value_in xs q)
+value_in-without name q [] once = grind arith
+value_in-without name q (x ∷ xs) once =
+    grind (arith, is_nothing (value_in xs x.0), same_name x.0 name, same_name name q, same_name x.0 q, name_same x.0 name, name_same name q, name_same x.0 q, value_in-without name q xs)
 
-pub names-remove : (xs : List (List ℕ × List ℕ)) (i : ℕ) → names_of (remove xs i) ≡ remove (names_of xs) i
-names-remove xs i =
-    let first = λ (a : List ℕ × List ℕ). a.0 in
-    map-append first (take i xs) (drop (suc i) xs) ∙ (ap (λ l. l ++ map first (drop (suc i) xs)) (sym (take-map first i xs)) ∙ ap (λ l. take i (map first xs) ++ l) (sym (drop-map first (suc i) xs)))
+once_with : (name value : List ℕ) (xs : List (List ℕ × List ℕ)) → is_once xs ≡ true → is_once (with_value name value xs) ≡ true
+once_with name value [] once = refl
+once_with name value (x ∷ xs) once = grind (arith, same_name x.0 name, bytes_sym x.0 name, value_in-with name value x.0 xs, once_with name value xs)
 
-pub names-push : (xs : List (List ℕ × List ℕ)) (name value : List ℕ) → names_of (xs ++ (name, value) ∷ []) ≡ names_of xs ++ name ∷ []
-names-push xs name value = map-append (λ (a : List ℕ × List ℕ). a.0) xs ((name, value) ∷ [])
+pub once_without : (name : List ℕ) (xs : List (List ℕ × List ℕ)) → is_once xs ≡ true → is_once (without_value name xs) ≡ true
+once_without name [] once = refl
+once_without name (x ∷ xs) once = grind (arith, is_nothing (value_in xs x.0), value_in-without name x.0 xs, once_without name xs)
+
+-- so it is where a value was set, unless memory was refused
+pub once_set : (r : Result (Option (List ℕ)) NoMemory) (name value : List ℕ) (old new : List (List ℕ × List ℕ)) → OnOk r (new ≡ with_value name value old) → OnErr r (new ≡ old) → is_once old ≡ true → is_once new ≡ true
+once_set (Ok was) name value old new ok err once = ap is_once ok ∙ once_with name value old once
+once_set (Err e) name value old new ok err once = ap is_once err ∙ once
 
 -- what stood once and was taken away is gone
-pub value_in-gone : (name : List ℕ) (xs : List (List ℕ × List ℕ)) → is_once (names_of xs) ≡ true → value_in (without_value name xs) name ≡ None
-value_in-gone name [] once = refl
-value_in-gone name (x ∷ xs) once =
-    let absent = value_in-absent name xs in
-    let same = same_name x.0 name in
-    grind (arith, nat_tests, absent, same, value_in-gone name xs, name_place-names name xs, names-length xs)
+pub value_in-gone : (name : List ℕ) (xs : List (List ℕ × List ℕ)) → is_once xs ≡ true → value_in (without_value name xs) name ≡ None
+value_in-gone name xs once = value_in-without name name xs once ∙ ap (λ b. cond b None (value_in xs name)) (name_same name name refl)
 
--- a name that stands once stands at its place
-pub place_at : (xs : List (List ℕ × List ℕ)) (i : ℕ) (d : List ℕ × List ℕ) → is_once (names_of xs) ≡ true → i < length xs → i ≡ place (get_or xs i d).0 (names_of xs)
-place_at xs i d once lt =
-    let here = place_once (names_of xs) i d.0 once (omega (arith, names-length xs, lt)) in
-    sym (rw (get_or-map (λ (a : List ℕ × List ℕ). a.0) xs i d d.0 lt) at here)
+-- what is set behind names that are all others comes last
 
--- one name more
-module _ (xs : List (List ℕ × List ℕ)) (i : ℕ) (d : List ℕ × List ℕ) (lt : i < length xs) (is : d ≡ get_or xs i d) where
-  first_at : get_or (names_of xs) i d.0 ≡ d.0
-  first_at = get_or-map (λ (a : List ℕ × List ℕ). a.0) xs i d d.0 lt ∙ sym (ap (λ (a : List ℕ × List ℕ). a.0) is)
+absent_at : (name : List ℕ) (xs : List (List ℕ × List ℕ)) (i : ℕ) (d : List ℕ × List ℕ) → value_in xs name ≡ None → i < length xs → bytes_eq (get_or xs i d).0 name ≡ false
+absent_at name [] i d none lt = absurd (omega arith)
+absent_at name (x ∷ xs) zero d none lt = grind arith
+absent_at name (x ∷ xs) (suc i) d none lt = grind (arith, absent_at name xs i d)
 
-  pub names-next : take (i + 1) (names_of xs) ≡ take i (names_of xs) ++ d.0 ∷ []
-  names-next = take_more (names_of xs) i d.0 (omega (arith, names-length xs, lt)) ∙ ap (λ n. take i (names_of xs) ++ n ∷ []) first_at
+once_next : (xs : List (List ℕ × List ℕ)) (i : ℕ) (d : List ℕ × List ℕ) → is_once xs ≡ true → i < length xs → value_in (take i xs) (get_or xs i d).0 ≡ None
+once_next [] i d once lt = absurd (omega arith)
+once_next (x ∷ xs) zero d once lt = refl
+once_next (x ∷ xs) (suc i) d once lt = grind (arith, is_nothing (value_in xs x.0), absent_at x.0 xs i d, bytes_sym x.0 (get_or xs i d).0, once_next xs i d)
 
-  pub new-next : is_once (names_of xs) ≡ true → length (take i (names_of xs)) ≤ place d.0 (take i (names_of xs))
-  new-next once =
-      let P : List ℕ → Type 0 = λ n. length (take i (names_of xs)) ≤ place n (take i (names_of xs)) in
-      subst P first_at (once_next (names_of xs) i d.0 once (omega (arith, names-length xs, lt)))
+with_value-new : (name value : List ℕ) (xs : List (List ℕ × List ℕ)) → value_in xs name ≡ None → with_value name value xs ≡ xs ++ (name, value) ∷ []
+with_value-new name value [] none = refl
+with_value-new name value (x ∷ xs) none = grind (arith, with_value-new name value xs)
+
+pub with_value-next : (xs : List (List ℕ × List ℕ)) (i : ℕ) (d : List ℕ × List ℕ) → is_once xs ≡ true → i < length xs → d ≡ get_or xs i d → with_value d.0 d.1 (take i xs) ≡ take (i + 1) xs
+with_value-next xs i d once lt is =
+    let none : value_in (take i xs) d.0 ≡ None = ap (λ (a : List ℕ × List ℕ). value_in (take i xs) a.0) is ∙ once_next xs i d once lt in
+    with_value-new d.0 d.1 (take i xs) none ∙ ap (λ (a : List ℕ × List ℕ). take i xs ++ a ∷ []) is ∙ sym (take_more xs i d lt)

@@ -10,6 +10,5 @@ pub mod IdNotes
 pub mod LookUp
 pub mod Calls
 pub mod AttributeLemmas
-pub mod FinderLemmas
 pub mod MarkLemmas
 pub mod ShadowOrder

@@ -6,6 +6,4 @@ pub mod NodeLinks
 pub mod Covers
 pub mod Holders
 pub mod Attributes
-pub mod Names
-pub mod Found
 pub mod Marks

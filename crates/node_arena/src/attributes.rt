@@ -1,39 +1,41 @@
 // An element's attributes.
-ghost use Rattle.std.specs.Prelude.{◌≡◌, ◌≤◌, ◌<◌, ◌++◌, ◌∷◌, [], Some, None, true, length, IfOk, OnOk, OnErr, option_copied, slice_get};
-ghost use Rattle.std.specs.List.{remove};
+ghost use Rattle.std.specs.Prelude.{◌≡◌, ◌≤◌, [], None, true, length, option_copied, IfOk, OnOk, OnErr};
 ghost use Rattle.node_trees.specs.Facts.{value_in, with_value, without_value};
-ghost use Rattle.node_arena.specs.Attributes.{name_place, names_of};
-ghost use Rattle.node_arena.specs.Names.{is_once};
-ghost use Rattle.node_arena.specs.Found.{MayFind};
+ghost use Rattle.node_arena.specs.Attributes.{is_once, name_place};
 
-use crate::finder::Finder;
 use ce_base::{NoMemory, Text};
 use std::alloc::Global;
 use std::marker::Model;
 use std::mem;
+use text_map::TextMap;
 
-// How many attributes are found by going through them. More are found by a map.
+// How many attributes are found by going through them. More are kept in a map.
 const FEW: usize = 8;
 
-/// Names with their values, in the order of first setting. A contract sees the list of the pairs. The names
-/// of more than a few are found by a map.
+/// Names with their values, in the order of first setting. A contract sees the list of the pairs. A few stand in a
+/// list. Once there were more they stand in a map, and stay there.
 #[derive(Drop)]
 pub(crate) struct Attributes {
-    items: Vec<(Text, Text)>,
-    finder: Option<Box<Finder>>,
+    kept: Kept,
+}
+
+// How they are kept.
+#[derive(Drop)]
+enum Kept {
+    Few(Vec<(Text, Text)>),
+    Many(Box<TextMap>),
 }
 
 impl Model for Attributes {
-    ghost use Rattle.std.specs.Prelude.{◌≡◌, ℕ, List, true};
-    ghost use Rattle.node_arena.specs.Attributes.{names_of};
-    ghost use Rattle.node_arena.specs.Names.{is_once};
-    ghost use Rattle.node_arena.specs.Found.{MayFind};
+    ghost use Rattle.std.specs.Prelude.{ℕ, List};
 
     ghost Value = { List (List ℕ × List ℕ) };
 
-    ghost view = { λ a. a.items.items };
+    ghost use Rattle.node_arena.specs.Attributes.{pairs_of, IsOnce};
 
-    ghost invariant = { λ a. (is_once (names_of a.items.items) ≡ true) × MayFind a.finder (names_of a.items.items) };
+    ghost view = { λ a. pairs_of a.kept };
+
+    ghost invariant = { λ a. IsOnce a.kept };
 }
 
 /// The first place of a name, or the length where it is not there.
@@ -49,53 +51,77 @@ fn place_of(items: &[(Text, Text)], name: &str) -> usize
     items.len()
 }
 
-// What finds one more name, if anything does. Past a few names it is made.
-fn with_name(
-    alloc: Global,
-    finder: Option<Box<Finder>>,
-    items: &[(Text, Text)],
-    name: &str,
-) -> Result<Option<Box<Finder>>, NoMemory>
-    requires once { is_once (names_of items.now) ≡ true }
-    requires found { MayFind finder (names_of items.now) }
-    requires new { length items.now ≤ name_place name.now items.now }
-    ensures { IfOk result (λ f. MayFind f (names_of items.now ++ name.now ∷ [])) }
+// The value of a name among a few. None exactly where it is not there.
+fn get_few<'a>(items: &'a [(Text, Text)], name: &str) -> Option<&'a str>
+    ensures { option_copied result ≡ value_in items.now name.now }
 {
-    match finder {
-        None => {
-            if items.len() < FEW {
-                return Ok(None);
-            }
-            let mut made = Finder::of(alloc, items)?;
-            made.push(alloc, name)?;
-            Ok(Some(Box::new(alloc, made)?))
-        }
-        Some(finder) => {
-            let mut finder = finder;
-            finder.push(alloc, name)?;
-            Ok(Some(finder))
-        }
+    let at = place_of(items, name);
+    if at < items.len() {
+        return Some(items[at].1.as_str());
     }
+    None
 }
 
-// What finds the names without the one at this place, if anything does.
-fn without_name(
-    finder: Option<Box<Finder>>,
-    items: &[(Text, Text)],
-    at: usize,
-) -> Option<Box<Finder>>
-    requires found { MayFind finder (names_of items.now) }
-    requires within { at < length items.now }
-    ensures { MayFind result (remove (names_of items.now) at) }
+// Sets a value among a few. A name that is there keeps its place, another comes last.
+fn set_few(items: &mut Vec<(Text, Text)>, name: Text, value: Text) -> Result<Option<Text>, NoMemory>
+    ensures ok { OnOk result (items.new.items ≡ with_value name value items.old.items) }
+    ensures was { IfOk result (λ old. old ≡ value_in items.old.items name) }
+    ensures err { OnErr result (items.new.items ≡ items.old.items) }
 {
-    match finder {
-        None => None,
-        Some(finder) => {
-            let mut finder = finder;
-            finder.remove(items[at].0.as_str(), at);
-            Some(finder)
-        }
+    let at = place_of(items.as_slice(), name.as_str());
+    if at < items.len() {
+        return Ok(Some(mem::replace(&mut items[at].1, value)));
     }
+    items.push((name, value))?;
+    Ok(None)
+}
+
+// Takes a name away from a few. None exactly where it is not there.
+fn remove_few(items: &mut Vec<(Text, Text)>, name: &str) -> Option<Text>
+    requires { is_once items.old.items ≡ true }
+    ensures once { is_once items.new.items ≡ true }
+    ensures left { items.new.items ≡ without_value name.now items.old.items }
+    ensures was { result ≡ value_in items.old.items name.now }
+    ensures gone { value_in items.new.items name.now ≡ None }
+{
+    let at = place_of(items.as_slice(), name);
+    if at < items.len() {
+        let (_, value) = items.remove(at);
+        return Some(value);
+    }
+    None
+}
+
+// A second list of the same names and values.
+fn list_few(alloc: Global, items: &[(Text, Text)]) -> Result<Vec<(Text, Text)>, NoMemory>
+    ensures { IfOk result (λ list. list.items ≡ items.now) }
+{
+    let mut list = Vec::new(alloc);
+    for item in items {
+        let name = item.0.copy(alloc)?;
+        let value = item.1.copy(alloc)?;
+        list.push((name, value))?;
+    }
+    Ok(list)
+}
+
+// The same names and values in a map.
+fn map_few(alloc: Global, items: &[(Text, Text)]) -> Result<TextMap, NoMemory>
+    requires { is_once items.now ≡ true }
+    ensures { IfOk result (λ map. map ≡ items.now) }
+{
+    let mut map = TextMap::make(alloc);
+    for item in items {
+        let name = item.0.copy(alloc)?;
+        let value = item.1.copy(alloc)?;
+        map.set(alloc, name, value)?;
+    }
+    Ok(map)
+}
+
+// Whether a list has no room for a name, which is not in it.
+fn is_full(items: &[(Text, Text)], name: &str) -> bool {
+    items.len() >= FEW && place_of(items, name) == items.len()
 }
 
 impl Attributes {
@@ -103,46 +129,27 @@ impl Attributes {
         ensures { result ≡ [] }
     {
         Attributes {
-            items: Vec::new(alloc),
-            finder: None,
-        }
-    }
-
-    // The first place of a name, or the length where it is not there.
-    fn place(&self, name: &str) -> usize
-        ensures within { result ≤ length self.now }
-        ensures place { result ≡ name_place name.now self.now }
-    {
-        match &self.finder {
-            None => place_of(&self.items, name),
-            Some(finder) => finder.place(name),
+            kept: Kept::Few(Vec::new(alloc)),
         }
     }
 
     pub(crate) fn len(&self) -> usize
         ensures { result ≡ length self.now }
     {
-        self.items.len()
-    }
-
-    /// The name and the value at a place.
-    pub(crate) fn at(&self, i: usize) -> (&str, &str)
-        requires { i < length self.now }
-        ensures { slice_get self.now i ≡ Some (result.0.now, result.1.now) }
-    {
-        let item = &self.items[i];
-        (item.0.as_str(), item.1.as_str())
+        match &self.kept {
+            Kept::Few(items) => items.len(),
+            Kept::Many(map) => map.len(),
+        }
     }
 
     /// The value of a name. None exactly where it is not there.
     pub(crate) fn get(&self, name: &str) -> Option<&str>
         ensures { option_copied result ≡ value_in self.now name.now }
     {
-        let at = self.place(name);
-        if at < self.items.len() {
-            return Some(self.items[at].1.as_str());
+        match &self.kept {
+            Kept::Few(items) => get_few(items, name),
+            Kept::Many(map) => map.get(name),
         }
-        None
     }
 
     /// Sets a value. A name that is there keeps its place, another comes last.
@@ -156,24 +163,26 @@ impl Attributes {
         ensures was { IfOk result (λ old. old ≡ value_in self.old name) }
         ensures err { OnErr result (self.new ≡ self.old) }
     {
-        let at = self.place(name.as_str());
-        if at < self.items.len() {
-            return Ok(Some(mem::replace(&mut self.items[at].1, value)));
+        self.make_room(alloc, name.as_str())?;
+        match &mut self.kept {
+            Kept::Few(items) => set_few(items, name, value),
+            Kept::Many(map) => map.set(alloc, name, value),
         }
-        self.add(alloc, name, value)?;
-        Ok(None)
     }
 
-    // Puts a name with its value last, which is not there.
-    fn add(&mut self, alloc: Global, name: Text, value: Text) -> Result<(), NoMemory>
-        requires { length self.old ≤ name_place name self.old }
-        ensures ok { OnOk result (self.new ≡ self.old ++ (name, value) ∷ []) }
-        ensures err { OnErr result (self.new ≡ self.old) }
+    // Where a list has no room for a name, its names and values go into a map.
+    fn make_room(&mut self, alloc: Global, name: &str) -> Result<(), NoMemory>
+        ensures { self.new ≡ self.old }
     {
-        let finder = self.finder.take();
-        let finder = with_name(alloc, finder, &self.items, name.as_str())?;
-        self.items.push((name, value))?;
-        self.finder = finder;
+        let Kept::Few(items) = &self.kept else {
+            return Ok(());
+        };
+        let items = items.as_slice();
+        if !is_full(items, name) {
+            return Ok(());
+        }
+        let map = map_few(alloc, items)?;
+        self.kept = Kept::Many(Box::new(alloc, map)?);
         Ok(())
     }
 
@@ -183,13 +192,19 @@ impl Attributes {
         ensures was { result ≡ value_in self.old name.now }
         ensures gone { value_in self.new name.now ≡ None }
     {
-        let at = self.place(name);
-        if at < self.items.len() {
-            let finder = self.finder.take();
-            self.finder = without_name(finder, &self.items, at);
-            let (_, value) = self.items.remove(at);
-            return Some(value);
+        match &mut self.kept {
+            Kept::Few(items) => remove_few(items, name),
+            Kept::Many(map) => map.remove(name),
         }
-        None
+    }
+
+    /// A copy of the names and values, in their order.
+    pub(crate) fn listed(&self, alloc: Global) -> Result<Vec<(Text, Text)>, NoMemory>
+        ensures { IfOk result (λ list. list.items ≡ self.now) }
+    {
+        match &self.kept {
+            Kept::Few(items) => list_few(alloc, items),
+            Kept::Many(map) => map.listed(alloc),
+        }
     }
 }

@@ -1,5 +1,5 @@
 // Changes of one node's facts.
-ghost use Rattle.std.specs.Prelude.{◌≡◌, ◌<◌, ℕ, Option, Some, None, false, length, IfOk, OnOk, OnErr, option_copied, slice_get};
+ghost use Rattle.std.specs.Prelude.{◌≡◌, ℕ, [], Option, Some, None, false, length, nat_lt, IfOk, OnOk, OnErr, option_copied};
 ghost use Rattle.node_trees.specs.declared.kind.NodeKind.TheVariants.{Element};
 ghost use Rattle.node_trees.specs.Facts.{is_element, value_in, with_value, without_value};
 ghost use Rattle.node_trees.specs.Trees.{with_attribute, without_attribute, with_document};
@@ -77,22 +77,23 @@ impl Tree {
         self.node(n).attributes.get(name)
     }
 
-    /// How many attributes a node has: an element's, for another node none.
-    pub fn attr_count(&self, n: NodeNo) -> usize
+    /// Whether a node has attributes. One that is no element has none.
+    pub fn has_attributes(&self, n: NodeNo) -> bool
         requires { IsNode self.now n }
-        ensures count { result ≡ length (facts_at self.now n).attributes }
-        ensures lacking { is_element (kind_at self.now n) ≡ false → result ≡ 0 }
+        ensures any { result ≡ nat_lt 0 (length (facts_at self.now n).attributes) }
+        ensures lacking { is_element (kind_at self.now n) ≡ false → result ≡ false }
     {
-        self.node(n).attributes.len()
+        self.node(n).attributes.len() > 0
     }
 
-    /// The name and the value of the attribute at a place, from 0, in the order of first setting.
-    pub fn attr_at(&self, n: NodeNo, i: usize) -> (&str, &str)
-        requires node { IsNode self.now n }
-        requires place { i < length (facts_at self.now n).attributes }
-        ensures { slice_get (facts_at self.now n).attributes i ≡ Some (result.0.now, result.1.now) }
+    /// A copy of the attributes of a node, names and values, in the order of first setting: an element's, for another
+    /// node none. NoMemory: memory was refused.
+    pub fn attributes(&self, alloc: Global, n: NodeNo) -> Result<Vec<(Text, Text)>, NoMemory>
+        requires { IsNode self.now n }
+        ensures list { IfOk result (λ list. list.items ≡ (facts_at self.now n).attributes) }
+        ensures lacking { is_element (kind_at self.now n) ≡ false → IfOk result (λ list. list.items ≡ []) }
     {
-        self.node(n).attributes.at(i)
+        self.node(n).attributes.listed(alloc)
     }
 
     /// Sets an attribute of an element and answers its old value (DOM Standard, section "Interface

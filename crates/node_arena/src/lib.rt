@@ -6,7 +6,6 @@
 mod ancestors;
 mod attributes;
 mod facts;
-mod finder;
 mod ids;
 mod insertion;
 mod making;

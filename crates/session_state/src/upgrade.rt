@@ -1,5 +1,5 @@
 // Upgrading an element.
-ghost use Rattle.std.specs.Prelude.{◌≡◌, ◌+◌, ◌<◌, ◌^◌, ◌∷◌, true, drop, length, IfOk, IfNone, IfSome, OnOk};
+ghost use Rattle.std.specs.Prelude.{◌≡◌, ◌+◌, ◌<◌, ◌^◌, true, IfNone, IfSome, OnOk};
 ghost use Rattle.ce_base.specs.declared.fault.Fault.{Fault};
 ghost use Rattle.node_trees.specs.Kinds.{IsElement};
 ghost use Rattle.node_trees.specs.Nodes.{IsNode};
@@ -167,24 +167,30 @@ fn tell_attributes(
     ensures within { GrowsWithin page.old page.new fuel.old fuel.new }
     ensures forest { page.new.forest ≡ page.old.forest }
 {
-    for i in 0..page.tree().attr_count(n) {
-        let (name, value) = attribute_at(alloc, page, n, i)?;
-        let told = Reaction::Attribute(name, None, Some(value));
-        page.enqueue_call(alloc, n, told, fuel)?;
-    }
-    Ok(())
+    let attributes = page.tree().attributes(alloc, n)?;
+    tell_each(alloc, page, fuel, n, &attributes)
 }
 
-// The name and the value of the attribute at a place.
-fn attribute_at(alloc: Global, page: &Page, n: NodeNo, i: usize) -> Result<(Text, Text), NoMemory>
-    requires node { IsNode page.now.forest n }
-    requires within { i < length (facts_at page.now.forest n).attributes }
-    ensures { IfOk result (λ a. drop i (facts_at page.now.forest n).attributes ≡ a ∷ drop (i + 1) (facts_at page.now.forest n).attributes) }
+// These attributes are enqueued, in their order.
+fn tell_each(
+    alloc: Global,
+    page: &mut Page,
+    fuel: &mut Fuel,
+    n: NodeNo,
+    attributes: &[(Text, Text)],
+) -> Result<(), PageStop>
+    requires node { IsNode page.old.forest n }
+    requires room { page.old.queues.reactions + fuel.old < 2 ^ 64 }
+    ensures step { Does result (work page.new fuel.new) (for_each attributes.now (enqueue_attribute n) (work page.old fuel.old)) }
+    ensures within { GrowsWithin page.old page.new fuel.old fuel.new }
+    ensures forest { page.new.forest ≡ page.old.forest }
 {
-    let (name, value) = page.tree().attr_at(n, i);
-    let name = Text::of(alloc, name)?;
-    let value = Text::of(alloc, value)?;
-    Ok((name, value))
+    for attribute in attributes {
+        let name = attribute.0.copy(alloc)?;
+        let value = attribute.1.copy(alloc)?;
+        page.enqueue_call(alloc, n, Reaction::Attribute(name, None, Some(value)), fuel)?;
+    }
+    Ok(())
 }
 
 // That the element is connected is enqueued, where it is.
