@@ -6,8 +6,8 @@ use Rattle.std.specs.Ordering.{nat_cmp}
 use Rattle.std.specs.BTreeMap.{BTreeMap, get_by_text, is_at}
 use Rattle.std.proofs.lemmas.Bool.Decides.{nat_tests}
 use Rattle.node_trees.specs.Facts.{value_in, with_value, without_value}
-use Rattle.text_map.specs.Found.{place_of, is_rising, Finds}
-use Rattle.text_map.proofs.Places.{number_test, place_from, place-without, text_same, with_item, without}
+use Rattle.text_set.specs.Found.{place_of, is_rising, Finds}
+use Rattle.text_set.proofs.Places.{number_test, place_from, place-without, text_same, with_item, without}
 
 abbrev pub name_of : List ℕ × List ℕ → List ℕ
 name_of a = a.0

@@ -20,7 +20,7 @@ pub struct TextMap {
 impl Model for TextMap {
     ghost use Rattle.std.specs.Prelude.{ℕ, List};
     ghost use Rattle.std.specs.Map.{values_of};
-    ghost use Rattle.text_map.specs.Found.{Finds};
+    ghost use Rattle.text_set.specs.Found.{Finds};
 
     ghost Value = { List (List ℕ × List ℕ) };
 

@@ -25,7 +25,7 @@ impl Model for TextSet {
 
     ghost view = { λ s. values_of s.texts.entries };
 
-    ghost invariant = { λ s. Finds s.texts s.places s.next };
+    ghost invariant = { λ s. Finds (λ t. t) s.texts s.places s.next };
 }
 
 impl TextSet {

@@ -3,7 +3,7 @@ use Rattle.std.specs.Map.{values_of}
 use Rattle.std.proofs.lemmas.Map.Text.{btree_map_updates_text}
 use Rattle.node_trees.specs.Facts.{value_in}
 use Rattle.text_map.proofs.Pairs.{name_of, no_place}
-use Rattle.text_map.proofs.Places.{back, finds-kept, finds-push, pushed, values-push}
+use Rattle.text_set.proofs.Places.{back, finds-kept, finds-push, pushed, values-push}
 use Rattle.text_map.proofs.map.TextMap.push.Goals as goal
 
 -- its place was not noted, so it went again

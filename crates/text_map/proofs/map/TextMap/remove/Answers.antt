@@ -4,7 +4,7 @@ use Rattle.std.specs.Option.{option_map}
 use Rattle.std.proofs.lemmas.Map.Text.{btree_map_updates_text}
 use Rattle.node_trees.specs.Facts.{value_in, without_value}
 use Rattle.text_map.proofs.Pairs.{name_of, gone, no_value, value_at, values-without}
-use Rattle.text_map.proofs.Places.{finds-without, not_there, taken_away}
+use Rattle.text_set.proofs.Places.{finds-without, not_there, taken_away}
 use Rattle.text_map.proofs.map.TextMap.remove.Goals as goal
 
 -- the name is not there

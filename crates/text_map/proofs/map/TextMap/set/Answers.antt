@@ -3,7 +3,7 @@ use Rattle.std.specs.Map.{values_of}
 use Rattle.std.specs.Option.{option_map}
 use Rattle.node_trees.specs.Facts.{value_in, with_value}
 use Rattle.text_map.proofs.Pairs.{name_of, no_value, value_at, values_with, with_value-new}
-use Rattle.text_map.proofs.Places.{finds-with, set_there}
+use Rattle.text_set.proofs.Places.{finds-with, set_there}
 use Rattle.text_map.proofs.map.TextMap.set.Goals as goal
 
 -- the name is not there

@@ -1,7 +1,7 @@
 use Rattle.std.proofs.Common.{ap, ◌∙◌, bytes_eq}
 use Rattle.std.specs.Prelude.{is_some}
 use Rattle.std.specs.List.{list_any}
-use Rattle.text_set.proofs.Places.{found_there}
+use Rattle.text_set.proofs.TextPlaces.{found_there}
 use Rattle.text_set.proofs.set.TextSet.has.Goals as goal
 
 pub returns : goal.returns
