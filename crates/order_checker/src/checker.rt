@@ -60,7 +60,7 @@ impl Checker {
         }
     }
 
-    /// The book after an event that may come.
+    /// The book after an event that may come. NoMemory: memory was refused.
     pub fn read(self, e: &Event) -> Result<Checker, NoMemory>
         requires { may_come self e.now ≡ true }
         ensures { IfOk result (λ c. c ≡ after self e.now) }

@@ -1,5 +1,5 @@
 -- The fixed words of the language.
-use Rattle.std.specs.Prelude.{ℕ, Bool, true, false, List, codes}
+use Rattle.std.specs.Prelude.{ℕ, List, codes}
 use Rattle.rule_grammar.specs.declared.word.Word.{Word}
 use Rattle.rule_grammar.specs.declared.word.Word.TheVariants as words
 use Rattle.rule_grammar.specs.declared.keyword.Keyword.{Keyword}
@@ -75,47 +75,6 @@ spelling words.Associate = codes "associate"
 spelling words.Disable = codes "disable"
 spelling words.Doc = codes "doc"
 spelling words.User = codes "user"
-
--- an action begins with it
-abbrev pub begins_action : Word → Bool
-begins_action words.Create = true
-begins_action words.New = true
-begins_action words.Text = true
-begins_action words.Shadow = true
-begins_action words.Append = true
-begins_action words.Before = true
-begins_action words.Remove = true
-begins_action words.Detach = true
-begins_action words.SetAttr = true
-begins_action words.DelAttr = true
-begins_action words.Clone = true
-begins_action words.Adopt = true
-begins_action words.Define = true
-begins_action words.Upgrade = true
-begins_action words.Reset = true
-begins_action words.Internals = true
-begins_action words.FormValue = true
-begins_action words.FormList = true
-begins_action words.FormNull = true
-begins_action words.Validity = true
-begins_action words.State = true
-begins_action words.Custom = true
-begins_action words.Value = true
-begins_action words.Check = true
-begins_action words.Choose = true
-begins_action words.Submit = true
-begins_action words.Request = true
-begins_action words.Ask = true
-begins_action words.Let = true
-begins_action words.Log = true
-begins_action words.Super = true
-begins_action words.Return = true
-begins_action words.Throw = true
-begins_action words.Bump = true
-begins_action words.Keep = true
-begins_action words.Try = true
-begins_action words.If = true
-begins_action _ = false
 
 -- the text of each keyword
 abbrev pub keyword : Keyword → List ℕ

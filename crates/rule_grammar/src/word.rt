@@ -1,6 +1,6 @@
 // The fixed words of the language.
-ghost use Rattle.std.specs.Prelude.{◌≡◌, false};
-ghost use Rattle.rule_grammar.specs.FixedWords.{begins_action, spelling};
+ghost use Rattle.std.specs.Prelude.{◌≡◌};
+ghost use Rattle.rule_grammar.specs.FixedWords.{spelling};
 
 /// A fixed word: the first word of a form, or one that is wanted behind it.
 #[derive(Clone, Copy)]
@@ -149,6 +149,33 @@ impl Word {
         ensures { result.now ≡ spelling self }
     {
         match self {
+            Word::On => "on",
+            Word::Off => "off",
+            Word::Attr => "attr",
+            Word::Parent => "parent",
+            Word::Kids => "kids",
+            Word::State => "state",
+            Word::Owner => "owner",
+            Word::Controls => "controls",
+            Word::Disabled => "disabled",
+            Word::Candidate => "candidate",
+            Word::Valid => "valid",
+            Word::Message => "message",
+            Word::Value => "value",
+            Word::Saved => "saved",
+            Word::Checked => "checked",
+            Word::States => "states",
+            Word::Edit => "edit",
+            Word::Check => "check",
+            Word::Choose => "choose",
+            Word::Reset => "reset",
+            Word::Restore => "restore",
+            Word::Autofill => "autofill",
+            Word::Press => "press",
+            Word::Add => "add",
+            Word::Delete => "delete",
+            Word::Clear => "clear",
+            Word::Colon => ":",
             Word::Create => "create",
             Word::New => "new",
             Word::Text => "text",
@@ -163,17 +190,12 @@ impl Word {
             Word::Adopt => "adopt",
             Word::Define => "define",
             Word::Upgrade => "upgrade",
-            Word::Reset => "reset",
             Word::Internals => "internals",
             Word::FormValue => "formvalue",
             Word::FormList => "formlist",
             Word::FormNull => "formnull",
             Word::Validity => "validity",
-            Word::State => "state",
             Word::Custom => "custom",
-            Word::Value => "value",
-            Word::Check => "check",
-            Word::Choose => "choose",
             Word::Submit => "submit",
             Word::Request => "request",
             Word::Ask => "ask",
@@ -186,38 +208,6 @@ impl Word {
             Word::Keep => "keep",
             Word::Try => "try",
             Word::If => "if",
-            _ => self.text_beside_actions(),
-        }
-    }
-
-    // The text of a word that no action begins with.
-    fn text_beside_actions(self) -> &'static str
-        requires { begins_action self ≡ false }
-        ensures { result.now ≡ spelling self }
-    {
-        match self {
-            Word::On => "on",
-            Word::Off => "off",
-            Word::Attr => "attr",
-            Word::Parent => "parent",
-            Word::Kids => "kids",
-            Word::Owner => "owner",
-            Word::Controls => "controls",
-            Word::Disabled => "disabled",
-            Word::Candidate => "candidate",
-            Word::Valid => "valid",
-            Word::Message => "message",
-            Word::Saved => "saved",
-            Word::Checked => "checked",
-            Word::States => "states",
-            Word::Edit => "edit",
-            Word::Restore => "restore",
-            Word::Autofill => "autofill",
-            Word::Press => "press",
-            Word::Add => "add",
-            Word::Delete => "delete",
-            Word::Clear => "clear",
-            Word::Colon => ":",
             Word::Eq => "eq",
             Word::Ne => "ne",
             Word::Class => "class",
@@ -227,7 +217,6 @@ impl Word {
             Word::Disable => "disable",
             Word::Doc => "doc",
             Word::User => "user",
-            _ => unreachable!(),
         }
     }
 }
