@@ -61,7 +61,8 @@ impl Behaviour {
         args: &Args,
         fuel: &mut Fuel,
     ) -> Result<Next, NoMemory>
-        ensures resumed { IfOk result (λ next. resumed_to next self.new.memory fuel.new (left_at self.new at.new) ≡ resumed args.now (left_at self.old at.old) self.old.memory fuel.old) }
+        ensures resumed { IfOk result (λ next. resumed_to next self.new.memory fuel.new (left_at self.new at.new)
+            ≡ resumed args.now (left_at self.old at.old) self.old.memory fuel.old) }
         ensures bodies { self.new.bodies ≡ self.old.bodies }
         ensures call { at.new.call ≡ at.old.call }
         ensures less { fuel.new ≤ fuel.old }

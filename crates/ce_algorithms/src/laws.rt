@@ -39,7 +39,8 @@ pub fn each_calls_the_others()
 /// What a line does depends on nothing that was logged before it: the log is written, and never read.
 #[tactic(auto, using(crate::proofs::FramedSteps::run_line_behind))]
 pub fn no_step_reads_the_log()
-    ensures { (line : ℕ) (l : Result Said Bad) (events : List Event) (s : State) → run_line model line l (behind events s) ≡ behind_in events (run_line model line l s) }
+    ensures { (line : ℕ) (l : Result Said Bad) (events : List Event) (s : State) → run_line model line l (behind events s)
+        ≡ behind_in events (run_line model line l s) }
 {}
 
 /// No command ends in a fault: a fault of its operation is its reply, and a fault of a reaction is reported.

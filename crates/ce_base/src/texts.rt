@@ -1,5 +1,5 @@
 // A list of texts.
-ghost use Rattle.std.specs.Prelude.{◌≡◌, ◌++◌, ◌∷◌, [], bytes_eq, filter, length, not, IfOk, OnOk, option_copied, slice_get};
+ghost use Rattle.std.specs.Prelude.{◌≡◌, ◌++◌, ◌∷◌, [], length, IfOk, OnOk, option_copied, slice_get};
 
 use crate::{NoMemory, Text};
 use std::alloc::Global;
@@ -49,20 +49,6 @@ impl Texts {
         ensures { option_copied result ≡ slice_get self.now i }
     {
         self.items.get(i)
-    }
-
-    /// Leaves out each text that is `s` (Infra Standard, section "Lists", "remove"). It takes no memory.
-    pub fn remove(&mut self, s: &str)
-        ensures { self.new ≡ filter (λ t. not (bytes_eq t s.now)) self.old }
-    {
-        self.items.retain(|t| t.as_str() != s);
-    }
-
-    /// Leaves out all texts (Infra Standard, section "Lists", "empty"). It takes no memory.
-    pub fn clear(&mut self)
-        ensures { self.new ≡ [] }
-    {
-        self.items.clear();
     }
 
     /// The texts, borrowed.

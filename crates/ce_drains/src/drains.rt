@@ -79,7 +79,8 @@ pub fn drain_turn(
     kept: Result<Given, Fault>,
 ) -> Result<Came, NoMemory>
     requires paired { ArePaired stack.old state.old }
-    ensures turn { IfOk result (λ now. Turns (frames_of stack.old) (frames_of stack.new) now (session stack.new state.new) (drain_turn queue (e ∷ elements) kept (session stack.old state.old))) }
+    ensures turn { IfOk result (λ now. Turns (frames_of stack.old) (frames_of stack.new) now (session stack.new state.new)
+        (drain_turn queue (e ∷ elements) kept (session stack.old state.old))) }
     ensures paired { OnOk result (ArePaired stack.new state.new) }
     ensures grows { size state.old.page.forest ≤ size state.new.page.forest }
 {
@@ -105,7 +106,8 @@ pub fn backup_turn(
     e: NodeNo,
 ) -> Result<Came, NoMemory>
     requires paired { ArePaired stack.old state.old }
-    ensures turn { IfOk result (λ now. Turns (frames_of stack.old) (frames_of stack.new) now (session stack.new state.new) (backup_turn e (session stack.old state.old))) }
+    ensures turn { IfOk result
+        (λ now. Turns (frames_of stack.old) (frames_of stack.new) now (session stack.new state.new) (backup_turn e (session stack.old state.old))) }
     ensures paired { OnOk result (ArePaired stack.new state.new) }
     ensures grows { size state.old.page.forest ≤ size state.new.page.forest }
 {
@@ -124,7 +126,8 @@ pub fn backup_turn(
 
 // The backup element queue goes on with its next element, or its drain is closed.
 fn next_backup_turn(state: &mut State, stack: &mut Stack) -> Result<Came, NoMemory>
-    ensures turn { IfOk result (λ now. Turns (frames_of stack.old) (frames_of stack.new) now state.new (next_backup_turn state.old.page.queues.backup state.old)) }
+    ensures turn { IfOk result
+        (λ now. Turns (frames_of stack.old) (frames_of stack.new) now state.new (next_backup_turn state.old.page.queues.backup state.old)) }
     ensures same { OnOk result (behaviours_of stack.new ≡ behaviours_of stack.old) }
     ensures forest { state.new.page.forest ≡ state.old.page.forest }
 {

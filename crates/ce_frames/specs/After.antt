@@ -16,7 +16,8 @@ use Rattle.ce_algorithms.specs.Create.{fitting, create_failed, upgrade_failed}
 use Rattle.ce_algorithms.specs.Perform.{named}
 use Rattle.ce_algorithms.specs.Model.{model}
 use Rattle.ce_algorithms.specs.Session.{reply, reply_to}
-use Rattle.ce_frames.specs.Frames.{Frame, Replying, Checking, DrainingBackup, Naming, Stepping, Draining, InReaction, CreatingFit, CreatingExtended, Upgrading, Constructing, InBody}
+use Rattle.ce_frames.specs.Frames.{Frame, Replying, Checking, DrainingBackup, Naming, Stepping, Draining}
+use Rattle.ce_frames.specs.Frames.{InReaction, CreatingFit, CreatingExtended, Upgrading, Constructing, InBody}
 use Rattle.ce_frames.specs.Handing.{nothing, a_node, a_result, dropped, numbered, resulted}
 
 -- drains

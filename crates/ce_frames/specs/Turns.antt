@@ -11,7 +11,8 @@ use Rattle.ce_algorithms.specs.Body.{told}
 use Rattle.ce_algorithms.specs.Create.{upgrade_failed}
 use Rattle.ce_algorithms.specs.Perform.{gives_node, named}
 use Rattle.ce_algorithms.specs.Session.{reply}
-use Rattle.ce_frames.specs.Frames.{Frame, Replying, Checking, DrainingBackup, Naming, Stepping, Draining, InReaction, CreatingFit, CreatingExtended, Upgrading, Constructing, InBody}
+use Rattle.ce_frames.specs.Frames.{Frame, Replying, Checking, DrainingBackup, Naming, Stepping, Draining}
+use Rattle.ce_frames.specs.Frames.{InReaction, CreatingFit, CreatingExtended, Upgrading, Constructing, InBody}
 use Rattle.ce_frames.specs.Handing.{node_in}
 use Rattle.ce_frames.specs.Rest.{End, Went, Threw, Over}
 use Rattle.ce_frames.specs.Turned.{Turn, ended, ◌>>=◌, ◌>>◌, hand_down, go_on}

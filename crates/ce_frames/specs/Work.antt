@@ -4,7 +4,8 @@ use Rattle.reaction_queue.specs.Queues.{Open, Queues}
 use Rattle.ce_algorithms.specs.Page.{Work}
 use Rattle.ce_algorithms.specs.State.{State, work_of}
 use Rattle.ce_algorithms.specs.Model.{clock_of}
-use Rattle.ce_frames.specs.Frames.{Frame, Replying, Checking, DrainingBackup, Naming, Stepping, Draining, InReaction, CreatingFit, CreatingExtended, Upgrading, Constructing, InBody}
+use Rattle.ce_frames.specs.Frames.{Frame, Replying, Checking, DrainingBackup, Naming, Stepping, Draining}
+use Rattle.ce_frames.specs.Frames.{InReaction, CreatingFit, CreatingExtended, Upgrading, Constructing, InBody}
 
 -- what a frame adds to it: more than the frames that it pushes before a unit of fuel, a reaction or an element of a queue is
 -- taken, which pays for more

@@ -47,7 +47,8 @@ acting_turn action f = go_on
 
 -- its base call has given this node: `this` is that node from now on, unless it was set before
 abbrev pub based_turn : ℕ → Frame → Turn
-based_turn n (InBody class args this guarded actions) = guarded_step guarded this (throw_if (is_some this) ReferenceError >> give (Next (Some n))) >>= flow_turn (λ next. body_turn class args next actions)
+based_turn n (InBody class args this guarded actions) = guarded_step guarded this (throw_if (is_some this) ReferenceError >> give (Next (Some n)))
+    >>= flow_turn (λ next. body_turn class args next actions)
 based_turn n f = go_on
 
 -- what a body returns, or the fault of looking it up

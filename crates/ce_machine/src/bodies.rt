@@ -30,7 +30,8 @@ pub(crate) fn body_went(
     requires body { HasBody (frames_of stack.old) }
     requires paired { ArePaired stack.old state.old }
     requires there { IfSome (this_of (top_of (frames_of stack.old))) (IsNode state.old.page.forest) }
-    ensures turn { IfOk result (λ now. Turns (below_top (frames_of stack.old)) (frames_of stack.new) now (session stack.new state.new) (turn (frame_on_top stack.old) (ends.Went given) (session stack.old state.old))) }
+    ensures turn { IfOk result (λ now. Turns (below_top (frames_of stack.old)) (frames_of stack.new) now (session stack.new state.new)
+        (turn (frame_on_top stack.old) (ends.Went given) (session stack.old state.old))) }
     ensures paired { OnOk result (ArePaired stack.new state.new) }
     ensures lasts { OnOk result (Lasts state.old.page.forest (turn (frame_on_top stack.old) (ends.Went given) (session stack.old state.old))) }
 {
@@ -53,7 +54,8 @@ pub(crate) fn body_threw(
     requires body { HasBody (frames_of stack.old) }
     requires paired { ArePaired stack.old state.old }
     requires there { IfSome (this_of (top_of (frames_of stack.old))) (IsNode state.old.page.forest) }
-    ensures turn { IfOk result (λ now. Turns (below_top (frames_of stack.old)) (frames_of stack.new) now (session stack.new state.new) (turn (frame_on_top stack.old) (ends.Threw f) (session stack.old state.old))) }
+    ensures turn { IfOk result (λ now. Turns (below_top (frames_of stack.old)) (frames_of stack.new) now (session stack.new state.new)
+        (turn (frame_on_top stack.old) (ends.Threw f) (session stack.old state.old))) }
     ensures paired { OnOk result (ArePaired stack.new state.new) }
     ensures lasts { OnOk result (Lasts state.old.page.forest (turn (frame_on_top stack.old) (ends.Threw f) (session stack.old state.old))) }
 {
@@ -74,7 +76,8 @@ pub(crate) fn body_threw(
 pub(crate) fn body_over(state: &State, stack: &mut Stack) -> Came
     requires body { HasBody (frames_of stack.old) }
     requires paired { ArePaired stack.old state.now }
-    ensures turn { Turns (below_top (frames_of stack.old)) (frames_of stack.new) result (session stack.new state.now) (turn (frame_on_top stack.old) ends.Over (session stack.old state.now)) }
+    ensures turn { Turns (below_top (frames_of stack.old)) (frames_of stack.new) result (session stack.new state.now)
+        (turn (frame_on_top stack.old) ends.Over (session stack.old state.now)) }
     ensures paired { ArePaired stack.new state.now }
     ensures lasts { Lasts state.now.page.forest (turn (frame_on_top stack.old) ends.Over (session stack.old state.now)) }
 {
@@ -100,7 +103,8 @@ fn run(state: &mut State, alloc: Global, stack: &mut Stack) -> Result<Came, NoMe
     requires body { HasBody (frames_of stack.old) }
     requires paired { ArePaired stack.old state.old }
     requires there { IfSome (this_of (top_of (frames_of stack.old))) (IsNode state.old.page.forest) }
-    ensures turn { IfOk result (λ now. Turns (below_top (frames_of stack.old)) (frames_of stack.new) now (session stack.new state.new) (running_turn (frame_on_top stack.old) (session stack.old state.old))) }
+    ensures turn { IfOk result (λ now. Turns (below_top (frames_of stack.old)) (frames_of stack.new) now (session stack.new state.new)
+        (running_turn (frame_on_top stack.old) (session stack.old state.old))) }
     ensures paired { OnOk result (ArePaired stack.new state.new) }
     ensures lasts { OnOk result (Lasts state.old.page.forest (running_turn (frame_on_top stack.old) (session stack.old state.old))) }
 {

@@ -62,7 +62,8 @@ pub(crate) fn run_command<K: Sink>(
 ) -> Result<End, Stop>
     requires rest { stack.old.frames ≡ [] }
     requires paired { ArePaired stack.old state.old }
-    ensures ran { IfOk result (λ end. Did trace (K.held sink.old) (K.held sink.new) (command model line c (session stack.old state.old)) (outcome_of end (session stack.new state.new))) }
+    ensures ran { IfOk result (λ end. Did trace (K.held sink.old) (K.held sink.new) (command model line c (session stack.old state.old))
+        (outcome_of end (session stack.new state.new))) }
     ensures empty { OnOk result (state.new.log ≡ []) }
     ensures rest { OnOk result (stack.new.frames ≡ []) }
     ensures paired { OnOk result (ArePaired stack.new state.new) }

@@ -33,12 +33,14 @@ pub(crate) fn run<K: Sink>(
 ) -> Result<Came, Stop>
     requires paired { ArePaired stack.old state.old }
     requires placed { ArePlaced state.old.page.forest (frames_of stack.old) (end_of end) }
-    ensures ran { IfOk result (λ now. Did trace (K.held sink.old) (K.held sink.new) (over stack.old (came_in end (session stack.old state.old))) (came_in now (session stack.new state.new))) }
+    ensures ran { IfOk result (λ now. Did trace (K.held sink.old) (K.held sink.new) (over stack.old (came_in end (session stack.old state.old)))
+        (came_in now (session stack.new state.new))) }
     ensures empty { OnOk result (state.new.log ≡ []) }
     ensures rest { OnOk result (stack.new.frames ≡ []) }
     ensures paired { OnOk result (ArePaired stack.new state.new) }
     ensures settled { OnOk result (IsSettled state.new.page) }
-    ensures part { OnErr result (AppendsPart (K.held sink.old) (K.held sink.new) (text trace (log_of (over stack.old (came_in end (session stack.old state.old)))))) }
+    ensures part { OnErr result
+        (AppendsPart (K.held sink.old) (K.held sink.new) (text trace (log_of (over stack.old (came_in end (session stack.old state.old)))))) }
     ensures later { K.failed sink.old ≤ K.failed sink.new }
     ensures cause { IsErrOf result Stop.WriteFault → Rose (K.failed sink.old) (K.failed sink.new) }
     ensures told { K.failed sink.old < K.failed sink.new → IsErrOf result Stop.WriteFault }

@@ -43,7 +43,8 @@ pub(crate) fn begin(
     c: Cmd,
 ) -> Result<Came, NoMemory>
     requires paired { ArePaired stack.old state.old }
-    ensures turn { IfOk result (λ now. Turns (frames_of stack.old) (frames_of stack.new) now (session stack.new state.new) (command_turn line c (session stack.old state.old))) }
+    ensures turn { IfOk result (λ now. Turns (frames_of stack.old) (frames_of stack.new) now (session stack.new state.new)
+        (command_turn line c (session stack.old state.old))) }
     ensures paired { OnOk result (ArePaired stack.new state.new) }
     ensures placed { OnOk result (StaysPlaced state.old.page.forest (command_turn line c (session stack.old state.old))) }
 {
@@ -78,7 +79,8 @@ pub(crate) fn begin(
 fn perform(state: &mut State, alloc: Global, stack: &mut Stack, c: Cmd) -> Result<Came, NoMemory>
     requires paired { ArePaired stack.old state.old }
     requires room { state.old.page.queues.pushed + state.old.fuel + 1 < 2 ^ 64 }
-    ensures turn { IfOk result (λ now. Turns (frames_of stack.old) (frames_of stack.new) now (session stack.new state.new) (perform_turn c (session stack.old state.old))) }
+    ensures turn { IfOk result
+        (λ now. Turns (frames_of stack.old) (frames_of stack.new) now (session stack.new state.new) (perform_turn c (session stack.old state.old))) }
     ensures paired { OnOk result (ArePaired stack.new state.new) }
     ensures placed { OnOk result (StaysPlaced state.old.page.forest (perform_turn c (session stack.old state.old))) }
 {
@@ -109,7 +111,8 @@ fn act_as_user(
     requires user { IsByUser c }
     requires paired { ArePaired stack.old state.old }
     requires room { state.old.page.queues.pushed + state.old.fuel + 1 < 2 ^ 64 }
-    ensures turn { IfOk result (λ now. Turns (frames_of stack.old) (frames_of stack.new) now (session stack.new state.new) (user_turn c (session stack.old state.old))) }
+    ensures turn { IfOk result
+        (λ now. Turns (frames_of stack.old) (frames_of stack.new) now (session stack.new state.new) (user_turn c (session stack.old state.old))) }
     ensures paired { OnOk result (ArePaired stack.new state.new) }
     ensures placed { OnOk result (StaysPlaced state.old.page.forest (user_turn c (session stack.old state.old))) }
 {
@@ -125,7 +128,8 @@ fn make_document(
     stack: &mut Stack,
     var: Text,
 ) -> Result<Came, NoMemory>
-    ensures turn { IfOk result (λ now. Turns (frames_of stack.old) (frames_of stack.new) now state.new (named_turn (Some var) (hand_down (on_page (gives_node make_document))) state.old)) }
+    ensures turn { IfOk result (λ now. Turns (frames_of stack.old) (frames_of stack.new) now state.new
+        (named_turn (Some var) (hand_down (on_page (gives_node make_document))) state.old)) }
     ensures same { OnOk result (behaviours_of stack.new ≡ behaviours_of stack.old) }
     ensures blind { OnOk result (BlindAt (named_turn (Some var) (hand_down (on_page (gives_node make_document)))) state.old) }
     ensures placed { OnOk result (StaysPlaced state.old.page.forest (named_turn (Some var) (hand_down (on_page (gives_node make_document))) state.old)) }
@@ -156,7 +160,8 @@ pub(crate) fn operate(
     requires there { IfSome this.now (IsNode state.old.page.forest) }
     requires paired { ArePaired stack.old state.old }
     requires room { state.old.page.queues.pushed + state.old.fuel + 1 < 2 ^ 64 }
-    ensures turn { IfOk result (λ now. Turns (frames_of stack.old) (frames_of stack.new) now (session stack.new state.new) (operate_turn this.now op (session stack.old state.old))) }
+    ensures turn { IfOk result (λ now. Turns (frames_of stack.old) (frames_of stack.new) now (session stack.new state.new)
+        (operate_turn this.now op (session stack.old state.old))) }
     ensures paired { OnOk result (ArePaired stack.new state.new) }
     ensures placed { OnOk result (StaysPlaced state.old.page.forest (operate_turn this.now op (session stack.old state.old))) }
 {
@@ -184,9 +189,12 @@ fn do_resolved(
     requires ready { IfOk resolved (IsReady state.old.page.forest) }
     requires paired { ArePaired stack.old state.old }
     requires room { state.old.page.queues.pushed + state.old.fuel + 1 < 2 ^ 64 }
-    ensures turn { (this : Option ℕ) (find : View → Result IsDeed IsFault) → Resolves resolved (find (view this (session stack.old state.old))) → IfOk result (λ now. Turns (frames_of stack.old) (frames_of stack.new) now (session stack.new state.new) (resolved_turn this find var (session stack.old state.old))) }
+    ensures turn { (this : Option ℕ) (find : View → Result IsDeed IsFault) → Resolves resolved (find (view this (session stack.old state.old)))
+        → IfOk result (λ now. Turns (frames_of stack.old) (frames_of stack.new) now (session stack.new state.new)
+        (resolved_turn this find var (session stack.old state.old))) }
     ensures paired { OnOk result (ArePaired stack.new state.new) }
-    ensures placed { (this : Option ℕ) (find : View → Result IsDeed IsFault) → Resolves resolved (find (view this (session stack.old state.old))) → OnOk result (StaysPlaced state.old.page.forest (resolved_turn this find var (session stack.old state.old))) }
+    ensures placed { (this : Option ℕ) (find : View → Result IsDeed IsFault) → Resolves resolved (find (view this (session stack.old state.old)))
+        → OnOk result (StaysPlaced state.old.page.forest (resolved_turn this find var (session stack.old state.old))) }
 {
     match resolved {
         Err(Refused::Fault(f)) => Ok(Came::Threw(f)),
@@ -209,7 +217,8 @@ fn named(
     requires ready { IsReady state.old.page.forest deed }
     requires paired { ArePaired stack.old state.old }
     requires room { state.old.page.queues.pushed + state.old.fuel + 1 < 2 ^ 64 }
-    ensures turn { IfOk result (λ now. Turns (frames_of stack.old) (frames_of stack.new) now (session stack.new state.new) (named_turn var (deed_turn deed) (session stack.old state.old))) }
+    ensures turn { IfOk result (λ now. Turns (frames_of stack.old) (frames_of stack.new) now (session stack.new state.new)
+        (named_turn var (deed_turn deed) (session stack.old state.old))) }
     ensures paired { OnOk result (ArePaired stack.new state.new) }
     ensures placed { OnOk result (StaysPlaced state.old.page.forest (named_turn var (deed_turn deed) (session stack.old state.old))) }
 {

@@ -42,7 +42,8 @@ pub(crate) fn deed_turn(
     requires ready { IsReady state.old.page.forest deed }
     requires paired { ArePaired stack.old state.old }
     requires room { state.old.page.queues.pushed + state.old.fuel + 1 < 2 ^ 64 }
-    ensures turn { IfOk result (λ now. Turns (frames_of stack.old) (frames_of stack.new) now (session stack.new state.new) (deed_turn deed (session stack.old state.old))) }
+    ensures turn { IfOk result
+        (λ now. Turns (frames_of stack.old) (frames_of stack.new) now (session stack.new state.new) (deed_turn deed (session stack.old state.old))) }
     ensures paired { OnOk result (ArePaired stack.new state.new) }
     ensures lasts { OnOk result (Lasts state.old.page.forest (deed_turn deed (session stack.old state.old))) }
 {
@@ -77,7 +78,8 @@ fn create_turn(
 ) -> Result<Came, NoMemory>
     requires paired { ArePaired stack.old state.old }
     requires room { state.old.page.queues.pushed + state.old.fuel + 1 < 2 ^ 64 }
-    ensures turn { IfOk result (λ now. Turns (frames_of stack.old) (frames_of stack.new) now (session stack.new state.new) (deed_turn (deeds.Create name.now is document) (session stack.old state.old))) }
+    ensures turn { IfOk result (λ now. Turns (frames_of stack.old) (frames_of stack.new) now (session stack.new state.new)
+        (deed_turn (deeds.Create name.now is document) (session stack.old state.old))) }
     ensures paired { OnOk result (ArePaired stack.new state.new) }
     ensures lasts { OnOk result (Lasts state.old.page.forest (deed_turn (deeds.Create name.now is document) (session stack.old state.old))) }
 {
@@ -142,9 +144,11 @@ fn stepped(
     ran: Result<Given, PageStop>,
 ) -> Result<Came, NoMemory>
     requires { IfOk ran (IsThere state.old.page.forest) }
-    ensures turn { (o : Outcome IsState IsGiven) → Ends (λ g. g) ran state.old o → IfOk result (λ now. Turns (frames_of stack.old) (frames_of stack.new) now state.new (turn_after (attempt_in o) (pop_turn queue))) }
+    ensures turn { (o : Outcome IsState IsGiven) → Ends (λ g. g) ran state.old o
+        → IfOk result (λ now. Turns (frames_of stack.old) (frames_of stack.new) now state.new (turn_after (attempt_in o) (pop_turn queue))) }
     ensures same { OnOk result (behaviours_of stack.new ≡ behaviours_of stack.old) }
-    ensures lasts { (f : Trees) (o : Outcome IsState IsGiven) → size f ≤ size state.old.page.forest → Ends (λ g. g) ran state.old o → OnOk result (Lasts f (turn_after (attempt_in o) (pop_turn queue))) }
+    ensures lasts { (f : Trees) (o : Outcome IsState IsGiven) → size f ≤ size state.old.page.forest → Ends (λ g. g) ran state.old o
+        → OnOk result (Lasts f (turn_after (attempt_in o) (pop_turn queue))) }
 {
     match ran {
         Ok(given) => {

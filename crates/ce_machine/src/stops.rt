@@ -37,7 +37,8 @@ pub(crate) fn go_on(
     requires body { HasBody (frames_of stack.old) }
     requires paired { ArePaired stack.old state.old }
     requires there { IfSome (this_of (top_of (frames_of stack.old))) (IsNode state.old.page.forest) }
-    ensures turn { IfOk result (λ o. IfSome o (λ now. Turns (below_top (frames_of stack.old)) (frames_of stack.new) now (session stack.new state.new) (running_turn (frame_on_top stack.old) (session stack.old state.old)))) }
+    ensures turn { IfOk result (λ o. IfSome o (λ now. Turns (below_top (frames_of stack.old)) (frames_of stack.new) now (session stack.new state.new)
+        (running_turn (frame_on_top stack.old) (session stack.old state.old)))) }
     ensures paired { OnOk result (ArePaired stack.new state.new) }
     ensures lasts { IfOk result (λ o. IfSome o (λ now. Lasts state.old.page.forest (running_turn (frame_on_top stack.old) (session stack.old state.old)))) }
     ensures on { IfOk result (λ o. IfNone o (GoesOn stack.old stack.new state.old state.new (running_turn))) }
@@ -67,7 +68,8 @@ pub(crate) fn go_on(
 fn spent(state: &mut State, stack: &mut Stack) -> Result<Came, NoMemory>
     requires body { HasBody (frames_of stack.old) }
     requires paired { ArePaired stack.old state.old }
-    ensures turn { IfOk result (λ now. Turns (below_top (frames_of stack.old)) (frames_of stack.new) now (session stack.new state.new) (stopped_turn OutOfFuel (frame_on_top stack.old) (session stack.old state.old))) }
+    ensures turn { IfOk result (λ now. Turns (below_top (frames_of stack.old)) (frames_of stack.new) now (session stack.new state.new)
+        (stopped_turn OutOfFuel (frame_on_top stack.old) (session stack.old state.old))) }
     ensures paired { OnOk result (ArePaired stack.new state.new) }
     ensures lasts { OnOk result (Lasts state.old.page.forest (stopped_turn OutOfFuel (frame_on_top stack.old) (session stack.old state.old))) }
 {
@@ -85,9 +87,11 @@ fn thrown(
 ) -> Result<Option<Came>, NoMemory>
     requires body { HasBody (frames_of stack.old) }
     requires paired { ArePaired stack.old state.old }
-    ensures turn { IfOk result (λ o. IfSome o (λ now. Turns (below_top (frames_of stack.old)) (frames_of stack.new) now (session stack.new state.new) (stopped_turn (Throwing fault guarded) (frame_on_top stack.old) (session stack.old state.old)))) }
+    ensures turn { IfOk result (λ o. IfSome o (λ now. Turns (below_top (frames_of stack.old)) (frames_of stack.new) now (session stack.new state.new)
+        (stopped_turn (Throwing fault guarded) (frame_on_top stack.old) (session stack.old state.old)))) }
     ensures paired { OnOk result (ArePaired stack.new state.new) }
-    ensures lasts { IfOk result (λ o. IfSome o (λ now. Lasts state.old.page.forest (stopped_turn (Throwing fault guarded) (frame_on_top stack.old) (session stack.old state.old)))) }
+    ensures lasts { IfOk result (λ o. IfSome o
+        (λ now. Lasts state.old.page.forest (stopped_turn (Throwing fault guarded) (frame_on_top stack.old) (session stack.old state.old)))) }
     ensures on { IfOk result (λ o. IfNone o (GoesOn stack.old stack.new state.old state.new (stopped_turn (Throwing fault guarded)))) }
     ensures guarded { IfOk result (λ o. IfNone o (guarded ≡ true)) }
 {
@@ -109,9 +113,11 @@ fn returned(
     requires body { HasBody (frames_of stack.old) }
     requires paired { ArePaired stack.old state.old }
     requires there { IfSome (this_of (top_of (frames_of stack.old))) (IsNode state.old.page.forest) }
-    ensures turn { IfOk result (λ o. IfSome o (λ now. Turns (below_top (frames_of stack.old)) (frames_of stack.new) now (session stack.new state.new) (stopped_turn (Returning value.now guarded) (frame_on_top stack.old) (session stack.old state.old)))) }
+    ensures turn { IfOk result (λ o. IfSome o (λ now. Turns (below_top (frames_of stack.old)) (frames_of stack.new) now (session stack.new state.new)
+        (stopped_turn (Returning value.now guarded) (frame_on_top stack.old) (session stack.old state.old)))) }
     ensures paired { OnOk result (ArePaired stack.new state.new) }
-    ensures lasts { IfOk result (λ o. IfSome o (λ now. Lasts state.old.page.forest (stopped_turn (Returning value.now guarded) (frame_on_top stack.old) (session stack.old state.old)))) }
+    ensures lasts { IfOk result (λ o. IfSome o
+        (λ now. Lasts state.old.page.forest (stopped_turn (Returning value.now guarded) (frame_on_top stack.old) (session stack.old state.old)))) }
     ensures on { IfOk result (λ o. IfNone o (GoesOn stack.old stack.new state.old state.new (stopped_turn (Returning value.now guarded)))) }
     ensures guarded { IfOk result (λ o. IfNone o (guarded ≡ true)) }
 {
@@ -158,9 +164,11 @@ fn act(
     requires body { HasBody (frames_of stack.old) }
     requires paired { ArePaired stack.old state.old }
     requires there { IfSome (this_of (top_of (frames_of stack.old))) (IsNode state.old.page.forest) }
-    ensures turn { IfOk result (λ o. IfSome o (λ now. Turns (below_top (frames_of stack.old)) (frames_of stack.new) now (session stack.new state.new) (acting_turn (act_of action) (frame_on_top stack.old) (session stack.old state.old)))) }
+    ensures turn { IfOk result (λ o. IfSome o (λ now. Turns (below_top (frames_of stack.old)) (frames_of stack.new) now (session stack.new state.new)
+        (acting_turn (act_of action) (frame_on_top stack.old) (session stack.old state.old)))) }
     ensures paired { OnOk result (ArePaired stack.new state.new) }
-    ensures lasts { IfOk result (λ o. IfSome o (λ now. Lasts state.old.page.forest (acting_turn (act_of action) (frame_on_top stack.old) (session stack.old state.old)))) }
+    ensures lasts { IfOk result
+        (λ o. IfSome o (λ now. Lasts state.old.page.forest (acting_turn (act_of action) (frame_on_top stack.old) (session stack.old state.old)))) }
     ensures on { IfOk result (λ o. IfNone o (GoesOn stack.old stack.new state.old state.new (acting_turn (act_of action)))) }
 {
     match action {
@@ -184,9 +192,11 @@ fn act(
 fn call_base(state: &mut State, alloc: Global, stack: &mut Stack) -> Result<Option<Came>, NoMemory>
     requires body { HasBody (frames_of stack.old) }
     requires paired { ArePaired stack.old state.old }
-    ensures turn { IfOk result (λ o. IfSome o (λ now. Turns (below_top (frames_of stack.old)) (frames_of stack.new) now (session stack.new state.new) (acting_turn Super (frame_on_top stack.old) (session stack.old state.old)))) }
+    ensures turn { IfOk result (λ o. IfSome o (λ now. Turns (below_top (frames_of stack.old)) (frames_of stack.new) now (session stack.new state.new)
+        (acting_turn Super (frame_on_top stack.old) (session stack.old state.old)))) }
     ensures paired { OnOk result (ArePaired stack.new state.new) }
-    ensures lasts { IfOk result (λ o. IfSome o (λ now. Lasts state.old.page.forest (acting_turn Super (frame_on_top stack.old) (session stack.old state.old)))) }
+    ensures lasts { IfOk result
+        (λ o. IfSome o (λ now. Lasts state.old.page.forest (acting_turn Super (frame_on_top stack.old) (session stack.old state.old)))) }
     ensures on { IfOk result (λ o. IfNone o (GoesOn stack.old stack.new state.old state.new (acting_turn Super))) }
 {
     match stack.owner() {
@@ -215,7 +225,8 @@ fn take_this(state: &mut State, stack: &mut Stack, n: NodeNo) -> Result<Option<C
     requires body { HasBody (frames_of stack.old) }
     requires paired { ArePaired stack.old state.old }
     requires node { IsNode state.old.page.forest n }
-    ensures turn { IfOk result (λ o. IfSome o (λ now. Turns (below_top (frames_of stack.old)) (frames_of stack.new) now (session stack.new state.new) (based_turn n (frame_on_top stack.old) (session stack.old state.old)))) }
+    ensures turn { IfOk result (λ o. IfSome o (λ now. Turns (below_top (frames_of stack.old)) (frames_of stack.new) now (session stack.new state.new)
+        (based_turn n (frame_on_top stack.old) (session stack.old state.old)))) }
     ensures paired { OnOk result (ArePaired stack.new state.new) }
     ensures lasts { IfOk result (λ o. IfSome o (λ now. Lasts state.old.page.forest (based_turn n (frame_on_top stack.old) (session stack.old state.old)))) }
     ensures on { IfOk result (λ o. IfNone o (GoesOn stack.old stack.new state.old state.new (based_turn n))) }
@@ -235,7 +246,8 @@ fn operation(state: &mut State, alloc: Global, stack: &mut Stack, op: Op) -> Res
     requires body { HasBody (frames_of stack.old) }
     requires paired { ArePaired stack.old state.old }
     requires there { IfSome (this_of (top_of (frames_of stack.old))) (IsNode state.old.page.forest) }
-    ensures turn { IfOk result (λ now. Turns (below_top (frames_of stack.old)) (frames_of stack.new) now (session stack.new state.new) (acting_turn (Both op) (frame_on_top stack.old) (session stack.old state.old))) }
+    ensures turn { IfOk result (λ now. Turns (below_top (frames_of stack.old)) (frames_of stack.new) now (session stack.new state.new)
+        (acting_turn (Both op) (frame_on_top stack.old) (session stack.old state.old))) }
     ensures paired { OnOk result (ArePaired stack.new state.new) }
     ensures lasts { OnOk result (Lasts state.old.page.forest (acting_turn (Both op) (frame_on_top stack.old) (session stack.old state.old))) }
 {

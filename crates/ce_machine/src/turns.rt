@@ -38,7 +38,8 @@ pub(crate) fn turn(
     requires some { 0 < length (frames_of stack.old) }
     requires paired { ArePaired stack.old state.old }
     requires placed { ArePlaced state.old.page.forest (frames_of stack.old) (end_of end) }
-    ensures rest { IfOk result (λ now. over stack.new (came_in now (session stack.new state.new)) ≡ over stack.old (came_in end (session stack.old state.old))) }
+    ensures rest { IfOk result
+        (λ now. over stack.new (came_in now (session stack.new state.new)) ≡ over stack.old (came_in end (session stack.old state.old))) }
     ensures work { IfOk result (λ _. left stack.new (session stack.new state.new) < left stack.old (session stack.old state.old)) }
     ensures paired { OnOk result (ArePaired stack.new state.new) }
     ensures placed { IfOk result (λ now. ArePlaced state.new.page.forest (frames_of stack.new) (end_of now)) }
@@ -67,7 +68,8 @@ fn resume_body(
     requires body { HasBody (frames_of stack.old) }
     requires paired { ArePaired stack.old state.old }
     requires placed { ArePlaced state.old.page.forest (frames_of stack.old) (end_of end) }
-    ensures turn { IfOk result (λ now. Turns (below_top (frames_of stack.old)) (frames_of stack.new) now (session stack.new state.new) (turn (frame_on_top stack.old) (end_of end) (session stack.old state.old))) }
+    ensures turn { IfOk result (λ now. Turns (below_top (frames_of stack.old)) (frames_of stack.new) now (session stack.new state.new)
+        (turn (frame_on_top stack.old) (end_of end) (session stack.old state.old))) }
     ensures paired { OnOk result (ArePaired stack.new state.new) }
     ensures lasts { OnOk result (Lasts state.old.page.forest (turn (frame_on_top stack.old) (end_of end) (session stack.old state.old))) }
 {
@@ -94,10 +96,12 @@ fn resume(
 ) -> Result<Came, NoMemory>
     requires paired { ArePaired stack.old state.old }
     requires placed { ArePlaced state.old.page.forest (waiting_of frame ∷ []) (end_of end) }
-    ensures turn { IfOk result (λ now. Turns (frames_of stack.old) (frames_of stack.new) now (session stack.new state.new) (turn (waiting_of frame) (end_of end) (session stack.old state.old))) }
+    ensures turn { IfOk result (λ now. Turns (frames_of stack.old) (frames_of stack.new) now (session stack.new state.new)
+        (turn (waiting_of frame) (end_of end) (session stack.old state.old))) }
     ensures paired { OnOk result (ArePaired stack.new state.new) }
     ensures grows { size state.old.page.forest ≤ size state.new.page.forest }
-    ensures created { IfOk result (λ now. IfCreating (waiting_of frame) (Creates state.old.page.forest state.new.page.forest (frames_of stack.old) (frames_of stack.new) now)) }
+    ensures created { IfOk result
+        (λ now. IfCreating (waiting_of frame) (Creates state.old.page.forest state.new.page.forest (frames_of stack.old) (frames_of stack.new) now)) }
 {
     match end {
         Came::Went(given) => {
@@ -125,10 +129,12 @@ fn went(
 ) -> Result<Came, NoMemory>
     requires paired { ArePaired stack.old state.old }
     requires placed { ArePlaced state.old.page.forest (waiting_of frame ∷ []) (end_of (Came.Went given)) }
-    ensures turn { IfOk result (λ now. Turns (frames_of stack.old) (frames_of stack.new) now (session stack.new state.new) (turn_went (waiting_of frame) given (session stack.old state.old))) }
+    ensures turn { IfOk result (λ now. Turns (frames_of stack.old) (frames_of stack.new) now (session stack.new state.new)
+        (turn_went (waiting_of frame) given (session stack.old state.old))) }
     ensures paired { OnOk result (ArePaired stack.new state.new) }
     ensures grows { size state.old.page.forest ≤ size state.new.page.forest }
-    ensures created { IfOk result (λ now. IfCreating (waiting_of frame) (Creates state.old.page.forest state.new.page.forest (frames_of stack.old) (frames_of stack.new) now)) }
+    ensures created { IfOk result
+        (λ now. IfCreating (waiting_of frame) (Creates state.old.page.forest state.new.page.forest (frames_of stack.old) (frames_of stack.new) now)) }
 {
     match frame {
         Waiting::DrainingBackup(e) => {
@@ -157,10 +163,12 @@ fn go_on(
     requires goes { GoesBlind (waiting_of frame) }
     requires paired { ArePaired stack.old state.old }
     requires placed { ArePlaced state.old.page.forest (waiting_of frame ∷ []) (end_of (Came.Went given)) }
-    ensures turn { IfOk result (λ now. Turns (frames_of stack.old) (frames_of stack.new) now (session stack.new state.new) (turn_went (waiting_of frame) given (session stack.old state.old))) }
+    ensures turn { IfOk result (λ now. Turns (frames_of stack.old) (frames_of stack.new) now (session stack.new state.new)
+        (turn_went (waiting_of frame) given (session stack.old state.old))) }
     ensures paired { OnOk result (ArePaired stack.new state.new) }
     ensures grows { size state.old.page.forest ≤ size state.new.page.forest }
-    ensures created { IfOk result (λ now. IfCreating (waiting_of frame) (Creates state.old.page.forest state.new.page.forest (frames_of stack.old) (frames_of stack.new) now)) }
+    ensures created { IfOk result
+        (λ now. IfCreating (waiting_of frame) (Creates state.old.page.forest state.new.page.forest (frames_of stack.old) (frames_of stack.new) now)) }
 {
     let now = settled(state, alloc, stack, frame, given)?;
     Ok(now)
@@ -178,7 +186,8 @@ fn settled(
     ensures turn { IfOk result (λ now. Turns (frames_of stack.old) (frames_of stack.new) now state.new (turn_went (waiting_of frame) given state.old)) }
     ensures same { OnOk result (behaviours_of stack.new ≡ behaviours_of stack.old) }
     ensures grows { size state.old.page.forest ≤ size state.new.page.forest }
-    ensures created { IfOk result (λ now. IfCreating (waiting_of frame) (Creates state.old.page.forest state.new.page.forest (frames_of stack.old) (frames_of stack.new) now)) }
+    ensures created { IfOk result
+        (λ now. IfCreating (waiting_of frame) (Creates state.old.page.forest state.new.page.forest (frames_of stack.old) (frames_of stack.new) now)) }
 {
     match frame {
         Waiting::Replying(line) => {
@@ -229,7 +238,8 @@ fn threw(
     ensures turn { IfOk result (λ now. Turns (frames_of stack.old) (frames_of stack.new) now state.new (turn_threw (waiting_of frame) f state.old)) }
     ensures same { OnOk result (behaviours_of stack.new ≡ behaviours_of stack.old) }
     ensures grows { size state.old.page.forest ≤ size state.new.page.forest }
-    ensures created { IfOk result (λ now. IfCreating (waiting_of frame) (Creates state.old.page.forest state.new.page.forest (frames_of stack.old) (frames_of stack.new) now)) }
+    ensures created { IfOk result
+        (λ now. IfCreating (waiting_of frame) (Creates state.old.page.forest state.new.page.forest (frames_of stack.old) (frames_of stack.new) now)) }
 {
     match frame {
         Waiting::Replying(line) => {

@@ -31,12 +31,14 @@ pub(crate) fn write_part<K: Sink>(
 ) -> Result<(), Stop>
     requires rest { stack.old.frames ≡ [] }
     requires paired { ArePaired stack.old state.old }
-    ensures ran { OnOk result (Did trace (K.held sink.old) (K.held sink.new) (class_part line (part_of p) (session stack.old state.old)) (Goes tt (session stack.new state.new))) }
+    ensures ran { OnOk result (Did trace (K.held sink.old) (K.held sink.new) (class_part line (part_of p) (session stack.old state.old))
+        (Goes tt (session stack.new state.new))) }
     ensures empty { OnOk result (state.new.log ≡ []) }
     ensures rest { OnOk result (stack.new.frames ≡ []) }
     ensures paired { OnOk result (ArePaired stack.new state.new) }
     ensures page { OnOk result (state.new.page ≡ state.old.page) }
-    ensures part { OnErr result (AppendsPart (K.held sink.old) (K.held sink.new) (text trace (log_of (class_part line (part_of p) (session stack.old state.old))))) }
+    ensures part { OnErr result
+        (AppendsPart (K.held sink.old) (K.held sink.new) (text trace (log_of (class_part line (part_of p) (session stack.old state.old))))) }
     ensures later { K.failed sink.old ≤ K.failed sink.new }
     ensures cause { IsErrOf result Stop.WriteFault → Rose (K.failed sink.old) (K.failed sink.new) }
     ensures told { K.failed sink.old < K.failed sink.new → IsErrOf result Stop.WriteFault }
@@ -58,11 +60,13 @@ pub(crate) fn write_refused<K: Sink>(
     trace: bool,
     sink: &mut K,
 ) -> Result<(), Stop>
-    ensures ran { OnOk result (Did trace (K.held sink.old) (K.held sink.new) (run_line model line (Err bad) (session stack.now state.old)) (Goes tt (session stack.now state.new))) }
+    ensures ran { OnOk result (Did trace (K.held sink.old) (K.held sink.new) (run_line model line (Err bad) (session stack.now state.old))
+        (Goes tt (session stack.now state.new))) }
     ensures empty { OnOk result (state.new.log ≡ []) }
     ensures classes { OnOk result (state.new.classes ≡ state.old.classes) }
     ensures page { OnOk result (state.new.page ≡ state.old.page) }
-    ensures part { OnErr result (AppendsPart (K.held sink.old) (K.held sink.new) (text trace (log_of (run_line model line (Err bad) (session stack.now state.old))))) }
+    ensures part { OnErr result
+        (AppendsPart (K.held sink.old) (K.held sink.new) (text trace (log_of (run_line model line (Err bad) (session stack.now state.old))))) }
     ensures later { K.failed sink.old ≤ K.failed sink.new }
     ensures cause { IsErrOf result Stop.WriteFault → Rose (K.failed sink.old) (K.failed sink.new) }
     ensures told { K.failed sink.old < K.failed sink.new → IsErrOf result Stop.WriteFault }

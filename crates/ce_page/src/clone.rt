@@ -89,7 +89,8 @@ impl Page {
         requires node { IsNode self.old.forest node }
         requires allowed { (is_document (kind_at self.old.forest node) || is_shadow_root (kind_at self.old.forest node)) ≡ false }
         requires room { self.old.queues.reactions + fuel.old < 2 ^ 64 }
-        ensures step { Ends (λ n. n) result (work self.new fuel.new) (copy_tree node (facts_at self.old.forest node) (below (tree_of node self.old.forest)) (work self.old fuel.old)) }
+        ensures step { Ends (λ n. n) result (work self.new fuel.new)
+            (copy_tree node (facts_at self.old.forest node) (below (tree_of node self.old.forest)) (work self.old fuel.old)) }
         ensures made { IfOk result (IsNode self.new.forest) }
         ensures within { GrowsWithin self.old self.new fuel.old fuel.new }
         ensures refused { NeverRefuses result }

@@ -28,7 +28,8 @@ impl Page {
     ) -> Result<NodeNo, PageStop>
         requires node { IsNode self.old.forest from }
         requires room { self.old.queues.reactions + fuel.old < 2 ^ 64 }
-        ensures step { Ends (λ n. n) result (work self.new fuel.new) (copy_node from (facts_at self.old.forest from) (is_element (kind_at self.old.forest from)) (work self.old fuel.old)) }
+        ensures step { Ends (λ n. n) result (work self.new fuel.new)
+            (copy_node from (facts_at self.old.forest from) (is_element (kind_at self.old.forest from)) (work self.old fuel.old)) }
         ensures within { GrowsWithin self.old self.new fuel.old fuel.new }
         ensures spends { OnOk result (fuel.new < fuel.old) }
         ensures fresh { IfOk result (IsFresh self.old.forest self.new.forest (copied_kind (is_element (kind_at self.old.forest from)))) }
@@ -88,7 +89,8 @@ impl Page {
     ) -> Result<NodeNo, PageStop>
         requires node { IsNode self.old.forest from }
         requires room { self.old.queues.reactions + fuel.old < 2 ^ 64 }
-        ensures step { Ends (λ n. n) result (work self.new fuel.new) (create_later (facts_at self.old.forest from).local (facts_at self.old.forest from).is_value (facts_at self.old.forest from).document (work self.old fuel.old)) }
+        ensures step { Ends (λ n. n) result (work self.new fuel.new) (create_later (facts_at self.old.forest from).local
+            (facts_at self.old.forest from).is_value (facts_at self.old.forest from).document (work self.old fuel.old)) }
         ensures within { GrowsWithin self.old self.new fuel.old fuel.new }
         ensures spends { OnOk result (fuel.new < fuel.old) }
         ensures fresh { IfOk result (IsFresh self.old.forest self.new.forest ElementKind) }

@@ -157,7 +157,8 @@ impl Page {
         requires connected { All (λ m. connected self.old.forest m ≡ is_connected_or_none self.old.forest now.old.node) walk.now }
         requires changes { AreOfNodes self.old.forest changes.now }
         requires room { self.old.queues.reactions + fuel.old < 2 ^ 64 }
-        ensures step { Does result (work self.new fuel.new) (told (inserted changes.now) changes.now walk.now (order_of self.old.forest node) (work self.old fuel.old)) }
+        ensures step { Does result (work self.new fuel.new)
+            (told (inserted changes.now) changes.now walk.now (order_of self.old.forest node) (work self.old fuel.old)) }
         ensures within { StaysWithin self.old self.new fuel.old fuel.new }
         ensures rest { OnlyEnqueues self.old self.new }
         ensures refused { NeverRefuses result }

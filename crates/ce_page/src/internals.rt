@@ -1,6 +1,7 @@
 // What ElementInternals keeps.
 ghost use Rattle.std.specs.Prelude.{◌≡◌};
-ghost use Rattle.form_controls.specs.Internals.{add_state, attach, clear_states, delete_state, may_attach, may_change_states, may_set_validity, may_write, set_form_value, set_validity};
+ghost use Rattle.form_controls.specs.Internals.{add_state, attach, clear_states, delete_state, may_attach};
+ghost use Rattle.form_controls.specs.Internals.{may_change_states, may_set_validity, may_write, set_form_value, set_validity};
 ghost use Rattle.element_internals.specs.Calls.{Changes, Writes};
 ghost use Rattle.ce_algorithms.specs.Page.{with_internals};
 
@@ -36,7 +37,8 @@ impl Page {
         v: Value,
         saved: Value,
     ) -> Result<(), Refused>
-        ensures table { Writes result (may_write self.old.internals n associated) self.old.internals self.new.internals (set_form_value self.old.internals n v saved) }
+        ensures table { Writes result (may_write self.old.internals n associated) self.old.internals self.new.internals
+            (set_form_value self.old.internals n v saved) }
         ensures rest { self.new ≡ with_internals (λ is. self.new.internals) self.old }
     {
         self.internals
@@ -53,7 +55,8 @@ impl Page {
         f: Flags,
         message: Text,
     ) -> Result<(), Refused>
-        ensures table { Writes result (may_set_validity self.old.internals n associated f message) self.old.internals self.new.internals (set_validity self.old.internals n f message) }
+        ensures table { Writes result (may_set_validity self.old.internals n associated f message) self.old.internals self.new.internals
+            (set_validity self.old.internals n f message) }
         ensures rest { self.new ≡ with_internals (λ is. self.new.internals) self.old }
     {
         self.internals
@@ -70,7 +73,8 @@ impl Page {
 
     /// Deletes a custom state, as `InternalsTable::delete_state` does. Nothing else of the page changes.
     pub fn delete_state(&mut self, n: NodeNo, s: &str) -> Result<(), Fault>
-        ensures table { Changes result (may_change_states self.old.internals n) self.old.internals self.new.internals (delete_state self.old.internals n s.now) }
+        ensures table { Changes result (may_change_states self.old.internals n) self.old.internals self.new.internals
+            (delete_state self.old.internals n s.now) }
         ensures rest { self.new ≡ with_internals (λ is. self.new.internals) self.old }
     {
         self.internals.delete_state(n, s)

@@ -80,7 +80,8 @@ impl Page {
         requires element { kind_at self.old.forest host ≡ ElementKind }
         requires bare { shadow_at self.old.forest host ≡ None }
         ensures number { IfOk result (λ n. n ≡ next_number self.old) }
-        ensures page { IfOk result (λ n. self.new ≡ with_new (with_shadow host (single n (blank ShadowRoot (document_at self.old.forest host))) self.old.forest) self.old) }
+        ensures page { IfOk result
+            (λ n. self.new ≡ with_new (with_shadow host (single n (blank ShadowRoot (document_at self.old.forest host))) self.old.forest) self.old) }
         ensures made { IfOk result (IsNode self.new.forest) }
         ensures nodes { OnOk result (size self.new.forest ≡ size self.old.forest + 1) }
         ensures numbers { SameNumbers self.old self.new }

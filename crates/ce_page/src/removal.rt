@@ -70,7 +70,8 @@ impl Page {
         requires known { IsKnown self.old.forest was.old }
         requires changes { AreOfNodes self.old.forest changes.now }
         requires room { self.old.queues.reactions + fuel.old < 2 ^ 64 }
-        ensures step { Does result (work self.new fuel.new) (told (removed changes.now (is_connected_or_none self.old.forest was.old.node)) changes.now walk.now (order_of self.old.forest node) (work self.old fuel.old)) }
+        ensures step { Does result (work self.new fuel.new) (told (removed changes.now
+            (is_connected_or_none self.old.forest was.old.node)) changes.now walk.now (order_of self.old.forest node) (work self.old fuel.old)) }
         ensures within { StaysWithin self.old self.new fuel.old fuel.new }
         ensures rest { OnlyEnqueues self.old self.new }
         ensures refused { NeverRefuses result }
@@ -92,7 +93,8 @@ impl Page {
         requires known { IsKnown self.old.forest was.old }
         requires rising { AreRising changes.now }
         requires room { self.old.queues.reactions + fuel.old < 2 ^ 64 }
-        ensures step { Does result (work self.new fuel.new) (for_each walk.now (removed changes.now (is_connected_or_none self.old.forest was.old.node)) (work self.old fuel.old)) }
+        ensures step { Does result (work self.new fuel.new)
+            (for_each walk.now (removed changes.now (is_connected_or_none self.old.forest was.old.node)) (work self.old fuel.old)) }
         ensures within { StaysWithin self.old self.new fuel.old fuel.new }
         ensures rest { OnlyEnqueues self.old self.new }
         ensures refused { NeverRefuses result }
@@ -117,7 +119,8 @@ impl Page {
         requires known { IsKnown self.old.forest was.old }
         requires rising { AreRising changes.now }
         requires room { self.old.queues.reactions + fuel.old < 2 ^ 64 }
-        ensures step { Does result (work self.new fuel.new) (removed changes.now (is_connected_or_none self.old.forest was.old.node) n (work self.old fuel.old)) }
+        ensures step { Does result (work self.new fuel.new)
+            (removed changes.now (is_connected_or_none self.old.forest was.old.node) n (work self.old fuel.old)) }
         ensures same { was.new.node ≡ was.old.node }
         ensures known { IsKnown self.old.forest was.new }
         ensures within { StaysWithin self.old self.new fuel.old fuel.new }
@@ -139,7 +142,8 @@ impl Page {
         requires asked { IsNodeOrNone self.old.forest was.old.node }
         requires known { IsKnown self.old.forest was.old }
         requires room { self.old.queues.reactions + fuel.old < 2 ^ 64 }
-        ensures step { Does result (work self.new fuel.new) (where_is (λ w. is_connected_or_none self.old.forest was.old.node && is_custom w.page n) (enqueue_callback n Disconnected) (work self.old fuel.old)) }
+        ensures step { Does result (work self.new fuel.new) (where_is (λ w. is_connected_or_none self.old.forest was.old.node && is_custom w.page n)
+            (enqueue_callback n Disconnected) (work self.old fuel.old)) }
         ensures same { was.new.node ≡ was.old.node }
         ensures known { IsKnown self.old.forest was.new }
         ensures within { StaysWithin self.old self.new fuel.old fuel.new }

@@ -74,7 +74,8 @@ impl Page {
     /// waits at the node.
     pub fn drop_first(&mut self, node: NodeNo) -> Option<ReactionNo>
         ensures first { MatchOption result (waiting_at self.old.queues node ≡ []) (λ number. DropsFirst self.old.queues self.new.queues node number) }
-        ensures page { MatchOption result (self.new ≡ self.old) (λ number. self.new ≡ with_queues (with_waiting node (waiting_at self.new.queues node)) self.old) }
+        ensures page { MatchOption result (self.new ≡ self.old)
+            (λ number. self.new ≡ with_queues (with_waiting node (waiting_at self.new.queues node)) self.old) }
         ensures empty { IfNone result (with_queues (with_waiting node []) self.old ≡ self.old) }
         ensures numbers { SameNumbers self.old self.new }
     {

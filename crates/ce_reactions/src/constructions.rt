@@ -31,7 +31,8 @@ pub fn construct(
     class: ClassNo,
 ) -> Result<Came, NoMemory>
     requires paired { ArePaired stack.old state.old }
-    ensures turn { IfOk result (λ now. Turns (frames_of stack.old) (frames_of stack.new) now (session stack.new state.new) (construct_turn class (session stack.old state.old))) }
+    ensures turn { IfOk result (λ now. Turns (frames_of stack.old) (frames_of stack.new) now (session stack.new state.new)
+        (construct_turn class (session stack.old state.old))) }
     ensures paired { OnOk result (ArePaired stack.new state.new) }
     ensures grows { size state.old.page.forest ≤ size state.new.page.forest }
     ensures lasts { OnOk result (Lasts state.old.page.forest (construct_turn class (session stack.old state.old))) }
@@ -59,7 +60,8 @@ fn base_alone(state: &mut State, alloc: Global, class: ClassNo) -> Result<Came, 
 // The body of a class's own constructor begins.
 fn begin(state: &State, alloc: Global, stack: &mut Stack, class: ClassNo) -> Result<Came, NoMemory>
     requires paired { ArePaired stack.old state.now }
-    ensures turn { IfOk result (λ now. Turns (frames_of stack.old) (frames_of stack.new) now (session stack.new state.now) (own_turn class (session stack.old state.now))) }
+    ensures turn { IfOk result
+        (λ now. Turns (frames_of stack.old) (frames_of stack.new) now (session stack.new state.now) (own_turn class (session stack.old state.now))) }
     ensures paired { OnOk result (ArePaired stack.new state.now) }
 {
     let args = Args::none(alloc)?;

@@ -33,7 +33,8 @@ pub fn create_named(
     document: NodeNo,
 ) -> Result<Came, NoMemory>
     requires paired { ArePaired stack.old state.old }
-    ensures turn { IfOk result (λ now. Turns (frames_of stack.old) (frames_of stack.new) now (session stack.new state.new) (create_named_turn name.now is document (session stack.old state.old))) }
+    ensures turn { IfOk result (λ now. Turns (frames_of stack.old) (frames_of stack.new) now (session stack.new state.new)
+        (create_named_turn name.now is document (session stack.old state.old))) }
     ensures paired { OnOk result (ArePaired stack.new state.new) }
     ensures lasts { OnOk result (Lasts state.old.page.forest (create_named_turn name.now is document (session stack.old state.old))) }
 {
@@ -55,7 +56,8 @@ fn create(
     document: NodeNo,
 ) -> Result<Came, NoMemory>
     requires paired { ArePaired stack.old state.old }
-    ensures turn { IfOk result (λ now. Turns (frames_of stack.old) (frames_of stack.new) now (session stack.new state.new) (create_turn local is document (session stack.old state.old))) }
+    ensures turn { IfOk result (λ now. Turns (frames_of stack.old) (frames_of stack.new) now (session stack.new state.new)
+        (create_turn local is document (session stack.old state.old))) }
     ensures paired { OnOk result (ArePaired stack.new state.new) }
     ensures lasts { OnOk result (Lasts state.old.page.forest (create_turn local is document (session stack.old state.old))) }
 {
@@ -83,7 +85,8 @@ fn create_found(
     d: DefNo,
 ) -> Result<Came, NoMemory>
     requires paired { ArePaired stack.old state.old }
-    ensures turn { IfOk result (λ now. Turns (frames_of stack.old) (frames_of stack.new) now (session stack.new state.new) (create_found_turn local is document (Some d) (session stack.old state.old))) }
+    ensures turn { IfOk result (λ now. Turns (frames_of stack.old) (frames_of stack.new) now (session stack.new state.new)
+        (create_found_turn local is document (Some d) (session stack.old state.old))) }
     ensures paired { OnOk result (ArePaired stack.new state.new) }
     ensures lasts { OnOk result (Lasts state.old.page.forest (create_found_turn local is document (Some d) (session stack.old state.old))) }
 {
@@ -107,9 +110,11 @@ fn create_fit(
 ) -> Result<Came, NoMemory>
     requires autonomous { is_autonomous (definition_at state.old.page d) ≡ true }
     requires paired { ArePaired stack.old state.old }
-    ensures turn { (is : Option (List ℕ)) → IfOk result (λ now. Turns (frames_of stack.old) (frames_of stack.new) now (session stack.new state.new) (create_found_turn local is document (Some d) (session stack.old state.old))) }
+    ensures turn { (is : Option (List ℕ)) → IfOk result (λ now. Turns (frames_of stack.old) (frames_of stack.new) now (session stack.new state.new)
+        (create_found_turn local is document (Some d) (session stack.old state.old))) }
     ensures paired { OnOk result (ArePaired stack.new state.new) }
-    ensures lasts { (is : Option (List ℕ)) → OnOk result (Lasts state.old.page.forest (create_found_turn local is document (Some d) (session stack.old state.old))) }
+    ensures lasts { (is : Option (List ℕ))
+        → OnOk result (Lasts state.old.page.forest (create_found_turn local is document (Some d) (session stack.old state.old))) }
 {
     let class = class_of(state, d);
     stack.push(Waiting::CreatingFit(local, document))?;
@@ -128,7 +133,8 @@ fn create_extended(
     d: DefNo,
 ) -> Result<Came, NoMemory>
     requires paired { ArePaired stack.old state.old }
-    ensures turn { IfOk result (λ now. Turns (frames_of stack.old) (frames_of stack.new) now (session stack.new state.new) (create_extended_turn local is document d (session stack.old state.old))) }
+    ensures turn { IfOk result (λ now. Turns (frames_of stack.old) (frames_of stack.new) now (session stack.new state.new)
+        (create_extended_turn local is document d (session stack.old state.old))) }
     ensures paired { OnOk result (ArePaired stack.new state.new) }
     ensures lasts { OnOk result (Lasts state.old.page.forest (create_extended_turn local is document d (session stack.old state.old))) }
 {

@@ -38,7 +38,8 @@ pub fn start(
 ) -> Result<Came, NoMemory>
     requires element { IsElement state.old.page.forest e }
     requires paired { ArePaired stack.old state.old }
-    ensures turn { IfOk result (λ now. Turns (frames_of stack.old) (frames_of stack.new) now (session stack.new state.new) (below (waiting.InReaction number) (reaction_turn e r.now) (logged (Started number) (session stack.old state.old)))) }
+    ensures turn { IfOk result (λ now. Turns (frames_of stack.old) (frames_of stack.new) now (session stack.new state.new)
+        (below (waiting.InReaction number) (reaction_turn e r.now) (logged (Started number) (session stack.old state.old)))) }
     ensures paired { OnOk result (ArePaired stack.new state.new) }
     ensures grows { size state.old.page.forest ≤ size state.new.page.forest }
 {
@@ -58,7 +59,8 @@ fn react(
 ) -> Result<Came, NoMemory>
     requires element { IsElement state.old.page.forest e }
     requires paired { ArePaired stack.old state.old }
-    ensures turn { IfOk result (λ now. Turns (frames_of stack.old) (frames_of stack.new) now (session stack.new state.new) (reaction_turn e r.now (session stack.old state.old))) }
+    ensures turn { IfOk result (λ now. Turns (frames_of stack.old) (frames_of stack.new) now (session stack.new state.new)
+        (reaction_turn e r.now (session stack.old state.old))) }
     ensures paired { OnOk result (ArePaired stack.new state.new) }
     ensures grows { size state.old.page.forest ≤ size state.new.page.forest }
 {
@@ -102,7 +104,8 @@ fn call(
 ) -> Result<Came, NoMemory>
     requires callback { is_callback r.now ≡ true }
     requires paired { ArePaired stack.old state.old }
-    ensures turn { IfOk result (λ now. Turns (frames_of stack.old) (frames_of stack.new) now (session stack.new state.new) (reaction_turn e r.now (session stack.old state.old))) }
+    ensures turn { IfOk result (λ now. Turns (frames_of stack.old) (frames_of stack.new) now (session stack.new state.new)
+        (reaction_turn e r.now (session stack.old state.old))) }
     ensures paired { OnOk result (ArePaired stack.new state.new) }
     ensures grows { size state.old.page.forest ≤ size state.new.page.forest }
 {
@@ -126,7 +129,8 @@ fn begin(
 ) -> Result<Came, NoMemory>
     requires callback { is_callback r.now ≡ true }
     requires paired { ArePaired stack.old state.old }
-    ensures turn { IfOk result (λ now. Turns (frames_of stack.old) (frames_of stack.new) now (session stack.new state.new) (callback_turn e class r.now (session stack.old state.old))) }
+    ensures turn { IfOk result (λ now. Turns (frames_of stack.old) (frames_of stack.new) now (session stack.new state.new)
+        (callback_turn e class r.now (session stack.old state.old))) }
     ensures paired { OnOk result (ArePaired stack.new state.new) }
     ensures grows { size state.old.page.forest ≤ size state.new.page.forest }
 {

@@ -33,7 +33,8 @@ pub fn upgrade_turn(
 ) -> Result<Came, NoMemory>
     requires element { IsElement state.old.page.forest n }
     requires paired { ArePaired stack.old state.old }
-    ensures turn { IfOk result (λ now. Turns (frames_of stack.old) (frames_of stack.new) now (session stack.new state.new) (upgrade_turn n d (session stack.old state.old))) }
+    ensures turn { IfOk result (λ now. Turns (frames_of stack.old) (frames_of stack.new) now (session stack.new state.new)
+        (upgrade_turn n d (session stack.old state.old))) }
     ensures paired { OnOk result (ArePaired stack.new state.new) }
     ensures grows { size state.old.page.forest ≤ size state.new.page.forest }
 {
@@ -66,7 +67,8 @@ fn upgrade_now(
 ) -> Result<Came, NoMemory>
     requires element { IsElement state.old.page.forest n }
     requires paired { ArePaired stack.old state.old }
-    ensures turn { IfOk result (λ now. Turns (frames_of stack.old) (frames_of stack.new) now (session stack.new state.new) (upgrade_now_turn n d (session stack.old state.old))) }
+    ensures turn { IfOk result (λ now. Turns (frames_of stack.old) (frames_of stack.new) now (session stack.new state.new)
+        (upgrade_now_turn n d (session stack.old state.old))) }
     ensures paired { OnOk result (ArePaired stack.new state.new) }
     ensures grows { size state.old.page.forest ≤ size state.new.page.forest }
 {
@@ -93,7 +95,8 @@ fn construct_for(
 ) -> Result<Came, NoMemory>
     requires node { IsNode state.old.page.forest n }
     requires paired { ArePaired stack.old state.old }
-    ensures turn { IfOk result (λ now. Turns (frames_of stack.old) (frames_of stack.new) now (session stack.new state.new) (construct_for_turn n d (session stack.old state.old))) }
+    ensures turn { IfOk result (λ now. Turns (frames_of stack.old) (frames_of stack.new) now (session stack.new state.new)
+        (construct_for_turn n d (session stack.old state.old))) }
     ensures paired { OnOk result (ArePaired stack.new state.new) }
     ensures grows { size state.old.page.forest ≤ size state.new.page.forest }
 {

@@ -1,7 +1,8 @@
 -- What a definition takes over from its class (HTML Standard, section "Core concepts", "custom element definition").
 use Rattle.std.specs.Prelude.{ℕ, Bool, true, false, [], ◌∷◌, Option, Some, None, slice_get, slice_set}
 use Rattle.rule_tokens.specs.declared.callback.CallName.{CallName}
-use Rattle.rule_tokens.specs.declared.callback.CallName.TheVariants.{Constructor, Connected, Disconnected, Adopted, Attribute, FormAssociated, FormDisabled, FormReset, FormStateRestore}
+use Rattle.rule_tokens.specs.declared.callback.CallName.TheVariants.{Constructor, Connected, Disconnected, Adopted, Attribute}
+use Rattle.rule_tokens.specs.declared.callback.CallName.TheVariants.{FormAssociated, FormDisabled, FormReset, FormStateRestore}
 use Rattle.ce_registry.specs.declared.class_facts.Calls.{Calls}
 use Rattle.ce_registry.specs.declared.class_facts.ClassFacts.{ClassFacts}
 

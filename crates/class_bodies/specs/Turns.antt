@@ -24,7 +24,8 @@ fixed_turn class args this guarded left action = act_turn class args this guarde
 
 abbrev pub stop_turn : ℕ → Args → Option ℕ → List Act → Stop → Turn
 stop_turn class args this left (Doing action guarded) = fixed_turn class args this guarded left action
-stop_turn class args this left (Returning value guarded) = guarded_step guarded this (returned this value) >>= flow_turn (λ next. body_turn class args next left)
+stop_turn class args this left (Returning value guarded) = guarded_step guarded this (returned this value)
+    >>= flow_turn (λ next. body_turn class args next left)
 stop_turn class args this left (Throwing fault guarded) = guarded_step guarded this (throw fault) >>= flow_turn (λ next. body_turn class args next left)
 stop_turn class args this left OutOfFuel = λ s. ended (ended_by_fuel s)
 

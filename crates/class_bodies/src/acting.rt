@@ -25,7 +25,8 @@ pub fn resume_in(
     args: &Args,
     fuel: &mut Fuel,
 ) -> Result<Next, NoMemory>
-    ensures resumed { IfOk result (λ next. resumed_to next memory.new fuel.new (drop at.new.index (actions_of at.new.call bodies.now)) ≡ resumed args.now (drop at.old.index (actions_of at.old.call bodies.now)) memory.old fuel.old) }
+    ensures resumed { IfOk result (λ next. resumed_to next memory.new fuel.new (drop at.new.index (actions_of at.new.call bodies.now))
+        ≡ resumed args.now (drop at.old.index (actions_of at.old.call bodies.now)) memory.old fuel.old) }
     ensures call { at.new.call ≡ at.old.call }
     ensures less { fuel.new ≤ fuel.old }
 {

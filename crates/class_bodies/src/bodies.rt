@@ -102,7 +102,8 @@ impl Bodies {
 
     /// The action of a callback's body at a place, from 0. None exactly where the body ends before it.
     pub fn get(&self, call: CallName, index: usize) -> Option<&Action>
-        ensures action { MatchOption result (drop index (actions_of call self.now) ≡ []) (λ a. drop index (actions_of call self.now) ≡ act_of a.now ∷ drop (index + 1) (actions_of call self.now)) }
+        ensures action { MatchOption result (drop index (actions_of call self.now) ≡ [])
+            (λ a. drop index (actions_of call self.now) ≡ act_of a.now ∷ drop (index + 1) (actions_of call self.now)) }
         ensures room { IfSome result (λ _. index + 1 < 2 ^ 64) }
     {
         match self.places[place_of(call)].get(index) {

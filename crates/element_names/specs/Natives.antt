@@ -2,7 +2,8 @@
 use Rattle.std.specs.Prelude.{ℕ, Bool, ◌==◌, if◌then◌else◌, List, codes}
 use Rattle.std.specs.Str.{bytes_eq}
 use Rattle.element_names.specs.declared.natives.Native.{Native}
-use Rattle.element_names.specs.declared.natives.Native.TheVariants.{Form, Fieldset, Legend, Button, Input, Select, Optgroup, OptionItem, Textarea, Datalist, Other}
+use Rattle.element_names.specs.declared.natives.Native.TheVariants.{Form, Fieldset, Legend, Button, Input, Select}
+use Rattle.element_names.specs.declared.natives.Native.TheVariants.{Optgroup, OptionItem, Textarea, Datalist, Other}
 
 -- the element with this local name
 abbrev pub native : List ℕ → Native

@@ -52,7 +52,8 @@ fn put_given(
 ) -> Result<(), NoMemory>
     requires stands { StandsFor owners.now tree.now }
     requires node { IsNode tree.now n }
-    ensures { (f : Forms) → f.forest ≡ tree.now → Stands owners.now f → OnOk result (list.new ≡ list.old ++ (if is_giver f controls.now submitter.now n then entries_at f controls.now inner.now n else [])) }
+    ensures { (f : Forms) → f.forest ≡ tree.now → Stands owners.now f
+        → OnOk result (list.new ≡ list.old ++ (if is_giver f controls.now submitter.now n then entries_at f controls.now inner.now n else [])) }
 {
     if !owners.submittable(tree, n) || is_skipped(tree, owners, controls, *submitter, n) {
         return Ok(());
@@ -73,7 +74,8 @@ fn put_each(
 ) -> Result<(), NoMemory>
     requires stands { StandsFor owners.now tree.now }
     requires nodes { All (IsNode tree.now) elements.now }
-    ensures { (f : Forms) → f.forest ≡ tree.now → Stands owners.now f → OnOk result (list.new ≡ list.old ++ given_entries f controls.now inner.now submitter.now elements.now) }
+    ensures { (f : Forms) → f.forest ≡ tree.now → Stands owners.now f
+        → OnOk result (list.new ≡ list.old ++ given_entries f controls.now inner.now submitter.now elements.now) }
 {
     for n in elements {
         put_given(alloc, tree, owners, controls, inner, list, submitter, *n)?;

@@ -35,7 +35,8 @@ fn put_option(
 ) -> Result<(), NoMemory>
     requires select { IsNode tree.now select }
     requires option { IsNode tree.now option }
-    ensures { OnOk result (list.new ≡ list.old ++ (if not (is_option_disabled tree.now option) then entry (name_of tree.now select) (option_value tree.now option) ∷ [] else [])) }
+    ensures { OnOk result (list.new ≡ list.old
+        ++ (if not (is_option_disabled tree.now option) then entry (name_of tree.now select) (option_value tree.now option) ∷ [] else [])) }
 {
     if is_option_disabled(tree, option) {
         return Ok(());

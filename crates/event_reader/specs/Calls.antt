@@ -5,7 +5,8 @@ use Rattle.reaction_queue.specs.declared.reaction.Mode.{Mode}
 use Rattle.reaction_queue.specs.declared.reaction.Mode.TheVariants.{Restore, Autocomplete}
 use Rattle.rule_tokens.specs.declared.token.Token.{Token}
 use Rattle.ce_events.specs.declared.event.Event.{Event}
-use Rattle.ce_events.specs.declared.event.Event.TheVariants.{Connected, Disconnected, Adopted, Attribute, FormAssociated, FormDisabled, FormReset, FormStateRestore}
+use Rattle.ce_events.specs.declared.event.Event.TheVariants.{Connected, Disconnected, Adopted, Attribute}
+use Rattle.ce_events.specs.declared.event.Event.TheVariants.{FormAssociated, FormDisabled, FormReset, FormStateRestore}
 use Rattle.event_reader.specs.Parts.{node_in, node_or_none, text_or_none}
 
 abbrev pub adopted_of : ℕ → List Token → Option Event

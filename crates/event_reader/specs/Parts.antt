@@ -4,7 +4,8 @@ use Rattle.std.specs.Prelude.{ℕ, ◌+◌, ◌-◌, ◌*◌, ◌^◌, ◌==◌,
 use Rattle.std.specs.Char.{is_ascii_digit}
 use Rattle.std.specs.Str.{bytes_eq}
 use Rattle.ce_base.specs.declared.fault.Fault.{Fault}
-use Rattle.ce_base.specs.declared.fault.Fault.TheVariants.{TypeError, ReferenceError, SyntaxError, NotSupportedError, HierarchyRequestError, NotFoundError, InvalidCharacterError, UserThrow}
+use Rattle.ce_base.specs.declared.fault.Fault.TheVariants.{TypeError, ReferenceError, SyntaxError, NotSupportedError}
+use Rattle.ce_base.specs.declared.fault.Fault.TheVariants.{HierarchyRequestError, NotFoundError, InvalidCharacterError, UserThrow}
 use Rattle.rule_tokens.specs.declared.token.Token.{Token}
 
 -- the number that the digits in front write, behind these digits; 0 where it is no number of the type

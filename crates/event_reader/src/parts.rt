@@ -2,7 +2,8 @@
 ghost use Rattle.std.specs.Prelude.{◌≡◌, ◌+◌, ◌*◌, ◌^◌, nat_lt, if◌then◌else◌, IfOk, IfSome, Some, None};
 ghost use Rattle.std.specs.Str.{IsUtf8};
 ghost use Rattle.event_reader.specs.IsEvent.{AreNumbers, AreTexts, IsFault, IsNumber, IsNumberOrNone, IsTextOrNone};
-ghost use Rattle.event_reader.specs.Parts.{begins_node, begins_number, fault_named, fault_of, node_in, node_or_none, nodes_of, number_in, text_or_none, texts_of};
+ghost use Rattle.event_reader.specs.Parts.{begins_node, begins_number, fault_named, fault_of, node_in};
+ghost use Rattle.event_reader.specs.Parts.{node_or_none, nodes_of, number_in, text_or_none, texts_of};
 ghost use Rattle.event_reader.specs.Read.{Reads};
 
 use crate::EventRefused;

@@ -12,7 +12,8 @@ use Rattle.form_controls.specs.Disabled.{is_disabled}
 abbrev pub is_in_datalist : Trees → ℕ → Bool
 is_in_datalist forest n = list_any (is_a Datalist forest) (ancestors forest n)
 
--- of a kind that is never validated (sections "Hidden state (type=hidden)", "Reset Button state (type=reset)", "Button state (type=button)", "The button element")
+-- of a kind that is never validated (sections "Hidden state (type=hidden)", "Reset Button state (type=reset)", "Button state
+-- (type=button)", "The button element")
 abbrev pub has_barred_kind : Trees → ℕ → Bool
 has_barred_kind forest n = has_kind Hidden forest n || has_kind Reset forest n || has_kind Button forest n
 

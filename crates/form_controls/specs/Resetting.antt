@@ -1,4 +1,5 @@
--- Resetting controls, and cloning them (HTML Standard, section "Resetting a form", "reset algorithm"; sections "The input element", "The textarea element", "cloning steps").
+-- Resetting controls, and cloning them (HTML Standard, section "Resetting a form", "reset algorithm"; sections "The input
+-- element", "The textarea element", "cloning steps").
 use Rattle.std.specs.Prelude.{ℕ, Bool, ◌||◌, if◌then◌else◌, List, fold}
 use Rattle.element_names.specs.declared.natives.Native.{Native}
 use Rattle.element_names.specs.declared.natives.Native.TheVariants.{Input, Select, Textarea}

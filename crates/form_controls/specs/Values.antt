@@ -31,7 +31,8 @@ first_value forest [] = []
 first_value forest (option ∷ options) = option_value forest option
 
 abbrev pub value_by : Native → List Control → Trees → ℕ → List ℕ
-value_by Input controls forest n = input_value (input_kind (attribute_at forest n (codes "type"))) (control_at controls n).value (attribute_at forest n (codes "value"))
+value_by Input controls forest n = input_value (input_kind (attribute_at forest n (codes "type"))) (control_at controls n).value
+    (attribute_at forest n (codes "value"))
 value_by Button controls forest n = unwrap_or (attribute_at forest n (codes "value")) []
 value_by Textarea controls forest n = normalized (unwrap_or (control_at controls n).value (child_text forest n))
 value_by Select controls forest n = first_value forest (chosen controls forest n)

@@ -1,5 +1,6 @@
 -- What a submission sends, or what blocks it (HTML Standard, section "Form submission algorithm").
-use Rattle.std.specs.Prelude.{ℕ, ◌+◌, Bool, not, ◌||◌, ◌==◌, if◌then◌else◌, List, [], ◌∷◌, ◌++◌, codes, bytes_eq, length, sum_by, nat_lt, Option, Some, None, Ok, Err}
+use Rattle.std.specs.Prelude.{ℕ, ◌+◌, Bool, not, ◌||◌, ◌==◌, if◌then◌else◌, List, [], ◌∷◌, ◌++◌}
+use Rattle.std.specs.Prelude.{codes, bytes_eq, length, sum_by, nat_lt, Option, Some, None, Ok, Err}
 use Rattle.ce_base.specs.declared.entries.Entry.{Entry}
 use Rattle.url.specs.Parser.{Parsed, and_then, parse_url}
 use Rattle.url.specs.Parts.{Parts, serialize}
@@ -14,7 +15,8 @@ use Rattle.form_controls.specs.Validity.{invalid_controls}
 use Rattle.form_submission.specs.declared.plan.Plan.{Plan}
 use Rattle.form_submission.specs.declared.plan.Plan.TheVariants.{Get, Post, Blocked}
 use Rattle.form_submission.specs.declared.plan.Why.TheVariants.{Disconnected, Invalid, Dialog, Url, Scheme, Size, Boundary}
-use Rattle.form_submission.specs.Attributes.{Method, GetMethod, PostMethod, DialogMethod, method_of, action_of, Encoding, Urlencoded, Multipart, PlainText, encoding_of, is_unvalidated}
+use Rattle.form_submission.specs.Attributes.{Method, GetMethod, PostMethod, DialogMethod, method_of, action_of}
+use Rattle.form_submission.specs.Attributes.{Encoding, Urlencoded, Multipart, PlainText, encoding_of, is_unvalidated}
 use Rattle.form_submission.specs.EntryList.{entry_list}
 use Rattle.form_submission.specs.Encodings.{urlencoded, plain, multipart, is_broken_by}
 

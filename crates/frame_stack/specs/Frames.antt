@@ -4,7 +4,8 @@ use Rattle.ce_frames.specs.Frames.{Frame}
 use Rattle.ce_frames.specs.Frames as frames
 use Rattle.ce_frames.specs.Places.{Held, Wait, Body}
 use Rattle.frame_stack.specs.declared.waiting.Waiting.{Waiting}
-use Rattle.frame_stack.specs.declared.waiting.Waiting.TheVariants.{Replying, Checking, DrainingBackup, Naming, Stepping, Draining, InReaction, CreatingFit, CreatingExtended, Upgrading, Constructing}
+use Rattle.frame_stack.specs.declared.waiting.Waiting.TheVariants.{Replying, Checking, DrainingBackup, Naming, Stepping, Draining}
+use Rattle.frame_stack.specs.declared.waiting.Waiting.TheVariants.{InReaction, CreatingFit, CreatingExtended, Upgrading, Constructing}
 
 abbrev pub waiting_of : Waiting → Frame
 waiting_of (Replying line) = frames.Replying line

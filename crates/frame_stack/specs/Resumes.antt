@@ -34,5 +34,7 @@ pub record Resumes (old new : Stacked) (before after : ℕ) (next : Next) : Type
   pub idle : length (behaviours_of old) ≤ body.class → body.actions ≡ []  -- a class that is not there does nothing
   pub stop : stop_of next ≡ (resumed_of body (behaviours_of old) before).stop
   pub fuel : after ≡ (resumed_of body (behaviours_of old) before).fuel
-  pub frames : frames_of new ≡ below_top (frames_of old) ++ in_body (record body { guarded = is_guarded (stop_of next); actions = (resumed_of body (behaviours_of old) before).left }) ∷ []
-  pub behaviours : behaviours_of new ≡ slice_set (behaviours_of old) body.class (record (behaviour_at body.class (behaviours_of old)) { memory = (resumed_of body (behaviours_of old) before).memory })
+  pub frames : frames_of new ≡ below_top (frames_of old)
+      ++ in_body (record body { guarded = is_guarded (stop_of next); actions = (resumed_of body (behaviours_of old) before).left }) ∷ []
+  pub behaviours : behaviours_of new ≡ slice_set (behaviours_of old) body.class
+      (record (behaviour_at body.class (behaviours_of old)) { memory = (resumed_of body (behaviours_of old) before).memory })

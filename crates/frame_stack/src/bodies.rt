@@ -25,7 +25,8 @@ impl Stack {
         args: Args,
         this: Option<NodeNo>,
     ) -> Result<(), NoMemory>
-        ensures frames { OnOk result (frames_of self.new ≡ frames_of self.old ++ InBody class args this false (actions_at call class (behaviours_of self.old)) ∷ []) }
+        ensures frames { OnOk result
+            (frames_of self.new ≡ frames_of self.old ++ InBody class args this false (actions_at call class (behaviours_of self.old)) ∷ []) }
         ensures behaviours { OnOk result (behaviours_of self.new ≡ behaviours_of self.old) }
     {
         let below = topmost(&self.chains, class);

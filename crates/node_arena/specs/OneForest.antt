@@ -21,7 +21,8 @@ use Rattle.node_arena.specs.Links.{Link, link_at, link_in, children_of, IsLinked
 abbrev link_code : Coded Link
 link_code =
     code_by (Facts × (Option ℕ × (Option ℕ × (List ℕ × (Option ℕ × (Option ℕ × (Option ℕ × Option ℕ)))))))
-    (coded× facts_code (coded× (coded_option coded_ℕ) (coded× (coded_option coded_ℕ) (coded× (coded_list coded_ℕ) (coded× (coded_option coded_ℕ) (coded× (coded_option coded_ℕ) (coded× (coded_option coded_ℕ) (coded_option coded_ℕ))))))))
+    (coded× facts_code (coded× (coded_option coded_ℕ) (coded× (coded_option coded_ℕ) (coded× (coded_list coded_ℕ)
+    (coded× (coded_option coded_ℕ) (coded× (coded_option coded_ℕ) (coded× (coded_option coded_ℕ) (coded_option coded_ℕ))))))))
     (λ l. (l.facts, (l.parent, (l.host, (l.shadow, (l.first, (l.last, (l.previous, l.next))))))))
     (λ p. record { facts = p.0; parent = p.1.0; host = p.1.1.0; shadow = p.1.1.1.0; first = p.1.1.1.1.0; last = p.1.1.1.1.1.0; previous = p.1.1.1.1.1.1.0; next = p.1.1.1.1.1.1.1 }) (λ _. refl)
 
@@ -49,7 +50,8 @@ IsLinked-prop links f =
 -- ---- two forests with the same links
 
 -- lists that begin alike, and where the same follows each number
-same-lists : (xs ys : List ℕ) → AreApart xs → AreApart ys → first_of xs ≡ first_of ys → ((m : ℕ) → is_among m xs ≡ true → is_among m ys ≡ true → after m xs ≡ after m ys) → xs ≡ ys
+same-lists : (xs ys : List ℕ) → AreApart xs → AreApart ys → first_of xs ≡ first_of ys
+    → ((m : ℕ) → is_among m xs ≡ true → is_among m ys ≡ true → after m xs ≡ after m ys) → xs ≡ ys
 same-lists [] [] a b e on = refl
 same-lists [] (y ∷ ys) a b e on = absurd cc
 same-lists (x ∷ xs) [] a b e on = absurd cc
@@ -77,8 +79,10 @@ module _ (f g : Trees) (tidy_f : IsTidy f) (tidy_g : IsTidy g) (long : size f �
   over n at = record { low = at.low; high = omega (arith, at.high, long) }
 
   same-children : (n : ℕ) → IsNode f n → children_at f n ≡ children_at g n
-  same-children n at = same-lists (children_at f n) (children_at g n) (children_at-apart f n tidy_f at) (children_at-apart g n tidy_g (over n at)) (ap (λ (l : Link). l.first) (same n at))
-      (λ m in_f in_g. sym (next_of-child f n m tidy_f at in_f) ∙ ap (λ (l : Link). l.next) (same m (child-node f n tidy_f at m in_f)) ∙ next_of-child g n m tidy_g (over n at) in_g)
+  same-children n at = same-lists (children_at f n) (children_at g n) (children_at-apart f n tidy_f at) (children_at-apart g n tidy_g (over n at))
+      (ap (λ (l : Link). l.first) (same n at))
+      (λ m in_f in_g. sym (next_of-child f n m tidy_f at in_f) ∙ ap (λ (l : Link). l.next) (same m (child-node f n tidy_f at m in_f))
+      ∙ next_of-child g n m tidy_g (over n at) in_g)
 
   same-spot : (n : ℕ) → IsNode f n → spot_at f n ≡ spot_at g n
   same-spot n at =
@@ -93,6 +97,7 @@ module _ (f g : Trees) (tidy_f : IsTidy f) (tidy_g : IsTidy g) (long : size f �
 pub IsLinked-unique : (links : List Link) (f g : Trees) → IsLinked links f → IsLinked links g → f ≡ g
 IsLinked-unique links f g a b =
     let long : size f ≡ size g = a.counted ∙ sym b.counted in
-    let some : (n : ℕ) → IsNode f n → Some (link_in f n) ≡ Some (link_in g n) = λ n at. sym (a.linked n at) ∙ b.linked n (record { low = at.low; high = omega (arith, at.high, long) }) in
+    let some : (n : ℕ) → IsNode f n → Some (link_in f n) ≡ Some (link_in g n)
+    = λ n at. sym (a.linked n at) ∙ b.linked n (record { low = at.low; high = omega (arith, at.high, long) }) in
     let rows : rows_of f ≡ rows_of g = same-rows f g a.tidy b.tidy long (λ n at. cc (some n at)) (size f) (omega arith) ∙ ap (rows_to g) long in
     IsForest-unique (rows_of g) f g (subst (λ v. IsForest v f) rows (rows_of-forest f a.tidy)) (rows_of-forest g b.tidy)

@@ -40,7 +40,8 @@ fn attach(
 ) -> Result<NodeNo, NoMemory>
     requires { IsPlace (length nodes.old.items) host }
     ensures number { IfOk result (λ n. n ≡ length nodes.old.items + 1) }
-    ensures ok { OnOk result (links nodes.new.items ≡ edit host (λ l. record l { shadow = (length nodes.old.items + 1) ∷ [] }) (links nodes.old.items ++ link_from root ∷ [])) }
+    ensures ok { OnOk result (links nodes.new.items
+        ≡ edit host (λ l. record l { shadow = (length nodes.old.items + 1) ∷ [] }) (links nodes.old.items ++ link_from root ∷ [])) }
     ensures err { OnErr result (nodes.new.items ≡ nodes.old.items) }
     ensures blank { (is : Bool) → Allows (mark_at marks.new.items (length nodes.old.items + 1)) is }
     ensures others { (m : ℕ) → 0 < m → SaysLess marks.old.items marks.new.items m }

@@ -2,7 +2,8 @@
 ghost use Rattle.std.specs.Prelude.{◌≡◌, [], ℕ, Some, None, true, false, IfOk, option_copied};
 ghost use Rattle.node_trees.specs.Facts.{is_element, is_text};
 ghost use Rattle.node_trees.specs.Trees.{none, roots, tree_of};
-ghost use Rattle.node_trees.specs.Spots.{after, spot_at, facts_at, kind_at, document_at, parent_at, host_at, shadow_at, children_at, first_child_at, next_sibling_at};
+ghost use Rattle.node_trees.specs.Spots.{after, spot_at, facts_at, kind_at, document_at, parent_at};
+ghost use Rattle.node_trees.specs.Spots.{host_at, shadow_at, children_at, first_child_at, next_sibling_at};
 ghost use Rattle.node_trees.specs.Nodes.{size, HasOwnParts, IsNode, IsNodeOrNone, IsTidy};
 ghost use Rattle.node_trees.specs.Links.{below, AreRead};
 ghost use Rattle.tree_laws.specs.Beside.{before};

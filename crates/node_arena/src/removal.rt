@@ -27,7 +27,8 @@ impl Tree {
         // An insertion of this node that was allowed is still allowed; where it was to go before itself, its next
         // sibling takes its place.
         ensures may { (p : ℕ) (b : Option ℕ) → may_insert self.old p node b ≡ None → b ≢ Some node → may_insert self.new p node b ≡ None }
-        ensures may_in_place { (p : ℕ) → IsNode self.old p → may_insert self.old p node (Some node) ≡ None → may_insert self.new p node (next_sibling_at self.old node) ≡ None }
+        ensures may_in_place { (p : ℕ) → IsNode self.old p → may_insert self.old p node (Some node) ≡ None
+            → may_insert self.new p node (next_sibling_at self.old node) ≡ None }
     {
         let was = self.is_connected(node);
         let kept = self.node(node);

@@ -14,7 +14,8 @@ FactsParts = NodeKind × (List ℕ × (Option (List ℕ) × (List ℕ × (List (
 abbrev pub facts_code : Coded Facts
 facts_code =
     code_by FactsParts
-    (coded× kind.the_row.coded (coded× (coded_list coded_ℕ) (coded× (coded_option (coded_list coded_ℕ)) (coded× (coded_list coded_ℕ) (coded× (coded_list (coded× (coded_list coded_ℕ) (coded_list coded_ℕ))) coded_ℕ)))))
+    (coded× kind.the_row.coded (coded× (coded_list coded_ℕ) (coded× (coded_option (coded_list coded_ℕ))
+    (coded× (coded_list coded_ℕ) (coded× (coded_list (coded× (coded_list coded_ℕ) (coded_list coded_ℕ))) coded_ℕ)))))
     (λ x. (x.kind, (x.local, (x.is_value, (x.chars, (x.attributes, x.document))))))
     (λ p. record { kind = p.0; local = p.1.0; is_value = p.1.1.0; chars = p.1.1.1.0; attributes = p.1.1.1.1.0; document = p.1.1.1.1.1 })
     (λ _. refl)

@@ -1,6 +1,7 @@
 // The clauses of the law, each the test of an event against the book.
 ghost use Rattle.std.specs.Prelude.{◌≡◌, ◌==◌, ◌+◌};
-ghost use Rattle.order_law.specs.Clauses.{begins_upgrade, calls_once, closes_empty, counts_up, drops_in_upgrade, ends_innermost, fuel_is_last, goes_on, loser, nests, replies_at_rest, runs_in_order, spares_thrown, starts_once};
+ghost use Rattle.order_law.specs.Clauses.{begins_upgrade, calls_once, closes_empty, counts_up, drops_in_upgrade, ends_innermost, fuel_is_last};
+ghost use Rattle.order_law.specs.Clauses.{goes_on, loser, nests, replies_at_rest, runs_in_order, spares_thrown, starts_once};
 ghost use Rattle.order_law.specs.Law.{may_come};
 ghost use Rattle.order_law.specs.Lines.{is_reply};
 

@@ -2,7 +2,8 @@
 use Rattle.std.specs.Prelude.{ℕ, ◌+◌, ◌==◌, Bool, true, false, not, ◌&&◌, ◌||◌, List, [], ◌∷◌, Option, Some, None, is_some}
 use Rattle.rule_tokens.specs.declared.callback.CallName.{CallName}
 use Rattle.ce_events.specs.declared.event.Event.{Event}
-use Rattle.ce_events.specs.declared.event.Event.TheVariants.{QueueOpened, Enqueued, DrainBegun, Started, Finished, Dropped, QueueClosed, UpgradeBegun, UpgradeDone, UpgradeThrew}
+use Rattle.ce_events.specs.declared.event.Event.TheVariants.{QueueOpened, Enqueued, DrainBegun, Started, Finished}
+use Rattle.ce_events.specs.declared.event.Event.TheVariants.{Dropped, QueueClosed, UpgradeBegun, UpgradeDone, UpgradeThrew}
 use Rattle.order_law.specs.Book.{Book, Entry, Bracket, Filling, Draining, Reacting, Upgrading}
 use Rattle.order_law.specs.Lines.{call_of, is_reply}
 use Rattle.order_law.specs.Reads.{is_one_of, is_callback, is_for, entry_of, none_of_element, none_of_queue, is_first, current}

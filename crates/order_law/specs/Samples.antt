@@ -3,7 +3,8 @@ use Rattle.std.specs.Prelude.{ℕ, zero, suc, List, [], ◌∷◌, ◌++◌, Non
 use Rattle.rule_tokens.specs.declared.callback.CallName.TheVariants as names
 use Rattle.rule_tokens.specs.declared.callback.CallOrUpgrade.TheVariants.{Call, Upgrade}
 use Rattle.ce_events.specs.declared.event.Event.{Event}
-use Rattle.ce_events.specs.declared.event.Event.TheVariants.{Attribute, Connected, Disconnected, DrainBegun, Dropped, Enqueued, Fine, Finished, FuelLine, QueueClosed, QueueOpened, Started, UpgradeBegun, UpgradeDone, UpgradeThrew}
+use Rattle.ce_events.specs.declared.event.Event.TheVariants.{Attribute, Connected, Disconnected, DrainBegun, Dropped, Enqueued, Fine, Finished}
+use Rattle.ce_events.specs.declared.event.Event.TheVariants.{FuelLine, QueueClosed, QueueOpened, Started, UpgradeBegun, UpgradeDone, UpgradeThrew}
 
 -- an upgrade
 abbrev pub upgrade : List Event

@@ -1,7 +1,8 @@
 // What is written through ElementInternals.
 ghost use Rattle.std.specs.Prelude.{◌≡◌, ℕ, IfOk};
 ghost use Rattle.node_trees.specs.Nodes.{IsNode};
-ghost use Rattle.ce_algorithms.specs.Internals.{add_state, attach_internals, attach_of, clear_states, delete_state, disables_internals, is_ready_state, set_form_value, set_validity};
+ghost use Rattle.ce_algorithms.specs.Internals.{add_state, attach_internals, attach_of, clear_states, delete_state};
+ghost use Rattle.ce_algorithms.specs.Internals.{disables_internals, is_ready_state, set_form_value, set_validity};
 ghost use Rattle.ce_algorithms.specs.Page.{with_internals};
 ghost use Rattle.ce_algorithms.specs.Perform.{internals_steps};
 ghost use Rattle.ce_page.specs.Ends.{Does, Ends, work};

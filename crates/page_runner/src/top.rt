@@ -21,8 +21,8 @@ use std::alloc::Global;
 /// With `--make N` the source is not read: the made script of N elements is run, and in place of its transcript the summary
 /// is written. Then the status is Done or Fuel, or one of the two last ones below.
 ///
-/// Usage comes exactly where the words are refused, unless memory is refused before that is known. The others speak of the lines that count: all lines where the
-/// source gave its end within 16,777,216 bytes, else the whole lines within them. Done: the source gave its end within
+/// Usage comes exactly where the words are refused, unless memory is refused before that is known. The others speak of
+/// the lines that count: all lines where the source gave its end within 16,777,216 bytes, else the whole lines within them. Done: the source gave its end within
 /// them, the fuel sufficed, and no line was refused. BadLines: the same, but some line was refused. Fuel: a unit of
 /// fuel was wanted, and none was left. ReadFault: a read failed, and the source's count of faults rose. TooLong: the
 /// source gave more bytes. With each of these the transcript of the lines that count was written whole.
@@ -38,7 +38,8 @@ pub fn run<S: Source, K: Sink>(
     ensures usage { result ≡ Status.Usage → meaning (map (λ w. string_bytes w) words.now.items) ≡ Meaning.Refused }
     ensures refused { meaning (map (λ w. string_bytes w) words.now.items) ≡ Meaning.Refused → (result ≡ Status.Usage) ⊎ (result ≡ Status.NoMemory) }
     ensures untouched { result ≡ Status.Usage → (source.new ≡ source.old) × (sink.new ≡ sink.old) }
-    ensures table { RunMeets (meaning (map (λ w. string_bytes w) words.now.items)) result (S.left source.old) (S.left source.new) (K.held sink.old) (K.held sink.new)
+    ensures table { RunMeets (meaning (map (λ w. string_bytes w) words.now.items)) result (S.left source.old) (S.left source.new)
+        (K.held sink.old) (K.held sink.new)
         (S.ended source.new) (S.failed source.old) (S.failed source.new) (K.failed sink.old) (K.failed sink.new) }
     ensures later { (S.failed source.old ≤ S.failed source.new) × (K.failed sink.old ≤ K.failed sink.new) }
 

@@ -1,6 +1,7 @@
 // The reaction queues, the stack of element queues, and the backup element queue.
 ghost use Rattle.std.specs.Prelude.{◌≡◌, ◌+◌, ◌<◌, ◌^◌, ◌∷◌, [], length, not, MatchOption, IfOk, IfNone, OnOk, OnErr};
-ghost use Rattle.reaction_queue.specs.Queues.{no_queues, pushed_queue, popped_queue, current_number, current_elements, waiting_at, with_waiting, counted, appended, enqueued};
+ghost use Rattle.reaction_queue.specs.Queues.{no_queues, pushed_queue, popped_queue, current_number, current_elements};
+ghost use Rattle.reaction_queue.specs.Queues.{waiting_at, with_waiting, counted, appended, enqueued};
 ghost use Rattle.reaction_queue.specs.ElementQueues.{is_empty};
 ghost use Rattle.reaction_queue.specs.Changes.{SameNumbers, DropsFirst};
 

@@ -41,4 +41,5 @@ CanonicalIsSpelled = (ts : List Token) (read_as : List ReadAs) → Spelled ts re
 -- the canonical tokens of what is spelled can be written as a line and read again, where the quoted ones say texts
 abbrev pub CanonicalIsClean : Type 0
 CanonicalIsClean =
-    (ts : List Token) (read_as : List ReadAs) → Spelled ts read_as → AreTexts (canon_tokens read_as) → AreClean (canon_tokens read_as) × IsLine (canon_tokens read_as)
+    (ts : List Token) (read_as : List ReadAs) → Spelled ts read_as → AreTexts (canon_tokens read_as) → AreClean (canon_tokens read_as)
+    × IsLine (canon_tokens read_as)

@@ -3,7 +3,8 @@ use Rattle.std.specs.Prelude.{ℕ, List, [], ◌∷◌, Option, codes}
 use Rattle.std.specs.Str.{bytes_eq}
 use Rattle.rule_tokens.specs.Callbacks.{first_with}
 use Rattle.rule_lines.specs.declared.ask_word.AskWord.{AskWord}
-use Rattle.rule_lines.specs.declared.ask_word.AskWord.TheVariants.{Attr, Parent, Kids, State, Owner, Controls, Disabled, Candidate, Valid, Message, Value, Saved, Checked, States}
+use Rattle.rule_lines.specs.declared.ask_word.AskWord.TheVariants.{Attr, Parent, Kids, State, Owner, Controls, Disabled}
+use Rattle.rule_lines.specs.declared.ask_word.AskWord.TheVariants.{Candidate, Valid, Message, Value, Saved, Checked, States}
 
 -- the word of each
 abbrev pub ask_word : AskWord → List ℕ

@@ -1,7 +1,10 @@
 // A second operation that does the same. What takes memory more than once is a function of its own, which
 // owns no operation.
 ghost use Rattle.std.specs.Prelude.{◌≡◌, IfOk};
-ghost use Rattle.rule_lines.specs.declared.op.Op.TheVariants.{Adopt, Append, Ask, Before, Check, Choose, Clone, Create, Custom, Define, DelAttr, Detach, FormList, FormNull, FormValue, Internals, Let, MakeText, New, Remove, Request, Reset, SetAttr, Shadow, StateAdd, StateClear, StateDelete, Submit, Upgrade, Validity, Value};
+ghost use Rattle.rule_lines.specs.declared.op.Op.TheVariants.{Adopt, Append, Ask, Before, Check, Choose, Clone, Create};
+ghost use Rattle.rule_lines.specs.declared.op.Op.TheVariants.{Custom, Define, DelAttr, Detach, FormList, FormNull, FormValue, Internals};
+ghost use Rattle.rule_lines.specs.declared.op.Op.TheVariants.{Let, MakeText, New, Remove, Request, Reset, SetAttr, Shadow};
+ghost use Rattle.rule_lines.specs.declared.op.Op.TheVariants.{StateAdd, StateClear, StateDelete, Submit, Upgrade, Validity, Value};
 
 use crate::{AskWord, Op};
 use ce_base::{Entries, Flags, NoMemory, Text};

@@ -12,7 +12,8 @@ use Rattle.rule_reader.specs.Classes.{class_of, has_of, observe_of, associate_of
 use Rattle.rule_reader.specs.Controls.{reset_of, value_of, check_of, choose_of, submit_of, request_of, ask_of}
 use Rattle.rule_reader.specs.CustomElements.{define_of, upgrade_of}
 use Rattle.rule_reader.specs.Internals.{internals_of, form_value_of, form_list_of, form_null_of, validity_of, state_of, custom_of}
-use Rattle.rule_reader.specs.Tree.{create_of, new_of, make_text_of, shadow_of, append_of, before_of, remove_of, detach_of, clone_of, adopt_of, let_variable_of, doc_of}
+use Rattle.rule_reader.specs.Tree.{create_of, new_of, make_text_of, shadow_of, append_of, before_of}
+use Rattle.rule_reader.specs.Tree.{remove_of, detach_of, clone_of, adopt_of, let_variable_of, doc_of}
 use Rattle.rule_reader.specs.Users.{user_of}
 
 -- what the tokens behind the first word say

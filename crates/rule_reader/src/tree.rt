@@ -1,6 +1,7 @@
 // The forms that make nodes and move them.
 ghost use Rattle.rule_tokens.specs.Gives.{Gives};
-ghost use Rattle.rule_reader.specs.Tree.{adopt_of, append_of, before_of, clone_of, create_of, detach_of, doc_of, let_variable_of, make_text_of, new_of, remove_of, shadow_of};
+ghost use Rattle.rule_reader.specs.Tree.{adopt_of, append_of, before_of, clone_of, create_of, detach_of};
+ghost use Rattle.rule_reader.specs.Tree.{doc_of, let_variable_of, make_text_of, new_of, remove_of, shadow_of};
 
 use crate::Leaf;
 use crate::shapes::{node_behind, one_class, one_node, two_nodes, variable_and_node};

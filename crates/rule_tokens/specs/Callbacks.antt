@@ -2,7 +2,8 @@
 use Rattle.std.specs.Prelude.{ℕ, Bool, List, [], ◌∷◌, Option, Some, None, if◌then◌else◌, codes}
 use Rattle.std.specs.Str.{bytes_eq}
 use Rattle.rule_tokens.specs.declared.callback.CallName.{CallName}
-use Rattle.rule_tokens.specs.declared.callback.CallName.TheVariants.{Constructor, Connected, Disconnected, Adopted, Attribute, FormAssociated, FormDisabled, FormReset, FormStateRestore}
+use Rattle.rule_tokens.specs.declared.callback.CallName.TheVariants.{Constructor, Connected, Disconnected, Adopted, Attribute}
+use Rattle.rule_tokens.specs.declared.callback.CallName.TheVariants.{FormAssociated, FormDisabled, FormReset, FormStateRestore}
 
 -- the word of each
 abbrev pub call_word : CallName → List ℕ

@@ -21,7 +21,8 @@ cut [] (Protected w) = Err Quote
 cut [] Closed = Ok []
 cut (c ∷ cs) Gap = if c == 32 then cut cs Gap else (if c == 34 then cut cs (Quoted []) else cut cs (Bare (c ∷ [])))
 cut (c ∷ cs) (Bare w) = if c == 32 then with_front (raw false w ∷ []) (cut cs Gap) else (if c == 34 then Err Quote else cut cs (Bare (w ++ c ∷ [])))
-cut (c ∷ cs) (Quoted w) = if c == 34 then with_front (raw true w ∷ []) (cut cs Closed) else (if c == 92 then cut cs (Protected (w ++ c ∷ [])) else cut cs (Quoted (w ++ c ∷ [])))
+cut (c ∷ cs) (Quoted w) = if c == 34 then with_front (raw true w ∷ []) (cut cs Closed)
+    else (if c == 92 then cut cs (Protected (w ++ c ∷ [])) else cut cs (Quoted (w ++ c ∷ [])))
 cut (c ∷ cs) (Protected w) = cut cs (Quoted (w ++ c ∷ []))
 cut (c ∷ cs) Closed = if c == 32 then cut cs Gap else Err Quote
 

@@ -1,5 +1,6 @@
 -- The escapes of a quoted token.
-use Rattle.std.specs.Prelude.{◌≡◌, ℕ, ◌+◌, ◌*◌, ◌&&◌, List, [], ◌∷◌, ◌++◌, length, Option, Some, None, option_and_then, Result, Ok, Err, ◌==◌, nat_lt, if◌then◌else◌}
+use Rattle.std.specs.Prelude.{◌≡◌, ℕ, ◌+◌, ◌*◌, ◌&&◌, List, [], ◌∷◌, ◌++◌, length}
+use Rattle.std.specs.Prelude.{Option, Some, None, option_and_then, Result, Ok, Err, ◌==◌, nat_lt, if◌then◌else◌}
 use Rattle.std.specs.Char.{digit_value}
 use Rattle.std.proofs.Math.Utf8.{scalar}
 use Rattle.rule_tokens.specs.declared.refused.Bad.{Bad}
@@ -16,11 +17,13 @@ hex_from n (c ∷ cs) = if nat_lt (digit_value c) 16 then hex_from (n * 16 + dig
 
 -- the character that one to six hexadecimal digits name
 unfoldable pub named : List ℕ → Option ℕ
-named digits = if nat_lt 0 (length digits) && nat_lt (length digits) 7 then option_and_then (λ n. if scalar n then Some n else None) (hex_from 0 digits) else None
+named digits = if nat_lt 0 (length digits) && nat_lt (length digits) 7
+    then option_and_then (λ n. if scalar n then Some n else None) (hex_from 0 digits) else None
 
 -- what a backslash and one character stand for: \\ \" \n \r \t
 abbrev pub short_escape : ℕ → Option ℕ
-short_escape c = if c == 92 then Some 92 else (if c == 34 then Some 34 else (if c == 110 then Some 10 else (if c == 114 then Some 13 else (if c == 116 then Some 9 else None))))
+short_escape c = if c == 92 then Some 92
+    else (if c == 34 then Some 34 else (if c == 110 then Some 10 else (if c == 114 then Some 13 else (if c == 116 then Some 9 else None))))
 
 -- one character, and what is still read, or a wrong escape
 abbrev pub then_char : Option ℕ → Result (List ℕ) Bad → Result (List ℕ) Bad

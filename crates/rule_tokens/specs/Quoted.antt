@@ -10,7 +10,8 @@ hex n = if nat_lt n 16 then digit_char (n % 16) ∷ [] else digit_char (n / 16) 
 
 -- the character behind the backslash of a short escape: \\ \" \n \r \t
 abbrev pub short_letter : ℕ → Option ℕ
-short_letter c = if c == 92 then Some 92 else (if c == 34 then Some 34 else (if c == 10 then Some 110 else (if c == 13 then Some 114 else (if c == 9 then Some 116 else None))))
+short_letter c = if c == 92 then Some 92
+    else (if c == 34 then Some 34 else (if c == 10 then Some 110 else (if c == 13 then Some 114 else (if c == 9 then Some 116 else None))))
 
 -- a character that has no short escape: a control character by its number, another as it stands
 abbrev pub escape_by : Option ℕ → ℕ → List ℕ

@@ -51,7 +51,8 @@ IsLine (t ∷ ts) = (t.quoted ≡ false) × (is_comment t.text ≡ false)
 
 -- tokens that are written as a line are read again
 abbrev pub WrittenIsRead : Type 0
-WrittenIsRead = (limit : ℕ) (ts : List Token) → AreClean ts → IsLine ts → IsUtf8 (as_line ts) → length (as_line ts) ≤ limit → tokens_of limit (as_line ts) ≡ Ok (Some ts)
+WrittenIsRead = (limit : ℕ) (ts : List Token) → AreClean ts → IsLine ts → IsUtf8 (as_line ts) → length (as_line ts) ≤ limit
+    → tokens_of limit (as_line ts) ≡ Ok (Some ts)
 
 -- tokens that are written as a line are a text
 abbrev pub WrittenIsText : Type 0

@@ -2,7 +2,8 @@
 ghost use Rattle.std.specs.Prelude.{◌≡◌, IfOk, option_copied};
 ghost use Rattle.std.specs.List.{list_all};
 ghost use Rattle.rule_tokens.specs.Gives.{Gives, or_word};
-ghost use Rattle.rule_tokens.specs.OperandForms.{call_name, class_name, is_class, is_class_part, is_marked, is_variable, is_variable_part, is_word, node, text, value, variable, variable_in};
+ghost use Rattle.rule_tokens.specs.OperandForms.{call_name, class_name, is_class, is_class_part, is_marked, is_variable, is_variable_part};
+ghost use Rattle.rule_tokens.specs.OperandForms.{is_word, node, text, value, variable, variable_in};
 
 use crate::{Bad, CallName, LineRefused, Token};
 use ce_base::{NoMemory, Text};

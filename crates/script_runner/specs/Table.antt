@@ -84,7 +84,8 @@ Row Done set call = ReadsAll call × (spends_all set (lines_that_count call) ≡
 Row BadLines set call = ReadsAll call × (spends_all set (lines_that_count call) ≡ false) × (has_bad (lines_that_count call) ≡ true) × WritesAll set call
 Row Usage set call = ⊥
 Row Fuel set call = (call.ended ≡ true → IsAtEnd call.left) × (spends_all set (lines_that_count call) ≡ true) × WritesAll set call
-Row ReadFault set call = Rose call.source_before call.source_now × (length call.taken ≤ limit) × (spends_all set (lines_that_count call) ≡ false) × WritesAll set call
+Row ReadFault set call = Rose call.source_before call.source_now × (length call.taken ≤ limit)
+    × (spends_all set (lines_that_count call) ≡ false) × WritesAll set call
 Row WriteFault set call = Rose call.sink_before call.sink_now × WritesPart set call
 Row NoMemory set call = WritesPart set call
 Row TooLong set call = (limit < length call.taken) × (spends_all set (lines_that_count call) ≡ false) × WritesAll set call
@@ -109,12 +110,23 @@ IsAsSaid (Script set) status call = Row status set call × TakesOnlyNeeded set c
 IsAsSaid (Made n set) status call = MadeRow status set n call.sink_before call.sink_now call.written × (call.taken ≡ []) × Lawful (log_of (made_session set n))
 
 -- some bytes were taken and some were written, as far as both ends tell them, and the call is as its words and its status say
-pub record RunMeets (said : Meaning) (status : Status) (left left' held held' : Option (List ℕ)) (ended : Bool) (source_before source_now sink_before sink_now : ℕ) : Type 0 where
+pub record RunMeets (said : Meaning) (status : Status) (left left' held held' : Option (List ℕ)) (ended : Bool)
+    (source_before source_now sink_before sink_now : ℕ) : Type 0 where
   pub taken : List ℕ
   pub written : List ℕ
   pub took : Consumes left left' taken
   pub wrote : Appends held held' written
-  pub as_said : IsAsSaid said status (record { taken = taken; written = written; ended = ended; left = left'; source_before = source_before; source_now = source_now; sink_before = sink_before; sink_now = sink_now })
+  pub as_said : IsAsSaid said status
+      (record {
+        taken = taken;
+        written = written;
+        ended = ended;
+        left = left';
+        source_before = source_before;
+        source_now = source_now;
+        sink_before = sink_before;
+        sink_now = sink_now;
+      })
 
 -- the status of a run whose script was read to its end
 abbrev pub status_at : End → Bool → Status

@@ -98,12 +98,14 @@ impl Session {
         sink: &mut K,
     ) -> Result<(Session, End), Stop>
         requires room { self.line + 1 < 2 ^ 64 }
-        ensures ran { IfOk result (λ r. Did self.trace (K.held sink.old) (K.held sink.new) (run_line model (self.line + 1) (reading bytes.now) self.state) (outcome_of r.1 r.0.state)) }
+        ensures ran { IfOk result (λ r. Did self.trace (K.held sink.old) (K.held sink.new)
+            (run_line model (self.line + 1) (reading bytes.now) self.state) (outcome_of r.1 r.0.state)) }
         ensures number { IfOk result (λ r. r.0.line ≡ self.line + 1) }
         ensures bad { IfOk result (λ r. r.0.bad ≡ (self.bad || is_bad (reading bytes.now))) }
         ensures trace { IfOk result (λ r. r.0.trace ≡ self.trace) }
         ensures empty { IfOk result (λ r. r.0.state.log ≡ []) }
-        ensures part { OnErr result (AppendsPart (K.held sink.old) (K.held sink.new) (text self.trace (log_of (run_line model (self.line + 1) (reading bytes.now) self.state)))) }
+        ensures part { OnErr result (AppendsPart (K.held sink.old) (K.held sink.new)
+            (text self.trace (log_of (run_line model (self.line + 1) (reading bytes.now) self.state)))) }
         ensures later { K.failed sink.old ≤ K.failed sink.new }
         ensures cause { IsErrOf result Stop.WriteFault → Rose (K.failed sink.old) (K.failed sink.new) }
         ensures told { K.failed sink.old < K.failed sink.new → IsErrOf result Stop.WriteFault }
@@ -172,9 +174,11 @@ fn run_said<K: Sink>(
     trace: bool,
     sink: &mut K,
 ) -> Result<(Machine, End), Stop>
-    ensures ran { IfOk result (λ r. Did trace (K.held sink.old) (K.held sink.new) (run_line model line (Ok (line_of said)) machine.session) (outcome_of r.1 r.0.session)) }
+    ensures ran { IfOk result
+        (λ r. Did trace (K.held sink.old) (K.held sink.new) (run_line model line (Ok (line_of said)) machine.session) (outcome_of r.1 r.0.session)) }
     ensures empty { IfOk result (λ r. r.0.session.log ≡ []) }
-    ensures part { OnErr result (AppendsPart (K.held sink.old) (K.held sink.new) (text trace (log_of (run_line model line (Ok (line_of said)) machine.session)))) }
+    ensures part { OnErr result
+        (AppendsPart (K.held sink.old) (K.held sink.new) (text trace (log_of (run_line model line (Ok (line_of said)) machine.session)))) }
     ensures later { K.failed sink.old ≤ K.failed sink.new }
     ensures cause { IsErrOf result Stop.WriteFault → Rose (K.failed sink.old) (K.failed sink.new) }
     ensures told { K.failed sink.old < K.failed sink.new → IsErrOf result Stop.WriteFault }

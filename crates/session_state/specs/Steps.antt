@@ -3,7 +3,8 @@ use Rattle.std.specs.Prelude.{◌≡◌, ◌≤◌, ◌<◌, ◌+◌, ◌^◌, �
 use Rattle.rule_tokens.specs.declared.callback.CallName.{CallName}
 use Rattle.node_trees.specs.Nodes.{size}
 use Rattle.reaction_queue.specs.declared.reaction.Reaction.{Reaction}
-use Rattle.reaction_queue.specs.declared.reaction.Reaction.TheVariants.{Upgrade, Connected, Disconnected, Adopted, Attribute, FormAssociated, FormDisabled, FormReset, FormStateRestore}
+use Rattle.reaction_queue.specs.declared.reaction.Reaction.TheVariants.{Upgrade, Connected, Disconnected, Adopted, Attribute}
+use Rattle.reaction_queue.specs.declared.reaction.Reaction.TheVariants.{FormAssociated, FormDisabled, FormReset, FormStateRestore}
 use Rattle.reaction_queue.specs.Queues.{waiting_at, with_waiting}
 use Rattle.ce_registry.specs.declared.definition.Definition.{Definition}
 use Rattle.ce_events.specs.declared.event.Event.TheVariants.{FuelLine}
@@ -18,7 +19,8 @@ use Rattle.session_state.specs.Variables.{highest}
 
 -- the fuel bounds the numbers that are still given; there is a document; each variable holds the number of a node
 abbrev pub AreBounded : Page → ℕ → List (List ℕ × ℕ) → Type 0
-AreBounded p fuel variables = (p.queues.reactions + fuel < 2 ^ 64) × (p.queues.pushed + fuel < 2 ^ 64) × (0 < size p.forest) × (highest variables ≤ size p.forest)
+AreBounded p fuel variables = (p.queues.reactions + fuel < 2 ^ 64) × (p.queues.pushed + fuel < 2 ^ 64) × (0 < size p.forest)
+    × (highest variables ≤ size p.forest)
 
 -- a call of the page found no fuel
 abbrev pub is_out_of_fuel : {A : Type 0} → Result A PageStop → Bool

@@ -175,7 +175,8 @@ fn defined(page: &Page, class: ClassNo) -> Option<DefNo>
 // constructed is given once.
 fn base_entry(alloc: Global, page: &mut Page, fuel: &mut Fuel, d: DefNo) -> Result<NodeNo, PageStop>
     requires { d < length page.old.definitions }
-    ensures step { Ends (λ n. n) result (work page.new fuel.new) (base_entry d (definition_at page.old d) (stack_of d page.old.stacks) (work page.old fuel.old)) }
+    ensures step { Ends (λ n. n) result (work page.new fuel.new)
+        (base_entry d (definition_at page.old d) (stack_of d page.old.stacks) (work page.old fuel.old)) }
     ensures within { GrowsWithin page.old page.new fuel.old fuel.new }
     ensures made { IfOk result (IsNode page.new.forest) }
 {
@@ -218,7 +219,8 @@ fn make_custom(
     local: Text,
     is_value: Option<Text>,
 ) -> Result<NodeNo, PageStop>
-    ensures step { (x : IsDefinition) → x.local ≡ local → is_value_of x ≡ is_value → Ends (λ n. n) result (work page.new fuel.new) (make_custom d x (work page.old fuel.old)) }
+    ensures step { (x : IsDefinition) → x.local ≡ local → is_value_of x ≡ is_value
+        → Ends (λ n. n) result (work page.new fuel.new) (make_custom d x (work page.old fuel.old)) }
     ensures within { GrowsWithin page.old page.new fuel.old fuel.new }
     ensures made { IfOk result (IsNode page.new.forest) }
 {

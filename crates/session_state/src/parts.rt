@@ -1,7 +1,8 @@
 // The parts of classes.
 ghost use Rattle.std.specs.Prelude.{◌≡◌, ◌<◌, [], length, IfOk};
 ghost use Rattle.rule_lines.specs.Acts.{act_of, part_of};
-ghost use Rattle.ce_algorithms.specs.Parts.{add_class, associated, change_facts, change_open, open_class, part, with_body, with_has, with_observed, without_internals, without_shadow};
+ghost use Rattle.ce_algorithms.specs.Parts.{add_class, associated, change_facts, change_open, open_class, part};
+ghost use Rattle.ce_algorithms.specs.Parts.{with_body, with_has, with_observed, without_internals, without_shadow};
 ghost use Rattle.frame_stack.specs.Sessions.{ArePaired, session};
 ghost use Rattle.session_state.specs.Steps.{with_call_at};
 ghost use Rattle.session_state.specs.Taking.{Counts, Names, Rests, Takes};

@@ -189,7 +189,8 @@ impl State {
     }
 
     fn next_note(&mut self) -> Option<Note>
-        ensures first { MatchOption result ((self.old.page.notes ≡ []) × (self.new ≡ self.old)) (λ n. (self.old.page.notes ≡ n ∷ self.new.page.notes) × (self.new ≡ record self.old { page = record (self.old.page) { notes = self.new.page.notes } })) }
+        ensures first { MatchOption result ((self.old.page.notes ≡ []) × (self.new ≡ self.old)) (λ n. (self.old.page.notes ≡ n ∷ self.new.page.notes)
+            × (self.new ≡ record self.old { page = record (self.old.page) { notes = self.new.page.notes } })) }
         ensures queues { self.new.page.queues ≡ self.old.page.queues }
         ensures forest { self.new.page.forest ≡ self.old.page.forest }
         ensures fuel { self.new.fuel ≡ self.old.fuel }

@@ -266,7 +266,8 @@ fn tell_first_disabled(
 ) -> Result<(), PageStop>
     requires node { IsNode page.old.forest n }
     requires room { page.old.queues.reactions + fuel.old < 2 ^ 64 }
-    ensures step { Does result (work page.new fuel.new) (where_is (λ w. is_disabled w.page n) (enqueue_callback n (FormDisabled true)) (work page.old fuel.old)) }
+    ensures step { Does result (work page.new fuel.new)
+        (where_is (λ w. is_disabled w.page n) (enqueue_callback n (FormDisabled true)) (work page.old fuel.old)) }
     ensures within { GrowsWithin page.old page.new fuel.old fuel.new }
     ensures forest { page.new.forest ≡ page.old.forest }
 {

@@ -34,7 +34,8 @@ fn sent(
     requires stands { StandsFor owners.now tree.now }
     requires form { IsNode tree.now form }
     requires submitter { IsNodeOrNone tree.now submitter.now }
-    ensures { (f : Forms) → f.forest ≡ tree.now → Stands owners.now f → IfOk result (λ p. p ≡ sent_by f controls.now inner.now page_url.now boundary.now form submitter.now) }
+    ensures { (f : Forms) → f.forest ≡ tree.now → Stands owners.now f
+        → IfOk result (λ p. p ≡ sent_by f controls.now inner.now page_url.now boundary.now form submitter.now) }
 {
     let method = method_of(tree, form, *submitter);
     if is_dialog(method) {
@@ -62,7 +63,8 @@ fn planned(
     requires stands { StandsFor owners.now tree.now }
     requires form { IsNode tree.now form }
     requires submitter { IsNodeOrNone tree.now submitter.now }
-    ensures { (f : Forms) → f.forest ≡ tree.now → Stands owners.now f → IfOk result (λ p. p ≡ plan f controls.now inner.now page_url.now boundary.now form submitter.now by_call) }
+    ensures { (f : Forms) → f.forest ≡ tree.now → Stands owners.now f
+        → IfOk result (λ p. p ≡ plan f controls.now inner.now page_url.now boundary.now form submitter.now by_call) }
 {
     if !is_in_page(tree, form) {
         return Ok(Plan::Blocked(Why::Disconnected));
@@ -97,7 +99,8 @@ pub fn plan(
     requires stands { StandsFor owners.now tree.now }
     requires form { IsNode tree.now form }
     requires submitter { IsNodeOrNone tree.now submitter }
-    ensures { (f : Forms) → f.forest ≡ tree.now → Stands owners.now f → IfOk result (λ p. p ≡ plan f controls.now inner.now page_url.now boundary.now form submitter by_call) }
+    ensures { (f : Forms) → f.forest ≡ tree.now → Stands owners.now f
+        → IfOk result (λ p. p ≡ plan f controls.now inner.now page_url.now boundary.now form submitter by_call) }
 {
     planned(
         alloc, tree, owners, controls, inner, page_url, boundary, form, &submitter, by_call,

@@ -55,7 +55,8 @@ pub(crate) fn send_to(
     url: Option<Url>,
 ) -> Result<Plan, NoMemory>
     requires { IsSent method }
-    ensures { (parsed : Parsed Parts) → Finds url parsed → IfOk result (λ p. p ≡ send_by (method_meant method) (encoding_meant encoding) boundary.now list.now parsed) }
+    ensures { (parsed : Parsed Parts) → Finds url parsed
+        → IfOk result (λ p. p ≡ send_by (method_meant method) (encoding_meant encoding) boundary.now list.now parsed) }
 {
     let Some(mut url) = url else {
         return Ok(Plan::Blocked(Why::Url));

@@ -2,7 +2,8 @@
 use Rattle.rule_lines.specs.Acts.{Associate, Both, Class, Command, Declares, DisableInternals, Has, On, Said, Super, Try}
 use Rattle.rule_lines.specs.declared.ask_word.AskWord.TheVariants.{Saved, State as StateWord, States, Value as ValueWord}
 use Rattle.rule_lines.specs.declared.line.Cmd.TheVariants.{Both as Performs, UserRestore}
-use Rattle.rule_lines.specs.declared.op.Op.TheVariants.{Append, Ask, Clone, Create, Define, FormList, FormNull, FormValue, Internals, StateAdd, StateClear, StateDelete}
+use Rattle.rule_lines.specs.declared.op.Op.TheVariants.{Append, Ask, Clone, Create, Define, FormList}
+use Rattle.rule_lines.specs.declared.op.Op.TheVariants.{FormNull, FormValue, Internals, StateAdd, StateClear, StateDelete}
 use Rattle.rule_tokens.specs.declared.callback.CallName.TheVariants.{Constructor as ConstructorName, FormStateRestore as FormStateRestoreName}
 use Rattle.rule_tokens.specs.declared.operand.Operand.TheVariants.{Doc, This, Variable}
 use Rattle.rule_tokens.specs.declared.operand.Val.TheVariants.{Fixed}

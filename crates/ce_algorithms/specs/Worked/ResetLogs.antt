@@ -1,10 +1,13 @@
 -- What the scripts for resets log. Where the trace is not said, it is left out.
 use Rattle.ce_events.specs.declared.event.Answer.TheVariants.{One, Truth}
 use Rattle.ce_events.specs.declared.event.Event.{Event}
-use Rattle.ce_events.specs.declared.event.Event.TheVariants.{Answered, Asked, Connected, Construct, DrainBegun, Enqueued, Fine, Finished, FormAssociated, FormReset, FormStateRestore, Gave, Ignored, Logged, QueueClosed, QueueOpened, Reported, Started, Threw, UpgradeBegun, UpgradeDone}
+use Rattle.ce_events.specs.declared.event.Event.TheVariants.{Answered, Asked, Connected, Construct, DrainBegun, Enqueued, Fine}
+use Rattle.ce_events.specs.declared.event.Event.TheVariants.{Finished, FormAssociated, FormReset, FormStateRestore, Gave, Ignored, Logged}
+use Rattle.ce_events.specs.declared.event.Event.TheVariants.{QueueClosed, QueueOpened, Reported, Started, Threw, UpgradeBegun, UpgradeDone}
 use Rattle.ce_base.specs.declared.fault.Fault.TheVariants.{TypeError, UserThrow}
 use Rattle.reaction_queue.specs.declared.reaction.Mode.TheVariants.{Autocomplete, Restore}
-use Rattle.rule_tokens.specs.declared.callback.CallName.TheVariants.{Connected as ConnectedName, FormAssociated as FormAssociatedName, FormReset as FormResetName}
+use Rattle.rule_tokens.specs.declared.callback.CallName.TheVariants.{Connected as ConnectedName, FormAssociated as FormAssociatedName}
+use Rattle.rule_tokens.specs.declared.callback.CallName.TheVariants.{FormReset as FormResetName}
 use Rattle.rule_tokens.specs.declared.callback.CallOrUpgrade.TheVariants.{Call, Upgrade as IsUpgrade}
 use Rattle.std.specs.Prelude.{List, None, Some, [], codes, false, true, ◌∷◌}
 

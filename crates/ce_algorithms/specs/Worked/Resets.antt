@@ -3,7 +3,8 @@ use Rattle.rule_lines.specs.Acts.{Associate, Both, Bump, Class, Command, Declare
 use Rattle.rule_lines.specs.declared.ask_word.AskWord.TheVariants.{Checked, Value as ValueWord}
 use Rattle.rule_lines.specs.declared.line.Cmd.TheVariants.{Both as Performs, UserAutofill, UserCheck, UserReset, UserRestore}
 use Rattle.rule_lines.specs.declared.op.Op.TheVariants.{Append, Ask, Choose, Clone, Create, Define, DelAttr, Detach, Reset, SetAttr, Value}
-use Rattle.rule_tokens.specs.declared.callback.CallName.TheVariants.{Connected as ConnectedName, FormAssociated as FormAssociatedName, FormReset as FormResetName, FormStateRestore as FormStateRestoreName}
+use Rattle.rule_tokens.specs.declared.callback.CallName.TheVariants.{Connected as ConnectedName, FormAssociated as FormAssociatedName}
+use Rattle.rule_tokens.specs.declared.callback.CallName.TheVariants.{FormReset as FormResetName, FormStateRestore as FormStateRestoreName}
 use Rattle.rule_tokens.specs.declared.operand.Operand.TheVariants.{Doc, This, Variable}
 use Rattle.rule_tokens.specs.declared.operand.Val.TheVariants.{Count, First, Fixed, Second}
 use Rattle.rule_tokens.specs.declared.refused.Bad.{Bad}

@@ -63,7 +63,8 @@ pub(crate) fn edit(
     by_user: bool,
 ) -> Result<Deed, Refused>
     requires { IfSome this.now (IsNode state.now.page.forest) }
-    ensures deed { Resolves result (and_then (node_that kinds.TextControl (view this.now state.now) operand.now) (λ n. Ok (OnControls (control_deeds.Edit n text by_user)))) }
+    ensures deed { Resolves result
+        (and_then (node_that kinds.TextControl (view this.now state.now) operand.now) (λ n. Ok (OnControls (control_deeds.Edit n text by_user)))) }
     ensures ready { IfOk result (IsReady state.now.page.forest) }
 {
     let node = node_that(Fit::TextControl, state, this, operand)?;
@@ -83,7 +84,8 @@ pub(crate) fn tick(
     by_user: bool,
 ) -> Result<Deed, Refused>
     requires { IfSome this.now (IsNode state.now.page.forest) }
-    ensures deed { Resolves result (and_then (node_that kinds.Tickable (view this.now state.now) operand.now) (λ n. Ok (OnControls (control_deeds.Tick n on by_user)))) }
+    ensures deed { Resolves result
+        (and_then (node_that kinds.Tickable (view this.now state.now) operand.now) (λ n. Ok (OnControls (control_deeds.Tick n on by_user)))) }
     ensures ready { IfOk result (IsReady state.now.page.forest) }
 {
     let node = node_that(Fit::Tickable, state, this, operand)?;
@@ -99,7 +101,8 @@ pub(crate) fn choose(
     by_user: bool,
 ) -> Result<Deed, Refused>
     requires { IfSome this.now (IsNode state.now.page.forest) }
-    ensures deed { Resolves result (and_then (node_that kinds.AnOption (view this.now state.now) operand.now) (λ n. Ok (OnControls (control_deeds.Choose n on by_user)))) }
+    ensures deed { Resolves result
+        (and_then (node_that kinds.AnOption (view this.now state.now) operand.now) (λ n. Ok (OnControls (control_deeds.Choose n on by_user)))) }
     ensures ready { IfOk result (IsReady state.now.page.forest) }
 {
     let node = node_that(Fit::AnOption, state, this, operand)?;
@@ -115,7 +118,8 @@ fn custom(
     message: Val,
 ) -> Result<Deed, Refused>
     requires { IfSome this.now (IsNode state.now.page.forest) }
-    ensures deed { Resolves result (and_then (node_that kinds.ListedNative (view this.now state.now) operand.now) (λ n. Ok (OnControls (control_deeds.SetMessage n (fixed_text message))))) }
+    ensures deed { Resolves result (and_then (node_that kinds.ListedNative (view this.now state.now) operand.now)
+        (λ n. Ok (OnControls (control_deeds.SetMessage n (fixed_text message))))) }
     ensures ready { IfOk result (IsReady state.now.page.forest) }
 {
     let message = fixed_text(alloc, message)?;

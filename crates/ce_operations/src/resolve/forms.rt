@@ -67,7 +67,8 @@ pub(crate) fn restore(
     text: Text,
     mode: Mode,
 ) -> Result<Deed, Refused>
-    ensures deed { Resolves result (and_then (node_that kinds.CustomFormAssociated (view None state.now) operand.now) (λ n. Ok (OnForms (form_deeds.Restore n text mode)))) }
+    ensures deed { Resolves result
+        (and_then (node_that kinds.CustomFormAssociated (view None state.now) operand.now) (λ n. Ok (OnForms (form_deeds.Restore n text mode)))) }
     ensures ready { IfOk result (IsReady state.now.page.forest) }
 {
     let node = node_that(Fit::CustomFormAssociated, state, &None, operand)?;

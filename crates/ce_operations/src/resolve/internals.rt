@@ -92,7 +92,8 @@ fn text(
     saved: Option<Val>,
 ) -> Result<Deed, Refused>
     requires { IfSome this.now (IsNode state.now.page.forest) }
-    ensures deed { Resolves result (and_then (element (view this.now state.now) operand.now) (λ n. Ok (OnInternals (internals_deeds.SetValue n (text_value value) (state_or (text_value value) (option_map text_value saved)))))) }
+    ensures deed { Resolves result (and_then (element (view this.now state.now) operand.now)
+        (λ n. Ok (OnInternals (internals_deeds.SetValue n (text_value value) (state_or (text_value value) (option_map text_value saved)))))) }
     ensures ready { IfOk result (IsReady state.now.page.forest) }
 {
     let value = fixed_text(alloc, value)?;
@@ -119,7 +120,8 @@ fn list(
     entries: Entries,
 ) -> Result<Deed, Refused>
     requires { IfSome this.now (IsNode state.now.page.forest) }
-    ensures deed { Resolves result (and_then (element (view this.now state.now) operand.now) (λ n. Ok (OnInternals (internals_deeds.SetValue n (values.Many entries) (values.Many entries))))) }
+    ensures deed { Resolves result (and_then (element (view this.now state.now) operand.now)
+        (λ n. Ok (OnInternals (internals_deeds.SetValue n (values.Many entries) (values.Many entries))))) }
     ensures ready { IfOk result (IsReady state.now.page.forest) }
 {
     let saved = entries.copy(alloc)?;
@@ -142,7 +144,8 @@ fn validity(
     message: Val,
 ) -> Result<Deed, Refused>
     requires { IfSome this.now (IsNode state.now.page.forest) }
-    ensures deed { Resolves result (and_then (element (view this.now state.now) operand.now) (λ n. Ok (OnInternals (internals_deeds.SetValidity n flags (fixed_text message))))) }
+    ensures deed { Resolves result (and_then (element (view this.now state.now) operand.now)
+        (λ n. Ok (OnInternals (internals_deeds.SetValidity n flags (fixed_text message))))) }
     ensures ready { IfOk result (IsReady state.now.page.forest) }
 {
     let message = fixed_text(alloc, message)?;

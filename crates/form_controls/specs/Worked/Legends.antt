@@ -3,7 +3,8 @@ use Rattle.std.specs.Prelude.{List, [], ◌∷◌, codes}
 use Rattle.node_trees.specs.Trees.{Trees}
 use Rattle.form_controls.specs.Worked.Pages.{element, host, page}
 
--- a form-associated custom element in the second legend of a fieldset, which is disabled; then in the first; that one is taken out, the element goes into the other, and the first is put back before it
+-- a form-associated custom element in the second legend of a fieldset, which is disabled; then in the first; that one is taken
+-- out, the element goes into the other, and the first is put back before it
 abbrev pub legends : List Trees
 legends =
     page

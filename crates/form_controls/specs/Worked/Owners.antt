@@ -3,7 +3,8 @@ use Rattle.std.specs.Prelude.{List, [], ◌∷◌, codes}
 use Rattle.node_trees.specs.Trees.{Trees}
 use Rattle.form_controls.specs.Worked.Pages.{element, html}
 
--- a form-associated custom element goes into a form, and then names another one, which comes, loses its id to an element before it, gets it back and loses the id itself; the `form` attribute goes, and the first form is taken out
+-- a form-associated custom element goes into a form, and then names another one, which comes, loses its id to an element before
+-- it, gets it back and loses the id itself; the `form` attribute goes, and the first form is taken out
 abbrev pub ids : List Trees
 ids =
     html (element 3 (codes "form") [] [] ∷ []) (element 4 (codes "x-a") [] [] ∷ [])
@@ -53,7 +54,8 @@ ids =
 abbrev pub named : Trees
 named = html (element 3 (codes "form") [] (element 4 (codes "x-a") ((codes "form", codes "g") ∷ []) [] ∷ []) ∷ []) []
 
--- one names a form in another part of the page, which is taken out; they meet in it and are put back; the id changes, the `form` attribute goes, and a disabled fieldset comes between
+-- one names a form in another part of the page, which is taken out; they meet in it and are put back; the id changes, the `form`
+-- attribute goes, and a disabled fieldset comes between
 abbrev pub moves : List Trees
 moves =
     html

@@ -29,4 +29,5 @@ readonly =
     page
     []
     (element 2 (codes "form") []
-    (element 3 (codes "input") ((codes "required", []) ∷ (codes "minlength", codes "3") ∷ (codes "maxlength", codes "1") ∷ (codes "readonly", []) ∷ []) [] ∷ []) ∷ [])
+    (element 3 (codes "input")
+    ((codes "required", []) ∷ (codes "minlength", codes "3") ∷ (codes "maxlength", codes "1") ∷ (codes "readonly", []) ∷ []) [] ∷ []) ∷ [])

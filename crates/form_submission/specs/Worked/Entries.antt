@@ -17,7 +17,8 @@ abbrev pub typed : List ℕ → List ℕ → List (List ℕ × List ℕ)
 typed kind name = (codes "type", kind) ∷ (codes "name", name) ∷ []
 
 -- an empty text, one without a name, one that is disabled, one in a datalist; a checkbox that is checked and one that is not; a button; a
--- select of which two options have `selected`, one of them disabled; a hidden input of the encoding's name; three form-associated custom elements; a button that resets, a fieldset, a text of the encoding's name
+-- select of which two options have `selected`, one of them disabled; a hidden input of the encoding's name; three form-associated
+-- custom elements; a button that resets, a fieldset, a text of the encoding's name
 abbrev pub mixed : Trees
 mixed =
     html

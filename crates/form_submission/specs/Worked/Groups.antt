@@ -9,7 +9,8 @@ pair =
     html
     (element 3 (codes "form") []
     (element 4 (codes "input") ((codes "type", codes "radio") ∷ (codes "name", codes "r") ∷ (codes "value", codes "1") ∷ (codes "checked", []) ∷ []) []
-    ∷ element 5 (codes "input") ((codes "type", codes "radio") ∷ (codes "name", codes "r") ∷ (codes "value", codes "2") ∷ (codes "checked", []) ∷ []) [] ∷ []) ∷ [])
+    ∷ element 5 (codes "input")
+    ((codes "type", codes "radio") ∷ (codes "name", codes "r") ∷ (codes "value", codes "2") ∷ (codes "checked", []) ∷ []) [] ∷ []) ∷ [])
     []
 
 -- and a hidden input that tells the encoding
