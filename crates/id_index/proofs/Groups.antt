@@ -1,6 +1,6 @@
 -- What an index has after a write at one id.
 use Rattle.std.proofs.Common.{◌≡◌, ℕ, Bool, true, false, cond, not, ◌==◌, List, [], Some, None, String, refl, ap, sym, ◌∙◌, subst, arith, length, ◌∷◌}
-use Rattle.std.specs.Prelude.{◌||◌, ◌&&◌, bytes_eq, string_bytes, IsSome}
+use Rattle.std.specs.Prelude.{◌||◌, ◌&&◌, bytes_eq, string_bytes, is_some, IsSome}
 use Rattle.std.specs.Option.{option_map_or}
 use Rattle.std.specs.Ordering.{nat_cmp, is_eq}
 use Rattle.std.specs.Cmp.Lexicographic.{slice_cmp}
@@ -47,6 +47,14 @@ module _ {Y : Type 0} (old new : BTreeMap (String Y) (BTreeSet ℕ)) (id : List 
     | false ↦ λ e. elsewhere q m e ∙ sym (none (holds old q m))
   ] refl
 
+  -- the id is known, and of the others those that were
+  known_after : (q : List ℕ) → is_some (get_by_text new q) ≡ (is_some (get_by_text old q) || bytes_eq id q)
+  known_after q = ap is_some (puts q) ∙ by_test (bytes_eq id q)
+    where
+      by_test : (b : Bool) → is_some (cond b (Some t) (get_by_text old q)) ≡ (is_some (get_by_text old q) || b)
+      by_test true = grind arith
+      by_test false = grind arith
+
 -- through a group that was there
 module _ {Y : Type 0} (old new : BTreeMap (String Y) (BTreeSet ℕ)) (id : List ℕ) (s t : BTreeSet ℕ) (n : ℕ) (was : Some s ≡ get_by_text old id) (writes : WritesThrough string_cmp (λ k. slice_cmp nat_cmp id (string_bytes k)) old t new) where
   puts : Puts old new id t
@@ -60,6 +68,15 @@ module _ {Y : Type 0} (old new : BTreeMap (String Y) (BTreeSet ℕ)) (id : List 
 
   pub taken : sets.UpdatesBy nat_cmp (nat_cmp n) s t false → (q : List ℕ) (m : ℕ) → holds new q m ≡ (holds old q m && not (bytes_eq id q && n == m))
   taken u = changed old new id t puts (λ a b. a && not b) n (λ b. grind arith) (λ m. set_taken s t n m u ∙ ap (λ b. b && not (n == m)) (held m))
+
+  pub put_known : (q : List ℕ) → is_some (get_by_text new q) ≡ (is_some (get_by_text old q) || bytes_eq id q)
+  put_known = known_after old new id t puts
+
+  pub still_known : (q : List ℕ) → is_some (get_by_text new q) ≡ is_some (get_by_text old q)
+  still_known q = ap is_some (puts q) ∙ elim (bytes_eq id q) as (λ b. bytes_eq id q ≡ b → is_some (cond b (Some t) (get_by_text old q)) ≡ is_some (get_by_text old q)) [
+    | true ↦ λ e. ap is_some (was ∙ ap (get_by_text old) (same_text id q e))
+    | false ↦ λ e. refl
+  ] refl
 
   pub now_there : get_by_text new id ≡ Some t
   now_there = (writes.3 (subst IsSome was refl)).1
@@ -86,6 +103,9 @@ module _ {Y : Type 0} (old new : BTreeMap (String Y) (BTreeSet ℕ)) (id : List 
 
 -- in a new group, where the look-up left the map as it was
 module _ {Y : Type 0} (old mid new : BTreeMap (String Y) (BTreeSet ℕ)) (id : List ℕ) (s t : BTreeSet ℕ) (n : ℕ) (same : mid ≡ old) (gone : None ≡ get_by_text old id) (empty : sets.IsEmpty s) where
+  pub first_known : Puts mid new id t → (q : List ℕ) → is_some (get_by_text new q) ≡ (is_some (get_by_text old q) || bytes_eq id q)
+  first_known puts = known_after old new id t (λ q. puts q ∙ ap (λ g. cond (bytes_eq id q) (Some t) (get_by_text g q)) same)
+
   pub put_first : Puts mid new id t → sets.Updates nat_cmp s t n true → (q : List ℕ) (m : ℕ) → holds new q m ≡ (holds old q m || (bytes_eq id q && n == m))
   put_first puts u = changed old new id t (λ q. puts q ∙ ap (λ g. cond (bytes_eq id q) (Some t) (get_by_text g q)) same) (λ a b. a || b) n (λ b. grind arith)
       (λ m. set_put s t n m u ∙ ap (λ b. b || n == m) (ap (λ ks. contains nat_cmp (record { keys = ks }) m) empty ∙ ap (λ o. option_map_or (λ g. contains nat_cmp g m) o false) gone))

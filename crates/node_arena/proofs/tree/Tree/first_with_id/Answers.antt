@@ -6,12 +6,12 @@ use Rattle.node_arena.proofs.tree.Tree.first_with_id.Goals as goal
 
 pub returns-in_default-clause-found : goal.returns-in_default-clause-found
 returns-in_default-clause-found c =
-    look-end _ _ _ _ [] refl (look-start _ _ _ [] [] refl (λ m has. c.in_default.ensures m ∙ covers_all _ _ _ _ (seen_fact _ _ _ c.self.view_is) c.self.invariant.0 m has))
+    look-end _ _ _ _ [] refl (look-start _ _ _ [] [] refl (λ m has. c.in_default.ensures.held m ∙ covers_all _ _ _ _ (seen_fact _ _ _ c.self.view_is) c.self.invariant.0 m has))
 
 pub loop-holder-init : goal.loop-holder-init
 loop-holder-init c =
     look-start _ _ _ _ _ c.into_iter-holder-iterator.ensures.into_iter_gives.0
-    (λ m has. sym (any-among m _) ∙ c.in-Some.ensures m ∙ covers_all _ _ _ _ (seen_fact _ _ _ c.self.view_is) c.self.invariant.0 m has)
+    (λ m has. sym (any-among m _) ∙ c.in-Some.ensures.held m ∙ covers_all _ _ _ _ (seen_fact _ _ _ c.self.view_is) c.self.invariant.0 m has)
 
 pub loop-holder-preserved-then-is_holder : goal.loop-holder-preserved-then-is_holder
 loop-holder-preserved-then-is_holder c =
