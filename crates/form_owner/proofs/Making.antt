@@ -23,7 +23,7 @@ use Rattle.tree_laws.proofs.Alike.{attribute-alike, root-alike, named-alike, con
 use Rattle.tree_laws.proofs.NewNode.{alike_new, alike_hung}
 use Rattle.tree_laws.proofs.OtherFacts.{alike_facts}
 use Rattle.tree_laws.proofs.Changed.{size-with}
-use Rattle.id_index.specs.Held.{is_held}
+use Rattle.id_index.specs.Held.{is_known}
 use Rattle.form_controls.specs.Kinds.{native_at, is_a}
 use Rattle.form_controls.specs.Owners.{Forms, is_associated, is_listed_native, owner_by, form_owner, where_form, named_form, nearest_form, ancestors_below, ancestors, is_owned_by, controls_of}
 use Rattle.form_controls.specs.Disabled.{has_disabled, first_legend, is_inside, disables, is_in_disabled_fieldset, is_in_disabled_group, is_option_disabled, is_disabled}
@@ -335,7 +335,7 @@ stands_alike table f made n tidy alike above_is more s = record {
   controls = λ i. s.controls i ∙ sym (controls-after f made tidy s.associated.nodes n alike above_is (i + 1));
   seen = λ i. s.seen i ∙ sym (ap seen_in (alike.attributes (i + 1)));
   named = λ id m. s.named id m ∙ sym (ap (λ items. is_text id (value_in items (codes "form"))) (alike.attributes m));
-  looks = λ i. right-still f.forest made table.rows table.rows (is_held table.named) (i + 1) node-made (about-made (i + 1)) (has-made (i + 1)) (attribute-alike n f.forest made alike (i + 1) (codes "id")) (look_at table.looks i) (s.looks i);
+  looks = λ i. right-still f.forest made table.rows table.rows (is_known table.named) (i + 1) node-made (about-made (i + 1)) (has-made (i + 1)) (attribute-alike n f.forest made alike (i + 1) (codes "id")) (look_at table.looks i) (s.looks i);
 }
   where
     node-made : {m : ℕ} → IsNode f.forest m → IsNode made m

@@ -1,12 +1,14 @@
 -- Nodes whose ID comes to be looked at.
 use Rattle.std.proofs.Common.{Bor, ◌≡◌, ◌≢◌, ℕ, ◌+◌, ◌-◌, ◌<◌, ◌==◌, Bool, true, false, cond, List, [], ◌∷◌, Option, Some, None, refl, sym, ap, ◌∙◌, subst, arith}
-use Rattle.std.specs.Prelude.{not, IsTrue, ◌↔◌, bytes_eq, codes, length}
-use Rattle.std.specs.BTreeSet.{BTreeSet, btree_set_len, contains}
+use Rattle.std.specs.Prelude.{◌||◌, not, bytes_eq, codes}
+use Rattle.std.specs.BTreeSet.{BTreeSet, contains}
 use Rattle.std.specs.Option.{option_copied, option_eq}
 use Rattle.std.specs.Ordering.{nat_cmp}
 use Rattle.std.proofs.lemmas.Bool.{false_from_ne_true}
 use Rattle.std.proofs.lemmas.Bool.Decides.{nat_tests}
 use Rattle.std.proofs.lemmas.Slice.Eq.{bytes_eq-Decides}
+use Rattle.id_index.specs.declared.index.IdIndex.{IdIndex}
+use Rattle.id_index.specs.Held.{is_held, is_known}
 use Rattle.node_trees.specs.Trees.{Trees}
 use Rattle.node_trees.specs.Paths.{is_among}
 use Rattle.node_trees.specs.Spots.{attribute_at}
@@ -15,10 +17,10 @@ use Rattle.form_owner.specs.declared.looks.Look.{Look}
 use Rattle.form_owner.specs.declared.looks.Look.TheVariants.{Nothing}
 use Rattle.owner_rows.specs.OwnerRow.{OwnerRow, row_of}
 use Rattle.form_owner.specs.Attributes.{is_naming, is_text}
-use Rattle.form_owner.specs.Looks.{AreKept, IsNamed, IsUnnamed, IsUnnamedId, SaysNoMore, held_with, look_at}
+use Rattle.form_owner.specs.Looks.{AreKept, IsUnnamed, IsUnnamedId, SaysNoMore, known_with, look_at}
 use Rattle.form_owner.specs.Writing.{AreNoted}
 use Rattle.form_owner.proofs.Considering.{is_passed}
-use Rattle.form_owner.proofs.Looking.{the-same}
+use Rattle.form_owner.proofs.Looking.{the-same, unknown-unheld}
 
 -- nodes one after the other
 
@@ -31,36 +33,27 @@ minding-end keys left old new none all n among = let out : is_among n left ≡ f
 
 -- texts
 
--- where an index has anybody for a text, there is one
-pub named-some : (named : List ℕ → ℕ → Bool) (id : List ℕ) (s : BTreeSet ℕ) (r : Bool) → (IsTrue r ↔ (btree_set_len s ≡ 0)) → not r ≡ true → ((m : ℕ) → contains nat_cmp s m ≡ named id m) → IsNamed named id
-named-some named id s r empty some held = by_keys s.keys refl
-  where
-    by_keys : (ks : List ℕ) → s.keys ≡ ks → IsNamed named id
-    by_keys [] is = absurd (let it : r ≡ true = empty.1 (ap length is) in cc)
-    by_keys (k ∷ ks) is = record { by = k; holds = sym (held k) ∙ among-any k s.keys ∙ ap (is_among k) is ∙ grind (arith, nat_tests) }
-
-module _ (forest : Trees) (named : List ℕ → ℕ → Bool) (i : ℕ) (id : List ℕ) (un : IsUnnamedId forest named (i + 1) id) (text : List ℕ) where
-  -- one that is somebody's `form` attribute is another
-  pub text-named : IsNamed named text → bytes_eq text id ≡ false
-  text-named is = false_from_ne_true (bytes_eq text id) (λ e.
+module _ (forest : Trees) (known : List ℕ → Bool) (i : ℕ) (id : List ℕ) (un : IsUnnamedId forest known (i + 1) id) (text : List ℕ) where
+  -- one that is known is another
+  pub text-known : known text ≡ true → bytes_eq text id ≡ false
+  text-known is = false_from_ne_true (bytes_eq text id) (λ e.
       let same : text ≡ id = (bytes_eq-Decides text id).0 e in
-      absurd (let yes = is.holds in let no : named text is.by ≡ false = subst (λ t. named t is.by ≡ false) (sym same) (un.unnamed is.by) in cc))
+      absurd (let no : known text ≡ false = subst (λ t. known t ≡ false) (sym same) un.unknown in cc))
 
-module _ (n : ℕ) (forest : Trees) (named : List ℕ → ℕ → Bool) (old new : List Look) (less : (i : ℕ) → SaysNoMore (look_at old i) (look_at new i)) where
-  pub kept-with : ((i : ℕ) → look_at new i ≡ Nothing → IsUnnamed forest named (i + 1) → (id : List ℕ) → attribute_at forest (i + 1) (codes "id") ≡ Some id → is_naming forest id n ≡ false) → AreKept forest named (held_with n forest named) old new
-  kept-with other = record { less = less; unnamed = λ i nothing un id at. record { has = (un id at).has; unnamed = λ m. by_test i nothing un id at m (n == m) } }
-    where
-      by_test : (i : ℕ) → look_at new i ≡ Nothing → IsUnnamed forest named (i + 1) → (id : List ℕ) → attribute_at forest (i + 1) (codes "id") ≡ Some id → (m : ℕ) (b : Bool) → cond b (is_naming forest id n) (named id m) ≡ false
-      by_test i nothing un id at m true = other i nothing un id at
-      by_test i nothing un id at m false = (un id at).unnamed m
+module _ (n : ℕ) (forest : Trees) (known : List ℕ → Bool) (old new : List Look) (less : (i : ℕ) → SaysNoMore (look_at old i) (look_at new i)) where
+  pub kept-with : ((i : ℕ) → look_at new i ≡ Nothing → IsUnnamed forest known (i + 1) → (id : List ℕ) → attribute_at forest (i + 1) (codes "id") ≡ Some id → is_naming forest id n ≡ false) → AreKept forest known (known_with n forest known) old new
+  kept-with other = record {
+    less = less;
+    unnamed = λ i nothing un id at. record { has = (un id at).has; unknown = let was = (un id at).unknown in let not_n = other i nothing un id at in grind (arith, was, not_n) };
+  }
 
 -- notes that stay are kept with the texts that stay
-pub kept-still : (forest : Trees) (named : List ℕ → ℕ → Bool) (looks : List Look) → AreKept forest named named looks looks
-kept-still forest named looks = record { less = λ i. the-same (look_at looks i); unnamed = λ i nothing un. un }
+pub kept-still : (forest : Trees) (known : List ℕ → Bool) (looks : List Look) → AreKept forest known known looks looks
+kept-still forest known looks = record { less = λ i. the-same (look_at looks i); unnamed = λ i nothing un. un }
 
 -- a `form` attribute that is the text that was seen is nobody's ID that was nobody's
-pub form-seen : (n : ℕ) (forest : Trees) (rows : List OwnerRow) (named : List ℕ → ℕ → Bool) → 0 < n → AreNoted rows named → (row_of rows n).seen.form ≡ attribute_at forest n (codes "form") → (i : ℕ) (id : List ℕ) → IsUnnamedId forest named i id → is_naming forest id n ≡ false
-form-seen n forest rows named low noted same i id un = ap (is_text id) (sym same) ∙ sym (noted id n low) ∙ un.unnamed n
+pub form-seen : (n : ℕ) (forest : Trees) (rows : List OwnerRow) (index : IdIndex) → 0 < n → AreNoted rows (is_held index) → (row_of rows n).seen.form ≡ attribute_at forest n (codes "form") → (i : ℕ) (id : List ℕ) → IsUnnamedId forest (is_known index) i id → is_naming forest id n ≡ false
+form-seen n forest rows index low noted same i id un = ap (is_text id) (sym same) ∙ sym (noted id n low) ∙ unknown-unheld index id n un.unknown
 
 -- texts that are lent, and equal
 pub same-lent : (o p : Option (Bor (List ℕ))) → not (option_eq (λ a b. bytes_eq a.now b.now) o p) ≡ false → option_copied o ≡ option_copied p

@@ -12,7 +12,7 @@ use Rattle.tree_laws.proofs.InOrder.{member_is_node}
 use Rattle.form_controls.specs.Owners.{Forms, is_associated, form_owner, is_owned_by, controls_of}
 use Rattle.form_controls.specs.Disabled.{is_disabled}
 use Rattle.form_controls.specs.Changes.{form_change, form_changes, is_change, numbers}
-use Rattle.id_index.specs.Held.{is_held}
+use Rattle.id_index.specs.Held.{is_held, is_known}
 use Rattle.owner_rows.specs.OwnerRow.{OwnerRow, blank_row, row_in, row_of}
 use Rattle.owner_rows.specs.Attributes.{seen_at}
 use Rattle.form_owner.specs.Attributes.{is_naming}
@@ -20,7 +20,7 @@ use Rattle.form_owner.specs.Candidates.{Covers}
 use Rattle.form_owner.specs.OwnerRows.{OwnerRows}
 use Rattle.owner_reading.specs.Owners.{owner_with}
 use Rattle.disabled_reading.specs.Disabled.{disabled_with}
-use Rattle.form_owner.specs.Looks.{AreKept, AreNotedBy, AreRight, held_by}
+use Rattle.form_owner.specs.Looks.{AreKept, AreNotedBy, AreRight, KnowsBy, known_by}
 use Rattle.form_owner.specs.Reading.{change_read, changes_read, is_owned_in, owned_in}
 use Rattle.form_owner.specs.Stands.{KnowsAssociated, Stands}
 use Rattle.form_owner.specs.declared.looks.Look.{Look}
@@ -31,7 +31,7 @@ use Rattle.form_owner.proofs.Nodes.{past-node, not-a-form, no-owner, not-disable
 use Rattle.form_owner.proofs.Looking.{looks-seen}
 use Rattle.form_owner.proofs.Touched.{known, noted-keeps, size-stays}
 use Rattle.form_owner.proofs.Touching.{order-stays, tidy-before}
-use Rattle.form_owner.proofs.Sights.{noted-before, seen-by, sees-now}
+use Rattle.form_owner.proofs.Sights.{noted-before, sees-now}
 use Rattle.form_owner.proofs.Standing.{lists-stand}
 use Rattle.form_owner.proofs.Rows.{filter-members}
 
@@ -68,7 +68,7 @@ module _ (f : Forms) (tidy : IsTidy f.forest) (old new : List OwnerRow) (long : 
     | inr past ↦ ap (λ (r : OwnerRow). r.controls) (row-past i past) ∙ sym (no-controls f (i + 1) (not-a-form f tidy knows.nodes (i + 1) (past-node f.forest i past)))
   ]
 
-  pub stands-now : (table : OwnerRows) → length table.rows ≤ size f.forest → ((i : ℕ) → unseen (row_in table.rows i) ≡ unseen (row_in new i)) → ((i : ℕ) → (row_in table.rows i).seen ≡ seen_at f.forest (i + 1)) → ((id : List ℕ) (n : ℕ) → is_held table.named id n ≡ is_naming f.forest id n) → AreRight f.forest table.rows (is_held table.named) table.looks → Stands table f
+  pub stands-now : (table : OwnerRows) → length table.rows ≤ size f.forest → ((i : ℕ) → unseen (row_in table.rows i) ≡ unseen (row_in new i)) → ((i : ℕ) → (row_in table.rows i).seen ≡ seen_at f.forest (i + 1)) → ((id : List ℕ) (n : ℕ) → is_held table.named id n ≡ is_naming f.forest id n) → AreRight f.forest table.rows (is_known table.named) table.looks → Stands table f
   stands-now table within at seen named looks = record {
     within = within;
     associated = record { flags = λ i. ap (λ (r : OwnerRow). r.associated) (at i) ∙ are.associated i ∙ knows.flags i; nodes = knows.nodes };
@@ -148,9 +148,9 @@ module _ (touch : Touch) (before : Forms) (now : Trees) (tidy : IsTidy now) (tab
   pub noted-now : (read : List OwnerRow) → AreRenewed now given read → AreNoted read (is_held table.named)
   noted-now read are = noted-before before.forest read (is_held table.named) (read-seen read are) stood.named
 
-  pub settled : (read : List OwnerRow) → length read ≡ size now → AreRenewed now given read → (final : OwnerRows) (minded : List Look) → length final.rows ≡ size now → AreSeenBy touch now read final.rows (is_held table.named) (is_held final.named) → AreKept now (is_held table.named) (held_by touch now (is_held table.named)) table.looks minded → AreNotedBy touch now final.rows (is_held final.named) minded final.looks → Stands final (after_touch touch before now)
-  settled read long are final minded final_long by kept looks =
+  pub settled : (read : List OwnerRow) → length read ≡ size now → AreRenewed now given read → (final : OwnerRows) (minded : List Look) → length final.rows ≡ size now → AreSeenBy touch now read final.rows (is_held table.named) (is_held final.named) → KnowsBy touch now (is_known table.named) (is_known final.named) → AreKept now (is_known table.named) (known_by touch now (is_known table.named)) table.looks minded → AreNotedBy touch now final.rows (is_known final.named) minded final.looks → Stands final (after_touch touch before now)
+  settled read long are final minded final_long by knows kept looks =
       let sees = sees-now before.forest now read final.rows (is_held table.named) (is_held final.named) (read-seen read are) stood.named touch touched by in
       let flags : (i : ℕ) → (row_in final.rows i).associated ≡ is_associated (after_touch touch before now) (i + 1) = λ i. ap (λ (r : OwnerRow). r.associated) (sees.rest i) ∙ are.associated i ∙ knows-now.flags i in
       stands-now (after_touch touch before now) tidy given read long knows-now are final (omega (arith, final_long)) sees.rest sees.rows sees.index
-      (λ i. looks i (looks-seen touch before now touched table.rows final.rows stood.associated.flags flags (is_held table.named) (is_held final.named) table.looks minded stood.looks kept (seen-by touch now read final.rows (is_held table.named) (is_held final.named) by) i))
+      (λ i. looks i (looks-seen touch before now touched table.rows final.rows stood.associated.flags flags (is_known table.named) (is_known final.named) table.looks minded stood.looks kept knows i))

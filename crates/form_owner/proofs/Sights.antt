@@ -12,7 +12,6 @@ use Rattle.owner_rows.specs.Attributes.{seen_at}
 use Rattle.form_owner.specs.declared.touch.Touch.{Touch}
 use Rattle.form_owner.specs.declared.touch.Touch.TheVariants.{Inserted, Removed, Attr, Associated}
 use Rattle.form_owner.specs.Attributes.{is_naming, is_text}
-use Rattle.form_owner.specs.Looks.{held_by}
 use Rattle.form_owner.specs.Touches.{IsTouched}
 use Rattle.form_owner.specs.Writing.{AreNoted, AreSeen, AreSeenBy, AreUnseen, IsSeenPlaced, unseen}
 use Rattle.form_owner.proofs.Touching.{facts-stay}
@@ -35,13 +34,6 @@ seen-placed (Attr n) old new count t e =
     let high = t.element.node.high in
     (record { low = low; high = omega (arith, high, t.size_is) }, omega (arith, low, high, t.size_is, e))
 seen-placed (Associated n on) old new count t e = tt
-
--- who is noted for which text once a touch was seen
-pub seen-by : (touch : Touch) (forest : Trees) (read final : List OwnerRow) (was now : List ℕ → ℕ → Bool) → AreSeenBy touch forest read final was now → (id : List ℕ) (m : ℕ) → now id m ≡ held_by touch forest was id m
-seen-by (Inserted n) forest read final was now s = s.named
-seen-by (Removed n parent) forest read final was now s = s.named
-seen-by (Attr n) forest read final was now s = s.named
-seen-by (Associated n on) forest read final was now s = s.named
 
 -- what was seen is what is noted
 pub noted-before : (old : Trees) (read : List OwnerRow) (was : List ℕ → ℕ → Bool) → ((i : ℕ) → (row_in read i).seen ≡ seen_at old (i + 1)) → ((id : List ℕ) (n : ℕ) → was id n ≡ is_naming old id n) → AreNoted read was

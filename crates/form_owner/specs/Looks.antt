@@ -1,5 +1,5 @@
 -- What a move looks at in each node, as it is noted.
-use Rattle.std.specs.Prelude.{◌≡◌, ◌≢◌, ◌+◌, ◌==◌, if◌then◌else◌, ℕ, Bool, false, true, List, codes, Some}
+use Rattle.std.specs.Prelude.{◌≡◌, ◌≢◌, ◌+◌, ◌==◌, ◌||◌, ℕ, Bool, false, true, List, codes, Some}
 use Rattle.node_trees.specs.Trees.{Trees}
 use Rattle.node_trees.specs.Nodes.{IsNode}
 use Rattle.node_trees.specs.Ids.{has_id}
@@ -22,32 +22,28 @@ pub record IsApart (forest : Trees) (rows : List OwnerRow) (n : ℕ) : Type 0 wh
   pub node : IsNode forest n
   pub apart : is_concerned forest rows n ≡ false
 
--- somebody's `form` attribute was seen to be this text
-pub record IsNamed (named : List ℕ → ℕ → Bool) (id : List ℕ) : Type 0 where
-  pub by : ℕ
-  pub holds : named id by ≡ true
-
--- the text of n's `id` attribute is n's ID, and was seen to be nobody's `form` attribute
-pub record IsUnnamedId (forest : Trees) (named : List ℕ → ℕ → Bool) (n : ℕ) (id : List ℕ) : Type 0 where
+-- the text of n's `id` attribute is n's ID, and it is none of the texts that are known to have been somebody's `form`
+-- attribute
+pub record IsUnnamedId (forest : Trees) (known : List ℕ → Bool) (n : ℕ) (id : List ℕ) : Type 0 where
   pub has : has_id id (facts_at forest n) ≡ true
-  pub unnamed : (m : ℕ) → named id m ≡ false
+  pub unknown : known id ≡ false
 
 -- the same, where n has an `id` attribute
-abbrev pub IsUnnamed : Trees → (List ℕ → ℕ → Bool) → ℕ → Type 0
-IsUnnamed forest named n = (id : List ℕ) → attribute_at forest n (codes "id") ≡ Some id → IsUnnamedId forest named n id
+abbrev pub IsUnnamed : Trees → (List ℕ → Bool) → ℕ → Type 0
+IsUnnamed forest known n = (id : List ℕ) → attribute_at forest n (codes "id") ≡ Some id → IsUnnamedId forest known n id
 
 -- what a note says of n is so
-abbrev pub IsRight : Trees → List OwnerRow → (List ℕ → ℕ → Bool) → Look → ℕ → Type 0
-IsRight forest rows named Whole n = Unit {0}
-IsRight forest rows named Id n = IsApart forest rows n
-IsRight forest rows named Nothing n = IsApart forest rows n × IsUnnamed forest named n
+abbrev pub IsRight : Trees → List OwnerRow → (List ℕ → Bool) → Look → ℕ → Type 0
+IsRight forest rows known Whole n = Unit {0}
+IsRight forest rows known Id n = IsApart forest rows n
+IsRight forest rows known Nothing n = IsApart forest rows n × IsUnnamed forest known n
 
 -- what is noted at a place is so
-abbrev pub IsRightAt : Trees → List OwnerRow → (List ℕ → ℕ → Bool) → List Look → ℕ → Type 0
-IsRightAt forest rows named looks i = IsRight forest rows named (look_at looks i) (i + 1)
+abbrev pub IsRightAt : Trees → List OwnerRow → (List ℕ → Bool) → List Look → ℕ → Type 0
+IsRightAt forest rows known looks i = IsRight forest rows known (look_at looks i) (i + 1)
 
-abbrev pub AreRight : Trees → List OwnerRow → (List ℕ → ℕ → Bool) → List Look → Type 0
-AreRight forest rows named looks = (i : ℕ) → IsRightAt forest rows named looks i
+abbrev pub AreRight : Trees → List OwnerRow → (List ℕ → Bool) → List Look → Type 0
+AreRight forest rows known looks = (i : ℕ) → IsRightAt forest rows known looks i
 
 -- the second note says no more than the first
 abbrev pub SaysNoMore : Look → Look → Type 0
@@ -55,21 +51,25 @@ SaysNoMore old Whole = Unit {0}
 SaysNoMore old Id = old ≢ Whole
 SaysNoMore old Nothing = old ≡ Nothing
 
--- notes say no more than they did, and what they say of IDs by the texts that were seen is so by those that are seen now
-pub record AreKept (forest : Trees) (was now : List ℕ → ℕ → Bool) (old new : List Look) : Type 0 where
+-- notes say no more than they did, and what they say of IDs by the texts that were known is so by those that are known now
+pub record AreKept (forest : Trees) (was now : List ℕ → Bool) (old new : List Look) : Type 0 where
   pub less : (i : ℕ) → SaysNoMore (look_at old i) (look_at new i)
   pub unnamed : (i : ℕ) → look_at new i ≡ Nothing → IsUnnamed forest was (i + 1) → IsUnnamed forest now (i + 1)
 
--- who is noted for which text, once the `form` attribute of n is seen
-abbrev pub held_with : ℕ → Trees → (List ℕ → ℕ → Bool) → List ℕ → ℕ → Bool
-held_with n forest named id m = if n == m then is_naming forest id n else named id m
+-- which texts are known, once the `form` attribute of n is seen
+abbrev pub known_with : ℕ → Trees → (List ℕ → Bool) → List ℕ → Bool
+known_with n forest known id = known id || is_naming forest id n
 
 -- once what a touch changed is seen
-abbrev pub held_by : Touch → Trees → (List ℕ → ℕ → Bool) → List ℕ → ℕ → Bool
-held_by (Inserted n) forest named = named
-held_by (Removed n parent) forest named = named
-held_by (Attr n) forest named = held_with n forest named
-held_by (Associated n on) forest named = named
+abbrev pub known_by : Touch → Trees → (List ℕ → Bool) → List ℕ → Bool
+known_by (Inserted n) forest known = known
+known_by (Removed n parent) forest known = known
+known_by (Attr n) forest known = known_with n forest known
+known_by (Associated n on) forest known = known
+
+-- each text that is known now was known, or came to be by this touch
+abbrev pub KnowsBy : Touch → Trees → (List ℕ → Bool) → (List ℕ → Bool) → Type 0
+KnowsBy touch forest was now = (id : List ℕ) → known_by touch forest was id ≡ false → now id ≡ false
 
 -- a touch of an attribute of n, or of its definition
 abbrev pub is_touching : Touch → ℕ → Bool
@@ -86,6 +86,6 @@ IsTouching (Attr n) forest = IsNode forest n
 IsTouching (Associated n on) forest = IsNode forest n
 
 -- after a touch what is noted is so, where what was noted of the others is
-abbrev pub AreNotedBy : Touch → Trees → List OwnerRow → (List ℕ → ℕ → Bool) → List Look → List Look → Type 0
-AreNotedBy touch forest rows named old new =
-    (i : ℕ) → (is_touching touch (i + 1) ≡ false → IsRightAt forest rows named old i) → IsRightAt forest rows named new i
+abbrev pub AreNotedBy : Touch → Trees → List OwnerRow → (List ℕ → Bool) → List Look → List Look → Type 0
+AreNotedBy touch forest rows known old new =
+    (i : ℕ) → (is_touching touch (i + 1) ≡ false → IsRightAt forest rows known old i) → IsRightAt forest rows known new i

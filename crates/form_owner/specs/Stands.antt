@@ -11,7 +11,7 @@ use Rattle.owner_rows.specs.Attributes.{seen_at}
 use Rattle.form_owner.specs.declared.touch.Touch.{Touch}
 use Rattle.form_owner.specs.OwnerRows.{OwnerRows}
 use Rattle.form_owner.specs.Looks.{AreRight}
-use Rattle.id_index.specs.Held.{is_held}
+use Rattle.id_index.specs.Held.{is_held, is_known}
 use Rattle.form_owner.specs.Attributes.{is_naming}
 use Rattle.form_owner.specs.Touches.{IsTouched}
 
@@ -29,7 +29,7 @@ pub record Stands (table : OwnerRows) (f : Forms) : Type 0 where
   pub controls : (i : ℕ) → (row_in table.rows i).controls ≡ controls_of f (i + 1)
   pub seen : (i : ℕ) → (row_in table.rows i).seen ≡ seen_at f.forest (i + 1)
   pub named : (id : List ℕ) (n : ℕ) → is_held table.named id n ≡ is_naming f.forest id n
-  pub looks : AreRight f.forest table.rows (is_held table.named) table.looks
+  pub looks : AreRight f.forest table.rows (is_known table.named) table.looks
 
 -- the table stood for trees that this touch made what they are now
 pub record StoodBefore (table : OwnerRows) (touch : Touch) (now : Trees) : Type 0 where

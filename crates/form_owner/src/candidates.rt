@@ -8,7 +8,7 @@ ghost use Rattle.node_trees.specs.Paths.{is_among};
 ghost use Rattle.node_trees.specs.Spots.{children_at};
 ghost use Rattle.form_controls.specs.Disabled.{has_disabled};
 ghost use Rattle.form_controls.specs.Kinds.{is_a};
-ghost use Rattle.id_index.specs.Held.{is_held};
+ghost use Rattle.id_index.specs.Held.{is_held, is_known};
 ghost use Rattle.owner_rows.specs.OwnerRow.{row_of};
 ghost use Rattle.owner_rows.specs.Attributes.{seen_at};
 ghost use Rattle.form_owner.specs.Candidates.{Considers, is_concerned, is_named_by, is_with};
@@ -112,7 +112,7 @@ pub(crate) fn consider_moved(
     found: &mut NodeSet,
 ) -> Result<(), NoMemory>
     requires node { IsNode tree.now n }
-    requires looks { AreRight tree.now rows.now (is_held named.now) looks.now }
+    requires looks { AreRight tree.now rows.now (is_known named.now) looks.now }
     ensures { OnOk result (Considers tree.now (is_concerned tree.now rows.now) (is_with tree.now (is_held named.now) n) found.old found.new) }
 {
     match looks.at(n) {

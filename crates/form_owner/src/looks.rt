@@ -1,13 +1,13 @@
 // Notes of what a move looks at in each node, so that it passes over most.
 ghost use Rattle.std.specs.Prelude.{◌≡◌, ◌≢◌, ◌+◌, ◌-◌, ◌<◌, ◌++◌, ◌∷◌, [], ℕ, length, true, OnOk};
 ghost use Rattle.node_trees.specs.Nodes.{IsNode};
-ghost use Rattle.id_index.specs.Held.{is_held};
+ghost use Rattle.id_index.specs.Held.{is_known};
 ghost use Rattle.form_owner.specs.declared.looks.Look.TheVariants.{Nothing, Whole};
 ghost use Rattle.form_owner.specs.Looks.{AreNotedBy, IsRight, IsRightAt, IsTouching, IsUnnamed, SaysNoMore, look_at};
 
 use crate::Touch;
 use crate::candidates::is_concerned;
-use crate::seeing::is_named;
+use crate::seeing::is_known;
 use ce_base::{NoMemory, NodeNo};
 use id_index::IdIndex;
 use node_arena::{NodeKind, Tree};
@@ -100,18 +100,18 @@ impl Looks {
 /// no ID, since it is empty or no element has it, it is not told.
 fn is_unnamed(tree: &Tree, named: &IdIndex, n: NodeNo) -> bool
     requires { IsNode tree.now n }
-    ensures { result ≡ true → IsUnnamed tree.now (is_held named.now) n }
+    ensures { result ≡ true → IsUnnamed tree.now (is_known named.now) n }
 {
     match tree.attr(n, "id") {
         None => true,
-        Some(id) => !id.is_empty() && tree.kind(n) == NodeKind::Element && !is_named(named, id),
+        Some(id) => !id.is_empty() && tree.kind(n) == NodeKind::Element && !is_known(named, id),
     }
 }
 
 /// What a move looks at in a node.
 fn look_of(tree: &Tree, rows: &[Row], named: &IdIndex, n: NodeNo) -> Look
     requires { IsNode tree.now n }
-    ensures { IsRight tree.now rows.now (is_held named.now) result n }
+    ensures { IsRight tree.now rows.now (is_known named.now) result n }
 {
     if is_concerned(tree, rows, n) {
         return Look::Whole;
@@ -125,7 +125,7 @@ fn look_of(tree: &Tree, rows: &[Row], named: &IdIndex, n: NodeNo) -> Look
 /// Notes the nodes that have no note yet.
 fn note_new(tree: &Tree, rows: &[Row], named: &IdIndex, looks: &mut Looks) -> Result<(), NoMemory>
     ensures { OnOk result ((i : ℕ) →
-        IsRightAt tree.now rows.now (is_held named.now) looks.old i → IsRightAt tree.now rows.now (is_held named.now) looks.new i) }
+        IsRightAt tree.now rows.now (is_known named.now) looks.old i → IsRightAt tree.now rows.now (is_known named.now) looks.new i) }
 {
     let count = tree.count();
     while (looks.len() as u64) < count {
@@ -138,8 +138,8 @@ fn note_new(tree: &Tree, rows: &[Row], named: &IdIndex, looks: &mut Looks) -> Re
 /// Notes a node anew.
 fn note_again(tree: &Tree, rows: &[Row], named: &IdIndex, looks: &mut Looks, n: NodeNo)
     requires { IsNode tree.now n }
-    ensures { (i : ℕ) → (i ≢ n - 1 → IsRightAt tree.now rows.now (is_held named.now) looks.old i) →
-        IsRightAt tree.now rows.now (is_held named.now) looks.new i }
+    ensures { (i : ℕ) → (i ≢ n - 1 → IsRightAt tree.now rows.now (is_known named.now) looks.old i) →
+        IsRightAt tree.now rows.now (is_known named.now) looks.new i }
 {
     looks.set(n, look_of(tree, rows, named, n));
 }
@@ -147,7 +147,7 @@ fn note_again(tree: &Tree, rows: &[Row], named: &IdIndex, looks: &mut Looks, n: 
 /// Notes anew the node of which a touch says something, if it is of one.
 fn note_touched(tree: &Tree, rows: &[Row], named: &IdIndex, looks: &mut Looks, touch: Touch)
     requires { IsTouching touch tree.now }
-    ensures { AreNotedBy touch tree.now rows.now (is_held named.now) looks.old looks.new }
+    ensures { AreNotedBy touch tree.now rows.now (is_known named.now) looks.old looks.new }
 {
     match touch {
         Touch::Inserted(_) => {}
@@ -166,7 +166,7 @@ pub(crate) fn note_looks(
     touch: Touch,
 ) -> Result<(), NoMemory>
     requires { IsTouching touch tree.now }
-    ensures { OnOk result (AreNotedBy touch tree.now rows.now (is_held named.now) looks.old looks.new) }
+    ensures { OnOk result (AreNotedBy touch tree.now rows.now (is_known named.now) looks.old looks.new) }
 {
     note_touched(tree, rows, named, looks, touch);
     note_new(tree, rows, named, looks)?;

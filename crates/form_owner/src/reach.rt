@@ -3,7 +3,7 @@ ghost use Rattle.std.specs.Prelude.{◌==◌, [], true, IfOk, OnOk};
 ghost use Rattle.std.specs.Option.{option_copied};
 ghost use Rattle.node_trees.specs.Nodes.{IsNode, IsTidy};
 ghost use Rattle.node_trees.specs.Orders.{order_of};
-ghost use Rattle.id_index.specs.Held.{is_held};
+ghost use Rattle.id_index.specs.Held.{is_held, is_known};
 ghost use Rattle.form_owner.specs.Candidates.{Considers, is_concerned, is_of_change, is_of_group, is_of_ids, is_of_legend, is_of_move, is_with_among};
 ghost use Rattle.form_owner.specs.Looks.{AreRight};
 
@@ -50,7 +50,7 @@ fn consider_inside(
 ) -> Result<(), NoMemory>
     requires tidy { IsTidy tree.now }
     requires node { IsNode tree.now n }
-    requires looks { AreRight tree.now rows.now (is_held named.now) looks.now }
+    requires looks { AreRight tree.now rows.now (is_known named.now) looks.now }
     ensures { OnOk result (Considers tree.now (is_concerned tree.now rows.now)
         (is_with_among tree.now (is_held named.now) (order_of tree.now n)) found.old found.new) }
 {
@@ -78,7 +78,7 @@ pub(crate) fn of_move(
     requires tidy { IsTidy tree.now }
     requires node { IsNode tree.now n }
     requires parent { IsNode tree.now parent }
-    requires looks { AreRight tree.now rows.now (is_held named.now) looks.now }
+    requires looks { AreRight tree.now rows.now (is_known named.now) looks.now }
     ensures { IfOk result (Considers tree.now (is_concerned tree.now rows.now) (is_of_move tree.now (is_held named.now) n parent) []) }
 {
     let mut found = NodeSet::make(alloc);

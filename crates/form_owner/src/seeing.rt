@@ -2,9 +2,9 @@
 ghost use Rattle.std.specs.Prelude.{◌≡◌, ◌<◌, ◌==◌, ◌-◌, ◌&&◌, ◌||◌, not, ℕ, List, false, true, if◌then◌else◌, length, OnOk};
 ghost use Rattle.std.specs.Option.{option_copied};
 ghost use Rattle.node_trees.specs.Nodes.{IsNode};
-ghost use Rattle.id_index.specs.Held.{is_held};
+ghost use Rattle.id_index.specs.Held.{is_held, is_known};
 ghost use Rattle.form_owner.specs.Attributes.{is_naming, is_text};
-ghost use Rattle.form_owner.specs.Looks.{IsNamed};
+ghost use Rattle.form_owner.specs.Looks.{KnowsBy, known_with};
 ghost use Rattle.form_owner.specs.Writing.{AreNoted, AreSeen, AreSeenBy, IsSeenPlaced};
 
 use crate::Touch;
@@ -14,15 +14,12 @@ use node_arena::Tree;
 use owner_rows::{Row, Seen, form_seen_in, place_of};
 use std::alloc::Global;
 
-/// Whether a text was seen to be anybody's `form` attribute.
-pub(crate) fn is_named(named: &IdIndex, id: &str) -> bool
-    ensures yes { result ≡ true → IsNamed (is_held named.now) id.now }
-    ensures no { result ≡ false → (m : ℕ) → is_held named.now id.now m ≡ false }
+/// Whether a text is known to be somebody's `form` attribute, or to have been. It stays known, so that no node is noted
+/// a second time for one that comes and goes.
+pub(crate) fn is_known(named: &IdIndex, text: &str) -> bool
+    ensures { result ≡ is_known named.now text.now }
 {
-    match named.group(id) {
-        None => false,
-        Some(group) => !group.is_empty(),
-    }
+    named.group(text).is_some()
 }
 
 /// Notes a node for the text of its `form` attribute, where it has one.
@@ -32,8 +29,9 @@ fn note_form(
     form: Option<&str>,
     n: NodeNo,
 ) -> Result<(), NoMemory>
-    ensures { OnOk result ((id : List ℕ) (m : ℕ) →
+    ensures held { OnOk result ((id : List ℕ) (m : ℕ) →
         is_held named.new id m ≡ (is_held named.old id m || (n == m && is_text id (option_copied form.entry)))) }
+    ensures known { OnOk result ((id : List ℕ) → is_known named.new id ≡ (is_known named.old id || is_text id (option_copied form.entry))) }
 {
     if let Some(form) = form {
         named.add(alloc, form, n)?;
@@ -43,10 +41,11 @@ fn note_form(
 
 /// Notes it no more.
 fn forget_form(named: &mut IdIndex, form: Option<&str>, n: NodeNo)
-    ensures { (id : List ℕ) (m : ℕ) → is_held named.new id m ≡ (is_held named.old id m && not (n == m && is_text id (option_copied form.entry))) }
+    ensures known { (id : List ℕ) → is_known named.new id ≡ is_known named.old id }
+    ensures held { (id : List ℕ) (m : ℕ) → is_held named.new id m ≡ (is_held named.old id m && not (n == m && is_text id (option_copied form.entry))) }
 {
     if let Some(form) = form {
-        named.remove(form, n);
+        named.leave(form, n);
     }
 }
 
@@ -60,7 +59,8 @@ fn rename(
 ) -> Result<(), NoMemory>
     requires node { IsNode tree.now n }
     requires noted { AreNoted rows.now (is_held named.old) }
-    ensures { OnOk result ((id : List ℕ) (m : ℕ) → is_held named.new id m ≡ (if n == m then is_naming tree.now id n else is_held named.old id m)) }
+    ensures known { OnOk result ((id : List ℕ) → known_with n tree.now (is_known named.old) id ≡ false → is_known named.new id ≡ false) }
+    ensures held { OnOk result ((id : List ℕ) (m : ℕ) → is_held named.new id m ≡ (if n == m then is_naming tree.now id n else is_held named.old id m)) }
 {
     let old = form_seen_in(rows, n);
     let new = tree.attr(n, "form");
@@ -82,7 +82,8 @@ fn see(
     requires node { IsNode tree.now n }
     requires within { n - 1 < length rows.old }
     requires noted { AreNoted rows.old (is_held named.old) }
-    ensures { OnOk result (AreSeen tree.now n rows.old rows.new (is_held named.old) (is_held named.new)) }
+    ensures known { OnOk result ((id : List ℕ) → known_with n tree.now (is_known named.old) id ≡ false → is_known named.new id ≡ false) }
+    ensures seen { OnOk result (AreSeen tree.now n rows.old rows.new (is_held named.old) (is_held named.new)) }
 {
     rename(alloc, tree, rows, named, n)?;
     let seen = Seen::of(alloc, tree, n)?;
@@ -101,7 +102,8 @@ pub(crate) fn see_touched(
 ) -> Result<(), NoMemory>
     requires placed { IsSeenPlaced touch tree.now (length rows.old) }
     requires noted { AreNoted rows.old (is_held named.old) }
-    ensures { OnOk result (AreSeenBy touch tree.now rows.old rows.new (is_held named.old) (is_held named.new)) }
+    ensures known { OnOk result (KnowsBy touch tree.now (is_known named.old) (is_known named.new)) }
+    ensures seen { OnOk result (AreSeenBy touch tree.now rows.old rows.new (is_held named.old) (is_held named.new)) }
 {
     match touch {
         Touch::Inserted(_) => {}

@@ -4,15 +4,15 @@ ghost use Rattle.std.specs.BTreeSet.{contains};
 ghost use Rattle.std.specs.Ordering.{nat_cmp};
 ghost use Rattle.node_trees.specs.Nodes.{IsNode};
 ghost use Rattle.node_trees.specs.Spots.{attribute_at};
-ghost use Rattle.id_index.specs.Held.{is_held};
+ghost use Rattle.id_index.specs.Held.{is_held, is_known};
 ghost use Rattle.form_owner.specs.Attributes.{is_text};
 ghost use Rattle.form_owner.specs.declared.looks.Look.TheVariants.{Nothing};
-ghost use Rattle.form_owner.specs.Looks.{AreKept, IsTouching, IsUnnamed, SaysNoMore, held_by, held_with, look_at};
+ghost use Rattle.form_owner.specs.Looks.{AreKept, IsTouching, IsUnnamed, SaysNoMore, known_by, known_with, look_at};
 ghost use Rattle.form_owner.specs.Writing.{AreNoted};
 
 use crate::Touch;
 use crate::looks::Looks;
-use crate::seeing::is_named;
+use crate::seeing::is_known;
 use ce_base::NodeNo;
 use id_index::IdIndex;
 use node_arena::Tree;
@@ -32,10 +32,10 @@ fn mind_all(looks: &mut Looks, nodes: &BTreeSet<u64>)
 /// From now on the nodes whose ID a text is are looked at, where it was nobody's `form` attribute.
 fn mind_text(tree: &Tree, named: &IdIndex, looks: &mut Looks, text: &str)
     ensures less { (i : ℕ) → SaysNoMore (look_at looks.old i) (look_at looks.new i) }
-    ensures ids { (i : ℕ) → look_at looks.new i ≡ Nothing → IsUnnamed tree.now (is_held named.now) (i + 1) →
+    ensures ids { (i : ℕ) → look_at looks.new i ≡ Nothing → IsUnnamed tree.now (is_known named.now) (i + 1) →
         (id : List ℕ) → attribute_at tree.now (i + 1) (codes "id") ≡ Some id → is_text id (Some text.now) ≡ false }
 {
-    if is_named(named, text) {
+    if is_known(named, text) {
         return;
     }
     if let Some(nodes) = tree.with_id(text) {
@@ -47,7 +47,7 @@ fn mind_text(tree: &Tree, named: &IdIndex, looks: &mut Looks, text: &str)
 fn mind_form(tree: &Tree, rows: &[Row], named: &IdIndex, looks: &mut Looks, n: NodeNo)
     requires node { IsNode tree.now n }
     requires noted { AreNoted rows.now (is_held named.now) }
-    ensures { AreKept tree.now (is_held named.now) (held_with n tree.now (is_held named.now)) looks.old looks.new }
+    ensures { AreKept tree.now (is_known named.now) (known_with n tree.now (is_known named.now)) looks.old looks.new }
 {
     let old = form_seen_in(rows, n);
     let new = tree.attr(n, "form");
@@ -70,7 +70,7 @@ pub(crate) fn mind_touched(
 )
     requires touching { IsTouching touch tree.now }
     requires noted { AreNoted rows.now (is_held named.now) }
-    ensures { AreKept tree.now (is_held named.now) (held_by touch tree.now (is_held named.now)) looks.old looks.new }
+    ensures { AreKept tree.now (is_known named.now) (known_by touch tree.now (is_known named.now)) looks.old looks.new }
 {
     match touch {
         Touch::Inserted(_) => {}

@@ -7,5 +7,5 @@ use Rattle.form_owner.proofs.candidates.consider_named.Goals as goal
 pub returns : goal.returns
 returns c =
     all-passed _ _ _ c.in-None.ensures.steps.0
-    (λ m passes. ap (is_among m) c.into_iter-number-iterator.ensures.into_iter_gives.0 ∙ sym (among-any m _) ∙ c.in-Some-group.ensures m ∙ (rw c.in-Some.is at passes))
+    (λ m passes. ap (is_among m) c.into_iter-number-iterator.ensures.into_iter_gives.0 ∙ sym (among-any m _) ∙ c.in-Some-group.ensures.held m ∙ (rw c.in-Some.is at passes))
     c.loop-number.invariant

@@ -1,6 +1,6 @@
 use Rattle.std.proofs.Common.{◌∙◌, ap, refl, sym}
 use Rattle.std.proofs.lemmas.Result.{IfOk-weaker}
-use Rattle.id_index.specs.Held.{is_held}
+use Rattle.id_index.specs.Held.{is_known}
 use Rattle.form_owner.specs.Candidates.{is_of_change, is_of_move}
 use Rattle.form_owner.specs.OwnerRows.{OwnerRows}
 use Rattle.form_owner.proofs.Covering.{covers-inserted, covers-removed, of-table}
@@ -15,12 +15,12 @@ of_move-requires-in-Removed-clause-parent c = parent-still c.in-Removed.node c.i
 pub of_move-requires-clause-looks : goal.of_move-requires-clause-looks
 of_move-requires-clause-looks c =
     looks-lent c.args.tree.now c.args.self.now c.deref.result.now c.self.inside.named c.self.inside.looks (c.deref.ensures.value ∙ ap (λ (t : OwnerRows). t.rows) c.self.view_is) (ap (λ (t : OwnerRows). t.named) c.self.view_is) (ap (λ (t : OwnerRows). t.looks) c.self.view_is)
-    (looks-still c.args.touch c.requires.stood.before c.args.tree.now c.requires.stood.touched (rw c.in-Inserted.is (λ m. refl)) c.args.self.now.rows (is_held c.args.self.now.named) c.args.self.now.looks c.requires.stood.stands.looks)
+    (looks-still c.args.touch c.requires.stood.before c.args.tree.now c.requires.stood.touched (rw c.in-Inserted.is (λ m. refl)) c.args.self.now.rows (is_known c.args.self.now.named) c.args.self.now.looks c.requires.stood.stands.looks)
 
 pub of_move-requires-in-Removed-clause-looks : goal.of_move-requires-in-Removed-clause-looks
 of_move-requires-in-Removed-clause-looks c =
     looks-lent c.args.tree.now c.args.self.now c.deref-in-Removed.result.now c.self.inside.named c.self.inside.looks (c.deref-in-Removed.ensures.value ∙ ap (λ (t : OwnerRows). t.rows) c.self.view_is) (ap (λ (t : OwnerRows). t.named) c.self.view_is) (ap (λ (t : OwnerRows). t.looks) c.self.view_is)
-    (looks-still c.args.touch c.requires.stood.before c.args.tree.now c.requires.stood.touched (rw c.in-Removed.is (λ m. refl)) c.args.self.now.rows (is_held c.args.self.now.named) c.args.self.now.looks c.requires.stood.stands.looks)
+    (looks-still c.args.touch c.requires.stood.before c.args.tree.now c.requires.stood.touched (rw c.in-Removed.is (λ m. refl)) c.args.self.now.rows (is_known c.args.self.now.named) c.args.self.now.looks c.requires.stood.stands.looks)
 
 pub returns-in-None-clause-covers : goal.returns-in-None-clause-covers
 returns-in-None-clause-covers c = λ before stands touched. absurd (no-root c.in-Inserted.node before.forest c.args.tree.now (rw c.in-Inserted.is at touched) (sym c.in-None.ensures.parent))

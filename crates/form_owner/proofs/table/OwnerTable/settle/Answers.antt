@@ -2,11 +2,11 @@ use Rattle.std.proofs.Common.{◌≡◌, ap, arith, length, sym, subst, ◌∙�
 use Rattle.std.specs.Vec.{with_items}
 use Rattle.std.proofs.lemmas.List.{with_items_is}
 use Rattle.node_trees.specs.Nodes.{size}
-use Rattle.id_index.specs.Held.{is_held}
+use Rattle.id_index.specs.Held.{is_held, is_known}
 use Rattle.owner_rows.specs.OwnerRow.{row_in}
 use Rattle.form_owner.specs.Candidates.{Covers}
 use Rattle.form_owner.specs.OwnerRows.{OwnerRows}
-use Rattle.form_owner.specs.Looks.{AreKept, AreNotedBy, held_by}
+use Rattle.form_owner.specs.Looks.{AreKept, AreNotedBy, KnowsBy, known_by}
 use Rattle.form_owner.specs.Told.{AreOfNodes}
 use Rattle.form_owner.specs.Touches.{after_touch}
 use Rattle.form_owner.specs.Writing.{AreNoted, AreSeenBy}
@@ -56,10 +56,11 @@ returns-clause-stands c = λ before stood touched.
     (omega (arith, ap length last, c.see_touched.auto.rows, ap length read, long))
     (subst (λ rows. AreSeenBy c.args.touch c.args.tree.now c.renew.new.rows rows (is_held c.args.self.now.named) (is_held c.see_touched.new.named)) (sym last)
     (subst (λ index. AreSeenBy c.args.touch c.args.tree.now c.renew.new.rows c.see_touched.new.rows (is_held index) (is_held c.see_touched.new.named)) (ap (λ (t : OwnerRows). t.named) c.self.view_is)
-    (subst (λ rows. AreSeenBy c.args.touch c.args.tree.now rows c.see_touched.new.rows (is_held c.self.inside.named) (is_held c.see_touched.new.named)) read c.in_ok-see_touched.ensures)))
-    (subst (λ index. AreKept c.args.tree.now (is_held index) (held_by c.args.touch c.args.tree.now (is_held index)) c.args.self.now.looks c.mind_touched.new.looks) (ap (λ (t : OwnerRows). t.named) c.self.view_is)
-    (subst (λ looks. AreKept c.args.tree.now (is_held c.self.inside.named) (held_by c.args.touch c.args.tree.now (is_held c.self.inside.named)) looks c.mind_touched.new.looks) (ap (λ (t : OwnerRows). t.looks) c.self.view_is) c.mind_touched.ensures))
-    (subst (λ rows. AreNotedBy c.args.touch c.args.tree.now rows (is_held c.see_touched.new.named) c.mind_touched.new.looks c.note_looks.new.looks) c.deref-2.ensures.value c.in_ok-note_looks.ensures)
+    (subst (λ rows. AreSeenBy c.args.touch c.args.tree.now rows c.see_touched.new.rows (is_held c.self.inside.named) (is_held c.see_touched.new.named)) read c.in_ok-see_touched.ensures.seen)))
+    (subst (λ index. KnowsBy c.args.touch c.args.tree.now (is_known index) (is_known c.see_touched.new.named)) (ap (λ (t : OwnerRows). t.named) c.self.view_is) c.in_ok-see_touched.ensures.known)
+    (subst (λ index. AreKept c.args.tree.now (is_known index) (known_by c.args.touch c.args.tree.now (is_known index)) c.args.self.now.looks c.mind_touched.new.looks) (ap (λ (t : OwnerRows). t.named) c.self.view_is)
+    (subst (λ looks. AreKept c.args.tree.now (is_known c.self.inside.named) (known_by c.args.touch c.args.tree.now (is_known c.self.inside.named)) looks c.mind_touched.new.looks) (ap (λ (t : OwnerRows). t.looks) c.self.view_is) c.mind_touched.ensures))
+    (subst (λ rows. AreNotedBy c.args.touch c.args.tree.now rows (is_known c.see_touched.new.named) c.mind_touched.new.looks c.note_looks.new.looks) c.deref-2.ensures.value c.in_ok-note_looks.ensures)
 
 pub returns-clause-changes : goal.returns-clause-changes
 returns-clause-changes c = λ before stood touched.
