@@ -30,6 +30,7 @@ pub(crate) enum Look {
 #[derive(Drop)]
 pub(crate) struct Looks {
     items: Vec<Look>,
+    careful: u64,
 }
 
 impl Model for Looks {
@@ -48,6 +49,7 @@ impl Looks {
     {
         Looks {
             items: Vec::new(alloc),
+            careful: 0,
         }
     }
 
@@ -71,7 +73,27 @@ impl Looks {
         ensures { OnOk result (self.new ≡ self.old ++ look ∷ []) }
     {
         self.items.push(look)?;
+        self.recount(Look::Nothing, look);
         Ok(())
+    }
+
+    /// Keeps count of the nodes at which a move looks.
+    fn recount(&mut self, old: Look, new: Look)
+        ensures { self.new ≡ self.old }
+    {
+        if old != Look::Nothing {
+            self.careful = self.careful.saturating_sub(1);
+        }
+        if new != Look::Nothing {
+            self.careful = self.careful.saturating_add(1);
+        }
+    }
+
+    /// How many steps along links cost about as much as to go through all notes, and to consider each node at which a move
+    /// looks, in the moved tree or not.
+    pub(crate) fn steps(&self) -> u64 {
+        let notes = self.items.len() as u64 / 16;
+        notes.max(self.careful.saturating_mul(16))
     }
 
     /// Notes this of a node that has a note; of the others the notes stay.
@@ -81,7 +103,9 @@ impl Looks {
     {
         let place = place_of(n);
         if place < self.items.len() {
+            let old = self.items[place];
             self.items[place] = look;
+            self.recount(old, look);
         }
     }
 

@@ -1,5 +1,5 @@
 // Which nodes each touch may change, as sets.
-ghost use Rattle.std.specs.Prelude.{◌==◌, [], true, IfOk, OnOk};
+ghost use Rattle.std.specs.Prelude.{◌≡◌, ◌==◌, All, ℕ, List, [], true, false, IfOk, OnOk};
 ghost use Rattle.std.specs.Option.{option_copied};
 ghost use Rattle.node_trees.specs.Nodes.{IsNode, IsTidy};
 ghost use Rattle.node_trees.specs.Orders.{order_of};
@@ -39,7 +39,62 @@ fn consider_fieldset(
     Ok(())
 }
 
-/// What moved with a node, and what names an ID of that. It goes along the links of the tree, and makes no list.
+/// What moved with a node, and what names an ID of that, so many steps along the links of the tree. Says whether the walk came
+/// to its end.
+fn consider_near(
+    tree: &Tree,
+    rows: &[Row],
+    named: &IdIndex,
+    looks: &Looks,
+    n: NodeNo,
+    steps: u64,
+    found: &mut NodeSet,
+) -> Result<bool, NoMemory>
+    requires tidy { IsTidy tree.now }
+    requires node { IsNode tree.now n }
+    requires looks { AreRight tree.now rows.now (is_known named.now) looks.now }
+    ensures some { OnOk result (Considers tree.now (is_concerned tree.now rows.now) (λ m. false) found.old found.new) }
+    ensures all { IfOk result (λ ended. ended ≡ true → Considers tree.now (is_concerned tree.now rows.now)
+        (is_with_among tree.now (is_held named.now) (order_of tree.now n)) found.old found.new) }
+{
+    let mut at = n;
+    let mut left = steps;
+    loop {
+        consider_moved(tree, rows, named, looks, at, found)?;
+        match tree.next_in_shadow_order(at, n) {
+            Some(next) => at = next,
+            None => return Ok(true),
+        }
+        if left == 0 {
+            return Ok(false);
+        }
+        left -= 1;
+    }
+}
+
+/// The same of each node that there is.
+fn consider_each(
+    tree: &Tree,
+    rows: &[Row],
+    named: &IdIndex,
+    looks: &Looks,
+    found: &mut NodeSet,
+) -> Result<(), NoMemory>
+    requires looks { AreRight tree.now rows.now (is_known named.now) looks.now }
+    ensures { OnOk result ((ns : List ℕ) → All (IsNode tree.now) ns →
+        Considers tree.now (is_concerned tree.now rows.now) (is_with_among tree.now (is_held named.now) ns) found.old found.new) }
+{
+    let count = tree.count();
+    let mut n = 0;
+    while n < count {
+        n += 1;
+        consider_moved(tree, rows, named, looks, NodeNo(n), found)?;
+    }
+    Ok(())
+}
+
+/// What moved with a node, and what names an ID of that: along the links of the tree, and where much has moved, and forms are
+/// about few nodes, by the notes of all.
 fn consider_inside(
     tree: &Tree,
     rows: &[Row],
@@ -54,14 +109,10 @@ fn consider_inside(
     ensures { OnOk result (Considers tree.now (is_concerned tree.now rows.now)
         (is_with_among tree.now (is_held named.now) (order_of tree.now n)) found.old found.new) }
 {
-    let mut at = n;
-    loop {
-        consider_moved(tree, rows, named, looks, at, found)?;
-        match tree.next_in_shadow_order(at, n) {
-            Some(next) => at = next,
-            None => return Ok(()),
-        }
+    if consider_near(tree, rows, named, looks, n, looks.steps(), found)? {
+        return Ok(());
     }
+    consider_each(tree, rows, named, looks, found)
 }
 
 /// What the move of a node to a parent, or away from it, may change: what moved, what names an ID of it, and what is in a

@@ -1,37 +1,12 @@
-use Rattle.std.proofs.Common.{[], ◌∷◌, ◌++◌, ap, refl, ◌∙◌}
-use Rattle.tree_laws.proofs.OrderListing.{list-start, list-less, list-last, list-on}
-use Rattle.tree_laws.proofs.Past.{order-has}
-use Rattle.tree_laws.proofs.PastIn.{inside-node}
-use Rattle.id_index.specs.Held.{is_held}
-use Rattle.form_owner.specs.Candidates.{is_with, is_with_among}
-use Rattle.form_owner.proofs.Considering.{less, nothing, one-more}
+use Rattle.std.proofs.Common.{refl}
+use Rattle.std.proofs.lemmas.Result.{on_ok_weaker}
+use Rattle.node_trees.specs.Orders.{order_of}
+use Rattle.tree_laws.proofs.OrderListing.{listed-nodes}
+use Rattle.form_owner.proofs.Considering.{both, less}
 use Rattle.form_owner.proofs.reach.consider_inside.Goals as goal
 
-pub loop-next-init : goal.loop-next-init
-loop-next-init c = record { so_far = ([], list-start _ _ c.requires.tidy c.requires.node, nothing _ c.args.found.now (λ m is. refl)) }
-
-pub consider_moved-requires-clause-node : goal.consider_moved-requires-clause-node
-consider_moved-requires-clause-node c = inside-node _ _ c.requires.tidy c.requires.node _ c.loop-next.invariant.so_far.1.inside
-
-pub next_in_shadow_order-requires-clause-inside : goal.next_in_shadow_order-requires-clause-inside
-next_in_shadow_order-requires-clause-inside c = order-has _ _ c.loop-next.invariant.so_far.1.inside
-
-pub loop-next-smaller : goal.loop-next-smaller
-loop-next-smaller c = list-less _ _ c.requires.tidy c.requires.node _ _ c.in-Some.ensures.next
-
-pub loop-next-preserved : goal.loop-next-preserved
-loop-next-preserved c =
-    let so_far = c.loop-next.invariant.so_far in
-    record {
-      so_far = (
-        so_far.0 ++ c.loop-next.at ∷ [],
-        list-on _ _ c.requires.tidy c.requires.node _ _ so_far.1 _ c.in-Some.ensures.next,
-        one-more (is_with c.args.tree.now (is_held c.args.named.now)) so_far.0 c.loop-next.at so_far.2 c.in_ok-consider_moved.ensures,
-      );
-    }
-
-pub returns-in-None : goal.returns-in-None
-returns-in-None c =
-    let so_far = c.loop-next.invariant.so_far in
-    less (λ m passes. ap (λ ns. is_with_among c.args.tree.now (is_held c.args.named.now) ns m) (list-last _ _ c.requires.tidy c.requires.node _ _ so_far.1 c.in-None.ensures.next) ∙ passes)
-    (one-more (is_with c.args.tree.now (is_held c.args.named.now)) so_far.0 c.loop-next.at so_far.2 c.in_ok-consider_moved.ensures)
+pub returns : goal.returns
+returns c =
+    on_ok_weaker c.consider_each.result
+    (λ all. less (λ n passes. passes) (both c.in_ok-consider_near.ensures.some (all (order_of c.args.tree.now c.args.n) (listed-nodes c.args.tree.now c.args.n c.requires.tidy c.requires.node (order_of c.args.tree.now c.args.n) refl))))
+    c.consider_each.ensures
