@@ -1,5 +1,5 @@
 -- What the status of a run says of the bytes that it took and wrote.
-use Rattle.std.specs.Prelude.{ℕ, ◌≡◌, ◌≤◌, ◌<◌, ◌⊎◌, Bool, true, List, [], length, Option, Some, None, Result, Ok, Err}
+use Rattle.std.specs.Prelude.{ℕ, ◌≡◌, ◌≤◌, ◌<◌, ◌⊎◌, Bool, true, false, List, [], length, Option, Some, None, Result, Ok, Err}
 use Rattle.std.specs.Io.KnownBytes.{Consumes, Appends, IsAtEnd}
 use Rattle.ce_base.specs.Faults.{Rose}
 use Rattle.ce_base.specs.Outside.{IsPrefix}
@@ -71,7 +71,7 @@ abbrev pub Row : ReadStatus → BodyType → Call → Type 0
 Row Done body_type call = ReadsAll call × IsListed body_type call.taken call.written
 Row Refused body_type call = ReadsAll call × IsRefused body_type call.taken call.written
 Row Usage body_type call = ⊥
-Row ReadFault body_type call = Rose call.source_before call.source_now × (length call.taken ≤ limit) × (call.written ≡ [])
+Row ReadFault body_type call = Rose call.source_before call.source_now × (length call.taken ≤ limit) × (call.ended ≡ false) × (call.written ≡ [])
 Row WriteFault body_type call = ReadsAll call × Rose call.sink_before call.sink_now × IsFront body_type call.taken call.written
 Row NoMemory body_type call = (length call.taken ≤ limit) × ((call.written ≡ []) ⊎ (ReadsAll call × IsFront body_type call.taken call.written))
 Row TooLong body_type call = (limit < length call.taken) × (call.written ≡ [])

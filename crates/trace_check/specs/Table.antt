@@ -1,5 +1,5 @@
 -- What the status of a check says of the bytes that it took and wrote.
-use Rattle.std.specs.Prelude.{ℕ, ◌≡◌, ◌≤◌, ◌<◌, ◌⊎◌, Bool, true, List, [], length, Result, Ok, Err}
+use Rattle.std.specs.Prelude.{ℕ, ◌≡◌, ◌≤◌, ◌<◌, ◌⊎◌, Bool, true, false, List, [], length, Result, Ok, Err}
 use Rattle.std.specs.Io.KnownBytes.{Consumes, Appends, IsAtEnd}
 use Rattle.std.specs.declared.option.Option.{Option}
 use Rattle.ce_base.specs.Faults.{Rose}
@@ -63,7 +63,7 @@ abbrev pub Row : CheckStatus → Call → Type 0
 Row Lawful call = (n : ℕ) × Judges (Yes n) call × (call.written ≡ line_of (Yes n))
 Row Unlawful call = (n : ℕ) × Judges (No n) call × (call.written ≡ line_of (No n))
 Row Usage call = (call.taken ≡ []) × (call.written ≡ [])
-Row ReadFault call = Rose call.source_before call.source_now × (length call.taken ≤ limit) × (call.written ≡ [])
+Row ReadFault call = Rose call.source_before call.source_now × (length call.taken ≤ limit) × (call.ended ≡ false) × (call.written ≡ [])
 Row WriteFault call = Rose call.sink_before call.sink_now × WritesPart call
 Row NoMemory call = (length call.taken ≤ limit) × ((call.written ≡ []) ⊎ WritesPart call)
 Row TooLong call = (limit < length call.taken) × (call.written ≡ [])
@@ -75,7 +75,17 @@ pub record CheckMeets (status : CheckStatus) (left left' held held' : Option (Li
   pub written : List ℕ
   pub took : Consumes left left' taken
   pub wrote : Appends held held' written
-  pub row : Row status (record { taken = taken; written = written; ended = ended; left = left'; source_before = source_before; source_now = source_now; sink_before = sink_before; sink_now = sink_now })
+  pub row : Row status
+      (record {
+        taken = taken;
+        written = written;
+        ended = ended;
+        left = left';
+        source_before = source_before;
+        source_now = source_now;
+        sink_before = sink_before;
+        sink_now = sink_now;
+      })
 
 -- the trace was judged, and the verdict told, whole; or memory was refused
 abbrev pub ChecksWhole : List ℕ → CheckStatus → Option (List ℕ) → Option (List ℕ) → Type 0
