@@ -1,5 +1,5 @@
 // Entry lists as bodies of requests.
-use crate::rows::{same, sides};
+use crate::rows::{cut, same, sides};
 use ce_base::{Entries, Entry, Text};
 use std::alloc::{AllocError, Global};
 use std::process::Abort;
@@ -58,7 +58,7 @@ fn body_of(alloc: Global, encoding: &str, list: &Entries) -> Result<Text, PartRe
 
 fn same_body(rt: &impl Abort, alloc: Global, row: &str) -> Result<(), Fail> {
     let (step, want) = sides(row);
-    let (encoding, words) = step.split_once(' ').unwrap_or((step, ""));
+    let (encoding, words) = cut(step, " ");
     match body_of(alloc, encoding, &list_of(alloc, words)?) {
         Ok(body) => same(rt, body.as_str(), text_of(alloc, want)?.as_str(), step),
         Err(PartRefused::Occurs) => same(rt, "Occurs", want, step),

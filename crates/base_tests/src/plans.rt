@@ -8,7 +8,7 @@ ghost use Rattle.form_owner.specs.declared.touch.Touch.TheVariants.{Attr, Insert
 
 use crate::bodies::text_of;
 use crate::calls::{element, node};
-use crate::rows::{same, sides};
+use crate::rows::{cut, same, sides};
 use ce_base::{NodeNo, Text};
 use control_state::ControlTable;
 use element_internals::InternalsTable;
@@ -58,7 +58,7 @@ fn set(
     requires kind { kind_at tree.old n ≡ ElementKind }
     ensures { OnOk result (StoodBefore owners.now (Attr n) tree.new) }
 {
-    let (name, value) = word.split_once('=').unwrap_or((word, ""));
+    let (name, value) = cut(word, "=");
     let name = text_of(alloc, name)?;
     let value = text_of(alloc, value)?;
     tree.set_attr(alloc, n, name, value)?;
@@ -106,7 +106,7 @@ fn add(
     requires { StandsFor owners.old tree.old }
     ensures { OnOk result (StandsFor owners.new tree.new) }
 {
-    let (local, attributes) = words.split_once(' ').unwrap_or((words, ""));
+    let (local, attributes) = cut(words, " ");
     make(alloc, tree, owners, local)?;
     for word in attributes.split_whitespace() {
         let n = element(rt, tree, tree.count());
@@ -147,7 +147,7 @@ fn grow(
     requires { StandsFor owners.old tree.old }
     ensures { OnOk result (StandsFor owners.new tree.new) }
 {
-    let (form, children) = words.split_once(" | ").unwrap_or((words, ""));
+    let (form, children) = cut(words, " | ");
     add(rt, alloc, tree, owners, 1, "html")?;
     add(rt, alloc, tree, owners, 2, form)?;
     add_all(rt, alloc, tree, owners, children)

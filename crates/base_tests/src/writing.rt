@@ -5,6 +5,7 @@ ghost use Rattle.std.specs.Prelude.{◌≡◌, IfOk};
 ghost use Rattle.rule_lines.specs.Acts.{Declares, On, act_of, line_of};
 ghost use Rattle.rule_script.specs.Canonical.{CanBeSpelled};
 
+use crate::rows::same;
 use ce_base::Text;
 use rule_lines::{Action, ClassPart, Line};
 use rule_script::{read_line, write_line};
@@ -76,16 +77,25 @@ fn again(alloc: Global, line: &str) -> Result<Text, Fail> {
 }
 
 // Sees that each line is written as the canonical one behind the `=>`, or as it stands, and the canonical one as it stands.
+// A line, and how it is written; as it stands where a row has one side.
+fn line_and_form(row: &str) -> (&str, &str) {
+    match row.split_once(" => ") {
+        Some(sides) => sides,
+        None => (row, row),
+    }
+}
+
+fn compare_row(rt: &impl Abort, alloc: Global, row: &str) -> Result<(), Fail> {
+    let (line, canonical) = line_and_form(row);
+    let text = again(alloc, line)?;
+    same(rt, text.as_str(), canonical, line);
+    same(rt, again(alloc, text.as_str())?.as_str(), canonical, line);
+    Ok(())
+}
+
 fn compare(rt: &impl Abort, alloc: Global, rows: &str) -> Result<(), Fail> {
     for row in rows.lines() {
-        let (line, canonical) = row.split_once(" => ").unwrap_or((row, row));
-        let text = again(alloc, line)?;
-        assert_eq!(rt; text.as_str(), canonical, "at {line}");
-        assert_eq!(rt;
-            again(alloc, text.as_str())?.as_str(),
-            canonical,
-            "again at {line}"
-        );
+        compare_row(rt, alloc, row)?;
     }
     Ok(())
 }
