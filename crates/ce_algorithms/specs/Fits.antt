@@ -8,7 +8,8 @@ use Rattle.form_controls.specs.Kinds.{is_a, is_button, is_text_control, is_ticka
 use Rattle.form_controls.specs.Owners.{is_listed_native}
 use Rattle.ce_algorithms.specs.declared.fit.Fit.{Fit}
 use Rattle.ce_algorithms.specs.declared.fit.Fit.TheVariants.{Any, Element, Document, ElementOrText, Form, Listed, ListedNative, Submittable}
-use Rattle.ce_algorithms.specs.declared.fit.Fit.TheVariants.{SubmittableOrOption, TextControl, Tickable, AnOption, Button, FormAssociated, CustomFormAssociated, WithInternals}
+use Rattle.ce_algorithms.specs.declared.fit.Fit.TheVariants.{SubmittableOrOption, TextControl, Tickable, AnOption, Button}
+use Rattle.ce_algorithms.specs.declared.fit.Fit.TheVariants.{FormAssociated, CustomFormAssociated, WithInternals}
 use Rattle.ce_algorithms.specs.Page.{Page, definition_of}
 use Rattle.ce_algorithms.specs.Forms.{is_custom_form_associated, is_form_associated, is_listed, is_submittable}
 

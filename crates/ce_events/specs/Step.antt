@@ -4,7 +4,8 @@ use Rattle.rule_tokens.specs.declared.callback.CallName.{CallName}
 use Rattle.rule_tokens.specs.declared.callback.CallName.TheVariants as names
 use Rattle.rule_tokens.specs.declared.callback.CallOrUpgrade.{CallOrUpgrade}
 use Rattle.ce_events.specs.declared.event.Event.{Event}
-use Rattle.ce_events.specs.declared.event.Event.TheVariants.{Connected, Disconnected, Adopted, Attribute, FormAssociated, FormDisabled, FormReset, FormStateRestore, Fine}
+use Rattle.ce_events.specs.declared.event.Event.TheVariants.{Connected, Disconnected, Adopted, Attribute, FormAssociated}
+use Rattle.ce_events.specs.declared.event.Event.TheVariants.{FormDisabled, FormReset, FormStateRestore, Fine}
 use Rattle.ce_events.specs.declared.event.Event.TheVariants.{Gave, Answered, Ignored, Threw, WasBad, FuelLine, QueueOpened, Enqueued, DrainBegun}
 use Rattle.ce_events.specs.declared.event.Event.TheVariants.{Started, Finished, Dropped, QueueClosed, UpgradeBegun, UpgradeDone, UpgradeThrew}
 

@@ -8,9 +8,12 @@ use Rattle.ce_events.specs.declared.event.Answer.TheVariants.{Null, One, Many, N
 use Rattle.ce_events.specs.declared.event.Cause.{Cause}
 use Rattle.ce_events.specs.declared.event.Cause.TheVariants.{Invalid}
 use Rattle.ce_events.specs.declared.event.Event.{Event}
-use Rattle.ce_events.specs.declared.event.Event.TheVariants.{Construct, Connected, Disconnected, Adopted, Attribute, FormAssociated, FormDisabled, FormReset, FormStateRestore, Logged, Caught}
-use Rattle.ce_events.specs.declared.event.Event.TheVariants.{Reported, Asked, SubmitGet, SubmitPost, SubmitBlocked, Fine, Gave, Answered, Ignored, Threw, WasBad}
-use Rattle.ce_events.specs.declared.event.Event.TheVariants.{FuelLine, QueueOpened, Enqueued, DrainBegun, Started, Finished, Dropped, QueueClosed, UpgradeBegun, UpgradeDone, UpgradeThrew}
+use Rattle.ce_events.specs.declared.event.Event.TheVariants.{Construct, Connected, Disconnected, Adopted, Attribute}
+use Rattle.ce_events.specs.declared.event.Event.TheVariants.{FormAssociated, FormDisabled, FormReset, FormStateRestore, Logged, Caught}
+use Rattle.ce_events.specs.declared.event.Event.TheVariants.{Reported, Asked, SubmitGet, SubmitPost, SubmitBlocked}
+use Rattle.ce_events.specs.declared.event.Event.TheVariants.{Fine, Gave, Answered, Ignored, Threw, WasBad}
+use Rattle.ce_events.specs.declared.event.Event.TheVariants.{FuelLine, QueueOpened, Enqueued, DrainBegun, Started, Finished}
+use Rattle.ce_events.specs.declared.event.Event.TheVariants.{Dropped, QueueClosed, UpgradeBegun, UpgradeDone, UpgradeThrew}
 use Rattle.ce_events.specs.Text.{event_text}
 
 abbrev pub IsNumber : ℕ → Type 0

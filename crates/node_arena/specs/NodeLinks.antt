@@ -13,7 +13,9 @@ abbrev pub facts_of : Node → Facts
 facts_of n = record { kind = n.kind; local = text_in n.local; is_value = n.is_value; chars = text_in n.chars; attributes = n.attributes; document = n.document }
 
 abbrev pub link_from : Node → Link
-link_from n = record { facts = facts_of n; parent = n.parent; host = n.host; shadow = option_to_list n.shadow; first = n.first; last = n.last; previous = n.previous; next = n.next }
+link_from n = record {
+    facts = facts_of n; parent = n.parent; host = n.host; shadow = option_to_list n.shadow; first = n.first; last = n.last;
+    previous = n.previous; next = n.next }
 
 abbrev pub links : List Node → List Link
 links nodes = map link_from nodes

@@ -22,10 +22,11 @@ use std::alloc::Global;
 /// is written. Then the status is Done or Fuel, or one of the two last ones below.
 ///
 /// Usage comes exactly where the words are refused, unless memory is refused before that is known. The others speak of
-/// the lines that count: all lines where the source gave its end within 16,777,216 bytes, else the whole lines within them. Done: the source gave its end within
-/// them, the fuel sufficed, and no line was refused. BadLines: the same, but some line was refused. Fuel: a unit of
-/// fuel was wanted, and none was left. ReadFault: a read failed, and the source's count of faults rose. TooLong: the
-/// source gave more bytes. With each of these the transcript of the lines that count was written whole.
+/// the lines that count: all lines where the source gave its end within 16,777,216 bytes, else the whole lines within
+/// them. Done: the source gave its end within them, the fuel sufficed, and no line was refused. BadLines: the same, but
+/// some line was refused. Fuel: a unit of fuel was wanted, and none was left. ReadFault: a read failed, and the source's
+/// count of faults rose. TooLong: the source gave more bytes. With each of these the transcript of the lines that count
+/// was written whole.
 ///
 /// WriteFault: a write failed, and the sink's count of faults rose. NoMemory: memory was refused. With both a front of
 /// that transcript was written.
