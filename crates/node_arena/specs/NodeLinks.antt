@@ -14,8 +14,15 @@ facts_of n = record { kind = n.kind; local = text_in n.local; is_value = n.is_va
 
 abbrev pub link_from : Node → Link
 link_from n = record {
-    facts = facts_of n; parent = n.parent; host = n.host; shadow = option_to_list n.shadow; first = n.first; last = n.last;
-    previous = n.previous; next = n.next }
+  facts = facts_of n;
+  parent = n.parent;
+  host = n.host;
+  shadow = option_to_list n.shadow;
+  first = n.first;
+  last = n.last;
+  previous = n.previous;
+  next = n.next;
+}
 
 abbrev pub links : List Node → List Link
 links nodes = map link_from nodes

@@ -25,8 +25,15 @@ link_code =
     (coded× (coded_option coded_ℕ) (coded× (coded_option coded_ℕ) (coded× (coded_option coded_ℕ) (coded_option coded_ℕ))))))))
     (λ l. (l.facts, (l.parent, (l.host, (l.shadow, (l.first, (l.last, (l.previous, l.next))))))))
     (λ p. record {
-        facts = p.0; parent = p.1.0; host = p.1.1.0; shadow = p.1.1.1.0; first = p.1.1.1.1.0; last = p.1.1.1.1.1.0;
-        previous = p.1.1.1.1.1.1.0; next = p.1.1.1.1.1.1.1 }) (λ _. refl)
+      facts = p.0;
+      parent = p.1.0;
+      host = p.1.1.0;
+      shadow = p.1.1.1.0;
+      first = p.1.1.1.1.0;
+      last = p.1.1.1.1.1.0;
+      previous = p.1.1.1.1.1.1.0;
+      next = p.1.1.1.1.1.1.1;
+    }) (λ _. refl)
 
 Rises-prop : (low : ℕ) (f : Trees) → IsProp (Rises low f)
 Rises-prop low none = Unit-prop
