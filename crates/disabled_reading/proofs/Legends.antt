@@ -17,7 +17,7 @@ use Rattle.disabled_reading.proofs.Ways.{child-on-way}
 
 -- ---- what is found among the children
 
-find-among : (p : ℕ → Bool) (xs : List ℕ) (l : ℕ) → find p xs ≡ Some l → is_among l xs ≡ true
+pub find-among : (p : ℕ → Bool) (xs : List ℕ) (l : ℕ) → find p xs ≡ Some l → is_among l xs ≡ true
 find-among p [] l e = absurd cc
 find-among p (x ∷ xs) l e = grind (arith, nat_tests, find-among p xs l)
 

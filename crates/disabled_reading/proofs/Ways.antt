@@ -1,5 +1,6 @@
 -- The way up from a node: the node and its ancestors.
-use Rattle.std.proofs.Common.{◌≡◌, ℕ, true, not, ◌<◌, ◌&&◌, ◌==◌, List, [], ◌∷◌, Option, Some, None, refl, ap, sym, arith, length}
+use Rattle.std.proofs.Common.{◌≡◌, ℕ, Bool, true, false, not, ◌<◌, ◌&&◌, ◌==◌, List, [], ◌∷◌, Option, Some, None, inl, inr, refl, ap, sym, subst, ◌∙◌, arith, length}
+use Rattle.std.proofs.lemmas.Bool.{cases_eq}
 use Rattle.std.proofs.lemmas.Bool.Decides.{nat_tests}
 use Rattle.node_trees.specs.Trees.{Trees}
 use Rattle.node_trees.specs.Nodes.{IsNode, IsTidy}
@@ -25,6 +26,22 @@ above-is_way f (x ∷ xs) n tidy node e = by_parent (parent_at f n) refl (λ p. 
         let here : p ≡ x = cc in
         let above : ancestors f p ≡ xs = cc in
         (cc, more p (parent-above f n p tidy node up).is_node above)
+
+above-nodes : (f : Trees) (xs : List ℕ) (n a : ℕ) → IsTidy f → IsNode f n → ancestors f n ≡ xs → is_among a xs ≡ true → IsNode f a
+above-nodes f [] n a tidy node e among = absurd cc
+above-nodes f (x ∷ xs) n a tidy node e among = by_parent (parent_at f n) refl (λ p. above-nodes f xs p a tidy)
+  where
+    by_parent : (o : Option ℕ) → parent_at f n ≡ o → ((p : ℕ) → IsNode f p → ancestors f p ≡ xs → is_among a xs ≡ true → IsNode f a) → IsNode f a
+    by_parent None top more = absurd (let it = ancestors-top f n tidy node top in cc)
+    by_parent (Some p) up more =
+        let it = ancestors-up f n tidy node p up in
+        let here : p ≡ x = cc in
+        let above : ancestors f p ≡ xs = cc in
+        let p_node = (parent-above f n p tidy node up).is_node in
+        elim (cases_eq x a) [
+          | inl same ↦ subst (IsNode f) (here ∙ same) p_node
+          | inr other ↦ more p p_node above (grind (arith, nat_tests, other, among))
+        ]
 
 -- what stands on a way has less above it than the way is long
 way-less : (f : Trees) (xs : List ℕ) (a : ℕ) → IsWay f xs → is_among a xs ≡ true → length (ancestors f a) < length xs
@@ -56,3 +73,14 @@ module _ (f : Trees) (n : ℕ) (tidy : IsTidy f) (node : IsNode f n) where
   child-on-way child other among same =
       let both : is_among other (ancestors f n) ≡ true → other ≡ child = λ h. way-one f (n ∷ ancestors f n) other child way (grind (arith, nat_tests)) among same in
       grind (arith, nat_tests, both, ap length same, way-less f (ancestors f n) other way.1)
+
+  -- what is above n are nodes, and n is not among them
+  pub above-node : (a : ℕ) → is_among a (ancestors f n) ≡ true → IsNode f a
+  above-node a = above-nodes f (ancestors f n) n a tidy node refl
+
+  pub above-apart : is_among n (ancestors f n) ≡ false
+  above-apart = not_both _ (way-less f (ancestors f n) n way.1)
+    where
+      not_both : (b : Bool) → (b ≡ true → length (ancestors f n) < length (ancestors f n)) → b ≡ false
+      not_both true less = absurd (omega (arith, less refl))
+      not_both false less = refl

@@ -31,7 +31,7 @@ fn first_legend(tree: &Tree, fieldset: NodeNo) -> Option<NodeNo>
 }
 
 /// Whether a child of a fieldset is the first legend among its children. These are gone through only where it is a legend.
-fn is_first_legend(tree: &Tree, child: NodeNo, fieldset: NodeNo) -> bool
+pub fn is_first_legend(tree: &Tree, child: NodeNo, fieldset: NodeNo) -> bool
     requires tidy { IsTidy tree.now }
     requires child { IsNode tree.now child }
     requires fieldset { IsNode tree.now fieldset }

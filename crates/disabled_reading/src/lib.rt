@@ -4,4 +4,4 @@
 
 mod disabled;
 
-pub use disabled::disabled_of;
+pub use disabled::{disabled_of, is_first_legend};

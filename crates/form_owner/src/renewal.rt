@@ -1,13 +1,15 @@
 // Rows that are read off the tree anew.
-ghost use Rattle.std.specs.Prelude.{◌≡◌, ◌<◌, ◌-◌, ◌++◌, ◌∷◌, [], All, ℕ, false, if◌then◌else◌, length, IfOk, OnOk};
+ghost use Rattle.std.specs.Prelude.{◌≡◌, ◌<◌, ◌-◌, ◌++◌, ◌∷◌, [], All, ℕ, false, if◌then◌else◌, length, nat_eq, IfOk, OnOk};
+ghost use Rattle.std.specs.Bool.{beq};
+ghost use Rattle.std.specs.Option.{option_eq};
 ghost use Rattle.std.specs.List.Sorted.{IsStrictlyIncreasing};
 ghost use Rattle.node_trees.specs.Nodes.{IsNode, IsTidy, size};
 ghost use Rattle.node_trees.specs.Paths.{is_among};
-ghost use Rattle.form_controls.specs.Changes.{is_change, numbers};
+ghost use Rattle.form_controls.specs.Changes.{is_change, numbers, where_new};
 ghost use Rattle.form_controls.specs.declared.change.Change.{Change};
-ghost use Rattle.owner_rows.specs.OwnerRow.{row_in, row_of};
+ghost use Rattle.owner_rows.specs.OwnerRow.{row_of};
 ghost use Rattle.form_owner.specs.Reading.{change_read, changes_read};
-ghost use Rattle.form_owner.specs.Writing.{AreRenewed, ListsStood, Written, with_changes, with_told};
+ghost use Rattle.form_owner.specs.Writing.{AreRenewed, ListsStood};
 
 use crate::controls::list_controls;
 use crate::involved::involved;
@@ -15,35 +17,33 @@ use crate::moving::move_each;
 use crate::node_list::node_at;
 use crate::writing::write_all;
 use crate::{Change, Changes};
+use above_reading::{Reading, Readings};
 use ce_base::{NoMemory, NodeNo, Nodes};
-use disabled_reading::disabled_of;
 use node_arena::Tree;
-use owner_reading::owner_of;
 use owner_rows::{Row, associated_in, disabled_in, owner_in};
 use std::alloc::Global;
 
-/// How many changes are few: with more of them a form's list is made anew by a walk of its tree, since each that comes to a
-/// long list shifts what is behind it.
+/// How many nodes are few. Of more candidates what stands above them is read once; with more changes a form's list is made anew
+/// by a walk of its tree, since each that comes to a long list shifts what is behind it.
 const FEW: usize = 16;
 
-/// What differs for a node between its row and the tree.
-fn change_at(tree: &Tree, rows: &[Row], n: NodeNo) -> Change
-    requires tidy { IsTidy tree.now }
-    requires node { IsNode tree.now n }
-    ensures { result ≡ change_read tree.now rows.now n }
+/// What differs for a node between its row and what was read of it.
+fn change_to(rows: &[Row], n: NodeNo, reading: &Reading) -> Change
+    ensures { result ≡ record {
+      node = n;
+      owner = where_new (option_eq nat_eq) (row_of rows.now n).owner reading.now.owner;
+      disabled = where_new beq (row_of rows.now n).disabled reading.now.disabled;
+    } }
 {
-    let associated = associated_in(rows, n);
-    let disabled = disabled_of(tree, n, associated);
-    let owner = owner_of(tree, n, associated);
-    let new_owner = if owner_in(rows, n) == owner {
+    let new_owner = if owner_in(rows, n) == reading.owner {
         None
     } else {
-        Some(owner)
+        Some(reading.owner)
     };
-    let new_disabled = if disabled_in(rows, n) == disabled {
+    let new_disabled = if disabled_in(rows, n) == reading.disabled {
         None
     } else {
-        Some(disabled)
+        Some(reading.disabled)
     };
     Change {
         node: n,
@@ -74,9 +74,11 @@ fn changes_among(
     ensures { IfOk result (λ cs. cs ≡ changes_read tree.now rows.now candidates.now) }
 {
     let mut changes = Changes::make(alloc);
+    let mut readings = Readings::make(alloc, candidates.len() <= FEW);
     for i in 0..candidates.len() {
         let n = node_at(tree, candidates, i);
-        let change = change_at(tree, rows, n);
+        let reading = readings.read(alloc, tree, n, associated_in(rows, n))?;
+        let change = change_to(rows, n, &reading);
         keep(&mut changes, change)?;
     }
     Ok(changes)

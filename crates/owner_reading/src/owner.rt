@@ -1,7 +1,8 @@
 // The form owner of an element, read off the tree.
 ghost use Rattle.std.specs.Prelude.{◌≡◌};
+ghost use Rattle.node_trees.specs.Ids.{first_with_id};
 ghost use Rattle.node_trees.specs.Nodes.{IsNode, IsTidy};
-ghost use Rattle.form_controls.specs.Owners.{is_listed_native, named_form, nearest_form};
+ghost use Rattle.form_controls.specs.Owners.{is_listed_native, nearest_form, where_form};
 ghost use Rattle.owner_reading.specs.Owners.{listed_by, owner_with};
 
 use ce_base::NodeNo;
@@ -47,12 +48,12 @@ fn nearest_form(tree: &Tree, n: NodeNo) -> Option<NodeNo>
     None
 }
 
-/// The first element of a node's tree that has this ID, where that is a form.
-fn named_form(tree: &Tree, n: NodeNo, id: &str) -> Option<NodeNo>
-    requires { IsNode tree.now n }
-    ensures { result ≡ named_form tree.now n id.now }
+/// The first element of a root's tree that has this ID, where that is a form.
+pub fn named_form(tree: &Tree, root: NodeNo, id: &str) -> Option<NodeNo>
+    requires { IsNode tree.now root }
+    ensures { result ≡ where_form tree.now (first_with_id tree.now root id.now) }
 {
-    match tree.first_with_id(tree.root(n), id) {
+    match tree.first_with_id(root, id) {
         None => None,
         Some(first) => {
             if is_a(tree, first, Native::Form) {
@@ -77,7 +78,7 @@ pub fn owner_of(tree: &Tree, n: NodeNo, associated: bool) -> Option<NodeNo>
         None => nearest_form(tree, n),
         Some(id) => {
             if tree.is_connected(n) {
-                named_form(tree, n, id)
+                named_form(tree, tree.root(n), id)
             } else {
                 nearest_form(tree, n)
             }

@@ -1,0 +1,12 @@
+//! The form owners and the disabled states of many nodes, read off the tree: what stands above a node is read once, and handed
+//! down (HTML Standard, sections "Association of controls and forms", "Enabling and disabling form controls: the disabled
+//! attribute").
+#![tactic(auto)]
+
+mod above;
+mod known;
+mod readings;
+
+pub use above::Above;
+pub use known::Known;
+pub use readings::{Reading, Readings};
