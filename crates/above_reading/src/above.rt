@@ -9,22 +9,22 @@ ghost use Rattle.form_controls.specs.Kinds.{is_a};
 ghost use Rattle.above_reading.specs.Above.{above_at};
 
 use ce_base::NodeNo;
-use disabled_reading::is_first_legend;
+use disabled_reading::{is_disabled_fieldset, is_first_legend};
 use element_names::Native;
-use form_kinds::{has_disabled, is_a};
+use form_kinds::is_a;
 use node_arena::Tree;
 
 /// What stands above a node, as forms are about it.
 #[derive(Clone, Copy)]
-pub struct Above {
+pub(crate) struct Above {
     /// The nearest form above it.
-    pub form: Option<NodeNo>,
+    pub(crate) form: Option<NodeNo>,
     /// Whether a fieldset above it disables it.
-    pub inside: bool,
+    pub(crate) inside: bool,
     /// Whether a fieldset above it disables what is below it: not where it is the first legend of that, or in it.
-    pub below: bool,
+    pub(crate) below: bool,
     /// The root of its tree.
-    pub root: NodeNo,
+    pub(crate) root: NodeNo,
 }
 
 /// What stands above a root.
@@ -52,14 +52,6 @@ fn form_from(tree: &Tree, n: NodeNo, above: Option<NodeNo>) -> Option<NodeNo>
         return Some(n);
     }
     above
-}
-
-/// Whether a node is a fieldset with `disabled`.
-fn is_disabled_fieldset(tree: &Tree, n: NodeNo) -> bool
-    requires { IsNode tree.now n }
-    ensures { result ≡ (is_a Fieldset tree.now n && has_disabled tree.now n) }
-{
-    is_a(tree, n, Native::Fieldset) && has_disabled(tree, n)
 }
 
 /// Whether a node is in a disabled fieldset, given its parent, and whether something above that disables what is below.

@@ -13,7 +13,7 @@ use std::collections::BTreeMap;
 
 /// What stands above some nodes, by their numbers.
 #[derive(Drop)]
-pub struct Known {
+pub(crate) struct Known {
     items: BTreeMap<u64, Above>,
 }
 

@@ -7,6 +7,4 @@ mod above;
 mod known;
 mod readings;
 
-pub use above::Above;
-pub use known::Known;
 pub use readings::{Reading, Readings};

@@ -1,10 +1,12 @@
 // Whether an element is disabled, read off the tree.
-ghost use Rattle.std.specs.Prelude.{◌≡◌, ◌∷◌, Some, true};
+ghost use Rattle.std.specs.Prelude.{◌≡◌, ◌∷◌, ◌&&◌, Some, true};
+ghost use Rattle.element_names.specs.declared.natives.Native.TheVariants.{Fieldset};
 ghost use Rattle.node_trees.specs.Nodes.{IsNode, IsTidy};
 ghost use Rattle.node_trees.specs.Paths.{is_among};
 ghost use Rattle.node_trees.specs.Spots.{parent_at};
 ghost use Rattle.node_trees.specs.Trees.{is_number};
-ghost use Rattle.form_controls.specs.Disabled.{disables, first_legend, is_in_disabled_fieldset};
+ghost use Rattle.form_controls.specs.Disabled.{disables, first_legend, has_disabled, is_in_disabled_fieldset};
+ghost use Rattle.form_controls.specs.Kinds.{is_a};
 ghost use Rattle.form_controls.specs.Owners.{ancestors};
 ghost use Rattle.disabled_reading.specs.Disabled.{disabled_with};
 
@@ -40,6 +42,14 @@ pub fn is_first_legend(tree: &Tree, child: NodeNo, fieldset: NodeNo) -> bool
     is_a(tree, child, Native::Legend) && first_legend(tree, fieldset) == Some(child)
 }
 
+/// Whether a node is a fieldset with `disabled`.
+pub fn is_disabled_fieldset(tree: &Tree, n: NodeNo) -> bool
+    requires { IsNode tree.now n }
+    ensures { result ≡ (is_a Fieldset tree.now n && has_disabled tree.now n) }
+{
+    is_a(tree, n, Native::Fieldset) && has_disabled(tree, n)
+}
+
 /// Whether what is above a node is a fieldset that disables it (HTML Standard, section "The fieldset element"). The way up
 /// comes to it from this child: the node itself, or one above the node.
 fn disables(tree: &Tree, n: NodeNo, child: NodeNo, above: NodeNo) -> bool
@@ -51,7 +61,7 @@ fn disables(tree: &Tree, n: NodeNo, child: NodeNo, above: NodeNo) -> bool
     requires parent { parent_at tree.now child ≡ Some above }
     ensures { result ≡ disables tree.now n above }
 {
-    if !is_a(tree, above, Native::Fieldset) || !has_disabled(tree, above) {
+    if !is_disabled_fieldset(tree, above) {
         return false;
     }
     child == n || !is_first_legend(tree, child, above)

@@ -4,4 +4,4 @@
 
 mod disabled;
 
-pub use disabled::{disabled_of, is_first_legend};
+pub use disabled::{disabled_of, is_disabled_fieldset, is_first_legend};

@@ -22,7 +22,7 @@ pub(crate) enum Look {
     Whole,
     /// Its ID alone: forms are not about the node.
     Id,
-    /// Nothing: forms are not about it, and nobody's `form` attribute is its ID.
+    /// Nothing: forms are not about it, and its ID never was anybody's `form` attribute.
     Nothing,
 }
 
@@ -120,8 +120,8 @@ impl Looks {
     }
 }
 
-/// Whether a node's ID is nobody's `form` attribute, by what was seen, or it has no `id` attribute. Where the text of that is
-/// no ID, since it is empty or no element has it, it is not told.
+/// Whether a node's ID never was anybody's `form` attribute, by what was seen, or it has no `id` attribute. Where the text of
+/// that is no ID, since it is empty or no element has it, it is not told.
 fn is_unnamed(tree: &Tree, named: &IdIndex, n: NodeNo) -> bool
     requires { IsNode tree.now n }
     ensures { result ≡ true → IsUnnamed tree.now (is_known named.now) n }

@@ -29,7 +29,7 @@ fn mind_all(looks: &mut Looks, nodes: &BTreeSet<u64>)
     }
 }
 
-/// From now on the nodes whose ID a text is are looked at, where it was nobody's `form` attribute.
+/// From now on the nodes whose ID a text is are looked at, where it never was anybody's `form` attribute.
 fn mind_text(tree: &Tree, named: &IdIndex, looks: &mut Looks, text: &str)
     ensures less { (i : ℕ) → SaysNoMore (look_at looks.old i) (look_at looks.new i) }
     ensures ids { (i : ℕ) → look_at looks.new i ≡ Nothing → IsUnnamed tree.now (is_known named.now) (i + 1) →

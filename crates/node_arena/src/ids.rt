@@ -1,5 +1,5 @@
 // Elements by their ids.
-ghost use Rattle.std.specs.Prelude.{◌≡◌, ℕ, List, true, false};
+ghost use Rattle.std.specs.Prelude.{◌≡◌, ℕ, List, true, false, IfSome};
 ghost use Rattle.std.specs.BTreeSet.{contains};
 ghost use Rattle.std.specs.Option.{option_map_or};
 ghost use Rattle.std.specs.Ordering.{nat_cmp};
@@ -15,6 +15,9 @@ use ce_base::NodeNo;
 use node_trees::NodeKind;
 use std::collections::BTreeSet;
 
+/// How many steps the search for an ID takes at first, by either way.
+const FIRST_STEPS: u64 = 16;
+
 impl Tree {
     /// The numbers of the nodes that were noted for an ID (DOM Standard, section "Interface Element", "ID"). Each element
     /// whose ID it is is among them, connected or not, and there may be others. None only where no element has the ID.
@@ -27,34 +30,65 @@ impl Tree {
     /// Of the node and what is below it in its own tree, the first element in tree order whose ID this is
     /// (DOM Standard, section "Mixin NonElementParentNode", `getElementById`). An empty text is no ID.
     /// None exactly where there is none.
+    ///
+    /// It is looked for among the nodes that were noted for the ID, and by a walk in tree order, in turns of so many steps
+    /// that double: so it takes no longer than a few times what the shorter way does.
     pub fn first_with_id(&self, root: NodeNo, id: &str) -> Option<NodeNo>
         requires { IsNode self.now root }
         ensures found { result ≡ first_with_id self.now root id.now }
         ensures node { IsNodeOrNone self.now result }
     {
+        let count = self.count();
+        let mut steps: u64 = FIRST_STEPS;
+        while steps < count {
+            if let Some(found) = self.first_held(root, id, steps) {
+                return found;
+            }
+            if let Some(found) = self.first_met(root, id, steps) {
+                return found;
+            }
+            steps = steps.saturating_mul(2);
+        }
+        self.first_walked(root, id)
+    }
+
+    // The same answer from the nodes that were noted for the ID. None where that takes more steps up, or where more than one
+    // in the tree have the ID.
+    fn first_held(&self, root: NodeNo, id: &str, steps: u64) -> Option<Option<NodeNo>>
+        requires { IsNode self.now root }
+        ensures found { IfSome result (λ found. found ≡ first_with_id self.now root id.now) }
+        ensures node { IfSome result (IsNodeOrNone self.now) }
+    {
         let Some(group) = self.ids.group(id) else {
-            return None;
+            return Some(None);
         };
+        let mut left = steps;
         let mut found = None;
         for holder in group {
             let n = NodeNo(*holder);
-            if self.is_holder(n, root, id) {
+            let (is_holder, rest) = self.is_holder(n, root, id, left)?;
+            left = rest.checked_sub(1)?;
+            if is_holder {
                 if found.is_some() {
-                    return self.first_walked(root, id);
+                    return None;
                 }
                 found = Some(n);
             }
         }
-        found
+        Some(found)
     }
 
-    // Whether the number is that of a node with this ID in the tree of `root`.
-    fn is_holder(&self, n: NodeNo, root: NodeNo, id: &str) -> bool
+    // Whether the number is that of a node with this ID in the tree of `root`, and how many of these steps up are left. None
+    // where it takes more.
+    fn is_holder(&self, n: NodeNo, root: NodeNo, id: &str, steps: u64) -> Option<(bool, u64)>
         requires { IsNode self.now root }
-        ensures is { result ≡ is_holder self.now root id.now n }
-        ensures node { result ≡ true → IsNode self.now n }
+        ensures is { IfSome result (λ r. r.0 ≡ is_holder self.now root id.now n) }
+        ensures node { IfSome result (λ r. r.0 ≡ true → IsNode self.now n) }
     {
-        self.is_made(n) && self.has_id(n, id) && self.is_below(n, root)
+        if !self.is_made(n) || !self.has_id(n, id) {
+            return Some((false, steps));
+        }
+        self.is_below(n, root, steps)
     }
 
     // Whether the number is that of a node.
@@ -66,24 +100,47 @@ impl Tree {
         n.0 >= 1 && n.0 <= count
     }
 
-    // Whether the node is `root`, or below it in its own tree.
-    fn is_below(&self, n: NodeNo, root: NodeNo) -> bool
+    // Whether the node is `root`, or below it in its own tree, and how many of these steps up are left. None where it takes
+    // more.
+    fn is_below(&self, n: NodeNo, root: NodeNo, steps: u64) -> Option<(bool, u64)>
         requires node { IsNode self.now n }
         requires root { IsNode self.now root }
-        ensures { result ≡ is_among n (tree_order_of self.now root) }
+        ensures { IfSome result (λ r. r.0 ≡ is_among n (tree_order_of self.now root)) }
     {
         let _count = self.count();
+        let mut left = steps;
         let mut at = n;
         while at != root {
             match self.parent(at) {
                 Some(parent) => at = parent,
-                None => return false,
+                None => return Some((false, left)),
             }
+            left = left.checked_sub(1)?;
         }
-        true
+        Some((true, left))
     }
 
-    // The same answer by a walk in tree order, where more than one in the tree have the ID.
+    // The same answer by a walk in tree order. None where that takes more steps.
+    fn first_met(&self, root: NodeNo, id: &str, steps: u64) -> Option<Option<NodeNo>>
+        requires { IsNode self.now root }
+        ensures found { IfSome result (λ found. found ≡ first_with_id self.now root id.now) }
+        ensures node { IfSome result (IsNodeOrNone self.now) }
+    {
+        let mut left = steps;
+        let mut at = root;
+        loop {
+            if self.has_id(at, id) {
+                return Some(Some(at));
+            }
+            match self.next_in_tree(at, root) {
+                Some(next) => at = next,
+                None => return Some(None),
+            }
+            left = left.checked_sub(1)?;
+        }
+    }
+
+    // The same answer by a walk in tree order to its end.
     fn first_walked(&self, root: NodeNo, id: &str) -> Option<NodeNo>
         requires { IsNode self.now root }
         ensures found { result ≡ first_with_id self.now root id.now }

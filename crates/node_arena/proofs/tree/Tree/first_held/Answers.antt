@@ -2,7 +2,7 @@ use Rattle.std.proofs.Common.{[], refl, sym, ◌∙◌}
 use Rattle.node_arena.specs.Seen.{seen_fact}
 use Rattle.node_arena.proofs.Calls.{covers_all}
 use Rattle.node_arena.proofs.LookUp.{any-among, look-start, look-other, look-found, look-end}
-use Rattle.node_arena.proofs.tree.Tree.first_with_id.Goals as goal
+use Rattle.node_arena.proofs.tree.Tree.first_held.Goals as goal
 
 pub returns-in_default-clause-found : goal.returns-in_default-clause-found
 returns-in_default-clause-found c =
@@ -15,10 +15,10 @@ loop-holder-init c =
 
 pub loop-holder-preserved-then-is_holder : goal.loop-holder-preserved-then-is_holder
 loop-holder-preserved-then-is_holder c =
-    look-found _ _ _ _ _ _ _ c.in-Some-holder.ensures.steps c.loop-holder.invariant (sym c.is_holder.ensures.is ∙ c.if-is_holder.true) (c.is_holder.ensures.node c.if-is_holder.true) (sym c.is_some.ensures ∙ c.if-is_some.false)
+    look-found _ _ _ _ _ _ _ c.in-Some-holder.ensures.steps c.loop-holder.invariant (sym c.in_ok-is_holder.ensures.is ∙ c.if-is_holder.true) (c.in_ok-is_holder.ensures.node c.if-is_holder.true) (sym c.is_some.ensures ∙ c.if-is_some.false)
 
 pub loop-holder-preserved : goal.loop-holder-preserved
-loop-holder-preserved c = look-other _ _ _ _ _ _ _ c.in-Some-holder.ensures.steps c.loop-holder.invariant (sym c.is_holder.ensures.is ∙ c.if-is_holder.false)
+loop-holder-preserved c = look-other _ _ _ _ _ _ _ c.in-Some-holder.ensures.steps c.loop-holder.invariant (sym c.in_ok-is_holder.ensures.is ∙ c.if-is_holder.false)
 
 pub returns-clause-found : goal.returns-clause-found
 returns-clause-found c = look-end _ _ _ _ _ c.in-None.ensures.steps.0 c.loop-holder.invariant
