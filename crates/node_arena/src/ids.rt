@@ -15,8 +15,11 @@ use ce_base::NodeNo;
 use node_trees::NodeKind;
 use std::collections::BTreeSet;
 
-/// How many steps the search for an ID takes at first, by either way.
+/// How many steps the search for an ID takes at first in tree order.
 const FIRST_STEPS: u64 = 16;
+
+/// How many steps up take as long as one in tree order.
+const UP: u64 = 16;
 
 impl Tree {
     /// The numbers of the nodes that were noted for an ID (DOM Standard, section "Interface Element", "ID"). Each element
@@ -32,7 +35,7 @@ impl Tree {
     /// None exactly where there is none.
     ///
     /// It is looked for among the nodes that were noted for the ID, and by a walk in tree order, in turns of so many steps
-    /// that double: so it takes no longer than a few times what the shorter way does.
+    /// that double: so it takes a few times as long as the shorter way, at most.
     pub fn first_with_id(&self, root: NodeNo, id: &str) -> Option<NodeNo>
         requires { IsNode self.now root }
         ensures found { result ≡ first_with_id self.now root id.now }
@@ -41,7 +44,7 @@ impl Tree {
         let count = self.count();
         let mut steps: u64 = FIRST_STEPS;
         while steps < count {
-            if let Some(found) = self.first_held(root, id, steps) {
+            if let Some(found) = self.first_held(root, id, steps.saturating_mul(UP)) {
                 return found;
             }
             if let Some(found) = self.first_met(root, id, steps) {
