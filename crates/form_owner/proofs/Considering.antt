@@ -1,11 +1,10 @@
 -- Nodes that are put into a set.
-use Rattle.std.proofs.Common.{◌≡◌, ◌≢◌, All, ℕ, zero, ◌+◌, ◌<◌, ◌≤◌, ◌==◌, length, Bool, true, false, List, [], ◌∷◌, ◌++◌, take, get_or, Some, refl, sym, ap, ◌∙◌, subst, arith, inl, inr}
-use Rattle.std.specs.Prelude.{not, ◌&&◌, ◌||◌, slice_get}
+use Rattle.std.proofs.Common.{◌≡◌, ℕ, ◌+◌, ◌≤◌, ◌==◌, length, Bool, true, false, List, [], ◌∷◌, ◌++◌, take, get_or, Some, refl, sym, ap, ◌∙◌, subst, arith, inl, inr}
+use Rattle.std.specs.Prelude.{not, ◌&&◌, ◌||◌, nat_le, nat_lt, slice_get}
 use Rattle.std.specs.List.{list_any}
 use Rattle.std.proofs.lemmas.Bool.{cases_eq}
 use Rattle.std.proofs.lemmas.Bool.Decides.{nat_tests}
 use Rattle.std.proofs.lemmas.List.{take_more, take_all}
-use Rattle.std.proofs.lemmas.List.Elements.{All-head, All-tail}
 use Rattle.std.proofs.lemmas.Option.{get_or_from_slice_get, slice_get_within}
 use Rattle.node_trees.specs.Trees.{Trees}
 use Rattle.node_trees.specs.Nodes.{IsNode, size}
@@ -121,31 +120,19 @@ module _ {forest : Trees} {about : ℕ → Bool} where
 
 -- by number, as far as n
 
-pub record AsFar (forest : Trees) (about : ℕ → Bool) (by : ℕ → ℕ → Bool) (n : ℕ) (old new : List ℕ) : Type 0 where
-  pub some : Considers forest about (λ m. false) old new
-  pub each : (m : ℕ) → 0 < m → m ≤ n → Considers forest about (by m) old new
+abbrev pub is_up_to : ℕ → ℕ → Bool
+is_up_to n m = nat_lt 0 m && nat_le m n
 
-module _ {forest : Trees} {about : ℕ → Bool} (by : ℕ → ℕ → Bool) where
-  -- those of two tests, at once
-  either : {one two : ℕ → Bool} {old new : List ℕ} → Considers forest about one old new → Considers forest about two old new → Considers forest about (λ n. one n || two n) old new
-  either {one} {two} {old} {new} first second = record { nodes = first.nodes; kept = first.kept; found = λ n node is passes. by_test n node is (one n) refl passes }
-    where
-      by_test : (n : ℕ) → IsNode forest n → about n ≡ true → (b : Bool) → one n ≡ b → (b || two n) ≡ true → is_among n new ≡ true
-      by_test n node is true e passes = first.found n node is e
-      by_test n node is false e passes = second.found n node is passes
+module _ {forest : Trees} {about : ℕ → Bool} where
+  pub far-start : (set : List ℕ) → Considers forest about (is_up_to 0) set set
+  far-start set = nothing (is_up_to 0) set (λ m is. grind (arith, nat_tests))
 
-  pub far-start : (set : List ℕ) → AsFar forest about by 0 set set
-  far-start set = record { some = nothing (λ m. false) set (λ n is. refl); each = λ m low high. absurd (omega (arith, low, high)) }
+  pub far-on : (n : ℕ) {old mid new : List ℕ} → Considers forest about (is_up_to n) old mid → Considers forest about (λ m. n + 1 == m) mid new → Considers forest about (is_up_to (n + 1)) old new
+  far-on n so_far more = less (λ m passes. grind (arith, nat_tests, passes)) (both so_far more)
 
-  pub far-on : (n : ℕ) {old mid new : List ℕ} → AsFar forest about by n old mid → Considers forest about (by (n + 1)) mid new → AsFar forest about by (n + 1) old new
-  far-on n {old} {mid} {new} so_far more = record {
-    some = less (λ m e. absurd cc) (both so_far.some more);
-    each = λ m low high. elim (cases_eq m (n + 1)) [
-      | inl same ↦ subst (λ k. Considers forest about (by k) old new) (sym same) (less (λ x passes. passes) (both so_far.some more))
-      | inr other ↦ less (λ x passes. grind (arith, passes)) (both (so_far.each m low (let ne : m ≢ n + 1 = other in omega (arith, high, ne))) more)
-    ];
+  pub far-all : (n : ℕ) {old new : List ℕ} → n ≡ size forest → Considers forest about (is_up_to n) old new → Considers forest about (λ m. true) old new
+  far-all n whole all = record {
+    nodes = all.nodes;
+    kept = all.kept;
+    found = λ m node is passes. all.found m node is (let low = node.low in let high = node.high in grind (arith, nat_tests, low, high, whole));
   }
-
-  pub far-all : {old new : List ℕ} → AsFar forest about by (size forest) old new → (ns : List ℕ) → All (IsNode forest) ns → Considers forest about (λ x. list_any (λ j. by j x) ns) old new
-  far-all all [] nodes = less (λ x passes. passes) all.some
-  far-all all (j ∷ js) nodes = let node = All-head (IsNode forest) j js nodes in either (all.each j node.low node.high) (far-all all js (All-tail (IsNode forest) j js nodes))

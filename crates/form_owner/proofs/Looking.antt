@@ -26,7 +26,7 @@ use Rattle.form_owner.specs.declared.looks.Look.TheVariants.{Whole, Id, Nothing}
 use Rattle.form_owner.specs.declared.touch.Touch.{Touch}
 use Rattle.form_owner.specs.declared.touch.Touch.TheVariants.{Inserted, Removed, Attr, Associated}
 use Rattle.form_owner.specs.Candidates.{Considers, is_concerned, is_named_by, is_with}
-use Rattle.form_owner.specs.Looks.{AreKept, AreRight, IsRight, IsRightAt, IsTouching, IsUnnamed, KnowsBy, SaysNoMore, known_by, is_touching, look_at}
+use Rattle.form_owner.specs.Looks.{AreKept, AreNotedWhole, AreRight, IsRight, IsRightAt, IsTouching, IsUnnamed, KnowsBy, SaysNoMore, known_by, is_touching, look_at}
 use Rattle.form_owner.specs.OwnerRows.{OwnerRows}
 use Rattle.form_owner.specs.Touches.{IsTouched, after_touch, associated_by}
 use Rattle.form_owner.proofs.Considering.{nothing}
@@ -207,3 +207,12 @@ module _ (touch : Touch) (before : Forms) (now : Trees) (touched : IsTouched tou
     looks-seen known then looks minded are kept same i apart =
         right-seen now new (known_by touch now known) then (i + 1) same (look_at minded i)
         (right-kept now new known (known_by touch now known) (i + 1) (look_at looks i) (look_at minded i) (kept.less i) (kept.unnamed i) (looks-then known looks are i apart))
+
+-- whom forms are about is looked at as a whole, where each note is so
+pub noted-whole : (forest : Trees) (rows : List OwnerRow) (known : List ℕ → Bool) (looks : List Look) → AreRight forest rows known looks → AreNotedWhole forest rows looks
+noted-whole forest rows known looks are n node about = by_note (look_at looks (n - 1)) (subst (λ k. IsRight forest rows known (look_at looks (n - 1)) k) (let low = node.low in omega (arith, low)) (are (n - 1)))
+  where
+    by_note : (look : Look) → IsRight forest rows known look n → look ≡ Whole
+    by_note Whole right = refl
+    by_note Id right = absurd (let apart = right.apart in cc)
+    by_note Nothing right = absurd (let apart = right.0.apart in cc)

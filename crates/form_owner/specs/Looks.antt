@@ -1,5 +1,5 @@
 -- What a move looks at in each node, as it is noted.
-use Rattle.std.specs.Prelude.{◌≡◌, ◌≢◌, ◌+◌, ◌==◌, ◌||◌, ℕ, Bool, false, true, List, codes, Some}
+use Rattle.std.specs.Prelude.{◌≡◌, ◌≢◌, ◌+◌, ◌-◌, ◌==◌, ◌||◌, ℕ, Bool, false, true, List, codes, Some}
 use Rattle.node_trees.specs.Trees.{Trees}
 use Rattle.node_trees.specs.Nodes.{IsNode}
 use Rattle.node_trees.specs.Ids.{has_id}
@@ -44,6 +44,10 @@ IsRightAt forest rows known looks i = IsRight forest rows known (look_at looks i
 
 abbrev pub AreRight : Trees → List OwnerRow → (List ℕ → Bool) → List Look → Type 0
 AreRight forest rows known looks = (i : ℕ) → IsRightAt forest rows known looks i
+
+-- each node that forms are about is looked at as a whole
+abbrev pub AreNotedWhole : Trees → List OwnerRow → List Look → Type 0
+AreNotedWhole forest rows looks = (n : ℕ) → IsNode forest n → is_concerned forest rows n ≡ true → look_at looks (n - 1) ≡ Whole
 
 -- the second note says no more than the first
 abbrev pub SaysNoMore : Look → Look → Type 0

@@ -1,18 +1,12 @@
 // Which nodes a touch may change.
-ghost use Rattle.std.specs.Prelude.{◌≡◌, ◌==◌, ◌&&◌, ◌||◌, ℕ, List, All, IfOk, OnOk};
+ghost use Rattle.std.specs.Prelude.{◌≡◌, ◌==◌, ◌&&◌, ◌||◌, All, OnOk};
 ghost use Rattle.std.specs.Option.{option_copied};
-ghost use Rattle.element_names.specs.declared.natives.Native.TheVariants.{Fieldset, Legend, Optgroup};
-ghost use Rattle.node_trees.specs.Nodes.{IsNode, IsTidy, size};
-ghost use Rattle.node_trees.specs.Orders.{order_of, tree_order_of};
+ghost use Rattle.node_trees.specs.Nodes.{IsNode};
 ghost use Rattle.node_trees.specs.Paths.{is_among};
-ghost use Rattle.node_trees.specs.Spots.{children_at};
-ghost use Rattle.form_controls.specs.Disabled.{has_disabled};
 ghost use Rattle.form_controls.specs.Kinds.{is_a};
 ghost use Rattle.id_index.specs.Held.{is_held, is_known};
-ghost use Rattle.owner_rows.specs.OwnerRow.{row_of};
-ghost use Rattle.owner_rows.specs.Attributes.{seen_at};
 ghost use Rattle.form_owner.specs.Candidates.{Considers, is_concerned, is_named_by, is_with};
-ghost use Rattle.form_owner.specs.Looks.{AreRight};
+ghost use Rattle.form_owner.specs.Looks.{AreNotedWhole, AreRight};
 
 use crate::looks::{Look, Looks};
 use crate::node_list::node_at;
@@ -80,29 +74,48 @@ fn consider_number(
     Ok(())
 }
 
-/// The same of those whose `form` attribute was seen to be this text, if there is one.
+/// The same of those whose `form` attribute was seen to be this text, if there is one. Says how many were gone through.
 pub(crate) fn consider_named(
     tree: &Tree,
     rows: &[Row],
     named: &IdIndex,
     id: Option<&str>,
     found: &mut NodeSet,
-) -> Result<(), NoMemory>
+) -> Result<u64, NoMemory>
     ensures { OnOk result (Considers tree.now (is_concerned tree.now rows.now) (is_named_by (is_held named.now) (option_copied id.entry)) found.old found.new) }
 {
     let Some(id) = id else {
-        return Ok(());
+        return Ok(0);
     };
     let Some(group) = named.group(id) else {
-        return Ok(());
+        return Ok(0);
     };
     for number in group {
         consider_number(tree, rows, *number, found)?;
     }
-    Ok(())
+    Ok(group.len() as u64)
 }
 
-/// The same of a node that moved, and of those whose `form` attribute was seen to be its ID.
+/// The same of a node, where it is noted that forms may be about it.
+pub(crate) fn consider_noted(
+    tree: &Tree,
+    rows: &[Row],
+    looks: &Looks,
+    n: NodeNo,
+    found: &mut NodeSet,
+) -> Result<(), NoMemory>
+    requires node { IsNode tree.now n }
+    requires noted { AreNotedWhole tree.now rows.now looks.now }
+    ensures { OnOk result (Considers tree.now (is_concerned tree.now rows.now) (λ m. n == m) found.old found.new) }
+{
+    match looks.at(n) {
+        Look::Whole => consider(tree, rows, n, found),
+        Look::Id => Ok(()),
+        Look::Nothing => Ok(()),
+    }
+}
+
+/// The same of a node that moved, and of those whose `form` attribute was seen to be its ID. Says how many those are.
 pub(crate) fn consider_moved(
     tree: &Tree,
     rows: &[Row],
@@ -110,16 +123,16 @@ pub(crate) fn consider_moved(
     looks: &Looks,
     n: NodeNo,
     found: &mut NodeSet,
-) -> Result<(), NoMemory>
+) -> Result<u64, NoMemory>
     requires node { IsNode tree.now n }
     requires looks { AreRight tree.now rows.now (is_known named.now) looks.now }
     ensures { OnOk result (Considers tree.now (is_concerned tree.now rows.now) (is_with tree.now (is_held named.now) n) found.old found.new) }
 {
     match looks.at(n) {
-        Look::Nothing => return Ok(()),
+        Look::Nothing => return Ok(0),
         Look::Id => {}
         Look::Whole => consider(tree, rows, n, found)?,
     }
-    consider_named(tree, rows, named, tree.attr(n, "id"), found)?;
-    Ok(())
+    let named_by = consider_named(tree, rows, named, tree.attr(n, "id"), found)?;
+    Ok(named_by)
 }

@@ -1,13 +1,13 @@
 // Which nodes each touch may change, as sets.
-ghost use Rattle.std.specs.Prelude.{◌≡◌, ◌==◌, All, ℕ, List, [], true, false, IfOk, OnOk};
+ghost use Rattle.std.specs.Prelude.{◌≡◌, ◌==◌, [], true, false, IfOk, OnOk};
 ghost use Rattle.std.specs.Option.{option_copied};
 ghost use Rattle.node_trees.specs.Nodes.{IsNode, IsTidy};
 ghost use Rattle.node_trees.specs.Orders.{order_of};
 ghost use Rattle.id_index.specs.Held.{is_held, is_known};
 ghost use Rattle.form_owner.specs.Candidates.{Considers, is_concerned, is_of_change, is_of_group, is_of_ids, is_of_legend, is_of_move, is_with_among};
-ghost use Rattle.form_owner.specs.Looks.{AreRight};
+ghost use Rattle.form_owner.specs.Looks.{AreNotedWhole, AreRight};
 
-use crate::candidates::{consider, consider_all, consider_moved, consider_named};
+use crate::candidates::{consider, consider_all, consider_moved, consider_named, consider_noted};
 use crate::looks::Looks;
 use ce_base::{NoMemory, NodeNo};
 use element_names::Native;
@@ -39,8 +39,8 @@ fn consider_fieldset(
     Ok(())
 }
 
-/// What moved with a node, and what names an ID of that, so many steps along the links of the tree. Says whether the walk came
-/// to its end.
+/// What moved with a node, and what names an ID of that, so many steps: along the links of the tree, and through what names an
+/// ID. Says whether the walk came to its end.
 fn consider_near(
     tree: &Tree,
     rows: &[Row],
@@ -60,41 +60,40 @@ fn consider_near(
     let mut at = n;
     let mut left = steps;
     loop {
-        consider_moved(tree, rows, named, looks, at, found)?;
+        let named_by = consider_moved(tree, rows, named, looks, at, found)?;
         match tree.next_in_shadow_order(at, n) {
             Some(next) => at = next,
             None => return Ok(true),
         }
-        if left == 0 {
+        if left <= named_by {
             return Ok(false);
         }
+        left -= named_by;
         left -= 1;
     }
 }
 
-/// The same of each node that there is.
+/// Each node that forms may be about.
 fn consider_each(
     tree: &Tree,
     rows: &[Row],
-    named: &IdIndex,
     looks: &Looks,
     found: &mut NodeSet,
 ) -> Result<(), NoMemory>
-    requires looks { AreRight tree.now rows.now (is_known named.now) looks.now }
-    ensures { OnOk result ((ns : List ℕ) → All (IsNode tree.now) ns →
-        Considers tree.now (is_concerned tree.now rows.now) (is_with_among tree.now (is_held named.now) ns) found.old found.new) }
+    requires { AreNotedWhole tree.now rows.now looks.now }
+    ensures { OnOk result (Considers tree.now (is_concerned tree.now rows.now) (λ m. true) found.old found.new) }
 {
     let count = tree.count();
     let mut n = 0;
     while n < count {
         n += 1;
-        consider_moved(tree, rows, named, looks, NodeNo(n), found)?;
+        consider_noted(tree, rows, looks, NodeNo(n), found)?;
     }
     Ok(())
 }
 
-/// What moved with a node, and what names an ID of that: along the links of the tree, and where much has moved, and forms are
-/// about few nodes, by the notes of all.
+/// What moved with a node, and what names an ID of that: along the links of the tree, and where that goes on for long, whatever
+/// forms are about, by the notes of all nodes.
 fn consider_inside(
     tree: &Tree,
     rows: &[Row],
@@ -112,7 +111,7 @@ fn consider_inside(
     if consider_near(tree, rows, named, looks, n, looks.steps(), found)? {
         return Ok(());
     }
-    consider_each(tree, rows, named, looks, found)
+    consider_each(tree, rows, looks, found)
 }
 
 /// What the move of a node to a parent, or away from it, may change: what moved, what names an ID of it, and what is in a
