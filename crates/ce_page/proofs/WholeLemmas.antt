@@ -2,6 +2,7 @@
 use Rattle.std.proofs.Common.{◌≡◌, ℕ, ◌+◌, ◌<◌, Bool, true, false, List, [], ◌∷◌, ◌++◌, length, Option, Some, None, IfSome, sym, ap, ◌∙◌, subst, inl, inr, arith, length-append}
 use Rattle.std.specs.Prelude.{◌-◌, slice_get, slice_set}
 use Rattle.std.proofs.lemmas.Bool.{cases_eq}
+use Rattle.std.proofs.lemmas.Bool.Decides.{nat_tests}
 use Rattle.std.proofs.lemmas.List.{length-set}
 use Rattle.node_trees.specs.Facts.{Facts}
 use Rattle.node_trees.specs.Trees.{Trees, single, with_document, with_node, with_shadow}
@@ -17,7 +18,7 @@ use Rattle.form_owner.specs.Touches.{with_associated}
 use Rattle.ce_algorithms.specs.Forms.{associated_in, forms_in, is_associated_in}
 use Rattle.ce_algorithms.specs.Page.{Element, or_uncustomized, uncustomized}
 use Rattle.ce_page.specs.Rows.{definition_in, redefined}
-use Rattle.ce_page.specs.Settled.{AreGiven, IsWhole}
+use Rattle.ce_page.specs.Settled.{AreGiven, IsWhole, is_given}
 use Rattle.ce_page.specs.Sound.{IsSound}
 use Rattle.ce_page.proofs.AssociatedLemmas.{same_rows, row_behind, definition_behind, redefined_members}
 use Rattle.ce_page.proofs.ElementLemmas.{sound_kept}
@@ -80,18 +81,18 @@ lasting_adopted table elements definitions f g n document tidy is stands =
 sound_redefined : (elements : List Element) (waiting : List (List (ℕ × Reaction))) (stacks : List (List (Option ℕ))) (f : Trees) (n : ℕ) (d : Option ℕ) → IsElement f n → IsSound elements waiting stacks f → IsSound (redefined elements n d) waiting stacks f
 sound_redefined elements waiting stacks f n d element h = sound_set (n - 1) _ (if_any d (above n h.rows element)) h
 
-given_redefined : (elements : List Element) (definitions : List Definition) (n : ℕ) (d : Option ℕ) → IfSome d (λ x. x < length definitions) → AreGiven elements definitions → AreGiven (redefined elements n d) definitions
+given_redefined : (elements : List Element) (definitions : List Definition) (n : ℕ) (d : Option ℕ) → is_given (length definitions) d ≡ true → AreGiven elements definitions → AreGiven (redefined elements n d) definitions
 given_redefined elements definitions n d known given i x is = elim (cases_eq (n - 1) i) [
   | inl same ↦ here d known (definition_in-here elements i x _ (subst (λ k. definition_in (slice_set elements k (record (or_uncustomized (slice_get elements (n - 1))) { definition = d })) i ≡ Some x) same is))
   | inr other ↦ given i x (sym (definition_in-other elements (n - 1) i _ other) ∙ is)
 ]
   where
-    here : (o : Option ℕ) → IfSome o (λ y. y < length definitions) → o ≡ Some x → x < length definitions
+    here : (o : Option ℕ) → is_given (length definitions) o ≡ true → o ≡ Some x → x < length definitions
     here None within e = absurd (differ e)
       where
         differ : None ≡ Some x → ⊥
         differ e = cc
-    here (Some y) within e = let same : y ≡ x = cc in subst (λ k. k < length definitions) same within
+    here (Some y) within e = let same : y ≡ x = cc in grind (arith, nat_tests, same, within)
 
 -- the table is not settled for it yet
 pub whole_unsettled : (elements elements' : List Element) (definitions : List Definition) (waiting : List (List (ℕ × Reaction))) (stacks : List (List (Option ℕ))) (f : Trees) (old new : OwnerRows) (settled : Bool) (n : ℕ) (d : Option ℕ)
@@ -105,7 +106,7 @@ whole_unsettled elements elements' definitions waiting stacks f old new settled 
 
 -- and it is settled
 pub whole_redefined : (elements elements' : List Element) (definitions : List Definition) (waiting : List (List (ℕ × Reaction))) (stacks : List (List (Option ℕ))) (f : Trees) (old new : OwnerRows) (settled : Bool) (n : ℕ) (d : Option ℕ) (on : Bool)
-    → settled ≡ true → IsElement f n → IfSome d (λ x. x < length definitions) → elements' ≡ redefined elements n d → on ≡ is_associated_in elements' definitions n
+    → settled ≡ true → IsElement f n → is_given (length definitions) d ≡ true → elements' ≡ redefined elements n d → on ≡ is_associated_in elements' definitions n
     → IsWhole elements definitions waiting stacks f old settled → Stands new (record { forest = f; associated = with_associated n on (associated_in elements definitions) }) → IsWhole elements' definitions waiting stacks f new true
 whole_redefined elements elements' definitions waiting stacks f old new settled n d on was element known is on_is h stands =
     let marked : on ≡ is_associated_in (redefined elements n d) definitions n = on_is ∙ ap (λ es. is_associated_in es definitions n) is in

@@ -1,5 +1,5 @@
 -- What is kept of form owners and disabled states stands for the page.
-use Rattle.std.specs.Prelude.{◌≡◌, ◌<◌, ℕ, Bool, true, List, Option, Some, length}
+use Rattle.std.specs.Prelude.{◌≡◌, ◌<◌, ℕ, Bool, true, nat_lt, List, Option, Some, None, length}
 use Rattle.node_trees.specs.Trees.{Trees}
 use Rattle.reaction_queue.specs.declared.reaction.Reaction.{Reaction}
 use Rattle.ce_registry.specs.declared.definition.Definition.{Definition}
@@ -25,6 +25,11 @@ OwnersStand table p = IsSettled p → Stands table (forms_of p)
 -- each row's definition is one of the registry's
 abbrev pub AreGiven : List Element → List Definition → Type 0
 AreGiven elements definitions = (i d : ℕ) → definition_in elements i ≡ Some d → d < length definitions
+
+-- the registry, which gave so many numbers, gave this one, or there is none
+abbrev pub is_given : ℕ → Option ℕ → Bool
+is_given count None = true
+is_given count (Some d) = nat_lt d count
 
 -- what holds of each page: it is sound, and where it is settled, its definitions are there and its form owners stand
 pub record IsWhole (elements : List Element) (definitions : List Definition) (waiting : List (List (ℕ × Reaction))) (stacks : List (List (Option ℕ)))

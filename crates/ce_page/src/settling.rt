@@ -2,7 +2,7 @@
 //
 // A page of which memory was refused in one of these is no longer settled: what is kept of form owners does not stand for
 // its trees. Each of them refuses such a page, as for want of memory, so what goes is settled before and after.
-ghost use Rattle.std.specs.Prelude.{◌≡◌, ◌<◌, None, true, false, length, IfOk, IfSome, IsSome, OnOk};
+ghost use Rattle.std.specs.Prelude.{◌≡◌, None, true, false, length, IfOk, IsSome, OnOk};
 ghost use Rattle.node_trees.specs.declared.kind.NodeKind.TheVariants.{Element as ElementKind};
 ghost use Rattle.node_trees.specs.Insertion.{may_insert};
 ghost use Rattle.node_trees.specs.Kinds.{IsElement, KeepsKinds};
@@ -18,7 +18,7 @@ ghost use Rattle.ce_page.specs.Copies.{OnlyChanges};
 ghost use Rattle.ce_page.specs.Loose.{IsLoosed};
 ghost use Rattle.ce_page.specs.Numbers.{SameNumbers, StaysWithin};
 ghost use Rattle.ce_page.specs.Rows.{redefined};
-ghost use Rattle.ce_page.specs.Settled.{KeepsSettled};
+ghost use Rattle.ce_page.specs.Settled.{is_given, KeepsSettled};
 
 use crate::Page;
 use crate::element::Element;
@@ -172,7 +172,7 @@ impl Page {
 
 /// Whether the registry gave this definition's number, or there is none.
 fn is_given(registry: &Registry, d: &Option<DefNo>) -> bool
-    ensures { result ≡ true → IfSome d.now (λ x. x < length registry.now) }
+    ensures { result ≡ is_given (length registry.now) d.now }
 {
     match d {
         None => true,
