@@ -1,2 +1,3 @@
 pub mod Above
+pub mod Holders
 pub mod Ways

@@ -4,6 +4,7 @@
 #![tactic(auto)]
 
 mod above;
+mod holder;
 mod known;
 mod readings;
 

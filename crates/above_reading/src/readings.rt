@@ -1,22 +1,24 @@
 // The form owner and the disabled state of nodes, one after the other.
-ghost use Rattle.std.specs.Prelude.{◌≡◌, true, codes, IfOk, OnOk};
+ghost use Rattle.std.specs.Prelude.{◌≡◌, Some, None, true, codes, IfOk, OnOk};
+ghost use Rattle.node_trees.specs.Ids.{first_with_id};
 ghost use Rattle.node_trees.specs.Nodes.{IsNode, IsTidy};
-ghost use Rattle.node_trees.specs.Spots.{attribute_at};
+ghost use Rattle.node_trees.specs.Spots.{attribute_at, parent_at};
 ghost use Rattle.node_trees.specs.Trees.{Trees};
-ghost use Rattle.form_controls.specs.Owners.{owner_by};
+ghost use Rattle.form_controls.specs.Owners.{owner_by, where_form};
 ghost use Rattle.owner_reading.specs.Owners.{listed_by};
 ghost use Rattle.disabled_reading.specs.Disabled.{disabled_with};
 ghost use Rattle.above_reading.specs.Above.{above_at};
 ghost use Rattle.above_reading.specs.Ways.{AreRight, reading_of};
 
 use crate::above::{Above, above_child, above_root};
+use crate::holder::only_holder;
 use crate::known::Known;
 use ce_base::{NoMemory, NodeNo};
 use disabled_reading::disabled_of;
 use element_names::Native;
 use form_kinds::{has_disabled, is_a, is_option_disabled};
 use node_arena::Tree;
-use owner_reading::{is_listed, named_form, owner_of};
+use owner_reading::{is_listed, named_form, owner_of, where_form};
 use std::alloc::Global;
 
 /// What is read of a node.
@@ -45,25 +47,6 @@ fn read_alone(tree: &Tree, n: NodeNo, associated: bool) -> Reading
     Reading {
         owner: owner_of(tree, n, associated),
         disabled: disabled_of(tree, n, associated),
-    }
-}
-
-/// The form owner of a listed element, given what stands above it.
-fn owner_under(tree: &Tree, n: NodeNo, above: &Above) -> Option<NodeNo>
-    requires node { IsNode tree.now n }
-    requires root { IsNode tree.now above.now.root }
-    requires above { above.now ≡ above_at tree.now n }
-    ensures { result ≡ owner_by tree.now n (attribute_at tree.now n (codes "form")) }
-{
-    match tree.attr(n, "form") {
-        None => above.form,
-        Some(id) => {
-            if tree.is_connected(n) {
-                named_form(tree, above.root, id)
-            } else {
-                above.form
-            }
-        }
     }
 }
 
@@ -108,6 +91,59 @@ impl Readings {
         }
     }
 
+    /// The first element with an ID in the tree of a root, where that is a form. Where one element alone has the ID, its root is
+    /// among what is kept.
+    fn named(
+        &mut self,
+        alloc: Global,
+        tree: &Tree,
+        root: NodeNo,
+        id: &str,
+    ) -> Result<Option<NodeNo>, NoMemory>
+        requires tidy { IsTidy tree.now }
+        requires root { IsNode tree.now root }
+        requires top { parent_at tree.now root ≡ None }
+        requires known { AreRight tree.now self.old.known }
+        ensures is { IfOk result (λ o. o ≡ where_form tree.now (first_with_id tree.now root id.now)) }
+        ensures known { OnOk result (AreRight tree.now self.new.known) }
+    {
+        let Some(holder) = only_holder(tree, id) else {
+            return Ok(named_form(tree, root, id));
+        };
+        let above = self.known.above(alloc, tree, holder)?;
+        if above.root != root {
+            return Ok(None);
+        }
+        Ok(where_form(tree, Some(holder)))
+    }
+
+    /// The form owner of a listed element, given what stands above it.
+    fn owner(
+        &mut self,
+        alloc: Global,
+        tree: &Tree,
+        n: NodeNo,
+        above: &Above,
+    ) -> Result<Option<NodeNo>, NoMemory>
+        requires tidy { IsTidy tree.now }
+        requires node { IsNode tree.now n }
+        requires above { above.now ≡ above_at tree.now n }
+        requires known { AreRight tree.now self.old.known }
+        ensures is { IfOk result (λ o. o ≡ owner_by tree.now n (attribute_at tree.now n (codes "form"))) }
+        ensures known { OnOk result (AreRight tree.now self.new.known) }
+    {
+        match tree.attr(n, "form") {
+            None => Ok(above.form),
+            Some(id) => {
+                if tree.is_connected(n) {
+                    self.named(alloc, tree, above.root, id)
+                } else {
+                    Ok(above.form)
+                }
+            }
+        }
+    }
+
     /// The form owner and the disabled state of a node, given whether it is a form-associated custom element. NoMemory: memory was
     /// refused.
     pub fn read(
@@ -127,8 +163,9 @@ impl Readings {
             return Ok(read_alone(tree, n, associated));
         }
         let above = self.above(alloc, tree, n)?;
+        let owner = self.owner(alloc, tree, n, &above)?;
         Ok(Reading {
-            owner: owner_under(tree, n, &above),
+            owner,
             disabled: disabled_under(tree, n, associated, &above),
         })
     }

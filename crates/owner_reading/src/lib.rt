@@ -3,4 +3,4 @@
 
 mod owner;
 
-pub use owner::{is_listed, named_form, owner_of};
+pub use owner::{is_listed, named_form, owner_of, where_form};

@@ -1,7 +1,7 @@
 // The form owner of an element, read off the tree.
 ghost use Rattle.std.specs.Prelude.{◌≡◌};
 ghost use Rattle.node_trees.specs.Ids.{first_with_id};
-ghost use Rattle.node_trees.specs.Nodes.{IsNode, IsTidy};
+ghost use Rattle.node_trees.specs.Nodes.{IsNode, IsNodeOrNone, IsTidy};
 ghost use Rattle.form_controls.specs.Owners.{is_listed_native, nearest_form, where_form};
 ghost use Rattle.owner_reading.specs.Owners.{listed_by, owner_with};
 
@@ -48,21 +48,25 @@ fn nearest_form(tree: &Tree, n: NodeNo) -> Option<NodeNo>
     None
 }
 
+/// A form itself, and no other node.
+pub fn where_form(tree: &Tree, n: Option<NodeNo>) -> Option<NodeNo>
+    requires { IsNodeOrNone tree.now n }
+    ensures { result ≡ where_form tree.now n }
+{
+    let n = n?;
+    if is_a(tree, n, Native::Form) {
+        Some(n)
+    } else {
+        None
+    }
+}
+
 /// The first element of a root's tree that has this ID, where that is a form.
 pub fn named_form(tree: &Tree, root: NodeNo, id: &str) -> Option<NodeNo>
     requires { IsNode tree.now root }
     ensures { result ≡ where_form tree.now (first_with_id tree.now root id.now) }
 {
-    match tree.first_with_id(root, id) {
-        None => None,
-        Some(first) => {
-            if is_a(tree, first, Native::Form) {
-                Some(first)
-            } else {
-                None
-            }
-        }
-    }
+    where_form(tree, tree.first_with_id(root, id))
 }
 
 /// The form owner of a node (HTML Standard, section "Association of controls and forms", "reset the form owner").
