@@ -1,5 +1,6 @@
 -- The first element with an ID, where one element alone has it.
 use Rattle.std.proofs.Common.{◌≡◌, ◌≢◌, ℕ, Bool, true, false, List, [], ◌∷◌, Some, None, refl, subst, arith}
+use Rattle.std.proofs.lemmas.Bool.{false_from_ne_true}
 use Rattle.std.proofs.lemmas.Bool.Decides.{nat_tests}
 use Rattle.node_trees.specs.Trees.{Trees}
 use Rattle.node_trees.specs.Ids.{first_with_id, has_id}
@@ -25,10 +26,6 @@ module _ (f : Trees) (root n : ℕ) (id : List ℕ) (tidy : IsTidy f) (only : Is
 
   pub named-nowhere : parent_at f root ≡ None → root_at f n ≢ root → None ≡ first_with_id f root id
   named-nowhere top other =
-      let apart : is_among n (tree_order_of f root) ≡ false = not_among (is_among n (tree_order_of f root)) (λ among. other (order-top f tidy root n top among)) in
+      let apart : is_among n (tree_order_of f root) ≡ false = false_from_ne_true (is_among n (tree_order_of f root)) (λ among. other (order-top f tidy root n top among)) in
       let holder : is_holder f root id n ≡ false = grind (arith, apart) in
       look-end f root id None [] refl (look-other f root id None (n ∷ []) [] n refl (look-start f root id (n ∷ []) (n ∷ []) refl start) holder)
-    where
-      not_among : (b : Bool) → (b ≡ true → ⊥) → b ≡ false
-      not_among true absurd_is = absurd (absurd_is refl)
-      not_among false absurd_is = refl

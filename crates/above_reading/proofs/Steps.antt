@@ -1,6 +1,7 @@
 -- What stands above a child, from what stands above its parent.
 use Rattle.std.proofs.Common.{◌≡◌, ℕ, Bool, true, false, not, ◌&&◌, ◌||◌, ◌==◌, if◌then◌else◌, List, [], ◌∷◌, Option, Some, None, refl, ap, sym, subst, ◌∙◌, arith}
 use Rattle.std.specs.List.{list_any}
+use Rattle.std.proofs.lemmas.Bool.{false_from_ne_true}
 use Rattle.std.proofs.lemmas.Bool.Decides.{nat_tests}
 use Rattle.element_names.specs.declared.natives.Native.TheVariants.{Fieldset, Form, Legend}
 use Rattle.node_trees.specs.Trees.{Trees, is_number}
@@ -33,10 +34,6 @@ inside-on f n (Some l) = refl
 on-more : (n : ℕ) (way : List ℕ) (o : Option ℕ) → is_on (n ∷ way) o ≡ (is_number o n || is_on way o)
 on-more n way None = refl
 on-more n way (Some l) = grind (arith, nat_tests)
-
-not_true : (b : Bool) → (b ≡ true → true ≡ false) → b ≡ false
-not_true true absurd_is = absurd_is refl
-not_true false absurd_is = refl
 
 -- ---- a step down
 
@@ -73,10 +70,11 @@ module _ (f : Trees) (n q : ℕ) (tidy : IsTidy f) (node : IsNode f n) (parent :
       by_first (Some l) e =
           let here = find-among (is_a Legend f) (children_at f a) l e in
           let its = child-parent f a tidy (above-node f q tidy parent a among) l here in
-          not_true (l == n) (λ same. let l_is : l ≡ n = grind (arith, nat_tests, same) in
+          false_from_ne_true (l == n) (λ same. let l_is : l ≡ n = grind (arith, nat_tests, same) in
           let twice : Some a ≡ Some q = sym its ∙ ap (parent_at f) l_is ∙ up in
           let a_is : a ≡ q = cc in
-          sym (subst (λ v. is_among v (ancestors f q) ≡ true) a_is among) ∙ above-apart f q tidy parent)
+          let both : true ≡ false = sym (subst (λ v. is_among v (ancestors f q) ≡ true) a_is among) ∙ above-apart f q tidy parent in
+          cc)
 
   below-rest : (a : ℕ) → is_among a (ancestors f q) ≡ true → disables_below f n a ≡ disables_below f q a
   below-rest a among =

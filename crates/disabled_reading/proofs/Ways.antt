@@ -1,6 +1,6 @@
 -- The way up from a node: the node and its ancestors.
 use Rattle.std.proofs.Common.{◌≡◌, ℕ, Bool, true, false, not, ◌<◌, ◌&&◌, ◌==◌, List, [], ◌∷◌, Option, Some, None, inl, inr, refl, ap, sym, subst, ◌∙◌, arith, length}
-use Rattle.std.proofs.lemmas.Bool.{cases_eq}
+use Rattle.std.proofs.lemmas.Bool.{cases_eq, false_from_ne_true}
 use Rattle.std.proofs.lemmas.Bool.Decides.{nat_tests}
 use Rattle.node_trees.specs.Trees.{Trees}
 use Rattle.node_trees.specs.Nodes.{IsNode, IsTidy}
@@ -79,8 +79,4 @@ module _ (f : Trees) (n : ℕ) (tidy : IsTidy f) (node : IsNode f n) where
   above-node a = above-nodes f (ancestors f n) n a tidy node refl
 
   pub above-apart : is_among n (ancestors f n) ≡ false
-  above-apart = not_both _ (way-less f (ancestors f n) n way.1)
-    where
-      not_both : (b : Bool) → (b ≡ true → length (ancestors f n) < length (ancestors f n)) → b ≡ false
-      not_both true less = absurd (omega (arith, less refl))
-      not_both false less = refl
+  above-apart = false_from_ne_true _ (λ among. omega (arith, way-less f (ancestors f n) n way.1 among))
