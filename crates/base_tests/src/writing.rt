@@ -76,7 +76,6 @@ fn again(alloc: Global, line: &str) -> Result<Text, Fail> {
     }
 }
 
-// Sees that each line is written as the canonical one behind the `=>`, or as it stands, and the canonical one as it stands.
 // A line, and how it is written; as it stands where a row has one side.
 fn line_and_form(row: &str) -> (&str, &str) {
     match row.split_once(" => ") {
@@ -93,6 +92,7 @@ fn compare_row(rt: &impl Abort, alloc: Global, row: &str) -> Result<(), Fail> {
     Ok(())
 }
 
+// Sees that each line is written as the canonical one behind the `=>`, or as it stands, and the canonical one as it stands.
 fn compare(rt: &impl Abort, alloc: Global, rows: &str) -> Result<(), Fail> {
     for row in rows.lines() {
         compare_row(rt, alloc, row)?;
