@@ -2,11 +2,11 @@
 -- "application/x-www-form-urlencoded"; HTML Standard, section "Plain text form data"; RFC 7578).
 use Rattle.std.specs.Prelude.{◌≡◌, ◌≢◌, ◌<◌, ◌⊎◌, ℕ, ◌+◌, ◌*◌, ◌==◌, nat_le, Bool, true, false, not, ◌&&◌}
 use Rattle.std.specs.Prelude.{List, [], ◌∷◌, ◌++◌, All, length, IsUtf8, codes, flat_map}
-use Rattle.std.specs.Char.{digit_value, is_ascii_alphanumeric}
-use Rattle.std.specs.List.{join_with_byte, list_all}
+use Rattle.std.specs.Char.{digit_value}
+use Rattle.std.specs.List.{join_with_byte}
 use Rattle.ce_base.specs.declared.entries.Entry.{Entry}
 use Rattle.form_controls.specs.Texts.{carriage_return, line_feed}
-use Rattle.form_submission.specs.Encodings.{occurs}
+use Rattle.form_submission.specs.Encodings.{is_boundary, occurs}
 use Rattle.form_submission.specs.LineEnds.{newline}
 
 -- & + = % "
@@ -84,10 +84,6 @@ abbrev pub PlainText : List Entry → List ℕ → Type 0
 PlainText list bytes = IsUtf8 bytes × All IsPlain list × (bytes ≡ flat_map line list)
 
 -- ---- multipart/form-data
-
--- 1 to 70 ASCII letters and digits
-abbrev pub is_boundary : List ℕ → Bool
-is_boundary text = nat_le 1 (length text) && nat_le (length text) 70 && list_all is_ascii_alphanumeric text
 
 abbrev pub IsBoundary : List ℕ → Type 0
 IsBoundary text = is_boundary text ≡ true

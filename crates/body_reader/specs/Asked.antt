@@ -1,6 +1,6 @@
 -- What type of body the words of a call ask for.
 use Rattle.std.specs.Prelude.{ℕ, ◌&&◌, if◌then◌else◌, List, [], ◌∷◌, Option, Some, None, bytes_eq, codes}
-use Rattle.body_grammars.specs.Bodies.{is_boundary}
+use Rattle.form_submission.specs.Encodings.{is_boundary}
 use Rattle.body_reader.specs.declared.body_type.BodyType.{BodyType}
 use Rattle.body_reader.specs.declared.body_type.BodyType.TheVariants.{Urlencoded, Plain, Multipart}
 

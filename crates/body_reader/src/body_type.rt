@@ -2,8 +2,8 @@
 ghost use Rattle.std.specs.Prelude.{◌≡◌, map, string_bytes, IfOk, IsOk, None};
 ghost use Rattle.body_reader.specs.Asked.{asked, asked_by_one, asked_by_two};
 
-use crate::boundary::is_boundary;
 use ce_base::{NoMemory, Text};
+use form_submission::is_boundary;
 use std::alloc::Global;
 
 /// A type of body.

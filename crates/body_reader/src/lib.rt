@@ -3,13 +3,12 @@
 #![tactic(auto)]
 
 mod body_type;
-mod boundary;
 mod listing;
 mod run;
 mod status;
 
 pub use body_grammars::{BodyRefused, read_multipart, read_plain, read_urlencoded};
 pub use body_type::BodyType;
-pub use boundary::is_boundary;
+pub use form_submission::is_boundary;
 pub use run::read_run;
 pub use status::ReadStatus;

@@ -1,11 +1,11 @@
 -- What the words of a call mean: options in any order, each at most once, its value in the next word or behind `=`.
 use Rattle.std.specs.Prelude.{ℕ, Bool, true, false, not, ◌&&◌, ◌||◌, ◌==◌, nat_le, if◌then◌else◌}
 use Rattle.std.specs.Prelude.{codes, List, [], ◌∷◌, length, Option, Some, None, is_some, unwrap_or, Ok, Err, bytes_eq}
-use Rattle.std.specs.Char.{is_ascii_alphanumeric}
-use Rattle.std.specs.List.{after_first, before_first, list_all, list_any}
+use Rattle.std.specs.List.{after_first, before_first, list_any}
 use Rattle.short_numbers.specs.Numbers.{number_in}
 use Rattle.url.specs.Parser.{Parsed, parse_url}
 use Rattle.url.specs.Parts.{Parts}
+use Rattle.form_submission.specs.Encodings.{is_boundary}
 use Rattle.form_submission.specs.Plans.{is_web}
 use Rattle.command_words.specs.declared.words.Meaning.{Meaning}
 use Rattle.command_words.specs.declared.words.Meaning.TheVariants.{Refused, Script, Made}
@@ -41,10 +41,6 @@ as_count (Some n) = if nat_le 1 n && nat_le n 19999 then Some n else None
 -- one to nine ASCII digits, which say of how many elements a script is made
 abbrev pub count_in : List ℕ → Option ℕ
 count_in value = as_count (number_in value)
-
--- 1 to 70 ASCII letters and digits
-abbrev pub is_boundary : List ℕ → Bool
-is_boundary value = nat_le 1 (length value) && nat_le (length value) 70 && list_all is_ascii_alphanumeric value
 
 -- it parsed, and its scheme is http or https
 abbrev pub is_of_web : Parsed Parts → Bool

@@ -6,10 +6,10 @@ ghost use Rattle.command_words.specs.Words.{and_then, has_value, is_equals_sign,
 ghost use Rattle.command_words.specs.Words.{with_boundary, with_fuel, with_make, with_option, with_trace, with_url, with_word};
 
 use crate::page_url::is_page_url;
-use crate::values::{count_in, fuel_in, is_boundary};
+use crate::values::{count_in, fuel_in};
 use crate::words::{Meaning, Options};
 use ce_base::{NoMemory, Text};
-use form_submission::Site;
+use form_submission::{Site, is_boundary};
 use std::alloc::Global;
 
 // What holds where no word says it.

@@ -1,8 +1,6 @@
 // The values that options may have.
 ghost use Rattle.std.specs.Prelude.{◌≡◌};
-ghost use Rattle.std.specs.Char.{is_ascii_alphanumeric};
-ghost use Rattle.std.specs.List.{list_all};
-ghost use Rattle.command_words.specs.Words.{count_in, fuel_in, is_boundary};
+ghost use Rattle.command_words.specs.Words.{count_in, fuel_in};
 
 use short_numbers::number_in;
 
@@ -11,9 +9,6 @@ const MOST_FUEL: u32 = 200_000;
 
 // Of how many elements a script may be made.
 const MOST_ELEMENTS: u32 = 19_999;
-
-// How long a boundary may be (RFC 2046, section 5.1.1).
-const MOST_BOUNDARY: usize = 70;
 
 // How much fuel a text says. None where it says no amount that a session may have.
 pub(crate) fn fuel_in(text: &str) -> Option<u32>
@@ -33,16 +28,4 @@ pub(crate) fn count_in(text: &str) -> Option<u32>
         Some(count) if 1 <= count && count <= MOST_ELEMENTS => Some(count),
         _ => None,
     }
-}
-
-pub(crate) fn is_boundary(text: &str) -> bool
-    ensures { result ≡ is_boundary text.now }
-{
-    !text.is_empty() && text.len() <= MOST_BOUNDARY && are_letters_and_digits(text.as_bytes())
-}
-
-fn are_letters_and_digits(bytes: &[u8]) -> bool
-    ensures { result ≡ list_all is_ascii_alphanumeric bytes.now }
-{
-    bytes.iter().all(|b| b.is_ascii_alphanumeric())
 }

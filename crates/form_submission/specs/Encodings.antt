@@ -1,6 +1,7 @@
 -- Entry lists as text (HTML Standard, sections "URL-encoded form data", "Multipart form data", "Plain text form data"; RFC 7578).
-use Rattle.std.specs.Prelude.{ℕ, Bool, ◌||◌, ◌==◌, if◌then◌else◌, List, [], ◌∷◌, ◌++◌, codes, map, flat_map, nat_eq}
-use Rattle.std.specs.List.{list_any, starts_with}
+use Rattle.std.specs.Prelude.{ℕ, Bool, ◌&&◌, ◌||◌, ◌==◌, nat_le, length, if◌then◌else◌, List, [], ◌∷◌, ◌++◌, codes, map, flat_map, nat_eq}
+use Rattle.std.specs.Char.{is_ascii_alphanumeric}
+use Rattle.std.specs.List.{list_all, list_any, starts_with}
 use Rattle.ce_base.specs.declared.entries.Entry.{Entry}
 use Rattle.form_urlencoded.specs.Form.{extend_pairs}
 use Rattle.form_controls.specs.Texts.{carriage_return, line_feed, is_empty}
@@ -36,6 +37,10 @@ escaped_byte b =
 
 abbrev pub escaped : List ℕ → List ℕ
 escaped name = flat_map escaped_byte (with_full_newlines name)
+
+-- what may be a boundary here: 1 to 70 ASCII letters and digits (RFC 2046, section 5.1.1, allows some signs too)
+abbrev pub is_boundary : List ℕ → Bool
+is_boundary text = nat_le 1 (length text) && nat_le (length text) 70 && list_all is_ascii_alphanumeric text
 
 abbrev pub part : List ℕ → Entry → List ℕ
 part boundary e =

@@ -3,10 +3,12 @@
 //! `specs/`; the types that they share with code stand here, and the worked examples that they compute.
 #![tactic(auto)]
 
+mod boundary;
 mod plan;
 mod site;
 mod worked;
 
+pub use boundary::is_boundary;
 pub use plan::{Plan, Why};
 pub use site::Site;
 pub use worked::{

@@ -1,8 +1,9 @@
 // The open brackets of a log.
 ghost use Rattle.std.specs.Prelude.{◌≡◌, ◌∷◌, [], ℕ, true, false, not, Some, OnOk, IfOk, MatchOption};
+ghost use Rattle.reaction_queue.specs.ElementQueues.{is_empty};
 ghost use Rattle.order_law.specs.Reads.{current, around, is_callback, is_for};
 ghost use Rattle.order_law.specs.Book.{Filling};
-ghost use Rattle.order_law.specs.Clauses.{is_in_drain, has_called, may_upgrade, may_call, begins_drain, ends_drain, ends_reaction, ends_upgrade, is_none};
+ghost use Rattle.order_law.specs.Clauses.{is_in_drain, has_called, may_upgrade, may_call, begins_drain, ends_drain, ends_reaction, ends_upgrade};
 ghost use Rattle.order_law.specs.After.{marked};
 ghost use Rattle.rule_tokens.specs.declared.callback.CallName.{CallName as ACallName};
 ghost use Rattle.order_checker.specs.Opened.{with_call, bracket_of, is_filling};
@@ -54,7 +55,7 @@ impl Brackets {
 
     /// Whether none is open.
     pub(crate) fn is_none(&self) -> bool
-        ensures { result ≡ is_none self.now }
+        ensures { result ≡ is_empty self.now }
     {
         self.open.is_empty()
     }

@@ -4,7 +4,8 @@ ghost use Rattle.std.specs.Ordering.{nat_cmp};
 ghost use Rattle.std.specs.Map.{count_at};
 ghost use Rattle.std.specs.BTreeMap.{get};
 ghost use Rattle.order_law.specs.Reads.{entry_of, none_of_element, none_of_queue, without};
-ghost use Rattle.order_law.specs.Clauses.{leads, is_none};
+ghost use Rattle.reaction_queue.specs.ElementQueues.{is_empty};
+ghost use Rattle.order_law.specs.Clauses.{leads};
 ghost use Rattle.order_checker.specs.Slots.{waits_at, entry_of_slot};
 
 use ce_base::{NoMemory, NodeNo, QueueNo};
@@ -146,7 +147,7 @@ impl Waits {
 
     /// Whether none waits.
     pub(crate) fn is_none(&self) -> bool
-        ensures { result ≡ is_none self.now.entries }
+        ensures { result ≡ is_empty self.now.entries }
     {
         self.count == 0
     }

@@ -5,10 +5,11 @@ use Rattle.std.proofs.lemmas.Bool.{eqb-true}
 use Rattle.std.proofs.lemmas.List.{append_assoc}
 use Rattle.ce_events.specs.declared.event.Event.{Event}
 use Rattle.ce_events.specs.declared.event.Event.TheVariants.{Started, Dropped, QueueClosed, UpgradeThrew}
+use Rattle.reaction_queue.specs.ElementQueues.{is_empty}
 use Rattle.order_law.specs.Book.{Book, Entry, blank}
 use Rattle.order_law.specs.Lines.{is_reply}
 use Rattle.order_law.specs.Reads.{entry_of}
-use Rattle.order_law.specs.Clauses.{leads, element_of, loser, is_that, goes_on, is_none}
+use Rattle.order_law.specs.Clauses.{leads, element_of, loser, is_that, goes_on}
 use Rattle.order_law.specs.After.{after}
 use Rattle.order_law.specs.Law.{read, Lawful}
 use Rattle.order_law.specs.Words.{IsTaken, Waits, IsDropOf, enqueue_line}
@@ -82,7 +83,7 @@ close_leaves_none before behind q w h i e =
     let b = read blank before in
     none_of_queue_says q b.waiting w a.keeps.closes (among_of before b w a.past i) e
 
-none_among : (ws : List Entry) (w : Entry) → is_none ws ≡ true → IsAmong w ws → ⊥
+none_among : (ws : List Entry) (w : Entry) → is_empty ws ≡ true → IsAmong w ws → ⊥
 none_among [] w h i = i
 none_among (v ∷ ws) w h i = absurd (let f : false ≡ true = h in cc)
 
@@ -94,7 +95,7 @@ pub reply_leaves_none : (before behind : List Event) (e : Event) (w : Entry) →
 reply_leaves_none before behind e w is h i =
     let a = at_kept before e behind h in
     let b = read blank before in
-    none_among b.waiting w (right_true (is_none b.brackets) (is_none b.waiting) (at_rest (is_reply e) (is_none b.brackets && is_none b.waiting) a.keeps.replies is)) (among_of before b w a.past i)
+    none_among b.waiting w (right_true (is_empty b.brackets) (is_empty b.waiting) (at_rest (is_reply e) (is_empty b.brackets && is_empty b.waiting) a.keeps.replies is)) (among_of before b w a.past i)
 
 -- what follows a drop
 

@@ -8,10 +8,11 @@ use Rattle.rule_tokens.specs.declared.callback.CallOrUpgrade.{CallOrUpgrade}
 use Rattle.rule_tokens.specs.declared.callback.CallOrUpgrade.TheVariants.{Call, Upgrade}
 use Rattle.ce_events.specs.declared.event.Event.{Event}
 use Rattle.ce_events.specs.declared.event.Event.TheVariants.{QueueOpened, DrainBegun, Started, Finished, Dropped, QueueClosed, UpgradeBegun, UpgradeDone, UpgradeThrew}
+use Rattle.reaction_queue.specs.ElementQueues.{is_empty}
 use Rattle.order_law.specs.Book.{Book, Entry, Bracket, Filling, Draining, Reacting, Upgrading, blank}
 use Rattle.order_law.specs.Lines.{call_of, is_reply}
 use Rattle.order_law.specs.Reads.{is_callback, is_for, entry_of}
-use Rattle.order_law.specs.Clauses.{is_in_drain, starts_once, may_call, has_called, is_in_upgrade, begins_drain, ends_drain, ends_reaction, ends_upgrade, may_upgrade, is_none}
+use Rattle.order_law.specs.Clauses.{is_in_drain, starts_once, may_call, has_called, is_in_upgrade, begins_drain, ends_drain, ends_reaction, ends_upgrade, may_upgrade}
 use Rattle.order_law.specs.After.{after}
 use Rattle.order_law.specs.Law.{may_come, read, is_lawful, Lawful}
 use Rattle.order_law.specs.Words.{Says, Waits, enqueue_line}
@@ -242,7 +243,7 @@ finish_has_run before behind r h =
 
 -- replies
 
-rest_top : (bs : List Bracket) (log : List Event) → is_none bs ≡ true → Opens log bs → Whole [] log
+rest_top : (bs : List Bracket) (log : List Event) → is_empty bs ≡ true → Opens log bs → Whole [] log
 rest_top [] log h o = o
 rest_top (x ∷ bs) log h o = false_true h
 
@@ -250,4 +251,4 @@ pub reply_is_outside : (before behind : List Event) (e : Event) → is_reply e �
 reply_is_outside before behind e is h =
     let s = here before behind e h in
     let b = read blank before in
-    rest_top b.brackets before (left_true (is_none b.brackets) (is_none b.waiting) (at_rest (is_reply e) (is_none b.brackets && is_none b.waiting) s.keeps.replies is)) s.stands.opens
+    rest_top b.brackets before (left_true (is_empty b.brackets) (is_empty b.waiting) (at_rest (is_reply e) (is_empty b.brackets && is_empty b.waiting) s.keeps.replies is)) s.stands.opens

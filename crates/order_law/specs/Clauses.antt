@@ -4,6 +4,7 @@ use Rattle.rule_tokens.specs.declared.callback.CallName.{CallName}
 use Rattle.ce_events.specs.declared.event.Event.{Event}
 use Rattle.ce_events.specs.declared.event.Event.TheVariants.{QueueOpened, Enqueued, DrainBegun, Started, Finished}
 use Rattle.ce_events.specs.declared.event.Event.TheVariants.{Dropped, QueueClosed, UpgradeBegun, UpgradeDone, UpgradeThrew}
+use Rattle.reaction_queue.specs.ElementQueues.{is_empty}
 use Rattle.order_law.specs.Book.{Book, Entry, Bracket, Filling, Draining, Reacting, Upgrading}
 use Rattle.order_law.specs.Lines.{call_of, is_reply}
 use Rattle.order_law.specs.Reads.{is_one_of, is_callback, is_for, entry_of, none_of_element, none_of_queue, is_first, current}
@@ -153,12 +154,8 @@ upgrades_once b e = begins_upgrade b e && spares_thrown b e
 
 -- Eighth clause: at a reply no bracket is open, and no reaction waits.
 
-abbrev pub is_none : {A : Type 0} → List A → Bool
-is_none [] = true
-is_none (x ∷ xs) = false
-
 abbrev pub replies_at_rest : Book → Event → Bool
-replies_at_rest b e = not (is_reply e) || (is_none b.brackets && is_none b.waiting)
+replies_at_rest b e = not (is_reply e) || (is_empty b.brackets && is_empty b.waiting)
 
 -- And nothing comes after the fuel is spent.
 abbrev pub fuel_is_last : Book → Event → Bool

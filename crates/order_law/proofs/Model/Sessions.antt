@@ -7,6 +7,7 @@ use Rattle.rule_lines.specs.declared.line.Cmd.{Cmd}
 use Rattle.rule_lines.specs.declared.line.Cmd.TheVariants as commands
 use Rattle.ce_events.specs.declared.event.Event.{Event}
 use Rattle.ce_events.specs.declared.event.Event.TheVariants.{Fine, Gave, Answered, Ignored as IgnoredLine, Threw, WasBad}
+use Rattle.reaction_queue.specs.ElementQueues.{is_empty}
 use Rattle.ce_algorithms.specs.declared.given.Given.{Given}
 use Rattle.ce_algorithms.specs.declared.given.Given.TheVariants.{Nothing, Node, Answers, Ignored}
 use Rattle.ce_algorithms.specs.Steps.{Outcome, Goes, Throws, Spent, then_do, ◌>>=◌, ◌>>◌, give, attempt, attempt_in}
@@ -17,7 +18,7 @@ use Rattle.ce_algorithms.specs.Model.{level, run, model, clock}
 use Rattle.ce_algorithms.specs.Session.{perform, reply, command}
 use Rattle.order_law.specs.Book.{Book, blank}
 use Rattle.order_law.specs.Lines.{is_reply}
-use Rattle.order_law.specs.Clauses.{calls_once, is_none}
+use Rattle.order_law.specs.Clauses.{calls_once}
 use Rattle.order_law.specs.After.{after}
 use Rattle.order_law.specs.Law.{Lawful}
 use Rattle.order_law.proofs.Model.Reading.{Reads, Tests, is_line, line_tests, tested, reads_append, reads_one}
@@ -41,7 +42,7 @@ pub record Replies (e : Event) : Type 0 where
 reply_tests : (b : Book) (e : Event) → is_line b e ≡ true → calls_once b e ≡ true → b.over ≡ false → b.dropping ≡ None → b.owed ≡ false →
     b.brackets ≡ [] → b.waiting ≡ [] → Tests b e
 reply_tests b e line calls over dropping owed brackets waiting = line_tests b e line over dropping calls
-    (ap (λ t. not (is_reply e && t)) owed ∙ never (is_reply e)) (ap (λ bs. not (is_reply e) || (is_none bs && is_none b.waiting)) brackets ∙ ap (λ ws. not (is_reply e) || is_none ws) waiting ∙ always (not (is_reply e)))
+    (ap (λ t. not (is_reply e && t)) owed ∙ never (is_reply e)) (ap (λ bs. not (is_reply e) || (is_empty bs && is_empty b.waiting)) brackets ∙ ap (λ ws. not (is_reply e) || is_empty ws) waiting ∙ always (not (is_reply e)))
   where
     never : (t : Bool) → not (t && false) ≡ true
     never true = refl

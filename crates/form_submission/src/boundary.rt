@@ -2,7 +2,7 @@
 ghost use Rattle.std.specs.Prelude.{◌≡◌};
 ghost use Rattle.std.specs.Char.{is_ascii_alphanumeric};
 ghost use Rattle.std.specs.List.{list_all};
-ghost use Rattle.body_grammars.specs.Bodies.{is_boundary};
+ghost use Rattle.form_submission.specs.Encodings.{is_boundary};
 
 // How long a boundary may be (RFC 2046, section 5.1.1).
 const MOST: usize = 70;
