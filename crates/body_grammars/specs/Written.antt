@@ -1,6 +1,6 @@
 -- What was written, as it is read back.
 use Rattle.ce_base.specs.declared.entries.Entry.{Entry}
-use Rattle.form_submission.specs.EntryList.{entry}
+use Rattle.ce_base.specs.Texts.{entry}
 use Rattle.form_submission.specs.Encodings.{escaped}
 use Rattle.form_submission.specs.LineEnds.{with_full_newlines}
 

@@ -1,6 +1,6 @@
 // Bodies that are read, and bytes that are none, computed.
 ghost use Rattle.std.specs.Prelude.{◌≡◌, ◌++◌, ◌∷◌, [], Some, None, codes};
-ghost use Rattle.form_submission.specs.EntryList.{entry};
+ghost use Rattle.ce_base.specs.Texts.{entry};
 ghost use Rattle.form_submission.specs.LineEnds.{newline};
 ghost use Rattle.body_grammars.specs.ReadParts.{multipart_entries};
 ghost use Rattle.body_grammars.specs.ReadPlain.{plain_entries};

@@ -1,6 +1,10 @@
--- That what is held is text.
-use Rattle.std.specs.Prelude.{IsUtf8}
+-- Entries, and that what they hold is text.
+use Rattle.std.specs.Prelude.{ℕ, List, IsUtf8}
 use Rattle.ce_base.specs.declared.entries.Entry.{Entry}
+
+-- an entry: a name and its value
+abbrev pub entry : List ℕ → List ℕ → Entry
+entry name value = record { name = name; value = value }
 
 -- the name and the value of an entry are UTF-8
 abbrev pub HasTexts : Entry → Type 0

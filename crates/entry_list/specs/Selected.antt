@@ -5,7 +5,7 @@ use Rattle.node_trees.specs.Trees.{Trees}
 use Rattle.form_controls.specs.Disabled.{is_option_disabled}
 use Rattle.form_controls.specs.Kinds.{name_of}
 use Rattle.form_controls.specs.Options.{option_value}
-use Rattle.form_submission.specs.EntryList.{entry}
+use Rattle.ce_base.specs.Texts.{entry}
 
 -- an entry for each that is not disabled
 abbrev pub option_entries : Trees → ℕ → List ℕ → List Entry

@@ -1,8 +1,9 @@
 // What a form-associated custom element gives.
 ghost use Rattle.std.specs.Prelude.{◌≡◌, ◌++◌, ◌∷◌, [], if◌then◌else◌, OnOk};
+ghost use Rattle.ce_base.specs.Texts.{entry};
 ghost use Rattle.form_controls.specs.Internals.{kept_by};
 ghost use Rattle.form_controls.specs.Texts.{is_empty};
-ghost use Rattle.form_submission.specs.EntryList.{custom_entries, entry};
+ghost use Rattle.form_submission.specs.EntryList.{custom_entries};
 
 use crate::putting::put;
 use ce_base::{Entries, NoMemory, NodeNo, Text};

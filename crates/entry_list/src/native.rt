@@ -1,11 +1,12 @@
 // What an element of HTML gives.
 ghost use Rattle.std.specs.Prelude.{◌≡◌, ◌<◌, ◌++◌, ◌∷◌, [], All, Some, if◌then◌else◌, length, not, slice_get, OnOk};
+ghost use Rattle.ce_base.specs.Texts.{entry};
 ghost use Rattle.node_trees.specs.Nodes.{IsNode};
 ghost use Rattle.form_controls.specs.Disabled.{is_option_disabled};
 ghost use Rattle.form_controls.specs.Kinds.{name_of};
 ghost use Rattle.form_controls.specs.Options.{option_value};
 ghost use Rattle.entry_list.specs.Selected.{option_entries};
-ghost use Rattle.form_submission.specs.EntryList.{entry, is_charset, native_entries, select_entries};
+ghost use Rattle.form_submission.specs.EntryList.{is_charset, native_entries, select_entries};
 
 use crate::putting::put;
 use ce_base::{Entries, NoMemory, NodeNo, Nodes, Text};

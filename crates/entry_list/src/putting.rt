@@ -1,6 +1,6 @@
 // Entries are put behind others.
 ghost use Rattle.std.specs.Prelude.{◌≡◌, ◌++◌, ◌∷◌, [], OnOk};
-ghost use Rattle.form_submission.specs.EntryList.{entry};
+ghost use Rattle.ce_base.specs.Texts.{entry};
 
 use ce_base::{Entries, Entry, NoMemory, Text};
 use std::alloc::Global;

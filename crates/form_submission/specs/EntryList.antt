@@ -2,6 +2,7 @@
 use Rattle.std.specs.Prelude.{ℕ, Bool, not, ◌&&◌, ◌||◌, if◌then◌else◌, List, [], ◌∷◌, codes, map, filter, flat_map, Option}
 use Rattle.std.specs.Str.{str_eq_ignore_ascii_case}
 use Rattle.ce_base.specs.declared.entries.Entry.{Entry}
+use Rattle.ce_base.specs.Texts.{entry}
 use Rattle.element_names.specs.declared.natives.Native.TheVariants.{Select}
 use Rattle.element_names.specs.declared.input_kinds.InputKind.TheVariants.{Hidden}
 use Rattle.node_trees.specs.Trees.{Trees, is_number}
@@ -18,10 +19,6 @@ use Rattle.form_controls.specs.Values.{value}
 use Rattle.form_controls.specs.Checkedness.{is_checked}
 use Rattle.form_controls.specs.Internals.{kept_by}
 use Rattle.form_controls.specs.Barred.{is_in_datalist}
-
--- "create an entry"
-abbrev pub entry : List ℕ → List ℕ → Entry
-entry name value = record { name = name; value = value }
 
 -- who is passed over
 

@@ -1,13 +1,14 @@
 // The definitions compute: forms submitted, each as the contract of a function that does nothing.
 ghost use Rattle.std.specs.Prelude.{◌≡◌, ◌∷◌, [], Some, None, true, false, codes};
 ghost use Rattle.ce_base.specs.declared.fault.Fault.TheVariants.{NotFoundError, TypeError};
+ghost use Rattle.ce_base.specs.Texts.{entry};
 ghost use Rattle.form_controls.specs.Worked.Invalid as invalid;
 ghost use Rattle.form_controls.specs.Worked.Kept as controls;
 ghost use Rattle.form_controls.specs.Worked.Told.{with_forest};
 ghost use Rattle.form_submission.specs.declared.plan.Plan.TheVariants.{Get, Post, Blocked};
 ghost use Rattle.form_submission.specs.declared.plan.Why.TheVariants.{Disconnected, Invalid, Dialog, Url, Scheme, Boundary};
 ghost use Rattle.form_submission.specs.Encodings.{is_broken_by};
-ghost use Rattle.form_submission.specs.EntryList.{entry, entry_list};
+ghost use Rattle.form_submission.specs.EntryList.{entry_list};
 ghost use Rattle.form_submission.specs.LineEnds.{with_full_newlines};
 ghost use Rattle.form_submission.specs.Plans.{entry_size, plan};
 ghost use Rattle.form_submission.specs.Requests.{request_fit};

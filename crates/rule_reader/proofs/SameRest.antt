@@ -2,6 +2,7 @@
 use Rattle.std.proofs.Common.{◌≡◌, ℕ, zero, suc, ◌-◌, ◌==◌, Bool, true, false, List, [], ◌∷◌, ◌++◌, map, Option, Some, None, Result, Ok, Err, if◌then◌else◌, refl, sym, ap, ◌∙◌, append_assoc, arith}
 use Rattle.std.specs.Option.{option_map}
 use Rattle.ce_base.specs.declared.entries.Entry.{Entry}
+use Rattle.ce_base.specs.Texts.{entry}
 use Rattle.rule_tokens.specs.declared.refused.Bad.{Bad}
 use Rattle.rule_tokens.specs.declared.refused.Bad.TheVariants.{Arity}
 use Rattle.rule_tokens.specs.declared.operand.Operand.{Operand}
@@ -23,7 +24,7 @@ use Rattle.rule_reader.specs.Bodies.{log_of}
 use Rattle.rule_reader.specs.Classes.{observe_of, disable_of, disabled_of}
 use Rattle.rule_reader.specs.AsRead.{pairs, leaf_as_read}
 use Rattle.rule_reader.specs.Internals.{state_of, state_change_of, form_list_of}
-use Rattle.rule_reader.specs.Takes.{next, up_to, entry, entries_up_to}
+use Rattle.rule_reader.specs.Takes.{next, up_to, entries_up_to}
 use Rattle.rule_reader.specs.Users.{user_of}
 use Rattle.rule_reader.proofs.Same.{shows, fronts, one, last_one, the_end}
 use Rattle.rule_reader.proofs.SameForms.{same_user_edit, same_user_check, same_user_choose, same_user_reset, same_user_restore, same_user_autofill, same_user_press}

@@ -2,6 +2,7 @@
 -- missing or left over, their number is wrong.
 use Rattle.std.specs.Prelude.{ℕ, ◌-◌, ◌==◌, Bool, true, false, List, [], ◌∷◌, Option, Some, None, Result, Ok, Err, if◌then◌else◌}
 use Rattle.ce_base.specs.declared.entries.Entry.{Entry}
+use Rattle.ce_base.specs.Texts.{entry}
 use Rattle.rule_tokens.specs.declared.refused.Bad.{Bad}
 use Rattle.rule_tokens.specs.declared.refused.Bad.TheVariants.{Word, Arity}
 use Rattle.rule_tokens.specs.declared.token.Token.{Token}
@@ -44,9 +45,6 @@ maybe kind (t ∷ ts) = or_word (kind t) >>= λ a. Ok (Some a, ts)
 abbrev pub up_to : {A : Type 0} → ℕ → (Token → Option A) → List Token → Result (List A) Bad
 up_to n kind [] = Ok []
 up_to n kind (t ∷ ts) = if n == 0 then Err Arity else (or_word (kind t) >>= λ a. with_front (a ∷ []) (up_to (n - 1) kind ts))
-
-abbrev pub entry : List ℕ → List ℕ → Entry
-entry name val = record { name = name; value = val }
 
 -- all that are left as pairs of a name and a value, at most n pairs
 abbrev pub entries_up_to : ℕ → List Token → Result (List Entry) Bad

@@ -6,7 +6,7 @@ use Rattle.form_controls.specs.declared.internals.Internals.{Internals}
 use Rattle.form_controls.specs.declared.value.Value.TheVariants.{One, Many}
 use Rattle.form_controls.specs.Internals.{attach, set_form_value}
 use Rattle.form_controls.specs.Worked.Pages.{element, html}
-use Rattle.form_submission.specs.EntryList.{entry}
+use Rattle.ce_base.specs.Texts.{entry}
 
 -- a name, and a type with a name
 

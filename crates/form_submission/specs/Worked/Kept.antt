@@ -9,7 +9,7 @@ use Rattle.form_controls.specs.Setting.{set_checked, set_chosen}
 use Rattle.form_controls.specs.Resetting.{clone_state, reset_controls}
 use Rattle.form_controls.specs.Internals.{attach, set_form_value}
 use Rattle.form_controls.specs.Worked.Told.{with_forest}
-use Rattle.form_submission.specs.EntryList.{entry}
+use Rattle.ce_base.specs.Texts.{entry}
 use Rattle.form_submission.specs.LineEnds.{newline}
 use Rattle.form_submission.specs.Worked.Button.{rating}
 use Rattle.form_submission.specs.Worked.Groups.{pair, with_charset}

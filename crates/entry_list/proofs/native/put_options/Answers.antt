@@ -3,7 +3,7 @@ use Rattle.std.proofs.lemmas.Option.{get_or_from_slice_get, slice_get_within}
 use Rattle.form_controls.specs.Disabled.{is_option_disabled}
 use Rattle.form_controls.specs.Kinds.{name_of}
 use Rattle.form_controls.specs.Options.{option_value}
-use Rattle.form_submission.specs.EntryList.{entry}
+use Rattle.ce_base.specs.Texts.{entry}
 use Rattle.entry_list.proofs.Growing.{kept-next}
 use Rattle.entry_list.proofs.native.put_options.Goals as goal
 
