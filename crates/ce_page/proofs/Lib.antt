@@ -1,7 +1,6 @@
 pub mod CopyLemmas
 pub mod ElementLemmas
 pub mod LooseLemmas
-pub mod ConnectedLemmas
 pub mod RowLemmas
 pub mod WaitLemmas
 pub mod AssociatedLemmas

@@ -9,4 +9,3 @@ pub mod Copies
 pub mod Settled
 pub mod Telling
 pub mod Adding
-pub mod Connected

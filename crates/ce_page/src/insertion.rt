@@ -12,13 +12,12 @@ ghost use Rattle.ce_algorithms.specs.Enqueue.{enqueue_upgrade};
 ghost use Rattle.ce_algorithms.specs.Page.{Work};
 ghost use Rattle.ce_algorithms.specs.Steps.{Goes, for_each, when};
 ghost use Rattle.ce_algorithms.specs.Mutation.{adopt, connected_now, inserted, is_connected, pre_insert, put_in, reference_child};
-ghost use Rattle.ce_page.specs.Connected.{is_connected_or_none, IsKnown};
 ghost use Rattle.ce_page.specs.Ends.{Does, Keeps, NeverRefuses, work};
 ghost use Rattle.ce_page.specs.Numbers.{StaysWithin, OnlyEnqueues};
 ghost use Rattle.ce_page.specs.Settled.{KeepsSettled};
 ghost use Rattle.ce_page.specs.Telling.{Tells, told};
 
-use crate::connectedness::Connectedness;
+use crate::telling::is_unheard;
 use crate::walk::node_at;
 use crate::{NodeKind, Page, PageStop};
 use ce_base::{DefNo, Fuel, NodeNo, Nodes};
@@ -103,12 +102,12 @@ impl Page {
         ensures refused { NeverRefuses result }
     {
         let changes = self.graft(alloc, parent, node, before)?;
-        let mut now = Connectedness::of(Some(node));
-        if self.is_unheard(&changes, &mut now) {
+        let now = self.tree.is_connected(node);
+        if is_unheard(&changes, now) {
             return Ok(());
         }
         let walk = self.tree.shadow_order(alloc, node)?;
-        self.tell_insertion(alloc, node, &walk, &changes, &mut now, fuel)
+        self.tell_insertion(alloc, node, &walk, &changes, now, fuel)
     }
 
     /// Puts a node that stands nowhere at the end of a parent that is not connected. So nobody is told that it was
@@ -136,8 +135,7 @@ impl Page {
     {
         let changes = self.graft(alloc, parent, node, None)?;
         let walk = self.tree.shadow_order(alloc, node)?;
-        let mut now = Connectedness::of(None);
-        self.tell_insertion(alloc, node, &walk, &changes, &mut now, fuel)
+        self.tell_insertion(alloc, node, &walk, &changes, false, fuel)
     }
 
     /// Each node of an inserted tree has its turn, and then the others of whom something is said.
@@ -147,14 +145,12 @@ impl Page {
         node: NodeNo,
         walk: &Nodes,
         changes: &Changes,
-        now: &mut Connectedness,
+        now: bool,
         fuel: &mut Fuel,
     ) -> Result<(), PageStop>
         requires node { IsNode self.old.forest node }
         requires nodes { All (IsNode self.old.forest) walk.now }
-        requires asked { IsNodeOrNone self.old.forest now.old.node }
-        requires known { IsKnown self.old.forest now.old }
-        requires connected { All (λ m. connected self.old.forest m ≡ is_connected_or_none self.old.forest now.old.node) walk.now }
+        requires connected { All (λ m. connected self.old.forest m ≡ now) walk.now }
         requires changes { AreOfNodes self.old.forest changes.now }
         requires room { self.old.queues.reactions + fuel.old < 2 ^ 64 }
         ensures step { Does result (work self.new fuel.new)
@@ -173,13 +169,11 @@ impl Page {
         alloc: Global,
         walk: &Nodes,
         changes: &Changes,
-        now: &mut Connectedness,
+        now: bool,
         fuel: &mut Fuel,
     ) -> Result<(), PageStop>
         requires nodes { All (IsNode self.old.forest) walk.now }
-        requires asked { IsNodeOrNone self.old.forest now.old.node }
-        requires known { IsKnown self.old.forest now.old }
-        requires connected { All (λ m. connected self.old.forest m ≡ is_connected_or_none self.old.forest now.old.node) walk.now }
+        requires connected { All (λ m. connected self.old.forest m ≡ now) walk.now }
         requires rising { AreRising changes.now }
         requires room { self.old.queues.reactions + fuel.old < 2 ^ 64 }
         ensures step { Does result (work self.new fuel.new) (for_each walk.now (inserted changes.now) (work self.old fuel.old)) }
@@ -200,18 +194,14 @@ impl Page {
         alloc: Global,
         n: NodeNo,
         changes: &Changes,
-        now: &mut Connectedness,
+        now: bool,
         fuel: &mut Fuel,
     ) -> Result<(), PageStop>
         requires node { IsNode self.old.forest n }
-        requires asked { IsNodeOrNone self.old.forest now.old.node }
-        requires known { IsKnown self.old.forest now.old }
-        requires connected { connected self.old.forest n ≡ is_connected_or_none self.old.forest now.old.node }
+        requires connected { connected self.old.forest n ≡ now }
         requires rising { AreRising changes.now }
         requires room { self.old.queues.reactions + fuel.old < 2 ^ 64 }
         ensures step { Does result (work self.new fuel.new) (inserted changes.now n (work self.old fuel.old)) }
-        ensures same { now.new.node ≡ now.old.node }
-        ensures known { IsKnown self.old.forest now.new }
         ensures within { StaysWithin self.old self.new fuel.old fuel.new }
         ensures rest { OnlyEnqueues self.old self.new }
         ensures refused { NeverRefuses result }
@@ -228,21 +218,17 @@ impl Page {
         &mut self,
         alloc: Global,
         n: NodeNo,
-        now: &mut Connectedness,
+        now: bool,
         fuel: &mut Fuel,
     ) -> Result<(), PageStop>
-        requires asked { IsNodeOrNone self.old.forest now.old.node }
-        requires known { IsKnown self.old.forest now.old }
-        requires connected { connected self.old.forest n ≡ is_connected_or_none self.old.forest now.old.node }
+        requires connected { connected self.old.forest n ≡ now }
         requires room { self.old.queues.reactions + fuel.old < 2 ^ 64 }
         ensures step { Does result (work self.new fuel.new) (when (is_connected self.old n) (connected_now n true) (work self.old fuel.old)) }
-        ensures same { now.new.node ≡ now.old.node }
-        ensures known { IsKnown self.old.forest now.new }
         ensures within { StaysWithin self.old self.new fuel.old fuel.new }
         ensures rest { OnlyEnqueues self.old self.new }
         ensures refused { NeverRefuses result }
     {
-        if now.ask(&self.tree) {
+        if now {
             return self.enqueue_call(alloc, n, Reaction::Connected, fuel);
         }
         Ok(())
@@ -253,17 +239,13 @@ impl Page {
         &mut self,
         alloc: Global,
         n: NodeNo,
-        now: &mut Connectedness,
+        now: bool,
         fuel: &mut Fuel,
     ) -> Result<(), PageStop>
         requires node { IsNode self.old.forest n }
-        requires asked { IsNodeOrNone self.old.forest now.old.node }
-        requires known { IsKnown self.old.forest now.old }
-        requires connected { connected self.old.forest n ≡ is_connected_or_none self.old.forest now.old.node }
+        requires connected { connected self.old.forest n ≡ now }
         requires room { self.old.queues.reactions + fuel.old < 2 ^ 64 }
         ensures step { Does result (work self.new fuel.new) (when (is_connected self.old n) (connected_now n false) (work self.old fuel.old)) }
-        ensures same { now.new.node ≡ now.old.node }
-        ensures known { IsKnown self.old.forest now.new }
         ensures within { StaysWithin self.old self.new fuel.old fuel.new }
         ensures rest { OnlyEnqueues self.old self.new }
         ensures refused { NeverRefuses result }
@@ -283,22 +265,18 @@ impl Page {
         alloc: Global,
         n: NodeNo,
         d: DefNo,
-        now: &mut Connectedness,
+        now: bool,
         fuel: &mut Fuel,
     ) -> Result<(), PageStop>
         requires element { IsElement self.old.forest n }
-        requires asked { IsNodeOrNone self.old.forest now.old.node }
-        requires known { IsKnown self.old.forest now.old }
-        requires connected { connected self.old.forest n ≡ is_connected_or_none self.old.forest now.old.node }
+        requires connected { connected self.old.forest n ≡ now }
         requires room { self.old.queues.reactions + fuel.old < 2 ^ 64 }
         ensures step { Does result (work self.new fuel.new) (when (is_connected self.old n) (enqueue_upgrade d n) (work self.old fuel.old)) }
-        ensures same { now.new.node ≡ now.old.node }
-        ensures known { IsKnown self.old.forest now.new }
         ensures within { StaysWithin self.old self.new fuel.old fuel.new }
         ensures rest { OnlyEnqueues self.old self.new }
         ensures refused { NeverRefuses result }
     {
-        if now.ask(&self.tree) {
+        if now {
             return self.enqueue(alloc, n, Reaction::Upgrade(d), fuel);
         }
         Ok(())

@@ -4,7 +4,6 @@
 mod adoption;
 mod attributes;
 mod clone;
-mod connectedness;
 mod controls;
 mod copying;
 mod create;

@@ -1,22 +1,21 @@
 // Removal.
 ghost use Rattle.std.specs.Prelude.{◌≡◌, ◌+◌, ◌<◌, ◌^◌, ◌&&◌, IsSome, OnOk};
 ghost use Rattle.node_trees.specs.Spots.{parent_at};
-ghost use Rattle.node_trees.specs.Nodes.{IsNode, IsNodeOrNone};
+ghost use Rattle.node_trees.specs.Nodes.{IsNode};
 ghost use Rattle.node_trees.specs.Orders.{order_of};
 ghost use Rattle.form_owner.specs.Told.{AreOfNodes, AreRising};
 ghost use Rattle.reaction_queue.specs.declared.reaction.Reaction.TheVariants.{Disconnected};
 ghost use Rattle.ce_algorithms.specs.Enqueue.{enqueue_callback};
 ghost use Rattle.ce_algorithms.specs.Page.{is_custom};
 ghost use Rattle.ce_algorithms.specs.Steps.{for_each, where_is};
-ghost use Rattle.ce_algorithms.specs.Mutation.{removed, remove};
-ghost use Rattle.ce_page.specs.Connected.{is_connected_or_none, IsKnown};
+ghost use Rattle.ce_algorithms.specs.Mutation.{is_connected_parent, removed, remove};
 ghost use Rattle.ce_page.specs.Ends.{Does, NeverRefuses, work};
 ghost use Rattle.ce_page.specs.Numbers.{StaysWithin, OnlyEnqueues};
 ghost use Rattle.ce_page.specs.Loose.{IsLoosed};
 ghost use Rattle.ce_page.specs.Settled.{KeepsSettled};
 ghost use Rattle.ce_page.specs.Telling.{Tells, told};
 
-use crate::connectedness::Connectedness;
+use crate::telling::is_unheard;
 use crate::walk::node_at;
 use crate::{Page, PageStop};
 use ce_base::{Fuel, NodeNo, Nodes};
@@ -46,13 +45,24 @@ impl Page {
         ensures settled { OnOk result (KeepsSettled self.old self.new) }
         ensures refused { NeverRefuses result }
     {
-        let mut was = Connectedness::of(self.tree.parent(node));
+        let was = self.is_parent_connected(node);
         let changes = self.cut(alloc, node)?;
-        if self.is_unheard(&changes, &mut was) {
+        if is_unheard(&changes, was) {
             return Ok(());
         }
         let walk = self.tree.shadow_order(alloc, node)?;
-        self.tell_removal(alloc, node, &walk, &changes, &mut was, fuel)
+        self.tell_removal(alloc, node, &walk, &changes, was, fuel)
+    }
+
+    /// Whether the parent of a node is connected. Where there is none, it is not.
+    fn is_parent_connected(&self, node: NodeNo) -> bool
+        requires { IsNode self.now.forest node }
+        ensures { result ≡ is_connected_parent self.now (parent_at self.now.forest node) }
+    {
+        match self.tree.parent(node) {
+            Some(parent) => self.tree.is_connected(parent),
+            None => false,
+        }
     }
 
     /// Each node of a removed tree has its turn, and then the others of whom something is said.
@@ -62,16 +72,14 @@ impl Page {
         node: NodeNo,
         walk: &Nodes,
         changes: &Changes,
-        was: &mut Connectedness,
+        was: bool,
         fuel: &mut Fuel,
     ) -> Result<(), PageStop>
         requires node { IsNode self.old.forest node }
-        requires asked { IsNodeOrNone self.old.forest was.old.node }
-        requires known { IsKnown self.old.forest was.old }
         requires changes { AreOfNodes self.old.forest changes.now }
         requires room { self.old.queues.reactions + fuel.old < 2 ^ 64 }
         ensures step { Does result (work self.new fuel.new) (told (removed changes.now
-            (is_connected_or_none self.old.forest was.old.node)) changes.now walk.now (order_of self.old.forest node) (work self.old fuel.old)) }
+            was) changes.now walk.now (order_of self.old.forest node) (work self.old fuel.old)) }
         ensures within { StaysWithin self.old self.new fuel.old fuel.new }
         ensures rest { OnlyEnqueues self.old self.new }
         ensures refused { NeverRefuses result }
@@ -86,15 +94,13 @@ impl Page {
         alloc: Global,
         walk: &Nodes,
         changes: &Changes,
-        was: &mut Connectedness,
+        was: bool,
         fuel: &mut Fuel,
     ) -> Result<(), PageStop>
-        requires asked { IsNodeOrNone self.old.forest was.old.node }
-        requires known { IsKnown self.old.forest was.old }
         requires rising { AreRising changes.now }
         requires room { self.old.queues.reactions + fuel.old < 2 ^ 64 }
         ensures step { Does result (work self.new fuel.new)
-            (for_each walk.now (removed changes.now (is_connected_or_none self.old.forest was.old.node)) (work self.old fuel.old)) }
+            (for_each walk.now (removed changes.now was) (work self.old fuel.old)) }
         ensures within { StaysWithin self.old self.new fuel.old fuel.new }
         ensures rest { OnlyEnqueues self.old self.new }
         ensures refused { NeverRefuses result }
@@ -112,17 +118,13 @@ impl Page {
         alloc: Global,
         n: NodeNo,
         changes: &Changes,
-        was: &mut Connectedness,
+        was: bool,
         fuel: &mut Fuel,
     ) -> Result<(), PageStop>
-        requires asked { IsNodeOrNone self.old.forest was.old.node }
-        requires known { IsKnown self.old.forest was.old }
         requires rising { AreRising changes.now }
         requires room { self.old.queues.reactions + fuel.old < 2 ^ 64 }
         ensures step { Does result (work self.new fuel.new)
-            (removed changes.now (is_connected_or_none self.old.forest was.old.node) n (work self.old fuel.old)) }
-        ensures same { was.new.node ≡ was.old.node }
-        ensures known { IsKnown self.old.forest was.new }
+            (removed changes.now was n (work self.old fuel.old)) }
         ensures within { StaysWithin self.old self.new fuel.old fuel.new }
         ensures rest { OnlyEnqueues self.old self.new }
         ensures refused { NeverRefuses result }
@@ -136,21 +138,17 @@ impl Page {
         &mut self,
         alloc: Global,
         n: NodeNo,
-        was: &mut Connectedness,
+        was: bool,
         fuel: &mut Fuel,
     ) -> Result<(), PageStop>
-        requires asked { IsNodeOrNone self.old.forest was.old.node }
-        requires known { IsKnown self.old.forest was.old }
         requires room { self.old.queues.reactions + fuel.old < 2 ^ 64 }
-        ensures step { Does result (work self.new fuel.new) (where_is (λ w. is_connected_or_none self.old.forest was.old.node && is_custom w.page n)
+        ensures step { Does result (work self.new fuel.new) (where_is (λ w. was && is_custom w.page n)
             (enqueue_callback n Disconnected) (work self.old fuel.old)) }
-        ensures same { was.new.node ≡ was.old.node }
-        ensures known { IsKnown self.old.forest was.new }
         ensures within { StaysWithin self.old self.new fuel.old fuel.new }
         ensures rest { OnlyEnqueues self.old self.new }
         ensures refused { NeverRefuses result }
     {
-        if self.is_custom(n) && was.ask(&self.tree) {
+        if was && self.is_custom(n) {
             return self.enqueue_call(alloc, n, Reaction::Disconnected, fuel);
         }
         Ok(())

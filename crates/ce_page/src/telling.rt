@@ -1,35 +1,29 @@
 // Whom a change of form owners and disabled states tells.
 ghost use Rattle.std.specs.Prelude.{◌≡◌, ◌+◌, ◌<◌, ◌^◌, [], true, false, if◌then◌else◌};
-ghost use Rattle.node_trees.specs.Nodes.{IsNode, IsNodeOrNone};
+ghost use Rattle.node_trees.specs.Nodes.{IsNode};
 ghost use Rattle.node_trees.specs.Orders.{order_of};
 ghost use Rattle.form_owner.specs.Told.{AreOfNodes, AreRising};
 ghost use Rattle.ce_algorithms.specs.Steps.{done};
 ghost use Rattle.ce_algorithms.specs.FormChanges.{tell_at_turn, tell_disabled, tell_form_change, tell_others, tell_owner};
-ghost use Rattle.ce_page.specs.Connected.{is_connected_or_none, IsKnown};
 ghost use Rattle.ce_page.specs.Ends.{Does, NeverRefuses, work};
 ghost use Rattle.ce_page.specs.Numbers.{StaysWithin, OnlyEnqueues};
 
-use crate::connectedness::Connectedness;
 use crate::{Page, PageStop};
 use ce_base::{Fuel, NodeNo};
 use form_owner::{Change, Changes};
 use reaction_queue::Reaction;
 use std::alloc::Global;
 
-impl Page {
-    /// Whether an insertion or a removal has nobody to tell: nothing is said of form owners and disabled states, and the node
-    /// is not connected, or there is none.
-    pub(crate) fn is_unheard(&self, changes: &Changes, node: &mut Connectedness) -> bool
-        requires asked { IsNodeOrNone self.now.forest node.old.node }
-        requires known { IsKnown self.now.forest node.old }
-        ensures changes { result ≡ true → changes.now ≡ [] }
-        ensures apart { result ≡ true → is_connected_or_none self.now.forest node.old.node ≡ false }
-        ensures same { node.new.node ≡ node.old.node }
-        ensures known { IsKnown self.now.forest node.new }
-    {
-        changes.len() == 0 && !node.ask(&self.tree)
-    }
+/// Whether an insertion or a removal has nobody to tell: nothing is said of form owners and disabled states, and what is
+/// inserted is not connected, or what is removed was not.
+pub(crate) fn is_unheard(changes: &Changes, connected: bool) -> bool
+    ensures changes { result ≡ true → changes.now ≡ [] }
+    ensures apart { result ≡ true → connected ≡ false }
+{
+    changes.len() == 0 && !connected
+}
 
+impl Page {
     fn tell_owner(
         &mut self,
         alloc: Global,

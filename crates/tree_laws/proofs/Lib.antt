@@ -26,7 +26,6 @@ pub mod Allowed
 pub mod CutSpots
 pub mod CutReads
 pub mod AllowedCut
-pub mod CutConnected
 pub mod PutSpots
 pub mod ConnectedBelow
 pub mod NewReads

@@ -1,12 +1,9 @@
 use Rattle.std.proofs.Common.{Ok, refl, ap, subst, sym, ◌∙◌}
 use Rattle.node_trees.specs.Orders.{order_of}
-use Rattle.node_trees.specs.Spots.{parent_at}
 use Rattle.node_trees.specs.Trees.{Trees}
 use Rattle.ce_algorithms.specs.Page.{Page}
-use Rattle.ce_page.specs.Connected.{is_connected_or_none}
 use Rattle.ce_page.specs.Ends.{work}
 use Rattle.ce_page.specs.Loose.{IsLoosed}
-use Rattle.ce_page.proofs.ConnectedLemmas.{parent_stays}
 use Rattle.ce_page.proofs.StepLemmas.{on_ok, remove_is}
 use Rattle.ce_page.proofs.TellLemmas.{removal_tells}
 use Rattle.ce_page.proofs.Unheard.{removal_unheard}
@@ -14,8 +11,8 @@ use Rattle.ce_page.proofs.page.Page.remove_node.Goals as goal
 
 pub returns-clause-step : goal.returns-clause-step
 returns-clause-step c =
-    let order = c.in_ok-walk.ensures.order ∙ ap (λ (p : Page). order_of p.forest c.args.node) c.self-2.view_is in
-    let was = ap (is_connected_or_none c.cut.new.self.forest) (c.is_unheard.ensures.same ∙ c.of-was.ensures.node ∙ c.parent.ensures.parent ∙ ap (λ (p : Page). parent_at p.forest c.args.node) c.self.view_is) ∙ parent_stays c.args.self.now c.cut.new.self c.args.node c.in_ok-changes.ensures.tidy c.requires.node c.in_ok-changes.ensures.page in
+    let order = c.in_ok-walk.ensures.order ∙ ap (λ (p : Page). order_of p.forest c.args.node) c.self.view_is in
+    let was = c.is_parent_connected-was.ensures in
     let steps = remove_is c.args.self.now c.cut.new.self c.args.fuel.now c.in_ok-changes.changes c.in_ok-changes.ensures.changes c.args.node _ c.in_ok-walk.walk c.in_ok-changes.ensures.page order was in
     rw steps c.tell_removal.ensures.step
 
@@ -31,7 +28,7 @@ returns-then-is_unheard-clause-step c =
     let now = c.cut.new.self in
     let cs = c.in_ok-changes.changes in
     let order = order_of now.forest c.args.node in
-    let was = ap (is_connected_or_none now.forest) (c.of-was.ensures.node ∙ c.parent.ensures.parent ∙ ap (λ (p : Page). parent_at p.forest c.args.node) c.self.view_is) ∙ parent_stays c.args.self.now now c.args.node c.in_ok-changes.ensures.tidy c.requires.node c.in_ok-changes.ensures.page in
+    let was = c.is_parent_connected-was.ensures in
     let steps = remove_is c.args.self.now now c.args.fuel.now cs c.in_ok-changes.ensures.changes c.args.node _ order c.in_ok-changes.ensures.page refl was in
     sym (steps ∙ removal_unheard now c.args.fuel.now cs _ order order (c.is_unheard.ensures.changes c.if-is_unheard.true) (c.is_unheard.ensures.apart c.if-is_unheard.true))
 

@@ -1,6 +1,5 @@
-use Rattle.ce_page.proofs.ConnectedLemmas.{still_disconnects}
 use Rattle.ce_page.proofs.StepLemmas.{goes_on}
 use Rattle.ce_page.proofs.page.Page.removed.Goals as goal
 
 pub returns-clause-step : goal.returns-clause-step
-returns-clause-step c = goes_on _ _ _ _ _ c.in_ok-tell_at_turn.ensures.step (still_disconnects _ _ _ _ _ c.args.was.now.node c.args.n c.tell_at_turn.ensures.rest.forest c.disconnected.ensures.step)
+returns-clause-step c = goes_on _ _ _ _ _ c.in_ok-tell_at_turn.ensures.step c.disconnected.ensures.step
