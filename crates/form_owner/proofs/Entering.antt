@@ -1,6 +1,6 @@
 -- Lists that nodes are put into, a change at a time from the last one on.
 use Rattle.std.proofs.Common.{◌≡◌, ◌≢◌, ℕ, zero, suc, ◌+◌, ◌-◌, ◌<◌, ◌==◌, Bool, true, false, cond, List, [], ◌∷◌, take, get_or, Option, Some, None, refl, sym, ap, ◌∙◌, subst, arith, inl, inr}
-use Rattle.std.specs.Prelude.{filter, find, slice_get, unwrap_or, not, is_some, ◌||◌, ◌&&◌}
+use Rattle.std.specs.Prelude.{filter, find, length, slice_get, unwrap_or, not, is_some, IfSome, ◌||◌, ◌&&◌}
 use Rattle.std.proofs.lemmas.Bool.{cases_eq}
 use Rattle.std.proofs.lemmas.Bool.Decides.{nat_tests}
 use Rattle.std.proofs.lemmas.List.Elements.{filter_agree}
@@ -15,11 +15,12 @@ use Rattle.tree_laws.proofs.Children.{tree_order-apart}
 use Rattle.form_controls.specs.declared.change.Change.{Change}
 use Rattle.owner_rows.specs.OwnerRow.{OwnerRow, row_in, row_of}
 use Rattle.form_owner.specs.Groups.{all_after}
-use Rattle.form_owner.specs.Moves.{AreEntered, IsTold, is_listed_in, is_moved_by, is_settled, stays}
+use Rattle.form_owner.specs.Moves.{AreEntered, HasNoneBehind, IsTold, is_listed_in, is_moved_by, is_settled, last_listed, stays}
 use Rattle.form_owner.specs.Reading.{is_owned_in}
 use Rattle.form_owner.specs.Told.{AreRising}
 use Rattle.form_owner.specs.Writing.{Written, unlisted}
 use Rattle.form_owner.proofs.GroupWalks.{count-filter}
+use Rattle.form_owner.proofs.Lasts.{none-last}
 use Rattle.form_owner.proofs.Leaving.{moved-more}
 use Rattle.form_owner.proofs.Placing.{after-in, at_its_place, or_one}
 use Rattle.form_owner.proofs.Told.{behind, rises}
@@ -160,6 +161,19 @@ module _ (old : List OwnerRow) (cs : List Change) (k : ℕ) (c : Change) (at : s
           by_test true true = refl
           by_test true false = refl
           by_test false s = refl
+
+      -- none of the list comes behind its last
+      pub entered-last : IfSome (last_listed mid g) (HasNoneBehind (is_listed_in mid g) order)
+      entered-last = by_last (last_listed mid g) (ap (λ v. slice_get v (length v - 1)) listed)
+        where
+          by_last : (o : Option ℕ) → o ≡ slice_get (filter test order) (length (filter test order) - 1) → IfSome o (HasNoneBehind (is_listed_in mid g) order)
+          by_last None e = tt
+          by_last (Some l) e =
+              let last = none-last test l order (tree_order-apart forest (root_at forest g) tidy) (sym e) in
+              record {
+                among = last.among;
+                none = find-members (is_listed_in mid g) test (all_after l order) (λ m h. in-list m (after-in l m order h)) ∙ last.none;
+              }
 
       module _ (once : is_moved_by (take k cs) c.node ≡ false) where
         own : is_owned_in old g c.node ≡ true

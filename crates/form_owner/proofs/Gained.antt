@@ -1,6 +1,6 @@
 -- The steps of a loop that puts nodes into lists, from the last change on.
 use Rattle.std.proofs.Common.{◌≡◌, All, ℕ, ◌+◌, ◌-◌, ◌<◌, List, take, true, Option, Some, None, ap, subst, arith}
-use Rattle.std.specs.Prelude.{find, slice_get, unwrap_or}
+use Rattle.std.specs.Prelude.{find, slice_get, unwrap_or, IfSome}
 use Rattle.std.proofs.lemmas.Option.{get_or_from_slice_get, slice_get_within}
 use Rattle.node_trees.specs.Trees.{Trees}
 use Rattle.node_trees.specs.Nodes.{IsNode, IsTidy}
@@ -11,10 +11,10 @@ use Rattle.tree_laws.proofs.Counts.{AreApart}
 use Rattle.form_controls.specs.declared.change.Change.{Change}
 use Rattle.owner_rows.specs.OwnerRow.{OwnerRow, row_of}
 use Rattle.form_owner.specs.Groups.{all_after}
-use Rattle.form_owner.specs.Moves.{AreEntered, IsTold, is_listed_in}
+use Rattle.form_owner.specs.Moves.{AreEntered, HasNoneBehind, IsTold, is_listed_in, last_listed}
 use Rattle.form_owner.specs.Told.{AreRising}
 use Rattle.form_owner.specs.Writing.{Written}
-use Rattle.form_owner.proofs.Entering.{earlier, entered-apart, entered-none, entered-some}
+use Rattle.form_owner.proofs.Entering.{earlier, entered-apart, entered-last, entered-none, entered-some}
 
 given : (o : Option (Option ℕ)) (g : ℕ) → unwrap_or o None ≡ Some g → o ≡ Some (Some g)
 given None g e = absurd cc
@@ -39,6 +39,9 @@ module _ (forest : Trees) (tidy : IsTidy forest) (old mid : List OwnerRow) (cs :
 
     pub enters-apart : AreApart (row_of mid g).controls
     enters-apart = entered-apart old cs (left - 1) c at forest mid before it tidy g (given c.owner g e)
+
+    pub enters-last : IfSome (last_listed mid g) (HasNoneBehind (is_listed_in mid g) (tree_order_of forest (root_at forest g)))
+    enters-last = entered-last old cs (left - 1) c at forest mid before it tidy g (given c.owner g e)
 
     pub enters-some : AreRising cs → (new : List OwnerRow) → Written mid new (g - 1) (record (row_of mid g) { controls = insert_number (find (is_listed_in mid g) (all_after c.node (tree_order_of forest (root_at forest g)))) c.node (row_of mid g).controls }) →
         AreEntered forest (take (left - 1) cs) old new

@@ -23,6 +23,7 @@ pub mod Staying
 pub mod Making
 pub mod Told
 pub mod Groups
+pub mod Lasts
 pub mod GroupWalks
 pub mod Entering
 pub mod Gained

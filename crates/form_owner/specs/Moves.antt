@@ -1,10 +1,11 @@
 -- Controls that go from list to list.
-use Rattle.std.specs.Prelude.{◌≡◌, ◌<◌, ◌+◌, ℕ, Bool, true, not, ◌&&◌, ◌==◌, List, filter, find, is_some, Option, Some}
+use Rattle.std.specs.Prelude.{◌≡◌, ◌<◌, ◌+◌, ◌-◌, ℕ, Bool, true, not, ◌&&◌, ◌==◌, List, filter, find, length, slice_get, is_some, Option, Some, None}
 use Rattle.std.specs.List.{list_any}
 use Rattle.node_trees.specs.Trees.{Trees}
 use Rattle.node_trees.specs.Nodes.{IsNode, size}
 use Rattle.node_trees.specs.Orders.{tree_order_of}
 use Rattle.node_trees.specs.Paths.{is_among, root_at}
+use Rattle.node_trees.specs.Spots.{after}
 use Rattle.tree_laws.specs.Numbers.{insert_number}
 use Rattle.form_controls.specs.declared.change.Change.{Change}
 use Rattle.owner_rows.specs.OwnerRow.{OwnerRow, row_in, row_of}
@@ -30,6 +31,20 @@ is_listed_in rows form m = is_owned_in rows form m && is_among m (row_of rows fo
 -- the first of a form's list behind n, in the tree order of the form's tree
 abbrev pub listed_after : Trees → List OwnerRow → ℕ → ℕ → Option ℕ
 listed_after forest rows form n = find (is_listed_in rows form) (all_after n (tree_order_of forest (root_at forest form)))
+
+-- the last of a form's list
+abbrev pub last_listed : List OwnerRow → ℕ → Option ℕ
+last_listed rows form = slice_get (row_of rows form).controls (length (row_of rows form).controls - 1)
+
+-- of a list, none that passes comes behind n
+pub record HasNoneBehind (p : ℕ → Bool) (order : List ℕ) (n : ℕ) : Type 0 where
+  pub among : is_among n order ≡ true
+  pub none : find p (all_after n order) ≡ None
+
+-- what comes behind a number, where there is one
+abbrev pub after_or_none : List ℕ → Option ℕ → Option ℕ
+after_or_none order None = None
+after_or_none order (Some n) = after n order
 
 -- a form's row, with n put into its list before another or at the end
 abbrev pub with_control : Option ℕ → ℕ → OwnerRow → OwnerRow

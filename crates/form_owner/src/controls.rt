@@ -1,6 +1,6 @@
 // The controls of forms.
 ghost use Rattle.std.specs.Prelude.{◌≡◌, ◌<◌, ◌-◌, ◌++◌, ◌∷◌, [], if◌then◌else◌};
-ghost use Rattle.std.specs.Prelude.{All, Some, filter, length, slice_get, IfOk, OnOk};
+ghost use Rattle.std.specs.Prelude.{All, Some, filter, length, IfOk, OnOk};
 ghost use Rattle.node_trees.specs.Nodes.{IsNode, size};
 ghost use Rattle.owner_rows.specs.OwnerRow.{row_of};
 ghost use Rattle.form_owner.specs.Reading.{is_owned_in, owned_in};
@@ -20,14 +20,6 @@ fn is_owned(rows: &[Row], form: NodeNo, n: NodeNo) -> bool
         None => false,
         Some(owner) => owner == form,
     }
-}
-
-/// The number at a place of a list.
-fn number_at(nodes: &Nodes, place: usize) -> NodeNo
-    requires { place < length nodes.now }
-    ensures { slice_get nodes.now place ≡ Some result }
-{
-    nodes.get(place).unwrap()
 }
 
 /// Puts a node behind those that were found, where it is one.
@@ -51,7 +43,7 @@ fn owned_among(
 {
     let mut found = Vec::new(alloc);
     for i in 0..order.len() {
-        let n = number_at(order, i);
+        let n = order.get(i).unwrap();
         let is_found = is_owned(rows, form, n);
         keep_where(is_found, &mut found, n)?;
     }

@@ -1,6 +1,6 @@
 // Controls that go from list to list, where few do.
 ghost use Rattle.std.specs.Prelude.{◌≡◌, ◌<◌, ◌-◌, ◌+◌, ◌==◌, ◌&&◌, [], All, ℕ, false, true, Some, None};
-ghost use Rattle.std.specs.Prelude.{filter, find, length, not, slice_get, OnOk};
+ghost use Rattle.std.specs.Prelude.{filter, find, length, not, slice_get, IfSome, OnOk};
 ghost use Rattle.node_trees.specs.Nodes.{IsNode, IsTidy, size};
 ghost use Rattle.node_trees.specs.Orders.{tree_order_of};
 ghost use Rattle.node_trees.specs.Paths.{is_among, root_at};
@@ -9,7 +9,7 @@ ghost use Rattle.form_controls.specs.Changes.{numbers};
 ghost use Rattle.form_controls.specs.declared.change.Change.{Change};
 ghost use Rattle.owner_rows.specs.OwnerRow.{is_other, row_in, row_of};
 ghost use Rattle.form_owner.specs.Groups.{all_after};
-ghost use Rattle.form_owner.specs.Moves.{AreEntered, IsTold, is_listed_in, listed_after, stays, with_control};
+ghost use Rattle.form_owner.specs.Moves.{AreEntered, HasNoneBehind, IsTold, after_or_none, is_listed_in, last_listed, listed_after, stays, with_control};
 ghost use Rattle.form_owner.specs.Reading.{changes_read, is_owned_in};
 ghost use Rattle.form_owner.specs.Told.{AreRising};
 ghost use Rattle.form_owner.specs.Writing.{AreRenewed, ListsStood, Written, with_changes, with_told};
@@ -72,19 +72,38 @@ fn is_listed(rows: &[Row], form: NodeNo, n: NodeNo) -> bool
     }
 }
 
-/// The first of a form's list behind a node, in tree order.
+/// What comes behind a node in tree order, where there is one.
+fn next_or_none(tree: &Tree, at: Option<NodeNo>, root: NodeNo) -> Option<NodeNo>
+    requires root { IsNode tree.now root }
+    requires inside { IfSome at (λ n. is_among n (tree_order_of tree.now root) ≡ true) }
+    ensures { result ≡ after_or_none (tree_order_of tree.now root) at }
+{
+    match at {
+        None => None,
+        Some(n) => tree.next_in_tree(n, root),
+    }
+}
+
+/// The first of a form's list behind a node, in tree order. The way goes on from the node and, a step each in turn, from the last
+/// of the list: where it comes to the node from there, none is behind it.
 fn listed_behind(rows: &[Row], tree: &Tree, form: NodeNo, root: NodeNo, n: NodeNo) -> Option<NodeNo>
     requires tidy { IsTidy tree.now }
     requires root { IsNode tree.now root }
     requires inside { is_among n (tree_order_of tree.now root) ≡ true }
+    requires last { IfSome (last_listed rows.now form) (HasNoneBehind (is_listed_in rows.now form) (tree_order_of tree.now root)) }
     ensures { result ≡ find (is_listed_in rows.now form) (all_after n (tree_order_of tree.now root)) }
 {
     let mut at = n;
+    let mut past = controls_in(rows, form).last().copied();
     while let Some(next) = tree.next_in_tree(at, root) {
         if is_listed(rows, form, next) {
             return Some(next);
         }
         at = next;
+        past = next_or_none(tree, past, root);
+        if past == Some(n) {
+            return None;
+        }
     }
     None
 }
@@ -111,6 +130,7 @@ fn enter(tree: &Tree, rows: &mut [Row], form: NodeNo, n: NodeNo) -> Result<(), N
     requires within { form - 1 < length rows.old }
     requires inside { is_among n (tree_order_of tree.now (root_at tree.now form)) ≡ true }
     requires apart { AreApart (row_of rows.old form).controls }
+    requires last { IfSome (last_listed rows.old form) (HasNoneBehind (is_listed_in rows.old form) (tree_order_of tree.now (root_at tree.now form))) }
     ensures { OnOk result (Written rows.old rows.new (form - 1) (with_control (listed_after tree.now rows.old form n) n (row_of rows.old form))) }
 {
     let _count = tree.count();
