@@ -20,12 +20,15 @@ use crate::{Change, Changes};
 use above_reading::{Reading, Readings};
 use ce_base::{NoMemory, NodeNo, Nodes};
 use node_arena::Tree;
-use owner_rows::{Row, associated_in, disabled_in, owner_in};
+use owner_rows::{Row, associated_in, controls_in, disabled_in, owner_in};
 use std::alloc::Global;
 
-/// How many nodes are few. Of more candidates what stands above them is read once; with more changes a form's list is made anew
-/// by a walk of its tree, since each that comes to a long list shifts what is behind it.
+/// How many nodes are few. Of more candidates what stands above them is read once; with more changes a form's list may be made
+/// anew by a walk of its tree, since each that comes to a long list shifts what is behind it.
 const FEW: usize = 16;
+
+/// How many entries of lists are gone over in the time of one node of such a walk.
+const ENTRIES: u64 = 4;
 
 /// What differs for a node between its row and what was read of it.
 fn change_to(rows: &[Row], n: NodeNo, reading: &Reading) -> Change
@@ -102,8 +105,22 @@ fn take_over(
     list_controls(alloc, tree, rows, &forms)
 }
 
-/// Writes what was read into the rows, with the lists of controls that change: where few nodes change in place, and else
-/// anew.
+/// How many entries of lists are gone over where the lists change in place: for each change no more than there are in the list
+/// that its node leaves and in the one that it comes to, and than there are changes.
+fn entries(rows: &[Row], changes: &Changes) -> usize {
+    let mut count = changes.len().saturating_mul(changes.len());
+    for i in 0..changes.len() {
+        let change = changes.get(i).unwrap();
+        let old = owner_in(rows, change.node);
+        let new = change.owner.unwrap_or(None);
+        count = count.saturating_add(old.map_or(0, |form| controls_in(rows, form).len()));
+        count = count.saturating_add(new.map_or(0, |form| controls_in(rows, form).len()));
+    }
+    count
+}
+
+/// Writes what was read into the rows, with the lists of controls that change: where few nodes change, or their lists are short
+/// beside the tree, in place, and else anew.
 fn write_read(
     alloc: Global,
     tree: &Tree,
@@ -115,7 +132,7 @@ fn write_read(
     requires lists { ListsStood tree.now rows.old }
     ensures { OnOk result (AreRenewed tree.now rows.old rows.new) }
 {
-    if changes.len() <= FEW {
+    if changes.len() <= FEW || entries(rows, changes) as u64 / ENTRIES <= tree.count() {
         return move_each(tree, rows, changes);
     }
     take_over(alloc, tree, rows, changes)
