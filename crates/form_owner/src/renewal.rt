@@ -27,8 +27,9 @@ use std::alloc::Global;
 /// anew by a walk of its tree, since each that comes to a long list shifts what is behind it.
 const FEW: usize = 16;
 
-/// How many entries of lists are gone over in the time of one node of such a walk.
-const ENTRIES: u64 = 4;
+/// How many entries of lists are gone over in the time of one node of such a walk, as it was measured: a node is looked up and
+/// its owner too, and entries are shifted many at once.
+const ENTRIES: u64 = 128;
 
 /// What differs for a node between its row and what was read of it.
 fn change_to(rows: &[Row], n: NodeNo, reading: &Reading) -> Change
