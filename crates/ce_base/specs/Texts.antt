@@ -2,7 +2,7 @@
 use Rattle.std.specs.Prelude.{ℕ, List, IsUtf8}
 use Rattle.ce_base.specs.declared.entries.Entry.{Entry}
 
--- an entry: a name and its value
+-- an entry: a name and its value (HTML Standard, section "Constructing the entry list", "create an entry")
 abbrev pub entry : List ℕ → List ℕ → Entry
 entry name value = record { name = name; value = value }
 

@@ -8,7 +8,7 @@ use Rattle.node_trees.specs.Paths.{path, connected, or_number}
 use Rattle.node_trees.specs.Nodes.{size, times, IsNode, IsTidy}
 use Rattle.node_trees.specs.Links.{KeepsApart}
 use Rattle.tree_laws.specs.Numbers.{insert_number}
-use Rattle.tree_laws.specs.Rows.{row_at, IsForest, Grafted}
+use Rattle.tree_laws.specs.Rows.{row_of_node, IsForest, Grafted}
 use Rattle.tree_laws.proofs.Above.{IsAbove, nothing, a_parent, a_host, row_above, parent-above}
 use Rattle.tree_laws.proofs.AtNode.{node_stands, node_spot, parent_at-is, host_at-is, spot_at-is}
 use Rattle.tree_laws.proofs.Changed.{path-with}
@@ -111,8 +111,8 @@ apart-new n x f g tidy_f tidy_g is =
     let still = λ (m : ℕ) (at : IsNode f m). ap (λ v. spot_at v m) is ∙ spot_at-new n x f m tidy_f at in
     stays-apart f g tidy_f tidy_g (omega (arith, more, ap size is)) (λ m at apart. alike (ap (λ (s : Spot). s.parent) (still m at)) (ap (λ (s : Spot). s.host) (still m at)) (ap (λ (s : Spot). s.facts.kind) (still m at)))
 
-pub row_written : (rows rows' : List Spot) (m n : ℕ) (it new : Spot) → m ≡ n → row_at rows m ≡ Some it → (row_at rows n ≡ Some it → row_at rows' n ≡ Some new) → row_at rows' m ≡ Some new
-row_written rows rows' m n it new e at f = subst (λ v. row_at rows' v ≡ Some new) (sym e) (f (subst (λ v. row_at rows v ≡ Some it) e at))
+pub row_written : (rows rows' : List Spot) (m n : ℕ) (it new : Spot) → m ≡ n → row_of_node rows m ≡ Some it → (row_of_node rows n ≡ Some it → row_of_node rows' n ≡ Some new) → row_of_node rows' m ≡ Some new
+row_written rows rows' m n it new e at f = subst (λ v. row_of_node rows' v ≡ Some new) (sym e) (f (subst (λ v. row_of_node rows v ≡ Some it) e at))
 
 -- a node put below one that is not connected
 pub apart-grafted : (rows rows' : List Spot) (f g : Trees) (p n : ℕ) (b : Option ℕ) → IsForest rows f → IsForest rows' g → Grafted rows rows' p n b → IsNode f p → connected f p ≡ false → KeepsApart f g
@@ -127,11 +127,11 @@ apart-grafted rows rows' f g p n b a a' w node_p apart_p =
     let it = spot_of st.it.facts st.it.parent st.it.host st.it.shadow st.it.children in
     elim (cases_eq m n) [
       | inl e ↦
-          let there : row_at rows' m ≡ Some (record it { parent = Some p }) = row_written rows rows' m n it _ e st.row (w.moved it) in
+          let there : row_of_node rows' m ≡ Some (record it { parent = Some p }) = row_written rows rows' m n it _ e st.row (w.moved it) in
           moved p (parent_at-is g m _ (row_is rows' g m _ a' still there)) node_p apart_p
       | inr ne ↦ elim (cases_eq m p) [
         | inl e ↦
-            let there : row_at rows' m ≡ Some (record it { children = insert_number b n it.children }) = row_written rows rows' m p it _ e st.row (w.there it) in
+            let there : row_of_node rows' m ≡ Some (record it { children = insert_number b n it.children }) = row_written rows rows' m p it _ e st.row (w.there it) in
             let new = spot_at-is g m _ (row_is rows' g m _ a' still there) in
             alike (ap (λ (s : Spot). s.parent) new ∙ sym (ap (λ (s : Spot). s.parent) old)) (ap (λ (s : Spot). s.host) new ∙ sym (ap (λ (s : Spot). s.host) old)) (ap (λ (s : Spot). s.facts.kind) new ∙ sym (ap (λ (s : Spot). s.facts.kind) old))
         | inr ne_p ↦

@@ -11,7 +11,7 @@ use Rattle.node_trees.specs.Orders.{order_of}
 use Rattle.node_trees.specs.Nodes.{size, times, IsNode, IsTidy}
 use Rattle.node_trees.proofs.Absent.{is_among-append}
 use Rattle.tree_laws.specs.Numbers.{insert_number}
-use Rattle.tree_laws.specs.Rows.{row_at, IsForest, Grafted, Attached}
+use Rattle.tree_laws.specs.Rows.{row_of_node, IsForest, Grafted, Attached}
 use Rattle.tree_laws.specs.Walks.{parent_or}
 use Rattle.tree_laws.proofs.Above.{IsAbove, nothing, a_parent, a_host, row_above, parent-above}
 use Rattle.tree_laws.proofs.Apart.{connected-root, connected-above, row_written}
@@ -158,7 +158,7 @@ moved-grafted rows rows' f g p n b a a' w = record {
       let it = spot_of st.it.facts st.it.parent st.it.host st.it.shadow st.it.children in
       elim (cases_eq m p) [
         | inl e ↦
-            let there : row_at rows' m ≡ Some (record it { children = insert_number b n it.children }) = row_written rows rows' m p it _ e st.row (w.there it) in
+            let there : row_of_node rows' m ≡ Some (record it { children = insert_number b n it.children }) = row_written rows rows' m p it _ e st.row (w.there it) in
             let new = spot_at-is g m _ (row_is rows' g m _ a' still there) in
             record {
               parent = ap (λ (s : Spot). s.parent) old ∙ sym (ap (λ (s : Spot). s.parent) new);
@@ -211,7 +211,7 @@ connected-attached rows rows' f g h n x a a' last w m at =
     let it = spot_of st.it.facts st.it.parent st.it.host st.it.shadow st.it.children in
     elim (cases_eq k h) [
       | inl e ↦
-          let there : row_at rows' k ≡ Some (record it { shadow = n ∷ [] }) = row_written rows rows' k h it _ e st.row (w.there it) in
+          let there : row_of_node rows' k ≡ Some (record it { shadow = n ∷ [] }) = row_written rows rows' k h it _ e st.row (w.there it) in
           let new = spot_at-is g k _ (row_is rows' g k _ a' (over k at) there) in
           record {
             parent = ap (λ (s : Spot). s.parent) new ∙ sym (ap (λ (s : Spot). s.parent) old);

@@ -6,7 +6,7 @@ use Rattle.node_trees.specs.Spots.{Spot, spot_at, parent_at, children_at, or_no_
 use Rattle.node_trees.specs.Insertion.{may_insert}
 use Rattle.node_trees.specs.Nodes.{size, IsNode, IsTidy}
 use Rattle.tree_laws.specs.Numbers.{insert_number, remove_number}
-use Rattle.tree_laws.specs.Rows.{row_at, rows_of, IsForest, Grafted, Severed}
+use Rattle.tree_laws.specs.Rows.{row_of_node, rows_of, IsForest, Grafted, Severed}
 use Rattle.tree_laws.proofs.ByIndex.{slice_get-set_same, slice_get-set_other}
 use Rattle.tree_laws.proofs.ForestRows.{rows_of-forest, rows_of-at, rows_of-length}
 use Rattle.tree_laws.proofs.RowForests.{graft_forest, cut_forest, row_is}
@@ -19,13 +19,13 @@ module _ (rows : List Spot) (p n : ℕ) (u v : Spot) (low_p : 0 < p) (high_p : p
   both-length : length both ≡ length rows
   both-length = length-set (set rows (p - 1) u) (n - 1) v ∙ length-set rows (p - 1) u
 
-  both-n : row_at both n ≡ Some v
+  both-n : row_of_node both n ≡ Some v
   both-n = slice_get-set_same (set rows (p - 1) u) (n - 1) v (omega (arith, length-set rows (p - 1) u))
 
-  both-p : row_at both p ≡ Some u
+  both-p : row_of_node both p ≡ Some u
   both-p = slice_get-set_other (set rows (p - 1) u) (n - 1) (p - 1) v (λ e. ne (omega (arith, e, low_p, low_n))) ∙ slice_get-set_same rows (p - 1) u (omega arith)
 
-  both-other : (m : ℕ) → 0 < m → m ≢ n → m ≢ p → row_at both m ≡ row_at rows m
+  both-other : (m : ℕ) → 0 < m → m ≢ n → m ≢ p → row_of_node both m ≡ row_of_node rows m
   both-other m low m_n m_p = slice_get-set_other (set rows (p - 1) u) (n - 1) (m - 1) v (λ e. m_n (omega (arith, e, low, low_n))) ∙ slice_get-set_other rows (p - 1) (m - 1) u (λ e. m_p (omega (arith, e, low, low_p)))
 
 -- g is f but for the parent of n and the children of p
@@ -40,7 +40,7 @@ module _ (f : Trees) (tidy : IsTidy f) (p n : ℕ) (is_p : IsNode f p) (is_n : I
   pub within : (m : ℕ) → IsNode f m → m ≤ length (rows_of f)
   within m at = omega (arith, at.high, rows_of-length f)
 
-  own_row : (m : ℕ) (row : Spot) → IsNode f m → row_at (rows_of f) m ≡ Some row → spot_at f m ≡ row
+  own_row : (m : ℕ) (row : Spot) → IsNode f m → row_of_node (rows_of f) m ≡ Some row → spot_at f m ≡ row
   own_row m row at is = let e = rows_of-at f m at in cc
 
   module _ (parent : Option ℕ) (children : List ℕ) where
@@ -50,13 +50,13 @@ module _ (f : Trees) (tidy : IsTidy f) (p n : ℕ) (is_p : IsNode f p) (is_n : I
     written-length : length written ≡ length (rows_of f)
     written-length = both-length (rows_of f) p n _ _ is_p.low (within p is_p) is_n.low (within n is_n) ne
 
-    written-n : row_at written n ≡ Some (record (spot_at f n) { parent = parent })
+    written-n : row_of_node written n ≡ Some (record (spot_at f n) { parent = parent })
     written-n = both-n (rows_of f) p n _ _ is_p.low (within p is_p) is_n.low (within n is_n) ne
 
-    written-p : row_at written p ≡ Some (record (spot_at f p) { children = children })
+    written-p : row_of_node written p ≡ Some (record (spot_at f p) { children = children })
     written-p = both-p (rows_of f) p n _ _ is_p.low (within p is_p) is_n.low (within n is_n) ne
 
-    written-other : (m : ℕ) → 0 < m → m ≢ n → m ≢ p → row_at written m ≡ row_at (rows_of f) m
+    written-other : (m : ℕ) → 0 < m → m ≢ n → m ≢ p → row_of_node written m ≡ row_of_node (rows_of f) m
     written-other = both-other (rows_of f) p n _ _ is_p.low (within p is_p) is_n.low (within n is_n) ne
 
     moved_in : (g : Trees) → IsForest written g → Moved f g p n parent children

@@ -7,7 +7,7 @@ use Rattle.node_trees.specs.Spots.{Spot, or_no_spot, kind_at}
 use Rattle.node_trees.specs.Nodes.{size, IsNode, IsTidy}
 use Rattle.node_trees.specs.Kinds.{KeepsKinds}
 use Rattle.tree_laws.specs.Numbers.{insert_number}
-use Rattle.tree_laws.specs.Rows.{row_at, IsForest, Grafted, Attached}
+use Rattle.tree_laws.specs.Rows.{row_of_node, IsForest, Grafted, Attached}
 use Rattle.tree_laws.proofs.AtNode.{spot_at-is}
 use Rattle.tree_laws.proofs.Changed.{size-with}
 use Rattle.tree_laws.proofs.ChangedReads.{kind_at-with}
@@ -47,7 +47,7 @@ kind-new x f g n tidy e is =
 -- each row that was there is there, with the same kind
 record KeepsRows (rows rows' : List Spot) : Type 0 where
   longer : length rows ≤ length rows'
-  kept : (m : ℕ) (it : Spot) → 0 < m → m ≤ length rows → row_at rows m ≡ Some it → (new : Spot) × (row_at rows' m ≡ Some new) × (new.facts.kind ≡ it.facts.kind)
+  kept : (m : ℕ) (it : Spot) → 0 < m → m ≤ length rows → row_of_node rows m ≡ Some it → (new : Spot) × (row_of_node rows' m ≡ Some new) × (new.facts.kind ≡ it.facts.kind)
 
 kinds-rows : (rows rows' : List Spot) (f g : Trees) → IsForest rows f → IsForest rows' g → KeepsRows rows rows' → KeepsKinds f g
 kinds-rows rows rows' f g a b keeps = record {

@@ -8,7 +8,7 @@ use Rattle.node_trees.specs.Spots.{Spot, spot, spot_of, parent_at, kind_at}
 use Rattle.node_trees.specs.Insertion.{may_insert}
 use Rattle.node_trees.specs.Nodes.{times, size, surplus_at, IsNode}
 use Rattle.tree_laws.specs.Numbers.{remove_number}
-use Rattle.tree_laws.specs.Rows.{row_at, Stands, IsForest, Grafted, Severed, Attached}
+use Rattle.tree_laws.specs.Rows.{row_of_node, Stands, IsForest, Grafted, Severed, Attached}
 use Rattle.tree_laws.specs.OneForest.{node_of_row}
 use Rattle.tree_laws.proofs.Sums.{tidy-apart, times-without}
 use Rattle.tree_laws.proofs.AtNode.{parent_at-is, host_at-is}
@@ -24,7 +24,7 @@ use Rattle.tree_laws.proofs.Stands.{Standing, standing, Unlinked, Linked, Stands
 pub stands_at : (rows : List Spot) (f : Trees) (n : ℕ) → IsForest rows f → IsNode f n → Standing rows n f
 stands_at rows f n a at = standing rows n f a.stands (tidy-apart f a.tidy) (a.tidy.once n at)
 
-pub row_is : (rows : List Spot) (f : Trees) (n : ℕ) (row : Spot) → IsForest rows f → IsNode f n → row_at rows n ≡ Some row → spot f n ≡ Some row
+pub row_is : (rows : List Spot) (f : Trees) (n : ℕ) (row : Spot) → IsForest rows f → IsNode f n → row_of_node rows n ≡ Some row → spot f n ≡ Some row
 row_is rows f n row a at is = let st = stands_at rows f n a at in cc (st.row, st.it.spot_is, is)
 
 -- a shadow root
@@ -32,7 +32,7 @@ pub attach_forest : (rows rows' : List Spot) (f : Trees) (h : ℕ) (x : Facts) (
     → Attached rows rows' h (size f + 1) x → IsForest rows' (with_shadow h (single (size f + 1) x) f)
 attach_forest rows rows' f h x it a at is element bare fit own w =
     let one = a.tidy.once h at in
-    let empty : (row : Spot) → row_at rows h ≡ Some row → row.shadow ≡ [] = λ row here. let same : row ≡ it = cc (row_is rows f h row a at here, is) in cc (same, bare) in
+    let empty : (row : Spot) → row_of_node rows h ≡ Some row → row.shadow ≡ [] = λ row here. let same : row ≡ it = cc (row_is rows f h row a at here, is) in cc (same, bare) in
     record {
       stands = Stands-with_shadow rows rows' h (size f + 1) x w (omega arith) empty None None f (new-absent f a.tidy) (omega (arith, one)) a.stands;
       tidy = tidy-with_shadow f h x a.tidy at element fit own;
@@ -41,7 +41,7 @@ attach_forest rows rows' f h x it a at is element bare fit own w =
 
 -- children of others
 
-not_in_children : (rows : List Spot) (n m : ℕ) (k : Trees) → ((row : Spot) → row_at rows n ≡ Some row → row.parent ≢ Some m) → Stands rows (Some m) None k → remove_number n (roots k) ≡ roots k
+not_in_children : (rows : List Spot) (n m : ℕ) (k : Trees) → ((row : Spot) → row_of_node rows n ≡ Some row → row.parent ≢ Some m) → Stands rows (Some m) None k → remove_number n (roots k) ≡ roots k
 not_in_children rows n m none other st = refl
 not_in_children rows n m (tree j x s k r) other st =
     elim (cases_eq j n) [
@@ -49,7 +49,7 @@ not_in_children rows n m (tree j x s k r) other st =
       | inr ne ↦ grind (arith, nat_tests, not_in_children rows n m r other st.4)
     ]
 
-children_lack : (rows : List Spot) (f : Trees) (n m : ℕ) (row : Spot) → IsForest rows f → ((row : Spot) → row_at rows n ≡ Some row → row.parent ≢ Some m) → 0 < m → row_at rows m ≡ Some row
+children_lack : (rows : List Spot) (f : Trees) (n m : ℕ) (row : Spot) → IsForest rows f → ((row : Spot) → row_of_node rows n ≡ Some row → row.parent ≢ Some m) → 0 < m → row_of_node rows m ≡ Some row
     → remove_number n row.children ≡ row.children
 children_lack rows f n m row a other pos is =
     let st = stands_at rows f m a (node_of_row rows f m row a pos is) in
@@ -96,14 +96,14 @@ graft_forest rows rows' f p n b a ip at is loose g =
     let no_host = free-host f n it_spot a.tidy at it.spot_is no_parent (allowed-fits f p n b a.tidy ip at is) in
     let out_p = parent-outside f p n b a.tidy at is in
     let clear = parts.lacks p out_p in
-    let its_row : (row : Spot) → row_at rows n ≡ Some row → row ≡ it_spot = λ row here. cc (here, parts.st.row) in
+    let its_row : (row : Spot) → row_of_node rows n ≡ Some row → row ≡ it_spot = λ row here. cc (here, parts.st.row) in
     let unlinked : Unlinked rows rows n = record {
       others = λ m row pos ne here. let lack = children_lack rows f n m row a (λ other there same. let e = its_row other there in cc (e, same)) pos here in rw lack here;
       no_host = λ row here. let e = its_row row here in cc (e, no_host);
     } in
     let rest : Stands rows None None (without n f) = Stands-without rows rows None None n f unlinked a.stands (omega (arith, parts.one)) in
     let linked : Linked rows rows' p n b = record { there = g.there; others = g.others } in
-    let root : row_at rows' n ≡ Some (spot_of it.facts (Some p) None it.shadow it.children) = rw no_host at (g.moved _ parts.st.row) in
+    let root : row_of_node rows' n ≡ Some (spot_of it.facts (Some p) None it.shadow it.children) = rw no_host at (g.moved _ parts.st.row) in
     let under = λ (up h : Option ℕ) (t : Trees) (lacks_n : times n t ≡ 0) (lacks_p : times p t ≡ 0) (st : Stands rows up h t). Stands-untouched rows rows' p n b up h t linked lacks_n lacks_p st in
     let top : Stands rows' (Some p) None (tree n it.facts it.shadow it.children none) =
     (at.low, root, under _ _ _ parts.shadow_lacks clear.0 parts.st.in_shadow, under _ _ _ parts.children_lack clear.1 parts.st.in_children, tt) in
@@ -124,8 +124,8 @@ cut_forest rows rows' f p n a at child g =
     let up = parent-above f n p a.tidy at child in
     let no_host : it.host ≡ None = sym (host_at-is f n it_spot it.spot_is) ∙ parent-no_host f n a.tidy at p child in
     let clear = parts.lacks p up.outside in
-    let its_row : (row : Spot) → row_at rows n ≡ Some row → row ≡ it_spot = λ row here. cc (here, parts.st.row) in
-    let root : row_at rows' n ≡ Some (spot_of it.facts None None it.shadow it.children) = rw no_host at (g.moved _ parts.st.row) in
+    let its_row : (row : Spot) → row_of_node rows n ≡ Some row → row ≡ it_spot = λ row here. cc (here, parts.st.row) in
+    let root : row_of_node rows' n ≡ Some (spot_of it.facts None None it.shadow it.children) = rw no_host at (g.moved _ parts.st.row) in
     let unlinked : Unlinked rows rows' n = record {
       others = λ m row lo ne is. elim (cases_eq m p) [
         | inl e ↦ rw (sym e) at (g.there row (rw (sym e) is))

@@ -5,7 +5,7 @@ use Rattle.node_trees.specs.Facts.{Facts, is_element, is_shadow_root}
 use Rattle.node_trees.specs.Trees.{Trees, none, single, with_shadow}
 use Rattle.node_trees.specs.Spots.{Spot, spot_of, spot_at, kind_at}
 use Rattle.node_trees.specs.Nodes.{size, surplus_at, IsNode, IsTidy}
-use Rattle.tree_laws.specs.Rows.{row_at, rows_of, IsForest, Attached}
+use Rattle.tree_laws.specs.Rows.{row_of_node, rows_of, IsForest, Attached}
 use Rattle.tree_laws.proofs.AtNode.{node_spot, spot_at-is}
 use Rattle.tree_laws.proofs.ByIndex.{slice_get-append_end, slice_get-append_other, slice_get-set_same, slice_get-set_other}
 use Rattle.tree_laws.proofs.ForestRows.{rows_of-forest, rows_of-at, rows_of-length}
@@ -30,13 +30,13 @@ module _ (f : Trees) (tidy : IsTidy f) (h : ℕ) (at : IsNode f h) (x : Facts) (
   long : length (rows_of f ++ root_spot ∷ []) ≡ size f + 1
   long = omega (arith, rows_of-length f, length-append (rows_of f) (root_spot ∷ []))
 
-  row-root : row_at attached_rows new_root ≡ Some root_spot
+  row-root : row_of_node attached_rows new_root ≡ Some root_spot
   row-root = slice_get-set_other (rows_of f ++ root_spot ∷ []) (h - 1) (new_root - 1) host_spot (λ e. omega (arith, e, at.low, at.high)) ∙ slice_get-append_end (rows_of f) root_spot (new_root - 1) (omega (arith, rows_of-length f))
 
-  row-host : row_at attached_rows h ≡ Some host_spot
+  row-host : row_of_node attached_rows h ≡ Some host_spot
   row-host = slice_get-set_same (rows_of f ++ root_spot ∷ []) (h - 1) host_spot (omega (arith, long, at.low, at.high))
 
-  row-other : (m : ℕ) → 0 < m → m ≢ new_root → m ≢ h → row_at attached_rows m ≡ row_at (rows_of f) m
+  row-other : (m : ℕ) → 0 < m → m ≢ new_root → m ≢ h → row_of_node attached_rows m ≡ row_of_node (rows_of f) m
   row-other m low m_n m_h =
       slice_get-set_other (rows_of f ++ root_spot ∷ []) (h - 1) (m - 1) host_spot (λ e. m_h (omega (arith, e, low, at.low)))
       ∙ slice_get-append_other (rows_of f) root_spot (m - 1) (λ e. m_n (omega (arith, e, low, rows_of-length f)))
@@ -58,7 +58,7 @@ module _ (f : Trees) (tidy : IsTidy f) (h : ℕ) (at : IsNode f h) (x : Facts) (
   pub attached-size : size with_root ≡ size f + 1
   attached-size = omega (arith, attach_is.counted, attach_writes.length_is, rows_of-length f)
 
-  spot-of_row : (m : ℕ) (row : Spot) → 0 < m → m ≤ size f + 1 → row_at attached_rows m ≡ Some row → spot_at with_root m ≡ row
+  spot-of_row : (m : ℕ) (row : Spot) → 0 < m → m ≤ size f + 1 → row_of_node attached_rows m ≡ Some row → spot_at with_root m ≡ row
   spot-of_row m row low high e = spot_at-is with_root m row (row_is attached_rows with_root m row attach_is (record { low = low; high = omega (arith, high, attached-size) }) e)
 
   pub spot-root : spot_at with_root new_root ≡ root_spot

@@ -7,7 +7,7 @@ use Rattle.node_trees.specs.Trees.{Trees, none, tree, join, roots, tree_of, with
 use Rattle.node_trees.specs.Spots.{Spot, spot_of, spot_in}
 use Rattle.node_trees.specs.Nodes.{times}
 use Rattle.tree_laws.specs.Numbers.{remove_number, insert_number}
-use Rattle.tree_laws.specs.Rows.{row_at, Stands, Attached}
+use Rattle.tree_laws.specs.Rows.{row_of_node, Stands, Attached}
 use Rattle.tree_laws.proofs.Pieces.{spot-here, spot-shadow, spot-children, spot-rest, tree_of-shadow, tree_of-children, tree_of-rest}
 use Rattle.tree_laws.proofs.Inside.{Found, found}
 use Rattle.tree_laws.proofs.PutSpots.{roots-before, roots-put}
@@ -17,7 +17,7 @@ use Rattle.node_trees.proofs.Weights.{IsApart}
 use Rattle.node_trees.proofs.Absent.{without-absent}
 
 -- rows that agree on the numbers of the trees
-pub Stands-frame : (rows rows' : List Spot) (p h : Option ℕ) (f : Trees) → Stands rows p h f → ((m : ℕ) → 0 < m → 0 < times m f → row_at rows' m ≡ row_at rows m) → Stands rows' p h f
+pub Stands-frame : (rows rows' : List Spot) (p h : Option ℕ) (f : Trees) → Stands rows p h f → ((m : ℕ) → 0 < m → 0 < times m f → row_of_node rows' m ≡ row_of_node rows m) → Stands rows' p h f
 Stands-frame rows rows' p h none st same = tt
 Stands-frame rows rows' p h (tree m x s k r) st same = (
   st.0,
@@ -64,7 +64,7 @@ Stands-tree_of rows p h n (tree m x s k r) it st one is =
 -- a node of the trees with its row, and what is below it
 pub record Standing (rows : List Spot) (n : ℕ) (f : Trees) : Type 0 where
   pub it : Found None None n f
-  pub row : row_at rows n ≡ Some (spot_of it.facts it.parent it.host it.shadow it.children)
+  pub row : row_of_node rows n ≡ Some (spot_of it.facts it.parent it.host it.shadow it.children)
   pub in_shadow : Stands rows None (Some n) it.shadow
   pub in_children : Stands rows (Some n) None it.children
 
@@ -78,10 +78,10 @@ standing rows n f st apart one =
 
 -- n is taken from the children of all others, and is no shadow root
 pub record Unlinked (rows rows' : List Spot) (n : ℕ) : Type 0 where
-  pub others : (m : ℕ) (row : Spot) → 0 < m → m ≢ n → row_at rows m ≡ Some row → row_at rows' m ≡ Some (record row { children = remove_number n row.children })
-  pub no_host : (row : Spot) → row_at rows n ≡ Some row → row.host ≡ None
+  pub others : (m : ℕ) (row : Spot) → 0 < m → m ≢ n → row_of_node rows m ≡ Some row → row_of_node rows' m ≡ Some (record row { children = remove_number n row.children })
+  pub no_host : (row : Spot) → row_of_node rows n ≡ Some row → row.host ≡ None
 
-not_in_shadow : (rows : List Spot) (n m : ℕ) (s : Trees) → ((row : Spot) → row_at rows n ≡ Some row → row.host ≡ None) → Stands rows None (Some m) s → remove_number n (roots s) ≡ roots s
+not_in_shadow : (rows : List Spot) (n m : ℕ) (s : Trees) → ((row : Spot) → row_of_node rows n ≡ Some row → row.host ≡ None) → Stands rows None (Some m) s → remove_number n (roots s) ≡ roots s
 not_in_shadow rows n m none no_host st = refl
 not_in_shadow rows n m (tree j x s k r) no_host st =
     elim (cases_eq j n) [
@@ -122,8 +122,8 @@ Stands-place rows n t (tree m x s k r) new st =
 
 -- n is put among the children of p
 pub record Linked (rows rows' : List Spot) (p n : ℕ) (b : Option ℕ) : Type 0 where
-  pub there : (row : Spot) → row_at rows p ≡ Some row → row_at rows' p ≡ Some (record row { children = insert_number b n row.children })
-  pub others : (m : ℕ) → 0 < m → m ≢ n → m ≢ p → row_at rows' m ≡ row_at rows m
+  pub there : (row : Spot) → row_of_node rows p ≡ Some row → row_of_node rows' p ≡ Some (record row { children = insert_number b n row.children })
+  pub others : (m : ℕ) → 0 < m → m ≢ n → m ≢ p → row_of_node rows' m ≡ row_of_node rows m
 
 pub Stands-untouched : (rows rows' : List Spot) (p n : ℕ) (b : Option ℕ) (up h : Option ℕ) (f : Trees) → Linked rows rows' p n b → times n f ≡ 0 → times p f ≡ 0 → Stands rows up h f → Stands rows' up h f
 Stands-untouched rows rows' p n b up h f li out away st =
@@ -145,8 +145,8 @@ Stands-put rows rows' p n b y t l up h (tree m x s k r) li out one new st =
     elim (cases_eq m p) [
       | inl e ↦
           let is : put p b (tree n y t l none) (tree m x s k r) ≡ tree m x s (before b (tree n y t l none) k) r = grind (arith, nat_tests) in
-          let row : row_at rows p ≡ Some (spot_of x up h s k) = rw e at st.1 in
-          let here : row_at rows' m ≡ Some (spot_of x up h s (before b (tree n y t l none) k)) = rw (e, roots-before b n y t l k) (li.there _ row) in
+          let row : row_of_node rows p ≡ Some (spot_of x up h s k) = rw e at st.1 in
+          let here : row_of_node rows' m ≡ Some (spot_of x up h s (before b (tree n y t l none) k)) = rw (e, roots-before b n y t l k) (li.there _ row) in
           let away_s : times p s ≡ 0 = grind (arith, nat_tests) in
           let away_k : times p k ≡ 0 = grind (arith, nat_tests) in
           let away_r : times p r ≡ 0 = grind (arith, nat_tests) in
@@ -175,7 +175,7 @@ roots-none : (f : Trees) → roots f ≡ [] → f ≡ none
 roots-none none e = refl
 roots-none (tree m x s k r) e = cc
 
-module _ (rows rows' : List Spot) (h n : ℕ) (y : Facts) (at : Attached rows rows' h n y) (pos : 0 < n) (bare : (row : Spot) → row_at rows h ≡ Some row → row.shadow ≡ []) where
+module _ (rows rows' : List Spot) (h n : ℕ) (y : Facts) (at : Attached rows rows' h n y) (pos : 0 < n) (bare : (row : Spot) → row_of_node rows h ≡ Some row → row.shadow ≡ []) where
   aside : (p q : Option ℕ) (f : Trees) → times n f ≡ 0 → times h f ≡ 0 → Stands rows p q f → Stands rows' p q f
   aside p q f out away st = Stands-frame rows rows' p q f st (λ i lo in_f. at.others i lo (λ j. omega (arith, ap (λ v. times v f) j)) (λ j. omega (arith, ap (λ v. times v f) j)))
 
@@ -185,10 +185,10 @@ module _ (rows rows' : List Spot) (h n : ℕ) (y : Facts) (at : Attached rows ro
       let apart : m ≢ n = grind (arith, nat_tests) in
       elim (cases_eq m h) [
         | inl e ↦
-            let row : row_at rows h ≡ Some (spot_of x p q s k) = rw e at st.1 in
+            let row : row_of_node rows h ≡ Some (spot_of x p q s k) = rw e at st.1 in
             let empty : s ≡ none = roots-none s (bare (spot_of x p q s k) row) in
             let is : with_shadow h (single n y) (tree m x s k r) ≡ tree m x (single n y) k r = rw empty (grind (arith, nat_tests)) in
-            let here : row_at rows' m ≡ Some (spot_of x p q (single n y) k) = rw e (at.there (spot_of x p q s k) row) in
+            let here : row_of_node rows' m ≡ Some (spot_of x p q (single n y) k) = rw e (at.there (spot_of x p q s k) row) in
             let away_k : times h k ≡ 0 = grind (arith, nat_tests) in
             let away_r : times h r ≡ 0 = grind (arith, nat_tests) in
             let new : Stands rows' None (Some m) (single n y) = (pos, rw e at.made, tt, tt, tt) in

@@ -8,7 +8,7 @@ use Rattle.node_trees.specs.Facts.{Facts}
 use Rattle.node_trees.specs.Trees.{Trees, none, tree, roots}
 use Rattle.node_trees.specs.Spots.{Spot, spot_of}
 use Rattle.node_trees.specs.Nodes.{Rises, times, IsNode}
-use Rattle.tree_laws.specs.Rows.{Stands, IsForest, row_at}
+use Rattle.tree_laws.specs.Rows.{Stands, IsForest, row_of_node}
 
 -- trees with the same roots
 
@@ -62,7 +62,7 @@ roots_agree low (tree m x s k r) (tree n y t l q) a b e =
 -- roots are the nodes whose rows have neither a parent nor a host
 
 root_row : (rows : List Spot) (p h : Option ℕ) (f : Trees) (n : ℕ) → Stands rows p h f → 0 < root_times n f
-    → (0 < n) × ((row : Spot) × (row_at rows n ≡ Some row) × (row.parent ≡ p) × (row.host ≡ h))
+    → (0 < n) × ((row : Spot) × (row_of_node rows n ≡ Some row) × (row.parent ≡ p) × (row.host ≡ h))
 root_row rows p h none n st pos = absurd (omega arith)
 root_row rows p h (tree m x s k r) n st pos =
     elim (cases_eq m n) [
@@ -71,7 +71,7 @@ root_row rows p h (tree m x s k r) n st pos =
     ]
 
 inner_row : (rows : List Spot) (p h : Option ℕ) (f : Trees) (n : ℕ) → Stands rows p h f → root_times n f ≡ 0 → 0 < times n f
-    → (row : Spot) → row_at rows n ≡ Some row → row.parent ≡ None → row.host ≡ None → ⊥
+    → (row : Spot) → row_of_node rows n ≡ Some row → row.parent ≡ None → row.host ≡ None → ⊥
 inner_row rows p h none n st top pos row e pn hn = omega arith
 inner_row rows p h (tree m x s k r) n st top pos row e pn hn =
     elim (cases_lt 0 (times n r)) [
@@ -89,7 +89,7 @@ inner_row rows p h (tree m x s k r) n st top pos row e pn hn =
     ]
 
 -- what has a row is a node
-pub node_of_row : (rows : List Spot) (f : Trees) (n : ℕ) (row : Spot) → IsForest rows f → 0 < n → row_at rows n ≡ Some row → IsNode f n
+pub node_of_row : (rows : List Spot) (f : Trees) (n : ℕ) (row : Spot) → IsForest rows f → 0 < n → row_of_node rows n ≡ Some row → IsNode f n
 node_of_row rows f n row a lo at = record { low = lo; high = omega (arith, lo, a.counted, slice_get_within rows (n - 1) row at) }
 
 root_in_both : (rows : List Spot) (f g : Trees) (n : ℕ) → IsForest rows f → IsForest rows g → 0 < root_times n f → 0 < root_times n g
