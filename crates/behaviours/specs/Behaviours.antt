@@ -4,7 +4,7 @@ use Rattle.rule_tokens.specs.declared.callback.CallName.{CallName}
 use Rattle.rule_lines.specs.Acts.{Act}
 use Rattle.ce_algorithms.specs.State.{blank_memory}
 use Rattle.ce_algorithms.specs.Body.{actions_of}
-use Rattle.ce_frames.specs.Places.{Behaviour, Homes, home_of}
+use Rattle.class_bodies.specs.Places.{Behaviour, Homes, home_of}
 use Rattle.class_bodies.specs.declared.next.At.{At}
 
 -- of a class without callbacks, which remembers nothing yet

@@ -22,7 +22,7 @@ pub struct Behaviour {
 impl Model for Behaviour {
     ghost use Rattle.std.specs.Coded.{codes};
     ghost use Rattle.rule_lines.specs.ActCode.{act_code};
-    ghost use Rattle.ce_frames.specs.Places.{Behaviour as IsBehaviour};
+    ghost use Rattle.class_bodies.specs.Places.{Behaviour as IsBehaviour};
 
     ghost Value = { IsBehaviour };
 

@@ -1,7 +1,7 @@
 // Homes of behaviours.
 ghost use Rattle.std.specs.Prelude.{◌≡◌, ◌<◌, ◌++◌, ◌∷◌, [], None, Some, true, is_some, length, slice_set, IfOk, OnErr, OnOk};
 ghost use Rattle.rule_lines.specs.Acts.{act_of};
-ghost use Rattle.ce_frames.specs.Places.{home_of};
+ghost use Rattle.class_bodies.specs.Places.{home_of};
 ghost use Rattle.behaviours.specs.Behaviours.{extended_at, new_behaviour};
 
 use crate::Behaviour;
@@ -20,7 +20,7 @@ pub struct Homes {
 impl Model for Homes {
     ghost use Rattle.std.specs.Coded.{codes};
     ghost use Rattle.rule_lines.specs.ActCode.{act_code};
-    ghost use Rattle.ce_frames.specs.Places.{Homes as AreHomes};
+    ghost use Rattle.class_bodies.specs.Places.{Homes as AreHomes};
 
     ghost Value = { AreHomes };
 

@@ -8,16 +8,15 @@ ghost use Rattle.ce_frames.specs.DrainTurns.{backup_turn, check_turn, drain_turn
 ghost use Rattle.ce_frames.specs.OperateTurns.{next_turn, pop_turn};
 ghost use Rattle.frame_stack.specs.Sessions.{ArePaired, session};
 ghost use Rattle.frame_stack.specs.Stacked.{behaviours_of, frames_of};
-ghost use Rattle.ce_outcomes.specs.Turns.{Turns};
+ghost use Rattle.ce_reactions.specs.Turns.{Turns};
 
 use ce_algorithms::Given;
 use ce_base::{Fault, NoMemory, NodeNo, QueueNo};
 use ce_events::Event;
-use ce_outcomes::{Came, came_of};
 use ce_reactions::reactions::start;
+use ce_reactions::{Came, State, came_of};
 use frame_stack::{Stack, Waiting};
 use reaction_queue::ElementQueue;
-use session_state::State;
 use std::alloc::Global;
 
 /// The steps of an operation have ended: its queue is popped, and is to be drained (HTML Standard, section "Custom

@@ -25,7 +25,7 @@ use Rattle.frame_stack.proofs.TopLaws.{below_push, top_push}
 use Rattle.ce_outcomes.specs.declared.came.Came.TheVariants.{Over}
 use Rattle.ce_outcomes.specs.Placed.{Lasts}
 use Rattle.ce_outcomes.specs.Turns.{Turns}
-use Rattle.ce_reactions.proofs.SessionLaws.{goes_whole, session_is, spent_whole, throws_whole}
+use Rattle.ce_drains.proofs.SessionLaws.{goes_whole, session_is, spent_whole, throws_whole}
 use Rattle.ce_outcomes.proofs.TurnLaws.{turns_ended}
 use Rattle.ce_machine.specs.Bodies.{GoesOn, acting_turn, based_turn, frame_on_top, running_turn, stopped_turn}
 use Rattle.ce_machine.proofs.BodyLaws.{lasts_ended, on_top}

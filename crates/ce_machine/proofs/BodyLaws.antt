@@ -46,7 +46,7 @@ use Rattle.ce_outcomes.specs.declared.came.Came.TheVariants.{Threw, Over}
 use Rattle.page_calls.specs.Given.{IsThere}
 use Rattle.ce_outcomes.specs.Placed.{Lasts}
 use Rattle.ce_outcomes.specs.Turns.{Turns}
-use Rattle.ce_reactions.proofs.SessionLaws.{session_is}
+use Rattle.ce_drains.proofs.SessionLaws.{session_is}
 use Rattle.ce_outcomes.proofs.TurnLaws.{turns_as, turns_ended, turns_pushed}
 use Rattle.frame_stack.proofs.ClassLaws.{behaviour_there}
 

@@ -9,7 +9,7 @@ use Rattle.ce_frames.proofs.BlindTurns.{threw_blind, went_blind}
 use Rattle.frame_stack.specs.declared.waiting.Waiting.{Waiting}
 use Rattle.frame_stack.specs.declared.waiting.Waiting.TheVariants.{Replying, Checking, DrainingBackup, Naming, Stepping, Draining, InReaction, CreatingFit, CreatingExtended, Upgrading, Constructing}
 use Rattle.frame_stack.specs.Frames.{waiting_of}
-use Rattle.ce_reactions.specs.Blind.{BlindAt}
+use Rattle.ce_drains.specs.Blind.{BlindAt}
 
 -- frames that go on
 

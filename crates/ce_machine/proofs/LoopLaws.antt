@@ -20,7 +20,7 @@ use Rattle.ce_frames.proofs.TurnCosts.{turn_lowers}
 use Rattle.frame_stack.specs.Sessions.{session}
 use Rattle.frame_stack.specs.Stacked.{Stacked, frames_of}
 use Rattle.reaction_queue.specs.ElementQueues.{is_empty}
-use Rattle.session_state.specs.Steps.{forgotten}
+use Rattle.ce_outcomes.specs.Steps.{forgotten}
 use Rattle.ce_frames.specs.Frames.{Frame}
 use Rattle.ce_outcomes.specs.declared.came.Came.{Came}
 use Rattle.ce_outcomes.specs.Turns.{Turns, came_in, end_of}

@@ -38,10 +38,10 @@ use Rattle.frame_stack.specs.Sessions.{session}
 use Rattle.frame_stack.specs.Stacked.{Stacked, behaviours_of}
 use Rattle.ce_outcomes.specs.declared.came.Came.{Came}
 use Rattle.ce_outcomes.specs.declared.came.Came.TheVariants.{Threw}
-use Rattle.ce_reactions.specs.Blind.{BlindAt}
+use Rattle.ce_drains.specs.Blind.{BlindAt}
 use Rattle.ce_outcomes.specs.Placed.{IsKeptThere, Lasts, StaysPlaced}
 use Rattle.ce_outcomes.specs.Turns.{Turns, came_in}
-use Rattle.ce_reactions.proofs.SessionLaws.{blind_at}
+use Rattle.ce_drains.proofs.SessionLaws.{blind_at}
 use Rattle.ce_outcomes.proofs.TurnLaws.{turns_as, turns_below, turns_same}
 
 -- steps and their queue

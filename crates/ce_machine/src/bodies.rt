@@ -15,9 +15,9 @@ use crate::stops::go_on;
 use ce_algorithms::Given;
 use ce_base::{Fault, NoMemory};
 use ce_events::Event;
+use ce_operations::State;
 use ce_outcomes::Came;
 use frame_stack::Stack;
-use session_state::State;
 use std::alloc::Global;
 
 /// What the body on top waited for has gone well: what was asked is told, and the body goes on.

@@ -17,10 +17,10 @@ use crate::looping::run;
 use crate::operate::begin;
 use ce_base::{NoMemory, Refused, Sink, Stop};
 use ce_events::Event;
+use ce_operations::State;
 use ce_outcomes::Came;
 use frame_stack::Stack;
 use rule_lines::{ClassPart, Cmd};
-use session_state::State;
 use std::alloc::Global;
 
 /// Takes a part of a class, and logs the reply where it is refused.

@@ -12,5 +12,6 @@ mod stops;
 mod turns;
 mod writing;
 
+pub use ce_page::Page;
 pub use end::End;
 pub use machine::Machine;

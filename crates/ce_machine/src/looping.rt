@@ -9,16 +9,16 @@ ghost use Rattle.ce_algorithms.specs.Written.{Did};
 ghost use Rattle.ce_page.specs.Settled.{IsSettled};
 ghost use Rattle.frame_stack.specs.Sessions.{ArePaired, session};
 ghost use Rattle.frame_stack.specs.Stacked.{frames_of};
-ghost use Rattle.session_state.specs.Steps.{forgotten};
+ghost use Rattle.ce_outcomes.specs.Steps.{forgotten};
 ghost use Rattle.ce_outcomes.specs.Placed.{ArePlaced};
 ghost use Rattle.ce_machine.specs.Turns.{over};
 ghost use Rattle.ce_outcomes.specs.Turns.{came_in, end_of};
 
 use crate::turns::turn;
 use ce_base::{Sink, Stop};
+use ce_operations::State;
 use ce_outcomes::Came;
 use frame_stack::Stack;
-use session_state::State;
 use std::alloc::Global;
 
 /// Finishes the frames, the topmost first, and writes out what they log. NoMemory comes too where memory was refused

@@ -17,11 +17,11 @@ use crate::command::run_command;
 use crate::writing::{write_part, write_refused};
 use ce_algorithms::Settings;
 use ce_base::{NoMemory, Sink, Stop};
+use ce_operations::State;
 use ce_page::Page;
 use frame_stack::Stack;
 use rule_lines::{ClassPart, Cmd};
 use rule_tokens::Bad;
-use session_state::State;
 use std::alloc::Global;
 use std::marker::Model;
 

@@ -14,7 +14,7 @@ ghost use Rattle.ce_frames.specs.Turned.{hand_down};
 ghost use Rattle.ce_page.specs.Ends.{Ends};
 ghost use Rattle.frame_stack.specs.Sessions.{ArePaired, session};
 ghost use Rattle.frame_stack.specs.Stacked.{behaviours_of, frames_of};
-ghost use Rattle.ce_reactions.specs.Blind.{BlindAt};
+ghost use Rattle.ce_drains.specs.Blind.{BlindAt};
 ghost use Rattle.ce_machine.specs.Turns.{naming};
 ghost use Rattle.ce_outcomes.specs.Turns.{Turns};
 ghost use Rattle.page_calls.specs.Given.{IsThere};
@@ -25,13 +25,13 @@ ghost use Rattle.ce_operations.specs.Ready.{IsReady};
 use crate::react::deed_turn;
 use ce_algorithms::{Deed, Given};
 use ce_base::{NoMemory, NodeNo, Refused, Text};
+use ce_operations::State;
 use ce_operations::resolve::{resolve, resolve_user};
 use ce_outcomes::{Came, came_from};
 use ce_page::PageStop;
 use frame_stack::{Stack, Waiting};
 use page_calls::gives_node;
 use rule_lines::{Cmd, Op};
-use session_state::State;
 use std::alloc::Global;
 
 /// A command begins: one unit of fuel, and what it performs.

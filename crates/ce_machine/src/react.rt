@@ -14,7 +14,7 @@ ghost use Rattle.ce_frames.specs.Turned.{turn_after};
 ghost use Rattle.ce_page.specs.Ends.{Ends};
 ghost use Rattle.frame_stack.specs.Sessions.{ArePaired, session};
 ghost use Rattle.frame_stack.specs.Stacked.{behaviours_of, frames_of};
-ghost use Rattle.ce_reactions.specs.Blind.{BlindAt};
+ghost use Rattle.ce_drains.specs.Blind.{BlindAt};
 ghost use Rattle.ce_outcomes.specs.Turns.{Turns};
 ghost use Rattle.page_calls.specs.Given.{IsThere};
 ghost use Rattle.ce_outcomes.specs.Placed.{Lasts};
@@ -22,14 +22,12 @@ ghost use Rattle.ce_operations.specs.Ready.{IsReady};
 
 use ce_algorithms::{Deed, Given};
 use ce_base::{NoMemory, NodeNo, QueueNo, Text};
-use ce_drains::pop_turn;
+use ce_drains::{construct, create_named, pop_turn};
+use ce_operations::State;
 use ce_operations::deeds::run;
 use ce_outcomes::{Came, came_from};
 use ce_page::PageStop;
-use ce_reactions::constructions::construct;
-use ce_reactions::creations::create_named;
 use frame_stack::{Stack, Waiting};
-use session_state::State;
 use std::alloc::Global;
 
 /// Does a deed. A construction, and a creation, may wait for a constructor's body; the others wait for nothing.

@@ -19,13 +19,13 @@ use behaviours::Next;
 use ce_algorithms::Given;
 use ce_base::{Fault, NoMemory, NodeNo};
 use ce_events::Event;
+use ce_operations::State;
 use ce_operations::operands::{fixed_texts, node};
 use ce_outcomes::Came;
 use ce_page::PageStop;
 use frame_stack::Stack;
 use rule_lines::{Action, Op, Vals};
 use rule_tokens::Operand;
-use session_state::State;
 use std::alloc::Global;
 
 /// The body on top runs up to its next stop. None where it goes on behind it.

@@ -20,12 +20,12 @@ use ce_algorithms::Given;
 use ce_base::{Fault, NoMemory, ReactionNo, Text};
 use ce_drains::{backup_turn, check_turn, drain_turn, pop_turn, reply};
 use ce_events::Event;
+use ce_operations::State;
 use ce_outcomes::Came;
 use ce_outcomes::constructions::given_turn;
 use ce_outcomes::creations::{extended_threw, failed_turn, fit_turn};
 use ce_outcomes::upgrades::{constructed_turn, upgraded_turn};
 use frame_stack::{Stack, Waiting};
-use session_state::State;
 use std::alloc::Global;
 
 /// One turn. What the frames still do stays, and what is left to do falls.

@@ -13,10 +13,10 @@ ghost use Rattle.frame_stack.specs.Sessions.{ArePaired, session};
 use crate::command::reply_to_part;
 use ce_base::{Sink, Stop};
 use ce_events::Event;
+use ce_operations::State;
 use frame_stack::Stack;
 use rule_lines::ClassPart;
 use rule_tokens::Bad;
-use session_state::State;
 use std::alloc::Global;
 
 /// Takes a part of a class, and writes the reply where it is refused.

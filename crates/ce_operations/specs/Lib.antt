@@ -1,4 +1,3 @@
-pub mod Fitting
 pub mod ByUser
 pub mod OnControls
 pub mod OnForms

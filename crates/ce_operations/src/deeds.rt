@@ -5,14 +5,13 @@ ghost use Rattle.ce_algorithms.specs.Deeds.{IsStill};
 ghost use Rattle.ce_algorithms.specs.declared.deed.Deed.TheVariants as deeds;
 ghost use Rattle.ce_algorithms.specs.Model.{model};
 ghost use Rattle.ce_algorithms.specs.Perform.{steps};
-ghost use Rattle.ce_page.specs.Ends.{Ends};
+ghost use Rattle.page_calls.specs.Ends.{Ends};
 ghost use Rattle.page_calls.specs.Given.{IsThere};
 ghost use Rattle.ce_operations.specs.Ready.{IsReady};
 
 use ce_algorithms::{Deed, Given};
 use ce_base::{NodeNo, Text};
-use ce_page::PageStop;
-use page_calls::{answer, gives_nothing};
+use page_calls::{PageStop, answer, gives_nothing};
 use rule_lines::AskWord;
 use session_state::State;
 use std::alloc::Global;

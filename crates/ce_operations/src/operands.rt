@@ -9,7 +9,7 @@ ghost use Rattle.ce_algorithms.specs.Values.{fixed_text};
 
 use ce_algorithms::Fit;
 use ce_base::{ClassNo, Fault, NoMemory, NodeNo, Text, Texts};
-use ce_page::NodeKind;
+use page_calls::NodeKind;
 use page_calls::fits::fits;
 use rule_lines::Vals;
 use rule_tokens::{Operand, Val};

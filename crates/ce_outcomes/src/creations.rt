@@ -9,10 +9,10 @@ ghost use Rattle.ce_outcomes.specs.Placed.{IsEndThere};
 ghost use Rattle.ce_outcomes.specs.Turns.{came_in};
 
 use crate::came::{Came, came_from};
+use crate::create::{create_failed, misfit};
 use ce_algorithms::Given;
 use ce_base::{CustomState, Fault, NoMemory, NodeNo, Text};
 use ce_events::Event;
-use ce_operations::create::{create_failed, misfit};
 use page_calls::gives_node;
 use session_state::State;
 use std::alloc::Global;

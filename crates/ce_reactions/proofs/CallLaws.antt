@@ -22,7 +22,7 @@ use Rattle.ce_frames.proofs.BlindSteps.{blind_done, blind_log}
 use Rattle.ce_frames.proofs.Wholes.{class_bodies_joined}
 use Rattle.frame_stack.specs.Sessions.{ArePaired, session}
 use Rattle.frame_stack.specs.Stacked.{Stacked, actions_at, behaviours_of, frames_of}
-use Rattle.session_state.specs.Steps.{callee, is_callback}
+use Rattle.ce_outcomes.specs.Steps.{callee, is_callback}
 use Rattle.ce_outcomes.specs.declared.came.Came.{Came}
 use Rattle.ce_outcomes.specs.declared.came.Came.TheVariants.{Went}
 use Rattle.ce_reactions.specs.Callbacks.{callback_turn}

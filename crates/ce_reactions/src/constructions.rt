@@ -14,11 +14,10 @@ ghost use Rattle.ce_outcomes.specs.Turns.{Turns, came_in};
 use behaviours::Args;
 use ce_algorithms::Given;
 use ce_base::{ClassNo, NoMemory};
-use ce_outcomes::{Came, came_from};
+use ce_outcomes::{Came, State, came_from};
 use frame_stack::{Stack, Waiting};
 use page_calls::gives_node;
 use rule_tokens::CallName;
-use session_state::State;
 use std::alloc::Global;
 
 /// A class is constructed: the body of its constructor begins (Web IDL, section "Invoking callback functions",

@@ -5,3 +5,5 @@ pub mod constructions;
 pub mod creations;
 pub mod reactions;
 pub mod upgrades;
+
+pub use ce_outcomes::{Came, State, came_of};

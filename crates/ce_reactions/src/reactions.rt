@@ -10,7 +10,7 @@ ghost use Rattle.ce_frames.specs.DrainTurns.{reaction_turn};
 ghost use Rattle.ce_frames.specs.Turned.{below};
 ghost use Rattle.frame_stack.specs.Sessions.{ArePaired, session};
 ghost use Rattle.frame_stack.specs.Stacked.{frames_of};
-ghost use Rattle.session_state.specs.Steps.{is_callback};
+ghost use Rattle.ce_outcomes.specs.Steps.{is_callback};
 ghost use Rattle.ce_reactions.specs.Callbacks.{callback_turn};
 ghost use Rattle.ce_outcomes.specs.Turns.{Turns};
 
@@ -19,11 +19,10 @@ use behaviours::Args;
 use ce_algorithms::Given;
 use ce_base::{ClassNo, DefNo, NoMemory, NodeNo, ReactionNo};
 use ce_events::Event;
-use ce_outcomes::Came;
+use ce_outcomes::{Came, State};
 use frame_stack::{Stack, Waiting};
 use reaction_queue::Reaction;
 use rule_tokens::CallOrUpgrade;
-use session_state::State;
 use std::alloc::Global;
 
 /// A reaction that was taken starts (HTML Standard, section "Custom element reactions", "invoke custom element

@@ -12,11 +12,9 @@ use crate::constructions::construct;
 use ce_algorithms::Given;
 use ce_base::{CustomState, DefNo, Fault, NoMemory, NodeNo};
 use ce_events::Event;
-use ce_operations::create::class_of;
-use ce_outcomes::Came;
-use ce_page::PageStop;
+use ce_outcomes::create::class_of;
+use ce_outcomes::{Came, PageStop, State};
 use frame_stack::{Stack, Waiting};
-use session_state::State;
 use std::alloc::Global;
 
 /// An element is upgraded by a definition (HTML Standard, section "Upgrades", "upgrade an element"). One that is

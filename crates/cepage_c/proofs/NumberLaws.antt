@@ -4,10 +4,10 @@ use Rattle.std.proofs.lemmas.Bool.{cases_lt}
 use Rattle.std.specs.declared.option.Option.{Option}
 use Rattle.command_words.specs.declared.words.Options.{Options}
 use Rattle.page_runner.specs.Ending.{end_status, script_lines}
-use Rattle.script_runner.specs.Script.{has_bad}
-use Rattle.script_runner.specs.Table.{limit, number_of, spends_all}
-use Rattle.script_runner.specs.declared.status.Status.{Status}
-use Rattle.script_runner.specs.declared.status.Status.TheVariants.{Done, BadLines, Fuel, TooLong, WriteFault, NoMemory}
+use Rattle.page_runner.specs.Script.{has_bad}
+use Rattle.page_runner.specs.Table.{limit, number_of, spends_all}
+use Rattle.page_runner.specs.Status.{Status}
+use Rattle.page_runner.specs.Status.TheVariants.{Done, BadLines, Fuel, TooLong, WriteFault, NoMemory}
 
 -- nothing was asked for, or something
 pub none_is_some : {A : Type 0} (found said : Option A) (a : A) → found ≡ said → found ≡ None → said ≡ Some a → ⊥

@@ -1,7 +1,7 @@
 -- What a call from another program gives.
 use Rattle.std.specs.Prelude.{ℕ, ◌≡◌, ◌≤◌, List, ◌++◌, length, take, drop}
-use Rattle.script_runner.specs.Table.{number_of}
-use Rattle.script_runner.specs.declared.status.Status.TheVariants.{Usage, WriteFault, NoMemory}
+use Rattle.page_runner.specs.Table.{number_of}
+use Rattle.page_runner.specs.Status.TheVariants.{Usage, WriteFault, NoMemory}
 
 -- the words would be refused
 abbrev pub usage : ℕ

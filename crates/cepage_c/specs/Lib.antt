@@ -1,4 +1,4 @@
-pub use Rattle.script_runner.specs.Table
+pub use Rattle.page_runner.specs.Table
 pub use Rattle.page_runner.specs.Ending
 pub mod Asked
 pub mod Given

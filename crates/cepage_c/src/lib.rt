@@ -10,7 +10,7 @@ mod tests;
 
 ghost use Rattle.std.specs.Prelude.{◌≡◌, ◌≤◌, ◌<◌, ◌⊎◌, Some, None, length};
 ghost use Rattle.command_words.specs.declared.words.Options.{Options};
-ghost use Rattle.script_runner.specs.Table.{number_of};
+ghost use Rattle.page_runner.specs.Table.{number_of};
 ghost use Rattle.page_runner.specs.Ending.{end_status, script_transcript};
 ghost use Rattle.cepage_c.specs.Asked.{asked};
 ghost use Rattle.cepage_c.specs.Given.{Holds, more_room, no_memory, usage};

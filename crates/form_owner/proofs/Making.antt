@@ -33,7 +33,7 @@ use Rattle.form_owner.specs.Attributes.{is_text}
 use Rattle.form_owner.specs.Candidates.{is_concerned}
 use Rattle.form_owner.specs.Looks.{look_at}
 use Rattle.owner_reading.specs.Owners.{listed_by, owner_with}
-use Rattle.disabled_reading.specs.Disabled.{disabled_with}
+use Rattle.above_reading.specs.Disabled.{disabled_with}
 use Rattle.form_owner.specs.Stands.{Stands}
 use Rattle.owner_reading.proofs.Ancestors.{above-absent, ancestors-up}
 use Rattle.form_owner.proofs.Nodes.{absent, found-passes, not-a-form, not-listed, no-owner, not-disabled, no-controls, owner-form, filter-none, is-number}

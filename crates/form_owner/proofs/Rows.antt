@@ -13,7 +13,7 @@ use Rattle.node_trees.specs.Paths.{is_among}
 use Rattle.form_controls.specs.declared.change.Change.{Change}
 use Rattle.form_controls.specs.Changes.{where_new, is_change}
 use Rattle.owner_reading.specs.Owners.{owner_with}
-use Rattle.disabled_reading.specs.Disabled.{disabled_with}
+use Rattle.above_reading.specs.Disabled.{disabled_with}
 use Rattle.owner_rows.specs.OwnerRow.{OwnerRow, blank_row, row_in, row_of}
 use Rattle.form_owner.specs.Reading.{change_read, changes_read}
 use Rattle.form_owner.specs.Writing.{Written, with_told, with_changes}

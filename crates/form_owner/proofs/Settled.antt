@@ -19,7 +19,7 @@ use Rattle.form_owner.specs.Attributes.{is_naming}
 use Rattle.form_owner.specs.Candidates.{Covers}
 use Rattle.form_owner.specs.OwnerRows.{OwnerRows}
 use Rattle.owner_reading.specs.Owners.{owner_with}
-use Rattle.disabled_reading.specs.Disabled.{disabled_with}
+use Rattle.above_reading.specs.Disabled.{disabled_with}
 use Rattle.form_owner.specs.Looks.{AreKept, AreNotedBy, AreRight, KnowsBy, known_by}
 use Rattle.form_owner.specs.Reading.{change_read, changes_read, is_owned_in, owned_in}
 use Rattle.form_owner.specs.Stands.{KnowsAssociated, Stands}

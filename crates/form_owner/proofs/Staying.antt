@@ -6,7 +6,7 @@ use Rattle.node_trees.specs.Paths.{is_among, root_at}
 use Rattle.form_controls.specs.Owners.{Forms, form_owner, is_owned_by, controls_of}
 use Rattle.form_owner.specs.OwnerRows.{OwnerRows}
 use Rattle.owner_reading.specs.Owners.{owner_with}
-use Rattle.disabled_reading.specs.Disabled.{disabled_with}
+use Rattle.above_reading.specs.Disabled.{disabled_with}
 use Rattle.form_owner.specs.Stands.{Stands}
 use Rattle.form_owner.proofs.Rows.{filter-members}
 

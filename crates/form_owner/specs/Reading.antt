@@ -8,7 +8,7 @@ use Rattle.node_trees.specs.Orders.{tree_order_of}
 use Rattle.form_controls.specs.declared.change.Change.{Change}
 use Rattle.form_controls.specs.Changes.{where_new, is_change}
 use Rattle.owner_reading.specs.Owners.{owner_with}
-use Rattle.disabled_reading.specs.Disabled.{disabled_with}
+use Rattle.above_reading.specs.Disabled.{disabled_with}
 use Rattle.owner_rows.specs.OwnerRow.{OwnerRow, row_of}
 
 -- what differs between a node's row and the trees

@@ -13,7 +13,7 @@ use Rattle.form_owner.specs.declared.touch.Touch.{Touch}
 use Rattle.form_owner.specs.declared.touch.Touch.TheVariants.{Inserted, Removed, Attr, Associated}
 use Rattle.form_owner.specs.Attributes.{is_naming, is_text}
 use Rattle.owner_reading.specs.Owners.{owner_with}
-use Rattle.disabled_reading.specs.Disabled.{disabled_with}
+use Rattle.above_reading.specs.Disabled.{disabled_with}
 use Rattle.form_owner.specs.Reading.{is_owned_in, owned_in}
 
 -- one row was written

@@ -19,6 +19,7 @@ mod tree;
 mod validation;
 
 pub use attributes::lowercased;
+pub use ce_page::{NodeKind, PageStop};
 pub use controls::{choose, edit, run_on_controls, tick};
 pub use deeds::{gives_node, gives_nothing, run};
 pub use internals::run_on_internals;

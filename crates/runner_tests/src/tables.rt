@@ -13,7 +13,7 @@ use command_words::Meaning;
 use disabled_reading::disabled_of;
 use node_arena::Tree;
 use owner_reading::owner_of;
-use script_runner::Session;
+use page_runner::Session;
 use std::alloc::Global;
 use std::process::Abort;
 use std::test::Fail;

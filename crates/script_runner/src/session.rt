@@ -14,8 +14,7 @@ ghost use Rattle.script_runner.specs.Script.{is_bad};
 
 use ce_algorithms::Settings;
 use ce_base::{NoMemory, Sink, Stop};
-use ce_machine::{End, Machine};
-use ce_page::Page;
+use ce_machine::{End, Machine, Page};
 use command_words::Options;
 use rule_script::{Line, LineRefused, read_line};
 use std::alloc::Global;

@@ -3,7 +3,7 @@ use Rattle.ce_algorithms.specs.Making.{make_document}
 use Rattle.ce_algorithms.specs.Perform.{gives_node}
 use Rattle.ce_algorithms.specs.State.{on_page}
 use Rattle.ce_frames.specs.Turned.{hand_down}
-use Rattle.ce_reactions.proofs.ConstructLaws.{down_lasts}
+use Rattle.ce_drains.proofs.ConstructLaws.{down_lasts}
 use Rattle.ce_machine.proofs.OperateLaws.{document_at, named_placed}
 use Rattle.ce_machine.proofs.operate.make_document.Goals as goal
 

@@ -4,7 +4,7 @@ use Rattle.std.specs.Prelude.{◌≡◌}
 use Rattle.ce_frames.proofs.BlindSteps.{blind_open_queue}
 use Rattle.frame_stack.specs.Sessions.{session}
 use Rattle.frame_stack.specs.Stacked.{frames_of}
-use Rattle.ce_reactions.proofs.SessionLaws.{goes_whole}
+use Rattle.ce_drains.proofs.SessionLaws.{goes_whole}
 use Rattle.ce_machine.proofs.OperateLaws.{create_lasts, create_turns}
 use Rattle.ce_machine.proofs.react.create_turn.Goals as goal
 

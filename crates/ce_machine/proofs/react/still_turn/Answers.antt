@@ -2,7 +2,7 @@ use Rattle.std.proofs.Common.{sym, ◌∙◌}
 use Rattle.ce_algorithms.specs.Model.{model}
 use Rattle.ce_algorithms.specs.Perform.{steps}
 use Rattle.frame_stack.specs.Stacked.{frames_of}
-use Rattle.ce_reactions.proofs.ConstructLaws.{down_lasts}
+use Rattle.ce_drains.proofs.ConstructLaws.{down_lasts}
 use Rattle.ce_machine.proofs.OperateLaws.{deed_lasts, react_deed_lasts, react_deed_turns, run_deed_turns, still_at}
 use Rattle.ce_machine.proofs.react.still_turn.Goals as goal
 

@@ -1,7 +1,7 @@
 use Rattle.frame_stack.specs.Stacked.{frames_of}
 use Rattle.frame_stack.specs.Frames.{waiting_of}
 use Rattle.ce_frames.specs.Turns.{turn_went}
-use Rattle.ce_reactions.proofs.SessionLaws.{lifted, lifted_paired}
+use Rattle.ce_drains.proofs.SessionLaws.{lifted, lifted_paired}
 use Rattle.ce_machine.proofs.FrameLaws.{went_at}
 use Rattle.ce_machine.proofs.turns.go_on.Goals as goal
 

@@ -2,7 +2,7 @@ use Rattle.frame_stack.specs.Sessions.{session}
 use Rattle.frame_stack.specs.Stacked.{frames_of}
 use Rattle.frame_stack.specs.Frames.{waiting_of}
 use Rattle.ce_frames.specs.Turns.{turn_threw}
-use Rattle.ce_reactions.proofs.SessionLaws.{lifted, lifted_paired}
+use Rattle.ce_drains.proofs.SessionLaws.{lifted, lifted_paired}
 use Rattle.ce_machine.proofs.FrameLaws.{threw_at}
 use Rattle.ce_machine.proofs.TurnLaws.{resumed_went, resumed_threw, resumed_over}
 use Rattle.ce_machine.proofs.turns.resume.Goals as goal

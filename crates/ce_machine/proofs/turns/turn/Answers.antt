@@ -9,7 +9,7 @@ use Rattle.ce_outcomes.specs.Turns.{Turns, end_of}
 use Rattle.ce_machine.proofs.BodyLaws.{popped_body}
 use Rattle.ce_machine.proofs.LoopLaws.{turned_rest, turned_left}
 use Rattle.ce_machine.proofs.PlacedLaws.{body_placed, topmost_placed, turned_placed}
-use Rattle.ce_reactions.proofs.SessionLaws.{session_is}
+use Rattle.ce_drains.proofs.SessionLaws.{session_is}
 use Rattle.ce_outcomes.proofs.TurnLaws.{turns_as}
 use Rattle.ce_machine.proofs.turns.turn.Goals as goal
 

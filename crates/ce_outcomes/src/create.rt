@@ -8,7 +8,7 @@ ghost use Rattle.ce_algorithms.specs.Enqueue.{lookup_in};
 ghost use Rattle.ce_algorithms.specs.Page.{definition_at};
 ghost use Rattle.ce_algorithms.specs.State.{on_page};
 ghost use Rattle.ce_page.specs.Ends.{Ends};
-ghost use Rattle.ce_operations.specs.Fitting.{tested};
+ghost use Rattle.ce_outcomes.specs.Fitting.{tested};
 
 use ce_base::{ClassNo, CustomState, DefNo, Fault, NoMemory, NodeNo, Text};
 use ce_events::Event;

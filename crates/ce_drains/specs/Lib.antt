@@ -1,0 +1,1 @@
+pub use Rattle.ce_reactions.specs.Blind
