@@ -1,0 +1,73 @@
+#!/usr/bin/env python3
+"""tools/ways.py: how many ways go down from each crate of crates.txt, and what going down them costs the gate.
+
+A way goes from a crate to a library that its line names, and on from there. rt goes down every way: for the sum of all
+that a crate is made from, before its proof and behind it, it reads the files of each crate that a way comes to; and
+before the first proof of all it asks what stands below, once for each file of code and for each name that clauses import.
+The ten crates are told for which the most files are read, each with the library that most of these are read through;
+then all. A library of the kit is no crate here, and has no ways.
+
+A library that a line names and no file of its crate does is told too, and then the status is 1.
+"""
+import pathlib
+import re
+import sys
+
+TOP = pathlib.Path(__file__).resolve().parent.parent
+DEAREST = 10
+
+
+def lines_of(path):
+    """Each crate with the crates that its line names; the lowest stand first."""
+    lines = {}
+    for line in path.read_text().splitlines():
+        head, colon, libraries = line.partition("#")[0].partition(":")
+        if colon:
+            lines[head.split()[0]] = [it for it in libraries.split() if it in lines]
+    return lines
+
+
+def files_of(crate, *kinds):
+    """The files of a crate that rt reads."""
+    found = (path for kind in kinds for path in (TOP / "crates" / crate / kind).rglob("*"))
+    return [path for path in found if path.suffix in (".rt", ".antt")]
+
+
+def gone_down(lines, own):
+    """For each crate what all ways down from it come to, where `own` is what each crate has itself."""
+    sums = {}
+    for crate, libraries in lines.items():
+        sums[crate] = own[crate] + sum(sums[it] for it in libraries)
+    return sums
+
+
+def times_of(crate):
+    """How often rt asks what stands below: once a file of code, and once a name that its clauses import."""
+    code = [path.read_text() for path in files_of(crate, "src")]
+    imports = [found for text in code for found in re.findall(r"ghost use ([^;]*);", text)]
+    return len(code) + sum(1 + found.count(",") for found in imports)
+
+
+def unnamed_in(crate, libraries):
+    """The libraries that no file of the crate names."""
+    text = "\n".join(path.read_text() for path in files_of(crate, "src", "specs", "proofs"))
+    return [it for it in libraries if not re.search(rf"\bRattle\.{it}\.|(?<![\w.]){it}\b(?!\.specs)", text)]
+
+
+def main():
+    lines = lines_of(TOP / "crates.txt")
+    ways = gone_down(lines, dict.fromkeys(lines, 1))
+    read = gone_down(lines, {it: len(files_of(it, "src", "specs", "proofs")) for it in lines})
+    asked = {it: ways[it] * times_of(it) for it in lines}
+    for crate in sorted(lines, key=lambda it: -read[it])[:DEAREST]:
+        through = max(lines[crate], key=read.get, default="nothing")
+        print(f"{crate}: {ways[crate]:,} ways, {read[crate]:,} files read, most through {through}, {asked[crate]:,} steps")
+    print(f"in all {sum(ways.values()):,} ways, {sum(read.values()):,} files read, {sum(asked.values()):,} steps")
+    idle = [(crate, it) for crate in lines for it in unnamed_in(crate, lines[crate])]
+    for crate, library in idle:
+        print(f"{crate} lists {library}, which none of its files names", file=sys.stderr)
+    return 1 if idle else 0
+
+
+if __name__ == "__main__":
+    sys.exit(main())
