@@ -2,10 +2,11 @@
 """tools/ways.py: how many ways go down from each crate of crates.txt, and what going down them costs the gate.
 
 A way goes from a crate to a library that its line names, and on from there. rt goes down every way: for the sum of all
-that a crate is made from, before its proof and behind it, it reads the files of each crate that a way comes to; and
+that a library is made from, before its proof and behind it, it reads the files of each crate that a way comes to; and
 before the first proof of all it asks what stands below, once for each file of code and for each name that clauses import.
-The ten crates are told for which the most files are read, each with the library that most of these are read through;
-then all. A library of the kit is no crate here, and has no ways.
+The ten libraries are told for which the most files are read, each with the library that most of these are read through;
+then all crates, with the files that are read for the libraries among them. A library of the kit is no crate here, and has
+no ways.
 
 A library that a line names and no file of its crate does is told too, and then the status is 1.
 """
@@ -31,6 +32,12 @@ def files_of(crate, *kinds):
     """The files of a crate that rt reads."""
     found = (path for kind in kinds for path in (TOP / "crates" / crate / kind).rglob("*"))
     return [path for path in found if path.suffix in (".rt", ".antt")]
+
+
+def is_library(crate):
+    """Whether rt makes a library of the crate, which others can stand on."""
+    line = re.search(rf"(?m)^{crate}( staticlib)?:", (TOP / "crates.txt").read_text())
+    return not line[1] and (TOP / "crates" / crate / "src" / "lib.rt").exists()
 
 
 def gone_down(lines, own):
@@ -59,10 +66,12 @@ def main():
     ways = gone_down(lines, dict.fromkeys(lines, 1))
     read = gone_down(lines, {it: len(files_of(it, "src", "specs", "proofs")) for it in lines})
     asked = {it: ways[it] * times_of(it) for it in lines}
-    for crate in sorted(lines, key=lambda it: -read[it])[:DEAREST]:
+    libraries = [it for it in lines if is_library(it)]
+    for crate in sorted(libraries, key=lambda it: -read[it])[:DEAREST]:
         through = max(lines[crate], key=read.get, default="nothing")
         print(f"{crate}: {ways[crate]:,} ways, {read[crate]:,} files read, most through {through}, {asked[crate]:,} steps")
-    print(f"in all {sum(ways.values()):,} ways, {sum(read.values()):,} files read, {sum(asked.values()):,} steps")
+    files = sum(read[it] for it in libraries)
+    print(f"in all {sum(ways.values()):,} ways, {files:,} files read, {sum(asked.values()):,} steps")
     idle = [(crate, it) for crate in lines for it in unnamed_in(crate, lines[crate])]
     for crate, library in idle:
         print(f"{crate} lists {library}, which none of its files names", file=sys.stderr)
