@@ -8,7 +8,7 @@ The ten libraries are told for which the most files are read, each with the libr
 then all crates, with the files that are read for the libraries among them. A library of the kit is no crate here, and has
 no ways.
 
-A library that a line names and no file of its crate does is told too, and then the status is 1.
+A crate that a line names and no file of the line's crate does is told too, and then the status is 1.
 """
 import pathlib
 import re
@@ -19,13 +19,13 @@ DEAREST = 10
 
 
 def lines_of(path):
-    """Each crate with the crates that its line names; the lowest stand first."""
-    lines = {}
+    """Each crate with the crates that its line names."""
+    named = {}
     for line in path.read_text().splitlines():
         head, colon, libraries = line.partition("#")[0].partition(":")
         if colon:
-            lines[head.split()[0]] = [it for it in libraries.split() if it in lines]
-    return lines
+            named[head.split()[0]] = libraries.split()
+    return {crate: [it for it in libraries if it in named] for crate, libraries in named.items()}
 
 
 def files_of(crate, *kinds):
@@ -43,9 +43,13 @@ def is_library(crate):
 def gone_down(lines, own):
     """For each crate what all ways down from it come to, where `own` is what each crate has itself."""
     sums = {}
-    for crate, libraries in lines.items():
-        sums[crate] = own[crate] + sum(sums[it] for it in libraries)
-    return sums
+
+    def total(crate):
+        if crate not in sums:
+            sums[crate] = own[crate] + sum(total(it) for it in lines[crate])
+        return sums[crate]
+
+    return {crate: total(crate) for crate in lines}
 
 
 def times_of(crate):
@@ -56,9 +60,9 @@ def times_of(crate):
 
 
 def unnamed_in(crate, libraries):
-    """The libraries that no file of the crate names."""
+    """The crates of its line that no file of the crate names."""
     text = "\n".join(path.read_text() for path in files_of(crate, "src", "specs", "proofs"))
-    return [it for it in libraries if not re.search(rf"\bRattle\.{it}\.|(?<![\w.]){it}\b(?!\.specs)", text)]
+    return [it for it in libraries if not re.search(rf"\bRattle\.{it}\.|\b{it}::|\buse {it}\b", text)]
 
 
 def main():
