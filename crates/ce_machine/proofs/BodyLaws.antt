@@ -43,7 +43,7 @@ use Rattle.frame_stack.proofs.TopLaws.{below_push, top_below, top_push}
 use Rattle.ce_machine.specs.Bodies.{GoesOn, StopsAt, acting_turn, answer, frame_on_top, given_node, or_constructing, running_turn, stopped_turn}
 use Rattle.ce_outcomes.specs.declared.came.Came.{Came}
 use Rattle.ce_outcomes.specs.declared.came.Came.TheVariants.{Threw, Over}
-use Rattle.page_calls.specs.Given.{IsThere}
+use Rattle.ce_outcomes.specs.Given.{IsThere}
 use Rattle.ce_outcomes.specs.Placed.{Lasts}
 use Rattle.ce_outcomes.specs.Turns.{Turns}
 use Rattle.ce_drains.proofs.SessionLaws.{session_is}

@@ -32,8 +32,8 @@ use Rattle.ce_frames.proofs.BlindSteps.{resolve_blind, resolve_user_blind}
 use Rattle.ce_frames.proofs.BlindTurns.{blind_below, blind_page, deed_turn_blind}
 use Rattle.ce_page.specs.Ends.{Ends}
 use Rattle.ce_page.specs.declared.stop.PageStop.{PageStop}
-use Rattle.page_calls.specs.Given.{IsThere}
-use Rattle.page_calls.specs.Resolved.{Resolves}
+use Rattle.ce_outcomes.specs.Given.{IsThere}
+use Rattle.ce_operations.specs.Resolved.{Resolves}
 use Rattle.frame_stack.specs.Sessions.{session}
 use Rattle.frame_stack.specs.Stacked.{Stacked, behaviours_of}
 use Rattle.ce_outcomes.specs.declared.came.Came.{Came}

@@ -39,7 +39,7 @@ use Rattle.ce_machine.specs.Bodies.{frame_on_top}
 use Rattle.ce_outcomes.specs.Turns.{Turns, end_of}
 use Rattle.ce_drains.proofs.SettleLaws.{threw_settles, upgrade_settles, went_settles}
 use Rattle.ce_machine.proofs.BodyLaws.{on_top, popped_body}
-use Rattle.page_calls.specs.Given.{IsThere}
+use Rattle.ce_outcomes.specs.Given.{IsThere}
 use Rattle.ce_outcomes.specs.Placed.{IsEndThere, IsKeptThere, Reaches, Gives, IsNamed, ArePlaced, Creates, IfCreating, Lasts}
 
 -- where the forest has grown

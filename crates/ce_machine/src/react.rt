@@ -16,7 +16,7 @@ ghost use Rattle.frame_stack.specs.Sessions.{ArePaired, session};
 ghost use Rattle.frame_stack.specs.Stacked.{behaviours_of, frames_of};
 ghost use Rattle.ce_drains.specs.Blind.{BlindAt};
 ghost use Rattle.ce_outcomes.specs.Turns.{Turns};
-ghost use Rattle.page_calls.specs.Given.{IsThere};
+ghost use Rattle.ce_outcomes.specs.Given.{IsThere};
 ghost use Rattle.ce_outcomes.specs.Placed.{Lasts};
 ghost use Rattle.ce_operations.specs.Ready.{IsReady};
 

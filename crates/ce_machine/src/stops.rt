@@ -10,7 +10,7 @@ ghost use Rattle.frame_stack.specs.Resumes.{IsForSession};
 ghost use Rattle.frame_stack.specs.Sessions.{ArePaired, session};
 ghost use Rattle.frame_stack.specs.Stacked.{HasBody, below_top, frames_of, this_of, top_of};
 ghost use Rattle.ce_machine.specs.Bodies.{GoesOn, acting_turn, answer, based_turn, frame_on_top, running_turn, stopped_turn};
-ghost use Rattle.page_calls.specs.Given.{IsThere};
+ghost use Rattle.ce_outcomes.specs.Given.{IsThere};
 ghost use Rattle.ce_outcomes.specs.Placed.{Lasts};
 ghost use Rattle.ce_outcomes.specs.Turns.{Turns};
 

@@ -9,7 +9,7 @@ ghost use Rattle.ce_frames.specs.Whole.{GoesBlind};
 ghost use Rattle.frame_stack.specs.Frames.{waiting_of};
 ghost use Rattle.frame_stack.specs.Sessions.{ArePaired, session};
 ghost use Rattle.frame_stack.specs.Stacked.{HasBody, behaviours_of, below_top, frames_of};
-ghost use Rattle.page_calls.specs.Given.{IsThere};
+ghost use Rattle.ce_outcomes.specs.Given.{IsThere};
 ghost use Rattle.ce_machine.specs.Bodies.{frame_on_top};
 ghost use Rattle.ce_outcomes.specs.Placed.{ArePlaced, Creates, IfCreating, Lasts};
 ghost use Rattle.ce_machine.specs.Turns.{left, over};

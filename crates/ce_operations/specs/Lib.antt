@@ -4,3 +4,4 @@ pub mod OnForms
 pub mod OnInternals
 pub mod OnTree
 pub mod Ready
+pub use Rattle.session_state.specs.Resolved

@@ -4,8 +4,8 @@ use Rattle.node_trees.specs.Trees.{Trees}
 use Rattle.ce_algorithms.specs.declared.deed.Deed.{Deed}
 use Rattle.ce_algorithms.specs.declared.deed.Deed.TheVariants as deeds
 use Rattle.ce_algorithms.specs.declared.deed.Deed.TheVariants.{OnPage, OnControls, OnInternals, OnForms, Submits}
-use Rattle.page_calls.specs.Commands.{IsReadyOnControls}
-use Rattle.page_calls.specs.Ready.{IsReadyOnForms, IsReadyOnInternals, IsReadyOnPage, IsReadyToSubmit}
+use Rattle.session_state.specs.Commands.{IsReadyOnControls}
+use Rattle.session_state.specs.Ready.{IsReadyOnForms, IsReadyOnInternals, IsReadyOnPage, IsReadyToSubmit}
 
 abbrev pub IsReady : Trees → Deed → Type 0
 IsReady f (deeds.Create local is document) = Unit {0}

@@ -5,15 +5,15 @@ ghost use Rattle.ce_algorithms.specs.Deeds.{IsStill};
 ghost use Rattle.ce_algorithms.specs.declared.deed.Deed.TheVariants as deeds;
 ghost use Rattle.ce_algorithms.specs.Model.{model};
 ghost use Rattle.ce_algorithms.specs.Perform.{steps};
-ghost use Rattle.page_calls.specs.Ends.{Ends};
-ghost use Rattle.page_calls.specs.Given.{IsThere};
+ghost use Rattle.session_state.specs.Ends.{Ends};
+ghost use Rattle.session_state.specs.Given.{IsThere};
 ghost use Rattle.ce_operations.specs.Ready.{IsReady};
 
 use ce_algorithms::{Deed, Given};
 use ce_base::{NodeNo, Text};
-use page_calls::{PageStop, answer, gives_nothing};
 use rule_lines::AskWord;
 use session_state::State;
+use session_state::page_calls::{PageStop, answer, gives_nothing};
 use std::alloc::Global;
 
 /// Does the steps of a deed that constructs nothing. Refused, FuelSpent and NoMemory are those of the step of `State`

@@ -9,11 +9,11 @@ ghost use Rattle.ce_algorithms.specs.Values.{fixed_text};
 
 use ce_algorithms::Fit;
 use ce_base::{ClassNo, Fault, NoMemory, NodeNo, Text, Texts};
-use page_calls::NodeKind;
-use page_calls::fits::fits;
 use rule_lines::Vals;
 use rule_tokens::{Operand, Val};
 use session_state::State;
+use session_state::page_calls::NodeKind;
+use session_state::page_calls::fits::fits;
 use std::alloc::Global;
 
 /// The node that an operand names: a ReferenceError where nothing is `this`, a TypeError where its variable

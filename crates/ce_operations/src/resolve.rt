@@ -16,7 +16,7 @@ ghost use Rattle.ce_operations.specs.OnForms.{is_on_forms};
 ghost use Rattle.ce_operations.specs.OnInternals.{is_on_internals};
 ghost use Rattle.ce_operations.specs.OnTree.{is_on_tree};
 ghost use Rattle.ce_operations.specs.Ready.{IsReady};
-ghost use Rattle.page_calls.specs.Resolved.{Resolves};
+ghost use Rattle.session_state.specs.Resolved.{Resolves};
 
 use crate::operands::{class, node};
 use ce_algorithms::{Deed, PageDeed};

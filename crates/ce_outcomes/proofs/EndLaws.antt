@@ -14,8 +14,8 @@ use Rattle.ce_frames.specs.ConstructTurns.{upgrade_result_turn, upgraded_turn, c
 use Rattle.ce_frames.specs.Frames as waiting
 use Rattle.ce_frames.specs.Turned.{ended, go_on, turn_after}
 use Rattle.ce_frames.specs.Turns.{turn_threw, turn_went}
-use Rattle.ce_page.specs.declared.stop.PageStop.{PageStop}
-use Rattle.page_calls.specs.Given.{IsThere, node_of}
+use Rattle.session_state.specs.PageStop.{PageStop}
+use Rattle.session_state.specs.Given.{IsThere, node_of}
 use Rattle.ce_outcomes.specs.declared.came.Came.{Came}
 use Rattle.ce_outcomes.specs.Turns.{came_in}
 

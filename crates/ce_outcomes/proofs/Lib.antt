@@ -1,2 +1,3 @@
 pub mod TurnLaws
 pub mod EndLaws
+pub use Rattle.session_state.proofs.GivenLaws

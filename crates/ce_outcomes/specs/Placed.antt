@@ -7,7 +7,7 @@ use Rattle.ce_algorithms.specs.declared.given.Given.{Given}
 use Rattle.ce_frames.specs.Frames.{Frame, Naming, Stepping, Draining, CreatingFit, CreatingExtended, Constructing, InBody}
 use Rattle.ce_frames.specs.Rest.{End, Went, Threw, Over}
 use Rattle.ce_frames.specs.Turned.{Turned}
-use Rattle.page_calls.specs.Given.{IsThere}
+use Rattle.session_state.specs.Given.{IsThere}
 use Rattle.ce_outcomes.specs.declared.came.Came.{Came}
 use Rattle.ce_outcomes.specs.declared.came.Came.TheVariants as came
 

@@ -4,14 +4,14 @@ ghost use Rattle.node_trees.specs.Trees.{Trees};
 ghost use Rattle.ce_algorithms.specs.declared.given.Given.{Given as IsGiven};
 ghost use Rattle.ce_algorithms.specs.State.{State};
 ghost use Rattle.ce_algorithms.specs.Steps.{Outcome};
-ghost use Rattle.ce_page.specs.Ends.{Ends};
-ghost use Rattle.page_calls.specs.Given.{IsThere};
+ghost use Rattle.session_state.specs.Ends.{Ends};
+ghost use Rattle.session_state.specs.Given.{IsThere};
 ghost use Rattle.ce_outcomes.specs.Placed.{IsEndThere};
 ghost use Rattle.ce_outcomes.specs.Turns.{came_in, came_of};
 
 use ce_algorithms::Given;
 use ce_base::{Fault, NoMemory};
-use ce_page::PageStop;
+use session_state::page_calls::PageStop;
 
 /// How what was waited for has ended.
 ///

@@ -7,14 +7,14 @@ ghost use Rattle.ce_algorithms.specs.CreateLater.{first_state, make_undefined};
 ghost use Rattle.ce_algorithms.specs.Enqueue.{lookup_in};
 ghost use Rattle.ce_algorithms.specs.Page.{definition_at};
 ghost use Rattle.ce_algorithms.specs.State.{on_page};
-ghost use Rattle.ce_page.specs.Ends.{Ends};
+ghost use Rattle.session_state.specs.Ends.{Ends};
 ghost use Rattle.ce_outcomes.specs.Fitting.{tested};
 
 use ce_base::{ClassNo, CustomState, DefNo, Fault, NoMemory, NodeNo, Text};
 use ce_events::Event;
-use ce_page::{NodeKind, PageStop};
 use element_names::is_custom_name;
 use session_state::State;
+use session_state::page_calls::{NodeKind, PageStop};
 use std::alloc::Global;
 
 /// The definition that creation by a local name and an `is` value goes by, in a document (HTML Standard, section "Core

@@ -4,7 +4,7 @@ ghost use Rattle.node_trees.specs.Nodes.{size};
 ghost use Rattle.ce_frames.specs.Frames as waiting;
 ghost use Rattle.ce_frames.specs.Turned.{ended};
 ghost use Rattle.ce_frames.specs.Turns.{turn_threw, turn_went};
-ghost use Rattle.page_calls.specs.Given.{IsThere};
+ghost use Rattle.session_state.specs.Given.{IsThere};
 ghost use Rattle.ce_outcomes.specs.Placed.{IsEndThere};
 ghost use Rattle.ce_outcomes.specs.Turns.{came_in};
 
@@ -13,8 +13,8 @@ use crate::create::{create_failed, misfit};
 use ce_algorithms::Given;
 use ce_base::{CustomState, Fault, NoMemory, NodeNo, Text};
 use ce_events::Event;
-use page_calls::gives_node;
 use session_state::State;
+use session_state::page_calls::gives_node;
 use std::alloc::Global;
 
 /// What was constructed for a creation is tested, and is the answer; or the fault is reported, and a failed element

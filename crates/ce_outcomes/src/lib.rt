@@ -9,5 +9,5 @@ pub mod creations;
 pub mod upgrades;
 
 pub use came::{Came, came_from, came_of};
-pub use ce_page::PageStop;
-pub use session_state::State;
+pub use session_state::page_calls::PageStop;
+pub use session_state::{State, page_calls};

@@ -12,8 +12,8 @@ ghost use Rattle.ce_outcomes.specs.Turns.{came_in};
 use crate::came::{Came, came_from};
 use ce_algorithms::Given;
 use ce_base::{DefNo, Fault, NoMemory, NodeNo};
-use page_calls::gives_nothing;
 use session_state::State;
+use session_state::page_calls::gives_nothing;
 use std::alloc::Global;
 
 /// What was constructed for an upgrade has to be the element itself, which then is custom; or the upgrade threw

@@ -14,9 +14,9 @@ ghost use Rattle.ce_outcomes.specs.Turns.{Turns, came_in};
 use behaviours::Args;
 use ce_algorithms::Given;
 use ce_base::{ClassNo, NoMemory};
+use ce_outcomes::page_calls::gives_node;
 use ce_outcomes::{Came, State, came_from};
 use frame_stack::{Stack, Waiting};
-use page_calls::gives_node;
 use rule_tokens::CallName;
 use std::alloc::Global;
 

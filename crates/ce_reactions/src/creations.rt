@@ -13,10 +13,10 @@ use crate::constructions::construct;
 use crate::upgrades::upgrade_turn;
 use ce_base::{CustomState, DefNo, Fault, NoMemory, NodeNo, Text};
 use ce_outcomes::create::{class_of, create_undefined, is_autonomous, lookup};
+use ce_outcomes::page_calls::{gives_node, lowercased};
 use ce_outcomes::{Came, PageStop, State, came_from};
 use element_names::is_local_name;
 use frame_stack::{Stack, Waiting};
-use page_calls::{gives_node, lowercased};
 use std::alloc::Global;
 
 /// A creation begins: its name is tested (DOM Standard, section "Interface Document", `createElement`). Where it is no

@@ -1,1 +1,2 @@
 pub mod Flagged
+pub use Rattle.form_owner.proofs.GroupWalks

@@ -5,3 +5,4 @@
 mod checked;
 
 pub use checked::{checked_of, is_checked};
+pub use form_owner;

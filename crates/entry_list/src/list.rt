@@ -3,17 +3,17 @@ ghost use Rattle.std.specs.Prelude.{◌≡◌, ◌++◌, [], All, if◌then◌el
 ghost use Rattle.node_trees.specs.Nodes.{IsNode};
 ghost use Rattle.entry_list.specs.Given.{given_entries, is_giver};
 ghost use Rattle.form_controls.specs.Owners.{Forms};
-ghost use Rattle.form_owner.specs.Stands.{Stands, StandsFor};
+ghost use Rattle.checkedness.specs.Stands.{Stands, StandsFor};
 ghost use Rattle.form_submission.specs.EntryList.{entries_at, entry_list};
 
 use crate::custom::put_custom;
 use crate::native::put_native;
 use crate::skipped::is_skipped;
 use ce_base::{Entries, NoMemory, NodeNo};
+use checkedness::form_owner::OwnerTable;
 use control_state::ControlTable;
 use element_internals::InternalsTable;
 use form_kinds::name_of;
-use form_owner::OwnerTable;
 use node_arena::Tree;
 use std::alloc::Global;
 

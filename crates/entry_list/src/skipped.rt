@@ -2,14 +2,14 @@
 ghost use Rattle.std.specs.Prelude.{◌≡◌};
 ghost use Rattle.node_trees.specs.Nodes.{IsNode};
 ghost use Rattle.form_controls.specs.Owners.{Forms};
-ghost use Rattle.form_owner.specs.Stands.{Stands, StandsFor};
+ghost use Rattle.checkedness.specs.Stands.{Stands, StandsFor};
 ghost use Rattle.form_submission.specs.EntryList.{is_skipped};
 
 use ce_base::NodeNo;
+use checkedness::form_owner::{OwnerTable, is_in_datalist};
 use checkedness::is_checked;
 use control_state::ControlTable;
 use form_kinds::{is_button, is_tickable};
-use form_owner::{OwnerTable, is_in_datalist};
 use node_arena::Tree;
 
 /// Whether an element is passed over: it is below a datalist, disabled, a button that is not the submitter, or a checkbox or a

@@ -24,7 +24,7 @@ pub fn fits(what: Fit, page: &Page, n: NodeNo) -> bool
         Fit::ElementOrText => is_element(kind) || is_text(kind),
         Fit::Form => is_a(page.tree(), n, Native::Form),
         Fit::Listed => is_listed(page, n),
-        Fit::ListedNative => form_owner::is_listed(page.tree(), n, false),
+        Fit::ListedNative => validity::form_owner::is_listed(page.tree(), n, false),
         Fit::Submittable => is_submittable(page, n),
         Fit::SubmittableOrOption => {
             is_submittable(page, n) || is_a(page.tree(), n, Native::OptionItem)
@@ -44,7 +44,7 @@ fn is_listed(page: &Page, n: NodeNo) -> bool
     requires { IsNode page.now.forest n }
     ensures { result ≡ is_listed page.now n }
 {
-    form_owner::is_listed(page.tree(), n, page.is_form_associated(n))
+    validity::form_owner::is_listed(page.tree(), n, page.is_form_associated(n))
 }
 
 /// Whether a node is a submittable element (HTML Standard, section "Categories").

@@ -68,5 +68,5 @@ pub(crate) fn is_checked(page: &Page, n: NodeNo) -> Result<bool, NoMemory>
     if !page.is_settled() {
         return Err(NoMemory);
     }
-    Ok(checkedness::is_checked(page.tree(), page.owners(), page.controls(), n))
+    Ok(validity::checkedness::is_checked(page.tree(), page.owners(), page.controls(), n))
 }

@@ -6,3 +6,4 @@ pub mod PageLaws
 pub mod PartLaws
 pub mod DropsLaws
 pub mod SubmissionLaws
+pub use Rattle.page_calls.proofs.GivenLaws

@@ -1,3 +1,9 @@
 pub mod Taking
 pub mod Variables
 pub mod Steps
+pub use Rattle.page_calls.specs.Commands
+pub use Rattle.page_calls.specs.Ends
+pub use Rattle.page_calls.specs.Given
+pub use Rattle.page_calls.specs.Ready
+pub use Rattle.page_calls.specs.Resolved
+pub use Rattle.ce_page.specs.declared.stop.PageStop

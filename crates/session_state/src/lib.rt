@@ -16,4 +16,5 @@ mod upgrade;
 mod variables;
 
 pub use construct::copy_of;
+pub use page_calls;
 pub use state::State;

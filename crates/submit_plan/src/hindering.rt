@@ -2,16 +2,16 @@
 ghost use Rattle.std.specs.Prelude.{◌≡◌, IfOk};
 ghost use Rattle.node_trees.specs.Nodes.{IsNode, IsNodeOrNone};
 ghost use Rattle.form_controls.specs.Owners.{Forms};
-ghost use Rattle.form_owner.specs.Stands.{Stands, StandsFor};
+ghost use Rattle.validity.specs.Stands.{Stands, StandsFor};
 ghost use Rattle.form_submission.specs.Plans.{hindering, is_in_page};
 
 use crate::attributes::is_unvalidated;
 use ce_base::{NoMemory, NodeNo, Nodes};
 use control_state::ControlTable;
 use element_internals::InternalsTable;
-use form_owner::OwnerTable;
 use node_arena::Tree;
 use std::alloc::Global;
+use validity::form_owner::OwnerTable;
 use validity::invalid_controls;
 
 /// Whether a form is in the page's document, or in a shadow tree of it.

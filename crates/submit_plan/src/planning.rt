@@ -2,7 +2,7 @@
 ghost use Rattle.std.specs.Prelude.{◌≡◌, IfOk};
 ghost use Rattle.node_trees.specs.Nodes.{IsNode, IsNodeOrNone};
 ghost use Rattle.form_controls.specs.Owners.{Forms};
-ghost use Rattle.form_owner.specs.Stands.{Stands, StandsFor};
+ghost use Rattle.validity.specs.Stands.{Stands, StandsFor};
 ghost use Rattle.form_submission.specs.Plans.{plan};
 ghost use Rattle.submit_plan.specs.Sent.{sent_by};
 
@@ -14,10 +14,10 @@ use ce_base::{NoMemory, NodeNo};
 use control_state::ControlTable;
 use element_internals::InternalsTable;
 use entry_list::entries;
-use form_owner::OwnerTable;
 use form_submission::{Plan, Why};
 use node_arena::Tree;
 use std::alloc::Global;
+use validity::form_owner::OwnerTable;
 
 /// What a form that nothing hinders sends, or what blocks it from its method on.
 fn sent(

@@ -3,12 +3,12 @@ ghost use Rattle.std.specs.Prelude.{◌≡◌};
 ghost use Rattle.node_trees.specs.Nodes.{IsNode};
 ghost use Rattle.form_controls.specs.Barred.{has_barred_kind, is_kept_from_editing, will_validate};
 ghost use Rattle.form_controls.specs.Owners.{Forms};
-ghost use Rattle.form_owner.specs.Stands.{Stands, StandsFor};
+ghost use Rattle.checkedness.specs.Stands.{Stands, StandsFor};
 
 use ce_base::NodeNo;
+use checkedness::form_owner::{OwnerTable, is_in_datalist};
 use element_names::InputKind;
 use form_kinds::{has_attribute, has_kind, is_text_control};
-use form_owner::{OwnerTable, is_in_datalist};
 use node_arena::Tree;
 
 /// Whether an element is of a kind that is never validated.

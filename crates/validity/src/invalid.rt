@@ -3,13 +3,13 @@ ghost use Rattle.std.specs.Prelude.{◌≡◌, ◌++◌, ◌∷◌, [], All, if�
 ghost use Rattle.node_trees.specs.Nodes.{IsNode};
 ghost use Rattle.form_controls.specs.Owners.{Forms};
 ghost use Rattle.form_controls.specs.Validity.{invalid_controls, is_invalid};
-ghost use Rattle.form_owner.specs.Stands.{Stands, StandsFor};
+ghost use Rattle.checkedness.specs.Stands.{Stands, StandsFor};
 
 use crate::{flags, will_validate};
 use ce_base::{NoMemory, NodeNo, Nodes};
+use checkedness::form_owner::OwnerTable;
 use control_state::ControlTable;
 use element_internals::{InternalsTable, is_raised};
-use form_owner::OwnerTable;
 use node_arena::Tree;
 use std::alloc::Global;
 

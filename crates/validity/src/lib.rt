@@ -9,5 +9,7 @@ mod missing;
 mod validity_flags;
 
 pub use barred::will_validate;
+pub use checkedness;
+pub use checkedness::form_owner;
 pub use invalid::invalid_controls;
 pub use validity_flags::flags;

@@ -7,14 +7,14 @@ ghost use Rattle.form_controls.specs.Checkedness.{group_of};
 ghost use Rattle.form_controls.specs.Kinds.{has_kind};
 ghost use Rattle.form_controls.specs.Owners.{Forms};
 ghost use Rattle.form_controls.specs.Validity.{is_missing, is_placeholder, is_required, lacks_check, lacks_choice};
-ghost use Rattle.form_owner.specs.Stands.{Stands, StandsFor};
+ghost use Rattle.checkedness.specs.Stands.{Stands, StandsFor};
 
 use ce_base::NodeNo;
+use checkedness::form_owner::OwnerTable;
 use checkedness::{checked_of, is_checked};
 use control_state::{ControlTable, first_option, is_multiple, is_option_empty};
 use element_names::{InputKind, Native};
 use form_kinds::{has_attribute, has_kind, is_a, is_text_control};
-use form_owner::OwnerTable;
 use node_arena::Tree;
 
 fn is_required(tree: &Tree, n: NodeNo) -> bool

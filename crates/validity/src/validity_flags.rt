@@ -4,14 +4,14 @@ ghost use Rattle.node_trees.specs.Nodes.{IsNode};
 ghost use Rattle.form_controls.specs.Internals.{kept_by};
 ghost use Rattle.form_controls.specs.Owners.{Forms};
 ghost use Rattle.form_controls.specs.Validity.{flags, native_flags};
-ghost use Rattle.form_owner.specs.Stands.{Stands, StandsFor};
+ghost use Rattle.checkedness.specs.Stands.{Stands, StandsFor};
 
 use crate::limits::{is_too_long, is_too_short};
 use crate::missing::is_missing;
 use ce_base::{Flags, NodeNo};
+use checkedness::form_owner::OwnerTable;
 use control_state::ControlTable;
 use element_internals::InternalsTable;
-use form_owner::OwnerTable;
 use node_arena::Tree;
 
 /// The validity flags of an element of HTML: it can have valueMissing, tooLong, tooShort and customError.

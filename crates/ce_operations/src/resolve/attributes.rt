@@ -4,7 +4,7 @@ ghost use Rattle.node_trees.specs.Nodes.{IsNode};
 ghost use Rattle.rule_lines.specs.declared.op.Op.TheVariants as ops;
 ghost use Rattle.ce_algorithms.specs.Deeds.{resolve};
 ghost use Rattle.ce_algorithms.specs.State.{view};
-ghost use Rattle.page_calls.specs.Resolved.{Resolves};
+ghost use Rattle.session_state.specs.Resolved.{Resolves};
 ghost use Rattle.ce_operations.specs.Ready.{IsReady};
 
 use crate::operands::{element, fixed_text};

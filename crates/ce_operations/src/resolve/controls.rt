@@ -8,7 +8,7 @@ ghost use Rattle.ce_algorithms.specs.Deeds.{resolve};
 ghost use Rattle.ce_algorithms.specs.Operands.{◌>>=◌ as and_then, node_that};
 ghost use Rattle.ce_algorithms.specs.State.{view};
 ghost use Rattle.ce_algorithms.specs.Values.{fixed_text};
-ghost use Rattle.page_calls.specs.Resolved.{Resolves};
+ghost use Rattle.session_state.specs.Resolved.{Resolves};
 ghost use Rattle.ce_operations.specs.OnControls.{is_on_controls};
 ghost use Rattle.ce_operations.specs.Ready.{IsReady};
 

@@ -8,7 +8,7 @@ ghost use Rattle.ce_algorithms.specs.declared.fit.Fit.TheVariants as kinds;
 ghost use Rattle.ce_algorithms.specs.Deeds.{resolve};
 ghost use Rattle.ce_algorithms.specs.Operands.{◌>>=◌ as and_then, node_or_none, node_that};
 ghost use Rattle.ce_algorithms.specs.State.{view};
-ghost use Rattle.page_calls.specs.Resolved.{Resolves};
+ghost use Rattle.session_state.specs.Resolved.{Resolves};
 ghost use Rattle.ce_operations.specs.OnForms.{is_on_forms};
 ghost use Rattle.ce_operations.specs.Ready.{IsReady};
 

@@ -9,7 +9,7 @@ ghost use Rattle.ce_algorithms.specs.Deeds.{resolve, text_value};
 ghost use Rattle.ce_algorithms.specs.Operands.{◌>>=◌ as and_then, element};
 ghost use Rattle.ce_algorithms.specs.State.{view};
 ghost use Rattle.ce_algorithms.specs.Values.{fixed_text};
-ghost use Rattle.page_calls.specs.Resolved.{Resolves};
+ghost use Rattle.session_state.specs.Resolved.{Resolves};
 ghost use Rattle.ce_operations.specs.OnInternals.{is_on_internals};
 ghost use Rattle.ce_operations.specs.Ready.{IsReady};
 

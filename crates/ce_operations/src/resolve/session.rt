@@ -5,16 +5,16 @@ ghost use Rattle.rule_lines.specs.declared.op.Op.TheVariants as ops;
 ghost use Rattle.ce_algorithms.specs.Deeds.{resolve};
 ghost use Rattle.ce_algorithms.specs.Operands.{◌>>=◌ as and_then, class};
 ghost use Rattle.ce_algorithms.specs.State.{view};
-ghost use Rattle.page_calls.specs.Resolved.{Resolves};
+ghost use Rattle.session_state.specs.Resolved.{Resolves};
 ghost use Rattle.ce_operations.specs.Ready.{IsReady};
 
 use crate::operands::{class, node, node_that};
 use ce_algorithms::Deed;
 use ce_base::{NodeNo, Refused, Text};
-use page_calls::asked_of;
 use rule_lines::AskWord;
 use rule_tokens::Operand;
 use session_state::State;
+use session_state::page_calls::asked_of;
 
 // The deed of a definition.
 pub(crate) fn define(

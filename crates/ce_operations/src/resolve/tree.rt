@@ -5,7 +5,7 @@ ghost use Rattle.rule_lines.specs.declared.op.Op.TheVariants as ops;
 ghost use Rattle.ce_algorithms.specs.Deeds.{resolve};
 ghost use Rattle.ce_algorithms.specs.Operands.{◌>>=◌ as and_then, document_or_page};
 ghost use Rattle.ce_algorithms.specs.State.{view};
-ghost use Rattle.page_calls.specs.Resolved.{Resolves};
+ghost use Rattle.session_state.specs.Resolved.{Resolves};
 ghost use Rattle.ce_operations.specs.OnTree.{is_on_tree};
 ghost use Rattle.ce_operations.specs.Ready.{IsReady};
 

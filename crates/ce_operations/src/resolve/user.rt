@@ -2,7 +2,7 @@
 ghost use Rattle.std.specs.Prelude.{None, IfOk};
 ghost use Rattle.ce_algorithms.specs.Deeds.{resolve_user};
 ghost use Rattle.ce_algorithms.specs.State.{view};
-ghost use Rattle.page_calls.specs.Resolved.{Resolves};
+ghost use Rattle.session_state.specs.Resolved.{Resolves};
 ghost use Rattle.ce_operations.specs.ByUser.{IsByUser};
 ghost use Rattle.ce_operations.specs.Ready.{IsReady};
 

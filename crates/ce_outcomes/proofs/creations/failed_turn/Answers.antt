@@ -2,7 +2,7 @@ use Rattle.std.proofs.Common.{ap}
 use Rattle.ce_algorithms.specs.Create.{create_failed}
 use Rattle.ce_algorithms.specs.Perform.{gives_node}
 use Rattle.ce_frames.specs.Turned.{ended}
-use Rattle.page_calls.proofs.GivenLaws.{node_ends}
+use Rattle.session_state.proofs.GivenLaws.{node_ends}
 use Rattle.ce_outcomes.proofs.EndLaws.{node_there}
 use Rattle.ce_outcomes.proofs.creations.failed_turn.Goals as goal
 

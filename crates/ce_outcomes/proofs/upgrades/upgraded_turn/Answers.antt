@@ -1,7 +1,7 @@
 use Rattle.ce_algorithms.specs.declared.given.Given.TheVariants.{Nothing}
 use Rattle.ce_algorithms.specs.Steps.{give, then_do}
 use Rattle.ce_algorithms.specs.Upgrade.{upgrade_ends}
-use Rattle.page_calls.proofs.GivenLaws.{nothing_ends}
+use Rattle.session_state.proofs.GivenLaws.{nothing_ends}
 use Rattle.ce_outcomes.proofs.EndLaws.{ends_is, threw_is}
 use Rattle.ce_outcomes.proofs.upgrades.upgraded_turn.Goals as goal
 

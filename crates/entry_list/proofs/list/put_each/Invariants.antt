@@ -1,6 +1,6 @@
 use Rattle.std.proofs.Common.{◌≡◌, ◌++◌, take}
 use Rattle.form_controls.specs.Owners.{Forms}
-use Rattle.form_owner.specs.Stands.{Stands}
+use Rattle.checkedness.specs.Stands.{Stands}
 use Rattle.entry_list.specs.Given.{given_entries}
 use Rattle.entry_list.proofs.list.put_each.Given as goal
 

@@ -2,8 +2,8 @@ use Rattle.std.proofs.Common.{◌≡◌, ◌++◌, ◌∷◌, [], Some, None, ap
 use Rattle.node_trees.specs.Nodes.{IsTidy}
 use Rattle.form_controls.specs.Checkedness.{next_in_group}
 use Rattle.ce_algorithms.specs.Forms.{forms_of}
-use Rattle.form_owner.specs.Groups.{members_behind}
-use Rattle.form_owner.proofs.GroupWalks.{members-less, members-step, members-end}
+use Rattle.validity.specs.Groups.{members_behind}
+use Rattle.validity.proofs.GroupWalks.{members-less, members-step, members-end}
 use Rattle.page_calls.proofs.groups.group_of.Goals as goal
 
 pub loop-member-smaller : goal.loop-member-smaller

@@ -1,8 +1,8 @@
 use Rattle.std.proofs.Common.{◌≡◌, ◌++◌, length}
 use Rattle.form_controls.specs.Checkedness.{group_of}
 use Rattle.ce_algorithms.specs.Forms.{forms_of}
-use Rattle.form_owner.specs.Groups.{members_behind}
-use Rattle.form_owner.specs.Stands.{IsMemberOrNone}
+use Rattle.validity.specs.Groups.{members_behind}
+use Rattle.validity.specs.Stands.{IsMemberOrNone}
 use Rattle.page_calls.proofs.groups.group_of.Given as goal
 
 abbrev pub invariant-loop-member : goal.invariant-loop-member

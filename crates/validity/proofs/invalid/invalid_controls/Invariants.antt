@@ -2,7 +2,7 @@ use Rattle.std.proofs.Common.{◌≡◌, take}
 use Rattle.std.specs.Prelude.{filter}
 use Rattle.form_controls.specs.Owners.{Forms}
 use Rattle.form_controls.specs.Validity.{is_invalid}
-use Rattle.form_owner.specs.Stands.{Stands}
+use Rattle.checkedness.specs.Stands.{Stands}
 use Rattle.validity.proofs.invalid.invalid_controls.Given as goal
 
 abbrev pub invariant-loop-n : goal.invariant-loop-n

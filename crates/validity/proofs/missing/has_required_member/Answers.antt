@@ -3,8 +3,8 @@ use Rattle.std.specs.Prelude.{◌||◌}
 use Rattle.std.specs.List.{list_any}
 use Rattle.node_trees.specs.Nodes.{IsTidy}
 use Rattle.form_controls.specs.Validity.{is_required}
-use Rattle.form_owner.specs.Groups.{members_behind}
-use Rattle.form_owner.proofs.GroupWalks.{any-step, any-end}
+use Rattle.checkedness.specs.Groups.{members_behind}
+use Rattle.checkedness.proofs.GroupWalks.{any-step, any-end}
 use Rattle.validity.proofs.missing.has_required_member.Goals as goal
 
 pub loop-member-preserved : goal.loop-member-preserved

@@ -3,8 +3,8 @@ use Rattle.std.specs.List.{list_any}
 use Rattle.form_controls.specs.Checkedness.{group_of}
 use Rattle.form_controls.specs.Owners.{Forms}
 use Rattle.form_controls.specs.Validity.{is_required}
-use Rattle.form_owner.specs.Groups.{left_behind, members_behind}
-use Rattle.form_owner.specs.Stands.{IsMemberOrNone, Stands}
+use Rattle.checkedness.specs.Groups.{left_behind, members_behind}
+use Rattle.checkedness.specs.Stands.{IsMemberOrNone, Stands}
 use Rattle.validity.proofs.missing.has_required_member.Given as goal
 
 abbrev pub invariant-loop-member : goal.invariant-loop-member

@@ -1,0 +1,2 @@
+pub use Rattle.form_owner.specs.Stands
+pub use Rattle.form_owner.specs.Groups

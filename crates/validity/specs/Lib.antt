@@ -1,0 +1,2 @@
+pub use Rattle.checkedness.specs.Stands
+pub use Rattle.checkedness.specs.Groups
