@@ -7,7 +7,7 @@ use form_submission::is_boundary;
 use std::alloc::Global;
 
 /// A type of body.
-#[derive(Debug, Drop)]
+#[derive(Drop)]
 pub enum BodyType {
     /// application/x-www-form-urlencoded.
     Urlencoded,

@@ -3,7 +3,7 @@ use ce_base::NodeNo;
 use ce_events::Answer;
 
 /// What an operation gives.
-#[derive(Debug, Drop)]
+#[derive(Drop)]
 pub enum Given {
     /// It gives nothing.
     Nothing,

@@ -2,7 +2,7 @@
 use form_submission::Site;
 
 /// The settings of a session.
-#[derive(Debug, Drop)]
+#[derive(Drop)]
 pub struct Settings {
     /// The units of fuel that it may spend.
     pub fuel: u32,

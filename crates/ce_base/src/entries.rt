@@ -8,7 +8,7 @@ use std::marker::Model;
 
 /// A name and its value, as an entry list has them (HTML Standard, section "Constructing the entry
 /// list").
-#[derive(Debug, Drop)]
+#[derive(Drop)]
 pub struct Entry {
     /// The name that the value is sent under.
     pub name: Text,
@@ -37,7 +37,7 @@ impl Entry {
 }
 
 /// A list of entries, whose names and values are UTF-8.
-#[derive(Debug, Drop)]
+#[derive(Drop)]
 pub struct Entries {
     items: Vec<Entry>,
 }

@@ -4,7 +4,7 @@ ghost use Rattle.std.specs.Prelude.{◌≡◌, ◌+◌, MatchBool};
 use std::marker::Model;
 
 /// The fuel of a session, a number of units that only falls. A contract sees how many are left.
-#[derive(Debug, Drop)]
+#[derive(Drop)]
 pub struct Fuel {
     units: u32,
 }

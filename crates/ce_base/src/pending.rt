@@ -9,7 +9,7 @@ use std::marker::Model;
 const MOST: usize = 65_536;
 
 /// At most 65,536 bytes in their order. A contract sees them as a list.
-#[derive(Debug, Drop)]
+#[derive(Drop)]
 pub struct Pending {
     bytes: Vec<u8>,
 }

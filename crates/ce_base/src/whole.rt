@@ -12,7 +12,7 @@ use std::alloc::Global;
 const BUFFER: usize = 65_536;
 
 /// What reading a whole source came to.
-#[derive(Debug, Drop)]
+#[derive(Drop)]
 pub enum Read {
     /// All of its bytes.
     Whole(Bytes),

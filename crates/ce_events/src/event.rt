@@ -4,7 +4,7 @@ use reaction_queue::Mode;
 use rule_tokens::{Bad, CallOrUpgrade};
 
 /// What was asked of a node.
-#[derive(Debug, Drop)]
+#[derive(Drop)]
 pub enum Answer {
     /// There is none.
     Null,
@@ -27,7 +27,7 @@ pub enum Answer {
 }
 
 /// What blocks a submission (HTML Standard, section "Form submission").
-#[derive(Debug, Drop)]
+#[derive(Drop)]
 pub enum Cause {
     /// The form is not connected.
     Disconnected,
@@ -46,7 +46,7 @@ pub enum Cause {
 }
 
 /// One line of a session's log.
-#[derive(Debug, Drop)]
+#[derive(Drop)]
 pub enum Event {
     /// A class's constructor starts: the class's name.
     Construct(Text),

@@ -4,7 +4,7 @@ use std::alloc::{AllocError, AllocFailed};
 
 /// Why a call of the page stopped. A call that enqueues reactions spends one unit of fuel for each, as one
 /// that makes nodes does for each node; so each of them may stop with FuelSpent, and any with NoMemory.
-#[derive(Debug, Drop)]
+#[derive(Drop)]
 pub enum PageStop {
     /// The operation throws this fault. Nothing of the page has changed.
     Refused(Fault),

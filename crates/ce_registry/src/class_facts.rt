@@ -14,7 +14,7 @@ pub struct Calls(pub [bool; 9]);
 
 /// What a definition takes over from its class (HTML Standard, section "Core concepts": a definition's
 /// lifecycle callbacks, observed attributes, form-associated, disable shadow, disable internals).
-#[derive(Debug, Drop)]
+#[derive(Drop)]
 pub struct ClassFacts {
     /// The callbacks that it has.
     pub calls: Calls,

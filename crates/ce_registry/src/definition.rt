@@ -7,7 +7,7 @@ use ce_base::{ClassNo, Text};
 
 /// A custom element definition (HTML Standard, section "Core concepts"). It is autonomous where its local
 /// name is its name.
-#[derive(Debug, Drop)]
+#[derive(Drop)]
 pub struct Definition {
     /// The name that it is defined under.
     pub name: Text,

@@ -8,7 +8,7 @@ use form_submission::Site;
 use std::alloc::Global;
 
 /// How a script is run.
-#[derive(Debug, Drop)]
+#[derive(Drop)]
 pub struct Options {
     /// How much fuel its session has.
     pub fuel: u32,
@@ -19,7 +19,7 @@ pub struct Options {
 }
 
 /// What the words of a call mean.
-#[derive(Debug, Drop)]
+#[derive(Drop)]
 pub enum Meaning {
     /// They are refused.
     Refused,

@@ -10,7 +10,7 @@ use std::marker::Model;
 
 /// The length of a text whose newlines are normalized (Infra Standard, "normalize newlines"), piece by piece. A U+000D CR may end
 /// a piece and the U+000A LF begin the next one.
-#[derive(Debug, Drop)]
+#[derive(Drop)]
 pub struct NormalizedUnits {
     units: u64,
     behind: bool,
@@ -63,7 +63,7 @@ impl NormalizedUnits {
 
 /// The length of a text whose white space is stripped and collapsed (Infra Standard, "strip and collapse ASCII whitespace"), piece
 /// by piece. A word may stand in several pieces.
-#[derive(Debug, Drop)]
+#[derive(Drop)]
 pub struct CollapsedUnits {
     units: u64,
     begun: bool,

@@ -2,7 +2,7 @@
 use ce_base::Text;
 
 /// Where the page of a session stands: what its submissions are made of beside the tree.
-#[derive(Debug, Drop)]
+#[derive(Drop)]
 pub struct Site {
     /// The page's URL (HTML Standard, section "The Document object", "document base URL"). Actions are parsed against it.
     pub url: Text,

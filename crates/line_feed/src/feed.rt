@@ -15,7 +15,7 @@ const LONGEST: usize = 4096;
 ///
 /// The time is linear in what is fed: each byte is searched once, and those left at the end once more, no more
 /// bytes are moved to the front than have left since the last move, and of a line at most 4097 are copied.
-#[derive(Debug, Drop)]
+#[derive(Drop)]
 pub struct Feed {
     bytes: Vec<u8>,
     // Where the bytes that are held begin, and up to where they have no line feed.

@@ -9,7 +9,7 @@ use std::marker::Model;
 
 /// The lines of a made script that are left, in their order. A contract sees them as a list; none of them is in
 /// memory before it is given.
-#[derive(Debug, Drop)]
+#[derive(Drop)]
 pub struct Maker {
     elements: u32,
     // How many lines were given.

@@ -10,7 +10,7 @@ use ce_base::{NoMemory, Text};
 use std::alloc::Global;
 
 /// A node, as a line names it.
-#[derive(Debug, Drop)]
+#[derive(Drop)]
 pub enum Operand {
     /// `doc`: the page's document.
     Doc,
@@ -21,7 +21,7 @@ pub enum Operand {
 }
 
 /// A text, as a line names it.
-#[derive(Debug, Drop)]
+#[derive(Drop)]
 pub enum Val {
     /// This text.
     Fixed(Text),

@@ -27,7 +27,7 @@ pub enum Bad {
 }
 
 /// Why a line was not read.
-#[derive(Debug, Drop)]
+#[derive(Drop)]
 pub enum LineRefused {
     /// The line is refused for this.
     Bad(Bad),

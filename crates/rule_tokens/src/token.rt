@@ -6,7 +6,7 @@ use std::alloc::Global;
 use std::marker::Model;
 
 /// A token of a line.
-#[derive(Debug, Drop)]
+#[derive(Drop)]
 pub struct Token {
     /// It stood in quotes.
     pub quoted: bool,
@@ -15,7 +15,7 @@ pub struct Token {
 }
 
 /// A list of tokens.
-#[derive(Debug, Drop)]
+#[derive(Drop)]
 pub struct Tokens {
     items: Vec<Token>,
 }
