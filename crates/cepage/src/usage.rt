@@ -10,49 +10,46 @@ pub(crate) fn tell_usage(rt: &HostRuntime) {
     }
 }
 
+// The options in the order of the text: the name, what a value stands for, where it has one, and what it says.
+const OPTIONS: [(&str, Option<&str>, &str); 5] = [
+    (
+        "fuel",
+        Some("N"),
+        "units of fuel, from 1 to 200000 [default: 20000]",
+    ),
+    (
+        "boundary",
+        Some("T"),
+        "boundary of multipart bodies, 1 to 70 ASCII letters and digits [default: cepageboundary]",
+    ),
+    (
+        "url",
+        Some("U"),
+        "URL of the page, http or https [default: http://page.test/]",
+    ),
+    ("trace", None, "show how reactions are enqueued and run"),
+    (
+        "make",
+        Some("N"),
+        "make a script of 1 to 19999 elements, and write the summary of its run; not beside --trace",
+    ),
+];
+
 // The text, rendered from a command that parses nothing.
 pub(crate) fn usage(alloc: Global) -> Result<String, AllocError> {
     let mut command = Command::new(alloc, "cepage")
         .disable_help_flag(true)
-        .disable_version_flag(true)
-        .arg(option(
-            alloc,
-            "fuel",
-            "N",
-            "units of fuel, from 1 to 200000 [default: 20000]",
-        ))?
-        .arg(option(
-            alloc,
-            "boundary",
-            "T",
-            "boundary of multipart bodies, 1 to 70 ASCII letters and digits [default: cepageboundary]",
-        ))?
-        .arg(option(
-            alloc,
-            "url",
-            "U",
-            "URL of the page, http or https [default: http://page.test/]",
-        ))?
-        .arg(
-            Arg::new(alloc, "trace")
-                .long("trace")
-                .action(ArgAction::SetTrue)
-                .help("show how reactions are enqueued and run"),
-        )?
-        .arg(option(
-            alloc,
-            "make",
-            "N",
-            "make a script of 1 to 19999 elements, and write the summary of its run; not beside --trace",
-        ))?;
+        .disable_version_flag(true);
+    for (name, value, help) in &OPTIONS {
+        command = command.arg(option(alloc, name, *value, help))?;
+    }
     command.render_help()
 }
 
-// An option with a value.
-fn option<'a>(alloc: Global, name: &'a str, value: &'a str, help: &'a str) -> Arg<'a> {
-    Arg::new(alloc, name)
-        .long(name)
-        .value_name(value)
-        .action(ArgAction::Set)
-        .help(help)
+fn option<'a>(alloc: Global, name: &'a str, value: Option<&'a str>, help: &'a str) -> Arg<'a> {
+    let arg = Arg::new(alloc, name).long(name).help(help);
+    match value {
+        Some(value) => arg.value_name(value).action(ArgAction::Set),
+        None => arg.action(ArgAction::SetTrue),
+    }
 }
