@@ -15,7 +15,7 @@ stack_of-same d s stacks lt =
     stack_of-read d (with_stack d s stacks) s (omega (arith, length-set stacks d s)) (sym (get_or-set_same stacks d s s lt))
 
 -- the others stay
-stack_of-others : (e d : ℕ) (s : List (Option ℕ)) (stacks : List (List (Option ℕ))) → ¬ (e ≡ d) → stack_of e (with_stack d s stacks) ≡ stack_of e stacks
+pub stack_of-others : (e d : ℕ) (s : List (Option ℕ)) (stacks : List (List (Option ℕ))) → ¬ (e ≡ d) → stack_of e (with_stack d s stacks) ≡ stack_of e stacks
 stack_of-others e d s [] other = refl
 stack_of-others zero zero s (t ∷ stacks) other = absurd (other refl)
 stack_of-others zero (suc d) s (t ∷ stacks) other = refl
@@ -66,6 +66,18 @@ module _ (d : ℕ) (old more : List (List (Option ℕ))) (s t : List (Option ℕ
 pub stays : (old more : List (List (Option ℕ))) (d : ℕ) (s t : List (Option ℕ)) → s ≡ get_or more d s → t ≡ s → ((e : ℕ) → stack_of e more ≡ stack_of e old) → (e : ℕ) → stack_of e (slice_set more d t) ≡ stack_of e old
 stays old more d s t read is same e =
     ap (stack_of e) (ap (slice_set more d) (is ∙ read) ∙ set-get_or more d s) ∙ same e
+
+-- a stack that is changed in its place: s becomes t
+
+pub read-of : (d : ℕ) (stacks : List (List (Option ℕ))) (s : List (Option ℕ)) → d < length stacks → s ≡ get_or stacks d s → s ≡ stack_of d stacks
+read-of d stacks s lt read = sym (stack_of-read d stacks s lt read)
+
+module _ (change : List (Option ℕ) → List (Option ℕ)) (d : ℕ) (stacks : List (List (Option ℕ))) (s t : List (Option ℕ)) (lt : d < length stacks) (read : s ≡ get_or stacks d s) (is : t ≡ change s) where
+  pub changes : slice_set stacks d t ≡ with_stack d (change (stack_of d stacks)) stacks
+  changes = ap (slice_set stacks d) (is ∙ ap change (read-of d stacks s lt read))
+
+  pub changes-stack : stack_of d (slice_set stacks d t) ≡ change (stack_of d stacks)
+  changes-stack = stack_of-same d t stacks lt ∙ is ∙ ap change (read-of d stacks s lt read)
 
 -- the marker takes the place of an element that stands last in a stack
 pub marks : (d : ℕ) (stacks : List (List (Option ℕ))) (s t : List (Option ℕ)) → d < length stacks → s ≡ get_or stacks d s → t ≡ marked s → slice_set stacks d t ≡ with_marker d (stack_of d stacks) stacks
