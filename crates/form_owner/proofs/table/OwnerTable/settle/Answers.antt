@@ -10,9 +10,20 @@ use Rattle.form_owner.specs.Looks.{AreKept, AreNotedBy, KnowsBy, known_by}
 use Rattle.form_owner.specs.Told.{AreOfNodes}
 use Rattle.form_owner.specs.Touches.{after_touch}
 use Rattle.form_owner.specs.Writing.{AreNoted, AreSeenBy}
+use Rattle.form_owner.proofs.Looking.{on-node}
+use Rattle.form_owner.proofs.Sights.{seen-placed}
 use Rattle.form_owner.proofs.Told.{changes-of_nodes}
+use Rattle.form_owner.proofs.Touched.{is-placed}
 use Rattle.form_owner.proofs.Settled.{covers-now, lists-now, noted-now, settled, settled-changes}
 use Rattle.form_owner.proofs.table.OwnerTable.settle.Goals as goal
+
+pub note-requires : goal.note-requires
+note-requires c = is-placed c.args.touch c.requires.stood.before.forest c.args.tree.now _ c.requires.stood.touched (ap length c.deref_mut.ensures.value ∙ c.in_ok-fill.ensures.long ∙ c.count.ensures.count)
+
+pub renew-requires-clause-rows : goal.renew-requires-clause-rows
+renew-requires-clause-rows c =
+    let given : c.deref_mut-2.result.now ≡ c.note.new.rows = c.deref_mut-2.ensures.value ∙ with_items_is c.fill.new.rows c.note.new.rows (omega (arith, c.note.auto.rows, c.deref_mut.ensures.len)) in
+    omega (arith, ap length given, c.note.auto.rows, ap length c.deref_mut.ensures.value, c.in_ok-fill.ensures.long, c.count.ensures.count)
 
 pub renew-requires-clause-covers : goal.renew-requires-clause-covers
 renew-requires-clause-covers c =
@@ -27,6 +38,9 @@ renew-requires-clause-lists c =
     lists-now c.args.touch c.requires.stood.before c.args.tree.now c.count.ensures.tidy c.args.self.now c.fill.new.rows.items c.deref_mut.result.now c.note.new.rows c.deref_mut-2.result.now c.requires.stood.stands c.requires.stood.touched
     (λ i. c.in_ok-fill.ensures.same i ∙ ap (λ (t : OwnerRows). row_in t.rows i) c.self.view_is) c.deref_mut.ensures.value given c.note.ensures
 
+pub mind_touched-requires-clause-touching : goal.mind_touched-requires-clause-touching
+mind_touched-requires-clause-touching c = on-node c.args.touch c.requires.stood.before.forest c.args.tree.now c.requires.stood.touched
+
 pub mind_touched-requires-clause-noted : goal.mind_touched-requires-clause-noted
 mind_touched-requires-clause-noted c =
     let given : c.deref_mut-2.result.now ≡ c.note.new.rows = c.deref_mut-2.ensures.value ∙ with_items_is c.fill.new.rows c.note.new.rows (omega (arith, c.note.auto.rows, c.deref_mut.ensures.len)) in
@@ -36,6 +50,12 @@ mind_touched-requires-clause-noted c =
     (noted-now c.args.touch c.requires.stood.before c.args.tree.now c.count.ensures.tidy c.args.self.now c.fill.new.rows.items c.deref_mut.result.now c.note.new.rows c.deref_mut-2.result.now c.requires.stood.stands c.requires.stood.touched
     (λ i. c.in_ok-fill.ensures.same i ∙ ap (λ (t : OwnerRows). row_in t.rows i) c.self.view_is) c.deref_mut.ensures.value given c.note.ensures c.renew.new.rows c.in_ok-changes.ensures.rows))
 
+pub see_touched-requires-clause-placed : goal.see_touched-requires-clause-placed
+see_touched-requires-clause-placed c =
+    let given : c.deref_mut-2.result.now ≡ c.note.new.rows = c.deref_mut-2.ensures.value ∙ with_items_is c.fill.new.rows c.note.new.rows (omega (arith, c.note.auto.rows, c.deref_mut.ensures.len)) in
+    let read : c.deref_mut-3.result.now ≡ c.renew.new.rows = c.deref_mut-3.ensures.value ∙ with_items_is (with_items c.fill.new.rows c.note.new.rows) c.renew.new.rows (omega (arith, c.renew.auto.rows, c.deref_mut-2.ensures.len)) in
+    seen-placed c.args.touch c.requires.stood.before.forest c.args.tree.now _ c.requires.stood.touched (omega (arith, ap length read, c.renew.auto.rows, ap length given, c.note.auto.rows, ap length c.deref_mut.ensures.value, c.in_ok-fill.ensures.long, c.count.ensures.count))
+
 pub see_touched-requires-clause-noted : goal.see_touched-requires-clause-noted
 see_touched-requires-clause-noted c =
     let given : c.deref_mut-2.result.now ≡ c.note.new.rows = c.deref_mut-2.ensures.value ∙ with_items_is c.fill.new.rows c.note.new.rows (omega (arith, c.note.auto.rows, c.deref_mut.ensures.len)) in
@@ -44,6 +64,9 @@ see_touched-requires-clause-noted c =
     (subst (λ index. AreNoted c.renew.new.rows (is_held index)) (sym (ap (λ (t : OwnerRows). t.named) c.self.view_is))
     (noted-now c.args.touch c.requires.stood.before c.args.tree.now c.count.ensures.tidy c.args.self.now c.fill.new.rows.items c.deref_mut.result.now c.note.new.rows c.deref_mut-2.result.now c.requires.stood.stands c.requires.stood.touched
     (λ i. c.in_ok-fill.ensures.same i ∙ ap (λ (t : OwnerRows). row_in t.rows i) c.self.view_is) c.deref_mut.ensures.value given c.note.ensures c.renew.new.rows c.in_ok-changes.ensures.rows))
+
+pub note_looks-requires : goal.note_looks-requires
+note_looks-requires c = on-node c.args.touch c.requires.stood.before.forest c.args.tree.now c.requires.stood.touched
 
 pub returns-clause-stands : goal.returns-clause-stands
 returns-clause-stands c = λ before stood touched.
