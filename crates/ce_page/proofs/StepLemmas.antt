@@ -1,18 +1,19 @@
 -- Primitives that are taken apart: a change of the page, what it changes of form owners, and whom that tells.
-use Rattle.std.proofs.Common.{◌≡◌, ℕ, Bool, true, List, ◌∷◌, Option, None, Some, Result, Ok, Err, refl, ap, subst, sym, ◌∙◌}
-use Rattle.std.specs.Prelude.{is_some, OnOk}
+use Rattle.std.proofs.Common.{◌≡◌, ℕ, Bool, true, false, List, ◌∷◌, Option, None, Some, Result, Ok, Err, refl, ap, subst, sym, ◌∙◌}
+use Rattle.std.specs.Prelude.{is_some, not, if◌then◌else◌, OnOk}
 use Rattle.ce_base.specs.declared.fault.Fault.{Fault}
 use Rattle.node_trees.specs.Insertion.{may_insert}
 use Rattle.node_trees.specs.Orders.{order_of}
+use Rattle.node_trees.specs.Paths.{is_among}
 use Rattle.node_trees.specs.Spots.{attribute_at, document_at, parent_at}
 use Rattle.node_trees.specs.Trees.{cut, graft, with_attribute, without_attribute}
 use Rattle.reaction_queue.specs.declared.reaction.Reaction.TheVariants.{Attribute}
 use Rattle.form_controls.specs.declared.change.Change.{Change}
 use Rattle.ce_algorithms.specs.Attributes.{set_attribute, remove_attribute, remove_there}
-use Rattle.ce_algorithms.specs.FormChanges.{form_changes, tell_others}
+use Rattle.ce_algorithms.specs.FormChanges.{form_changes, tell_form_change, tell_others}
 use Rattle.ce_algorithms.specs.Mutation.{adopt, insert, inserted, is_connected_parent, pre_insert, put_in, reference_child, remove, removed}
 use Rattle.ce_algorithms.specs.Page.{Page, Work, read_page, with_forest}
-use Rattle.ce_algorithms.specs.Steps.{Step, Outcome, Goes, for_each, then_do, throw_any, ◌>>=◌, ◌>>◌}
+use Rattle.ce_algorithms.specs.Steps.{Step, Outcome, Goes, done, for_each, then_do, throw_any, ◌>>=◌, ◌>>◌}
 use Rattle.ce_page.specs.declared.stop.PageStop.{PageStop}
 use Rattle.ce_page.specs.declared.stop.PageStop.TheVariants.{Refused, FuelSpent, NoMemory}
 use Rattle.ce_page.specs.Ends.{Does, work}
@@ -44,6 +45,28 @@ module _ (turn : ℕ → Step Work (Unit {0})) (n : ℕ) (all rest : List ℕ) (
       by_stop (Refused f) d = ap (λ (o : Outcome Work (Unit {0})). then_do o (λ _. for_each rest turn)) d
       by_stop FuelSpent d = ap (λ (o : Outcome Work (Unit {0})). then_do o (λ _. for_each rest turn)) d
       by_stop NoMemory d = tt
+
+-- one of whom something is said has its turn, if it stands outside; else it is passed over
+module _ (order : List ℕ) (c : Change) (rest all : List Change) (w : Work) (begins : all ≡ c ∷ rest) where
+  pub other_gone : (outside : Bool) (gone : Work) → outside ≡ not (is_among c.node order) → Goes tt gone ≡ (if outside then tell_form_change c else done) w
+      → tell_others rest order gone ≡ tell_others all order w
+  other_gone outside gone test went = subst (λ cs. tell_others rest order gone ≡ tell_others cs order w) (sym begins) (by_test outside test went)
+    where
+      by_test : (b : Bool) → b ≡ not (is_among c.node order) → Goes tt gone ≡ (if b then tell_form_change c else done) w → tell_others rest order gone ≡ tell_others (c ∷ rest) order w
+      by_test true is goes = rw (← is) (ap (λ (o : Outcome Work (Unit {0})). then_do o (λ _. tell_others rest order)) goes)
+      by_test false is goes = let same : gone ≡ w = cc in rw (← is) (ap (λ (v : Work). tell_others rest order v) same)
+
+  pub other_stopped : (outside : Bool) (stop : PageStop) (last : Work) → outside ≡ not (is_among c.node order) → Does {A = Unit {0}} (Err stop) last ((if outside then tell_form_change c else done) w)
+      → Does {A = Unit {0}} (Err stop) last (tell_others all order w)
+  other_stopped outside stop last test does = subst (λ cs. Does {A = Unit {0}} (Err stop) last (tell_others cs order w)) (sym begins) (by_test outside test stop does)
+    where
+      by_test : (b : Bool) → b ≡ not (is_among c.node order) → (s : PageStop) → Does {A = Unit {0}} (Err s) last ((if b then tell_form_change c else done) w)
+          → Does {A = Unit {0}} (Err s) last (tell_others (c ∷ rest) order w)
+      by_test true is (Refused f) d = rw (← is) (ap (λ (o : Outcome Work (Unit {0})). then_do o (λ _. tell_others rest order)) d)
+      by_test true is FuelSpent d = rw (← is) (ap (λ (o : Outcome Work (Unit {0})). then_do o (λ _. tell_others rest order)) d)
+      by_test false is (Refused f) d = absurd cc
+      by_test false is FuelSpent d = absurd cc
+      by_test b is NoMemory d = tt
 
 -- a node that may be put among the children of a parent is adopted, and then put in
 pub pre_inserted : (result : Result (Unit {0}) PageStop) (last : Work) (old mid : Page) (parent n : ℕ) (before child : Option ℕ) (fuel after : ℕ) → may_insert old.forest parent n before ≡ None

@@ -45,8 +45,7 @@ impl Page {
         if old == document {
             return Ok(());
         }
-        self.move_to(alloc, old, document, node, fuel)?;
-        Ok(())
+        self.move_to(alloc, old, document, node, fuel)
     }
 
     /// Removes a node that has a parent.
@@ -63,8 +62,7 @@ impl Page {
         if self.tree.parent(node).is_none() {
             return Ok(());
         }
-        self.remove_node(alloc, node, fuel)?;
-        Ok(())
+        self.remove_node(alloc, node, fuel)
     }
 
     /// Moves a node, with all below it, into another document.
@@ -87,8 +85,7 @@ impl Page {
     {
         let walk = self.tree.shadow_order(alloc, node)?;
         self.move_nodes(&walk, document);
-        self.tell_adopted(alloc, &walk, old, document, fuel)?;
-        Ok(())
+        self.tell_adopted(alloc, &walk, old, document, fuel)
     }
 
     /// Each node of a walk gets the document.

@@ -36,9 +36,11 @@ impl Page {
         ensures refused { NeverRefuses result }
     {
         if self.gives_reaction(n, &r) {
-            self.enqueue(alloc, n, r, fuel)?;
+            self.enqueue(alloc, n, r, fuel)
+        } else {
+            drop(r);
+            Ok(())
         }
-        Ok(())
     }
 
     /// Whether the element's definition gives a reaction. An upgrade it does not, and what is no element has none.
@@ -68,6 +70,7 @@ impl Page {
         ensures refused { NeverRefuses result }
     {
         if !fuel.spend() {
+            drop(r);
             return Err(PageStop::FuelSpent);
         }
         self.record(alloc, n, r)?;
@@ -108,9 +111,11 @@ impl Page {
         ensures refused { NeverRefuses result }
     {
         if self.is_custom(n) {
-            self.enqueue_call(alloc, n, r, fuel)?;
+            self.enqueue_call(alloc, n, r, fuel)
+        } else {
+            drop(r);
+            Ok(())
         }
-        Ok(())
     }
 }
 

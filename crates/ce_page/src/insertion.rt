@@ -1,17 +1,16 @@
 // Insertion.
-ghost use Rattle.std.specs.Prelude.{◌≡◌, ◌+◌, ◌<◌, ◌^◌, None, true, false, All, OnOk};
+ghost use Rattle.std.specs.Prelude.{◌≡◌, ◌+◌, ◌<◌, ◌^◌, None, false, All, OnOk};
 ghost use Rattle.node_trees.specs.Spots.{document_at, parent_at};
 ghost use Rattle.node_trees.specs.Paths.{connected};
 ghost use Rattle.node_trees.specs.Insertion.{may_insert};
 ghost use Rattle.node_trees.specs.Nodes.{IsNode, IsNodeOrNone};
 ghost use Rattle.node_trees.specs.Orders.{order_of};
-ghost use Rattle.node_trees.specs.Kinds.{IsElement, KeepsKinds};
+ghost use Rattle.node_trees.specs.Kinds.{KeepsKinds};
 ghost use Rattle.node_trees.specs.Links.{KeepsApart, KeepsSpots};
 ghost use Rattle.form_owner.specs.Told.{AreOfNodes, AreRising};
-ghost use Rattle.ce_algorithms.specs.Enqueue.{enqueue_upgrade};
-ghost use Rattle.ce_algorithms.specs.Page.{Work};
-ghost use Rattle.ce_algorithms.specs.Steps.{Goes, for_each, when};
-ghost use Rattle.ce_algorithms.specs.Mutation.{adopt, connected_now, inserted, is_connected, pre_insert, put_in, reference_child};
+ghost use Rattle.ce_algorithms.specs.Page.{Work, is_custom};
+ghost use Rattle.ce_algorithms.specs.Steps.{Goes, for_each};
+ghost use Rattle.ce_algorithms.specs.Mutation.{adopt, connected_now, inserted, pre_insert, put_in, reference_child};
 ghost use Rattle.ce_page.specs.Ends.{Does, Keeps, NeverRefuses, work};
 ghost use Rattle.ce_page.specs.Numbers.{StaysWithin, OnlyEnqueues};
 ghost use Rattle.ce_page.specs.Settled.{KeepsSettled};
@@ -20,7 +19,7 @@ ghost use Rattle.ce_page.specs.Telling.{Tells, told};
 use crate::telling::is_unheard;
 use crate::walk::node_at;
 use crate::{NodeKind, Page, PageStop};
-use ce_base::{DefNo, Fuel, NodeNo, Nodes};
+use ce_base::{Fuel, NodeNo, Nodes};
 use form_owner::Changes;
 use reaction_queue::Reaction;
 use std::alloc::Global;
@@ -57,8 +56,7 @@ impl Page {
         self.tree.may_insert(parent, node, before)?;
         let document = self.tree.document(parent);
         self.adopt_node(alloc, document, node, fuel)?;
-        self.put_in(alloc, parent, node, child, fuel)?;
-        Ok(())
+        self.put_in(alloc, parent, node, child, fuel)
     }
 
     /// The child to insert before: where it is the node itself, its next sibling.
@@ -106,8 +104,7 @@ impl Page {
         if is_unheard(&changes, now) {
             return Ok(());
         }
-        let walk = self.tree.shadow_order(alloc, node)?;
-        self.tell_insertion(alloc, node, &walk, &changes, now, fuel)
+        self.tell_insertion(alloc, node, &changes, now, fuel)
     }
 
     /// Puts a node that stands nowhere at the end of a parent that is not connected. So nobody is told that it was
@@ -134,8 +131,7 @@ impl Page {
         ensures refused { NeverRefuses result }
     {
         let changes = self.graft(alloc, parent, node, None)?;
-        let walk = self.tree.shadow_order(alloc, node)?;
-        self.tell_insertion(alloc, node, &walk, &changes, false, fuel)
+        self.tell_insertion(alloc, node, &changes, false, fuel)
     }
 
     /// Each node of an inserted tree has its turn, and then the others of whom something is said.
@@ -143,23 +139,22 @@ impl Page {
         &mut self,
         alloc: Global,
         node: NodeNo,
-        walk: &Nodes,
         changes: &Changes,
         now: bool,
         fuel: &mut Fuel,
     ) -> Result<(), PageStop>
         requires node { IsNode self.old.forest node }
-        requires nodes { All (IsNode self.old.forest) walk.now }
-        requires connected { All (λ m. connected self.old.forest m ≡ now) walk.now }
+        requires connected { connected self.old.forest node ≡ now }
         requires changes { AreOfNodes self.old.forest changes.now }
         requires room { self.old.queues.reactions + fuel.old < 2 ^ 64 }
         ensures step { Does result (work self.new fuel.new)
-            (told (inserted changes.now) changes.now walk.now (order_of self.old.forest node) (work self.old fuel.old)) }
+            (told (inserted changes.now) changes.now (order_of self.old.forest node) (order_of self.old.forest node) (work self.old fuel.old)) }
         ensures within { StaysWithin self.old self.new fuel.old fuel.new }
         ensures rest { OnlyEnqueues self.old self.new }
         ensures refused { NeverRefuses result }
     {
-        self.tell_inserted(alloc, walk, changes, now, fuel)?;
+        let walk = self.tree.shadow_order(alloc, node)?;
+        self.tell_inserted(alloc, &walk, changes, now, fuel)?;
         self.tell_outside(alloc, changes, node, fuel)
     }
 
@@ -207,77 +202,27 @@ impl Page {
         ensures refused { NeverRefuses result }
     {
         self.tell_at_turn(alloc, changes, n, fuel)?;
-        if self.is_custom(n) {
-            return self.custom_connected(alloc, n, now, fuel);
+        if now {
+            self.connected_now(alloc, n, fuel)
+        } else {
+            Ok(())
         }
-        self.other_connected(alloc, n, now, fuel)
     }
 
-    /// What a custom element hears besides, where it is connected now.
-    fn custom_connected(
-        &mut self,
-        alloc: Global,
-        n: NodeNo,
-        now: bool,
-        fuel: &mut Fuel,
-    ) -> Result<(), PageStop>
-        requires connected { connected self.old.forest n ≡ now }
+    /// What a node that is connected now comes to: a custom element is told so, and another element is tried to upgrade.
+    fn connected_now(&mut self, alloc: Global, n: NodeNo, fuel: &mut Fuel) -> Result<(), PageStop>
+        requires node { IsNode self.old.forest n }
         requires room { self.old.queues.reactions + fuel.old < 2 ^ 64 }
-        ensures step { Does result (work self.new fuel.new) (when (is_connected self.old n) (connected_now n true) (work self.old fuel.old)) }
+        ensures step { Does result (work self.new fuel.new) (connected_now n (is_custom self.old n) (work self.old fuel.old)) }
         ensures within { StaysWithin self.old self.new fuel.old fuel.new }
         ensures rest { OnlyEnqueues self.old self.new }
         ensures refused { NeverRefuses result }
     {
-        if now {
+        if self.is_custom(n) {
             return self.enqueue_call(alloc, n, Reaction::Connected, fuel);
         }
-        Ok(())
-    }
-
-    /// What a node that is not custom comes to where it is connected now: an element is tried to upgrade.
-    fn other_connected(
-        &mut self,
-        alloc: Global,
-        n: NodeNo,
-        now: bool,
-        fuel: &mut Fuel,
-    ) -> Result<(), PageStop>
-        requires node { IsNode self.old.forest n }
-        requires connected { connected self.old.forest n ≡ now }
-        requires room { self.old.queues.reactions + fuel.old < 2 ^ 64 }
-        ensures step { Does result (work self.new fuel.new) (when (is_connected self.old n) (connected_now n false) (work self.old fuel.old)) }
-        ensures within { StaysWithin self.old self.new fuel.old fuel.new }
-        ensures rest { OnlyEnqueues self.old self.new }
-        ensures refused { NeverRefuses result }
-    {
-        if self.tree.kind(n) != NodeKind::Element {
-            return Ok(());
-        }
-        match self.lookup_for(n) {
-            None => Ok(()),
-            Some(d) => self.upgrade_connected(alloc, n, d, now, fuel),
-        }
-    }
-
-    /// An upgrade is enqueued for an element that is connected now.
-    fn upgrade_connected(
-        &mut self,
-        alloc: Global,
-        n: NodeNo,
-        d: DefNo,
-        now: bool,
-        fuel: &mut Fuel,
-    ) -> Result<(), PageStop>
-        requires element { IsElement self.old.forest n }
-        requires connected { connected self.old.forest n ≡ now }
-        requires room { self.old.queues.reactions + fuel.old < 2 ^ 64 }
-        ensures step { Does result (work self.new fuel.new) (when (is_connected self.old n) (enqueue_upgrade d n) (work self.old fuel.old)) }
-        ensures within { StaysWithin self.old self.new fuel.old fuel.new }
-        ensures rest { OnlyEnqueues self.old self.new }
-        ensures refused { NeverRefuses result }
-    {
-        if now {
-            return self.enqueue(alloc, n, Reaction::Upgrade(d), fuel);
+        if self.tree.kind(n) == NodeKind::Element {
+            return self.try_upgrade(alloc, n, fuel);
         }
         Ok(())
     }

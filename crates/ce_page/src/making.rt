@@ -119,21 +119,11 @@ impl Page {
         ensures settled { OnOk result (KeepsSettled self.old self.new) }
     {
         match d {
-            None => self.clear_definition(alloc, n),
             Some(d) => self.redefine(alloc, n, Some(d)),
-        }
-    }
-
-    /// Clears the definition of a node, if it has one.
-    fn clear_definition(&mut self, alloc: Global, n: NodeNo) -> Result<(), NoMemory>
-        ensures page { OnOk result (self.new ≡ with_definition n None self.old) }
-        ensures forest { self.new.forest ≡ self.old.forest }
-        ensures numbers { SameNumbers self.old self.new }
-        ensures settled { OnOk result (KeepsSettled self.old self.new) }
-    {
-        match self.definition(n) {
-            None => Ok(()),
-            Some(_) => self.redefine(alloc, n, None),
+            None => match self.definition(n) {
+                None => Ok(()),
+                Some(_) => self.redefine(alloc, n, None),
+            },
         }
     }
 }

@@ -1,13 +1,10 @@
 // Removal.
-ghost use Rattle.std.specs.Prelude.{◌≡◌, ◌+◌, ◌<◌, ◌^◌, ◌&&◌, IsSome, OnOk};
+ghost use Rattle.std.specs.Prelude.{◌≡◌, ◌+◌, ◌<◌, ◌^◌, IsSome, OnOk};
 ghost use Rattle.node_trees.specs.Spots.{parent_at};
 ghost use Rattle.node_trees.specs.Nodes.{IsNode};
 ghost use Rattle.node_trees.specs.Orders.{order_of};
 ghost use Rattle.form_owner.specs.Told.{AreOfNodes, AreRising};
-ghost use Rattle.reaction_queue.specs.declared.reaction.Reaction.TheVariants.{Disconnected};
-ghost use Rattle.ce_algorithms.specs.Enqueue.{enqueue_callback};
-ghost use Rattle.ce_algorithms.specs.Page.{is_custom};
-ghost use Rattle.ce_algorithms.specs.Steps.{for_each, where_is};
+ghost use Rattle.ce_algorithms.specs.Steps.{for_each};
 ghost use Rattle.ce_algorithms.specs.Mutation.{is_connected_parent, removed, remove};
 ghost use Rattle.ce_page.specs.Ends.{Does, NeverRefuses, work};
 ghost use Rattle.ce_page.specs.Numbers.{StaysWithin, OnlyEnqueues};
@@ -50,8 +47,7 @@ impl Page {
         if is_unheard(&changes, was) {
             return Ok(());
         }
-        let walk = self.tree.shadow_order(alloc, node)?;
-        self.tell_removal(alloc, node, &walk, &changes, was, fuel)
+        self.tell_removal(alloc, node, &changes, was, fuel)
     }
 
     /// Whether the parent of a node is connected. Where there is none, it is not.
@@ -70,7 +66,6 @@ impl Page {
         &mut self,
         alloc: Global,
         node: NodeNo,
-        walk: &Nodes,
         changes: &Changes,
         was: bool,
         fuel: &mut Fuel,
@@ -78,13 +73,14 @@ impl Page {
         requires node { IsNode self.old.forest node }
         requires changes { AreOfNodes self.old.forest changes.now }
         requires room { self.old.queues.reactions + fuel.old < 2 ^ 64 }
-        ensures step { Does result (work self.new fuel.new) (told (removed changes.now
-            was) changes.now walk.now (order_of self.old.forest node) (work self.old fuel.old)) }
+        ensures step { Does result (work self.new fuel.new)
+            (told (removed changes.now was) changes.now (order_of self.old.forest node) (order_of self.old.forest node) (work self.old fuel.old)) }
         ensures within { StaysWithin self.old self.new fuel.old fuel.new }
         ensures rest { OnlyEnqueues self.old self.new }
         ensures refused { NeverRefuses result }
     {
-        self.tell_removed(alloc, walk, changes, was, fuel)?;
+        let walk = self.tree.shadow_order(alloc, node)?;
+        self.tell_removed(alloc, &walk, changes, was, fuel)?;
         self.tell_outside(alloc, changes, node, fuel)
     }
 
@@ -130,27 +126,10 @@ impl Page {
         ensures refused { NeverRefuses result }
     {
         self.tell_at_turn(alloc, changes, n, fuel)?;
-        self.disconnected(alloc, n, was, fuel)
-    }
-
-    /// What a custom element hears besides, where it was connected.
-    fn disconnected(
-        &mut self,
-        alloc: Global,
-        n: NodeNo,
-        was: bool,
-        fuel: &mut Fuel,
-    ) -> Result<(), PageStop>
-        requires room { self.old.queues.reactions + fuel.old < 2 ^ 64 }
-        ensures step { Does result (work self.new fuel.new) (where_is (λ w. was && is_custom w.page n)
-            (enqueue_callback n Disconnected) (work self.old fuel.old)) }
-        ensures within { StaysWithin self.old self.new fuel.old fuel.new }
-        ensures rest { OnlyEnqueues self.old self.new }
-        ensures refused { NeverRefuses result }
-    {
-        if was && self.is_custom(n) {
-            return self.enqueue_call(alloc, n, Reaction::Disconnected, fuel);
+        if was {
+            self.tell(alloc, n, Reaction::Disconnected, fuel)
+        } else {
+            Ok(())
         }
-        Ok(())
     }
 }

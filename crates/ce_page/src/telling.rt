@@ -77,9 +77,10 @@ impl Page {
     {
         if self.is_custom(c.node) && self.is_form_associated(c.node) {
             self.tell_owner(alloc, c.node, c.owner, fuel)?;
-            self.tell_disabled(alloc, c.node, c.disabled, fuel)?;
+            self.tell_disabled(alloc, c.node, c.disabled, fuel)
+        } else {
+            Ok(())
         }
-        Ok(())
     }
 
     /// A node of a walk is told at its turn.
@@ -161,8 +162,9 @@ impl Page {
         ensures refused { NeverRefuses result }
     {
         if is_told {
-            self.tell_form_change(alloc, c, fuel)?;
+            self.tell_form_change(alloc, c, fuel)
+        } else {
+            Ok(())
         }
-        Ok(())
     }
 }

@@ -18,8 +18,16 @@ invariant_of-self-2 c =
       owners = λ e. c.in_ok-changes.ensures.stands (forms_in c.self.inside.elements.items c.self.inside.registry c.self.inside.tree) (c.self.invariant.owners c.if-not-self.false) touched;
     }
 
+pub returns-in_err-old-clause-others : goal.returns-in_err-old-clause-others
+returns-in_err-old-clause-others c =
+    subst (λ (p : Page). OnlyChanges c.args.n p.forest c.set_attr.new.self) c.self.view_is (record { others = c.set_attr.ensures.others; kinds = c.set_attr.ensures.kinds; alone = c.set_attr.ensures.alone; apart = c.set_attr.ensures.apart })
+
 pub returns-in_err-changes-clause-others : goal.returns-in_err-changes-clause-others
 returns-in_err-changes-clause-others c =
+    subst (λ (p : Page). OnlyChanges c.args.n p.forest c.set_attr.new.self) c.self.view_is (record { others = c.set_attr.ensures.others; kinds = c.set_attr.ensures.kinds; alone = c.set_attr.ensures.alone; apart = c.set_attr.ensures.apart })
+
+pub returns-clause-others : goal.returns-clause-others
+returns-clause-others c =
     subst (λ (p : Page). OnlyChanges c.args.n p.forest c.set_attr.new.self) c.self.view_is (record { others = c.set_attr.ensures.others; kinds = c.set_attr.ensures.kinds; alone = c.set_attr.ensures.alone; apart = c.set_attr.ensures.apart })
 
 pub returns-clause-changes : goal.returns-clause-changes

@@ -10,8 +10,7 @@ use Rattle.ce_page.proofs.page.Page.put_in.Goals as goal
 
 pub returns-clause-step : goal.returns-clause-step
 returns-clause-step c =
-    let order = c.in_ok-walk.ensures.order ∙ ap (λ (p : Page). order_of p.forest c.args.node) c.self.view_is in
-    let steps = put_in_is c.args.self.now c.graft.new.self c.args.fuel.now c.in_ok-changes.changes c.in_ok-changes.ensures.changes c.args.parent c.args.node c.args.before c.in_ok-walk.walk c.in_ok-changes.ensures.page order in
+    let steps = put_in_is c.args.self.now c.graft.new.self c.args.fuel.now c.in_ok-changes.changes c.in_ok-changes.ensures.changes c.args.parent c.args.node c.args.before _ c.in_ok-changes.ensures.page refl in
     rw steps c.tell_insertion.ensures.step
 
 pub returns-clause-told : goal.returns-clause-told

@@ -1,7 +1,6 @@
-use Rattle.std.proofs.Common.{Ok, refl, ap, subst, sym, ◌∙◌}
+use Rattle.std.proofs.Common.{Ok, refl, subst, sym, ◌∙◌}
 use Rattle.node_trees.specs.Orders.{order_of}
 use Rattle.node_trees.specs.Trees.{Trees}
-use Rattle.ce_algorithms.specs.Page.{Page}
 use Rattle.ce_page.specs.Ends.{work}
 use Rattle.ce_page.specs.Loose.{IsLoosed}
 use Rattle.ce_page.proofs.StepLemmas.{on_ok, remove_is}
@@ -11,9 +10,8 @@ use Rattle.ce_page.proofs.page.Page.remove_node.Goals as goal
 
 pub returns-clause-step : goal.returns-clause-step
 returns-clause-step c =
-    let order = c.in_ok-walk.ensures.order ∙ ap (λ (p : Page). order_of p.forest c.args.node) c.self.view_is in
     let was = c.is_parent_connected-was.ensures in
-    let steps = remove_is c.args.self.now c.cut.new.self c.args.fuel.now c.in_ok-changes.changes c.in_ok-changes.ensures.changes c.args.node _ c.in_ok-walk.walk c.in_ok-changes.ensures.page order was in
+    let steps = remove_is c.args.self.now c.cut.new.self c.args.fuel.now c.in_ok-changes.changes c.in_ok-changes.ensures.changes c.args.node _ _ c.in_ok-changes.ensures.page refl was in
     rw steps c.tell_removal.ensures.step
 
 pub returns-clause-loose : goal.returns-clause-loose
