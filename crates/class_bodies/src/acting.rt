@@ -1,5 +1,5 @@
 // Actions of a body, up to one that needs more than what the class remembers and the fuel.
-ghost use Rattle.std.specs.Prelude.{◌≡◌, ◌≤◌, drop, map, IfOk};
+ghost use Rattle.std.specs.Prelude.{◌≡◌, ◌≤◌, drop, map, option_map, IfOk, Some};
 ghost use Rattle.ce_base.specs.declared.fault.Fault.TheVariants.{UserThrow};
 ghost use Rattle.rule_lines.specs.Acts.{Both, Log, act_of};
 ghost use Rattle.ce_algorithms.specs.Body.{actions_of, holds};
@@ -87,10 +87,10 @@ fn act(
             }
             act(alloc, then, guarded, memory, args, fuel)
         }
-        Action::Return(operand) => Ok(Some(returned(alloc, operand, guarded)?)),
-        Action::Throw(v) => Ok(Some(thrown(alloc, v, guarded, memory, args)?)),
-        Action::Both(op) => Ok(Some(operation(alloc, op, guarded, memory, args)?)),
-        Action::Log(vals) => Ok(Some(logged(alloc, vals, guarded, memory, args)?)),
+        Action::Return(operand) => returned(alloc, operand, guarded),
+        Action::Throw(v) => thrown(alloc, v, guarded, memory, args),
+        Action::Both(op) => operation(alloc, op, guarded, memory, args),
+        Action::Log(vals) => logged(alloc, vals, guarded, memory, args),
         Action::Super => Ok(Some(Next::Do {
             action: Action::Super,
             guarded,
@@ -114,66 +114,70 @@ fn holds(
     Ok((left.as_str() == right.as_str()) == equal)
 }
 
-// `return`.
-fn returned(alloc: Global, operand: &Option<Operand>, guarded: bool) -> Result<Next, NoMemory>
-    ensures { IfOk result (λ next. stop_of next ≡ Returning operand.now guarded) }
+// `return`: the body stops.
+fn returned(
+    alloc: Global,
+    operand: &Option<Operand>,
+    guarded: bool,
+) -> Result<Option<Next>, NoMemory>
+    ensures { IfOk result (λ next. option_map stop_of next ≡ Some (Returning operand.now guarded)) }
 {
     match operand {
-        None => Ok(Next::Return {
+        None => Ok(Some(Next::Return {
             value: None,
             guarded,
-        }),
-        Some(operand) => Ok(Next::Return {
+        })),
+        Some(operand) => Ok(Some(Next::Return {
             value: Some(operand.copy(alloc)?),
             guarded,
-        }),
+        })),
     }
 }
 
-// `throw`.
+// `throw`: the body stops.
 fn thrown(
     alloc: Global,
     v: &Val,
     guarded: bool,
     memory: &Memory,
     args: &Args,
-) -> Result<Next, NoMemory>
-    ensures { IfOk result (λ next. stop_of next ≡ Throwing (UserThrow (text_of memory.now args.now v.now)) guarded) }
+) -> Result<Option<Next>, NoMemory>
+    ensures { IfOk result (λ next. option_map stop_of next ≡ Some (Throwing (UserThrow (text_of memory.now args.now v.now)) guarded)) }
 {
-    Ok(Next::Throw {
+    Ok(Some(Next::Throw {
         fault: Fault::UserThrow(args.text(alloc, memory, v)?),
         guarded,
-    })
+    }))
 }
 
-// An operation is next.
+// The body stops at an operation.
 fn operation(
     alloc: Global,
     op: &Op,
     guarded: bool,
     memory: &Memory,
     args: &Args,
-) -> Result<Next, NoMemory>
-    ensures { IfOk result (λ next. stop_of next ≡ Doing (Both (fixed memory.now args.now op.now)) guarded) }
+) -> Result<Option<Next>, NoMemory>
+    ensures { IfOk result (λ next. option_map stop_of next ≡ Some (Doing (Both (fixed memory.now args.now op.now)) guarded)) }
 {
-    Ok(Next::Do {
+    Ok(Some(Next::Do {
         action: Action::Both(fixed(alloc, op, memory, args)?),
         guarded,
-    })
+    }))
 }
 
-// A `log` is next.
+// The body stops at a `log`.
 fn logged(
     alloc: Global,
     vals: &Vals,
     guarded: bool,
     memory: &Memory,
     args: &Args,
-) -> Result<Next, NoMemory>
-    ensures { IfOk result (λ next. stop_of next ≡ Doing (Log (map (fixed_value memory.now args.now) vals.now)) guarded) }
+) -> Result<Option<Next>, NoMemory>
+    ensures { IfOk result (λ next. option_map stop_of next ≡ Some (Doing (Log (map (fixed_value memory.now args.now) vals.now)) guarded)) }
 {
-    Ok(Next::Do {
+    Ok(Some(Next::Do {
         action: Action::Log(fixed_values(alloc, vals, memory, args)?),
         guarded,
-    })
+    }))
 }
