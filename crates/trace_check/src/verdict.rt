@@ -1,7 +1,7 @@
 // Whether a trace keeps the law.
 
 /// Whether the lines of a trace are those of a lawful log.
-#[derive(Clone, Copy, Debug, PartialEq, Eq)]
+#[derive(Clone, Copy)]
 pub enum Verdict {
     /// They are: how many lines there are.
     Yes(u64),
