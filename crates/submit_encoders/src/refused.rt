@@ -3,7 +3,7 @@ use ce_base::NoMemory;
 use thiserror::Error;
 
 /// Why no multipart body was written.
-#[derive(Clone, Copy, Debug, PartialEq, Eq, Error)]
+#[derive(Debug, Drop, Error)]
 pub enum PartRefused {
     /// The boundary stands in a name or a value of the list.
     #[error("the boundary occurs in an entry")]
