@@ -35,7 +35,7 @@ fn keep_where(alloc: Global, is_kept: bool, kept: &mut Nodes, n: NodeNo) -> Resu
     ensures { OnOk result (kept.new ≡ kept.old ++ (if is_kept then n ∷ [] else [])) }
 {
     if is_kept {
-        kept.push(alloc, n)?;
+        return kept.push(alloc, n);
     }
     Ok(())
 }
