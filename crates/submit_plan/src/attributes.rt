@@ -11,7 +11,7 @@ use form_kinds::has_attribute;
 use node_arena::Tree;
 
 /// How a form is sent (HTML Standard, section "Form submission attributes", "method").
-#[derive(Clone, Copy, Debug)]
+#[derive(Clone, Copy)]
 pub(crate) enum Method {
     Get,
     Post,
@@ -19,7 +19,7 @@ pub(crate) enum Method {
 }
 
 /// How the body of a request is written (HTML Standard, section "Form submission attributes", "enctype").
-#[derive(Clone, Copy, Debug)]
+#[derive(Clone, Copy)]
 pub(crate) enum Encoding {
     Urlencoded,
     Multipart,
