@@ -23,7 +23,7 @@ pub(crate) fn set_chosen(
 {
     page.set_flag(alloc, option, on)?;
     if on {
-        set_rivals_off(alloc, page, option)?;
+        return set_rivals_off(alloc, page, option);
     }
     Ok(())
 }

@@ -1,7 +1,7 @@
 // What came of a command.
 
 /// What came of a command on a control.
-#[derive(Clone, Copy, Debug)]
+#[derive(Clone, Copy)]
 pub enum Outcome {
     /// It was done.
     Done,

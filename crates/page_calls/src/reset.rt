@@ -90,7 +90,7 @@ fn reset_control(alloc: Global, page: &mut Page, n: NodeNo, fuel: &mut Fuel) -> 
 {
     page.reset(n);
     if is_custom_form_associated(page, n) {
-        page.enqueue_call(alloc, n, Reaction::FormReset, fuel)?;
+        return page.enqueue_call(alloc, n, Reaction::FormReset, fuel);
     }
     Ok(())
 }
