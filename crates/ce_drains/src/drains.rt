@@ -56,8 +56,14 @@ fn next_turn(
     let mut elements = elements;
     match state.next_element(&mut elements) {
         None => {
-            state.log(Event::QueueClosed(queue))?;
-            Ok(came_of(kept))
+            drop(elements);
+            match state.log(Event::QueueClosed(queue)) {
+                Err(NoMemory) => {
+                    drop(kept);
+                    Err(NoMemory)
+                }
+                Ok(()) => Ok(came_of(kept)),
+            }
         }
         Some(next) => {
             stack.push(Waiting::Draining(queue, next, elements, kept))?;
@@ -84,11 +90,17 @@ pub fn drain_turn(
     ensures grows { size state.old.page.forest ≤ size state.new.page.forest }
 {
     match state.next_reaction(e) {
-        Some((number, r)) => {
-            stack.push(Waiting::Draining(queue, e, elements, kept))?;
-            let now = start(state, alloc, stack, e, number, &r)?;
-            Ok(now)
-        }
+        Some((number, r)) => match stack.push(Waiting::Draining(queue, e, elements, kept)) {
+            Err(NoMemory) => {
+                drop(r);
+                Err(NoMemory)
+            }
+            Ok(()) => {
+                let now = start(state, alloc, stack, e, number, &r);
+                drop(r);
+                now
+            }
+        },
         None => {
             let now = next_turn(state, stack, queue, elements, kept)?;
             Ok(now)
@@ -111,11 +123,17 @@ pub fn backup_turn(
     ensures grows { size state.old.page.forest ≤ size state.new.page.forest }
 {
     match state.next_reaction(e) {
-        Some((number, r)) => {
-            stack.push(Waiting::DrainingBackup(e))?;
-            let now = start(state, alloc, stack, e, number, &r)?;
-            Ok(now)
-        }
+        Some((number, r)) => match stack.push(Waiting::DrainingBackup(e)) {
+            Err(NoMemory) => {
+                drop(r);
+                Err(NoMemory)
+            }
+            Ok(()) => {
+                let now = start(state, alloc, stack, e, number, &r);
+                drop(r);
+                now
+            }
+        },
         None => {
             let now = next_backup_turn(state, stack)?;
             Ok(now)
