@@ -223,7 +223,10 @@ fn named(
     ensures placed { OnOk result (StaysPlaced state.old.page.forest (named_turn var (deed_turn deed) (session stack.old state.old))) }
 {
     match name(stack, var) {
-        Err(NoMemory) => Err(NoMemory),
+        Err(NoMemory) => {
+            drop(deed);
+            Err(NoMemory)
+        }
         Ok(()) => {
             let now = deed_turn(state, alloc, stack, deed)?;
             Ok(now)

@@ -125,7 +125,10 @@ fn react(state: &mut State, alloc: Global, stack: &mut Stack, deed: Deed) -> Res
     ensures lasts { OnOk result (Lasts state.old.page.forest (steps_turn (steps model deed) state.old)) }
 {
     match state.open_queue(alloc) {
-        Err(NoMemory) => Err(NoMemory),
+        Err(NoMemory) => {
+            drop(deed);
+            Err(NoMemory)
+        }
         Ok(queue) => {
             let ran = run(state, alloc, deed);
             let now = stepped(state, stack, queue, ran)?;

@@ -138,10 +138,12 @@ fn went(
 {
     match frame {
         Waiting::DrainingBackup(e) => {
+            drop(given);
             let now = backup_turn(state, alloc, stack, e)?;
             Ok(now)
         }
         Waiting::Draining(queue, e, elements, kept) => {
+            drop(given);
             let now = drain_turn(state, alloc, stack, queue, e, elements, kept)?;
             Ok(now)
         }
@@ -216,7 +218,10 @@ fn settled(
             let now = fit_turn(state, alloc, local, document, given)?;
             Ok(now)
         }
-        Waiting::CreatingExtended(n) => Ok(Came::Went(Given::Node(n))),
+        Waiting::CreatingExtended(n) => {
+            drop(given);
+            Ok(Came::Went(Given::Node(n)))
+        }
         Waiting::Upgrading(n, d) => {
             let now = constructed_turn(state, alloc, n, d, given)?;
             Ok(now)
