@@ -37,58 +37,119 @@ fn one_entry(alloc: Global) -> Result<Entry, Fail> {
     Ok(Entry { name, value })
 }
 
+// The value of an entry of a list. Empty where there is none.
+fn value_at(entries: &Entries, i: usize) -> &str {
+    match entries.get(i) {
+        None => "",
+        Some(entry) => entry.value.as_str(),
+    }
+}
+
+// The name of an entry of a list. Empty where there is none.
+fn name_at(entries: &Entries, i: usize) -> &str {
+    match entries.get(i) {
+        None => "",
+        Some(entry) => entry.name.as_str(),
+    }
+}
+
+fn put_entry(alloc: Global, entries: &mut Entries) -> Result<(), Fail> {
+    entries.push(alloc, one_entry(alloc)?)?;
+    Ok(())
+}
+
 #[test]
 fn entries_are_kept(rt: HostRuntime) -> Result<(), Fail> {
     let mut entries = Entries::make(rt.alloc());
-    entries.push(rt.alloc(), one_entry(rt.alloc())?)?;
+    put_entry(rt.alloc(), &mut entries)?;
     assert!(rt; entries.len() == 1);
-    assert!(rt; entries.get(0).is_some_and(|e| e.value.as_str() == "Lyon"));
+    assert!(rt; value_at(&entries, 0) == "Lyon");
+    Ok(())
+}
+
+// A text of a list. Empty where there is none.
+fn text_at(texts: &Texts, i: usize) -> &str {
+    match texts.get(i) {
+        None => "",
+        Some(text) => text.as_str(),
+    }
+}
+
+fn put_text(alloc: Global, texts: &mut Texts, text: &str) -> Result<(), Fail> {
+    texts.push(alloc, Text::of(alloc, text)?)?;
     Ok(())
 }
 
 #[test]
 fn texts_are_kept(rt: HostRuntime) -> Result<(), Fail> {
     let mut texts = Texts::make(rt.alloc());
-    texts.push(rt.alloc(), Text::of(rt.alloc(), "déjà")?)?;
+    put_text(rt.alloc(), &mut texts, "déjà")?;
     assert!(rt; texts.len() == 1);
-    assert!(rt; texts.get(0).is_some_and(|text| text.as_str() == "déjà"));
+    assert!(rt; text_at(&texts, 0) == "déjà");
     Ok(())
+}
+
+fn put_nodes(alloc: Global, nodes: &mut Nodes) -> Result<(), Fail> {
+    nodes.push(alloc, NodeNo(7))?;
+    nodes.push(alloc, NodeNo(1))?;
+    Ok(())
+}
+
+fn see_nodes(rt: &impl Abort, nodes: &Nodes) {
+    assert!(rt; nodes.len() == 2);
+    assert!(rt;
+        matches!(
+            (nodes.get(0), nodes.get(1)),
+            (Some(NodeNo(7)), Some(NodeNo(1)))
+        )
+    );
 }
 
 #[test]
 fn nodes_are_copied(rt: HostRuntime) -> Result<(), Fail> {
-    let mut nodes = Nodes::make(rt.alloc());
-    nodes.push(rt.alloc(), NodeNo(7))?;
-    nodes.push(rt.alloc(), NodeNo(1))?;
-    let copy = nodes.copy(rt.alloc())?;
-    assert!(rt; copy.len() == 2);
-    assert!(rt; copy.get(0) == Some(NodeNo(7)) && copy.get(1) == Some(NodeNo(1)));
+    let alloc = rt.alloc();
+    let mut nodes = Nodes::make(alloc);
+    put_nodes(alloc, &mut nodes)?;
+    see_nodes(&rt, &nodes.copy(alloc)?);
     Ok(())
+}
+
+fn put_copy(alloc: Global, entries: &mut Entries) -> Result<(), Fail> {
+    let entry = one_entry(alloc)?;
+    entries.push(alloc, entry.copy(alloc)?)?;
+    Ok(())
+}
+
+// Sees an entry behind another in a list.
+fn see_second(rt: &impl Abort, entries: &Entries) {
+    assert!(rt; entries.len() == 2);
+    assert!(rt; name_at(entries, 1) == "city" && value_at(entries, 1) == "Lyon");
 }
 
 #[test]
 fn entries_are_copied(rt: HostRuntime) -> Result<(), Fail> {
-    let mut entries = Entries::make(rt.alloc());
-    let entry = one_entry(rt.alloc())?;
-    let copy = entry.copy(rt.alloc())?;
-    assert!(rt; copy.name.as_str() == "city" && copy.value.as_str() == "Lyon");
-    entries.push(rt.alloc(), entry)?;
-    entries.push(rt.alloc(), copy)?;
-    let copies = entries.copy(rt.alloc())?;
-    assert!(rt; copies.len() == 2);
-    assert!(rt; copies.get(1).is_some_and(|e| e.name.as_str() == "city"));
+    let alloc = rt.alloc();
+    let mut entries = Entries::make(alloc);
+    put_entry(alloc, &mut entries)?;
+    put_copy(alloc, &mut entries)?;
+    see_second(&rt, &entries);
+    see_second(&rt, &entries.copy(alloc)?);
     Ok(())
+}
+
+// Sees two texts in a list.
+fn see_texts(rt: &impl Abort, texts: &Texts) {
+    assert!(rt; texts.len() == 2);
+    assert!(rt; text_at(texts, 0) == "déjà" && text_at(texts, 1) == "vu");
 }
 
 #[test]
 fn texts_are_copied(rt: HostRuntime) -> Result<(), Fail> {
-    let mut texts = Texts::make(rt.alloc());
-    texts.push(rt.alloc(), Text::of(rt.alloc(), "déjà")?)?;
-    texts.push(rt.alloc(), Text::of(rt.alloc(), "vu")?)?;
-    let copy = texts.copy(rt.alloc())?;
-    assert!(rt; copy.len() == 2);
-    assert!(rt; copy.get(0).is_some_and(|text| text.as_str() == "déjà"));
-    assert!(rt; copy.get(1).is_some_and(|text| text.as_str() == "vu"));
+    let alloc = rt.alloc();
+    let mut texts = Texts::make(alloc);
+    put_text(alloc, &mut texts, "déjà")?;
+    put_text(alloc, &mut texts, "vu")?;
+    see_texts(&rt, &texts.copy(alloc)?);
     Ok(())
 }
 
@@ -124,8 +185,7 @@ fn read_rows<S: Source>(
 ) -> Result<(), Fail> {
     let mut buf = *b"....";
     for want in rows.lines() {
-        let told = told(alloc, source, &mut buf)?;
-        same(rt, told.as_str(), want, "a read");
+        same(rt, told(alloc, source, &mut buf)?.as_str(), want, "a read");
     }
     Ok(())
 }

@@ -29,23 +29,28 @@ fn spelled(c: char) -> char {
 // The text that a word spells.
 pub(crate) fn text_of(alloc: Global, word: &str) -> Result<Text, AllocError> {
     let mut text = String::new(alloc);
-    for c in word.chars().filter(|c| *c != '∅') {
-        text.push(spelled(c))?;
+    for c in word.chars() {
+        if c != '∅' {
+            text.push(spelled(c))?;
+        }
     }
     Ok(Text::from(text))
 }
 
-// The list that words with bars between them spell, each a name, `=` and a value.
-fn list_of(alloc: Global, words: &str) -> Result<Entries, Fail> {
-    let mut list = Entries::make(alloc);
+fn entry_of(alloc: Global, name: &str, value: &str) -> Result<Entry, AllocError> {
+    let name = text_of(alloc, name)?;
+    let value = text_of(alloc, value)?;
+    Ok(Entry { name, value })
+}
+
+// Puts the entries that words with bars between them spell, each a name, `=` and a value.
+fn put_entries(alloc: Global, list: &mut Entries, words: &str) -> Result<(), Fail> {
     for word in words.split('|') {
         if let Some((name, value)) = word.split_once('=') {
-            let name = text_of(alloc, name)?;
-            let value = text_of(alloc, value)?;
-            list.push(alloc, Entry { name, value })?;
+            list.push(alloc, entry_of(alloc, name, value)?)?;
         }
     }
-    Ok(list)
+    Ok(())
 }
 
 fn body_of(alloc: Global, encoding: &str, list: &Entries) -> Result<Text, PartRefused> {
@@ -56,14 +61,27 @@ fn body_of(alloc: Global, encoding: &str, list: &Entries) -> Result<Text, PartRe
     }
 }
 
+// The body, or why there is none.
+fn told(alloc: Global, encoding: &str, list: &Entries) -> Result<Text, Fail> {
+    match body_of(alloc, encoding, list) {
+        Ok(body) => Ok(body),
+        Err(PartRefused::Occurs) => Ok(Text::of(alloc, "Occurs")?),
+        Err(PartRefused::NoMemory) => Ok(Text::of(alloc, "NoMemory")?),
+    }
+}
+
 fn same_body(rt: &impl Abort, alloc: Global, row: &str) -> Result<(), Fail> {
     let (step, want) = sides(row);
     let (encoding, words) = cut(step, " ");
-    match body_of(alloc, encoding, &list_of(alloc, words)?) {
-        Ok(body) => same(rt, body.as_str(), text_of(alloc, want)?.as_str(), step),
-        Err(PartRefused::Occurs) => same(rt, "Occurs", want, step),
-        Err(PartRefused::NoMemory) => same(rt, "NoMemory", want, step),
-    }
+    let want = text_of(alloc, want)?;
+    let mut list = Entries::make(alloc);
+    put_entries(alloc, &mut list, words)?;
+    same(
+        rt,
+        told(alloc, encoding, &list)?.as_str(),
+        want.as_str(),
+        step,
+    );
     Ok(())
 }
 

@@ -1,6 +1,6 @@
 // What is asked of controls by no program: which options are chosen, what was set, and how long values are.
 use crate::calls::{make, node};
-use ce_base::Text;
+use ce_base::{NodeNo, Text};
 use control_state::*;
 use node_arena::Tree;
 use std::alloc::Global;
@@ -18,15 +18,25 @@ fn grow(rt: &impl Abort, alloc: Global, tree: &mut Tree) -> Result<(), Fail> {
     Ok(())
 }
 
+// Sees that the option, which is not set, is the first chosen one.
+fn first(rt: &impl Abort, tree: &Tree, kept: &ControlTable) {
+    assert!(rt; matches!(kept.first_chosen(tree, node(rt, tree, 2)), Some(NodeNo(3))));
+    assert!(rt; !kept.flagged(tree, node(rt, tree, 3)));
+}
+
+// Sees that the option, which is set, is the only chosen one.
+fn only(rt: &impl Abort, alloc: Global, tree: &Tree, kept: &ControlTable) -> Result<(), Fail> {
+    let chosen = kept.chosen(alloc, tree, node(rt, tree, 2))?;
+    assert!(rt; chosen.len() == 1 && matches!(chosen.get(0), Some(NodeNo(3))));
+    assert!(rt; kept.flagged(tree, node(rt, tree, 3)));
+    Ok(())
+}
+
 // The option of a select is chosen before and after it is set.
 fn set(rt: &impl Abort, alloc: Global, tree: &Tree, kept: &mut ControlTable) -> Result<(), Fail> {
-    let select = node(rt, tree, 2);
-    let option = node(rt, tree, 3);
-    assert!(rt; kept.first_chosen(tree, select) == Some(option) && !kept.flagged(tree, option));
-    kept.set_flag(alloc, option, true)?;
-    let chosen = kept.chosen(alloc, tree, select)?;
-    assert!(rt; kept.flagged(tree, option) && chosen.len() == 1 && chosen.get(0) == Some(option));
-    Ok(())
+    first(rt, tree, kept);
+    kept.set_flag(alloc, node(rt, tree, 3), true)?;
+    only(rt, alloc, tree, kept)
 }
 
 #[test]

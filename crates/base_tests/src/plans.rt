@@ -167,8 +167,8 @@ fn why_word(why: &Why) -> &'static str {
 }
 
 // The same, with how many controls are invalid, if any is.
-fn blocked(alloc: Global, why: Why) -> Result<String, Fail> {
-    let word = why_word(&why);
+fn blocked(alloc: Global, why: &Why) -> Result<String, Fail> {
+    let word = why_word(why);
     match why {
         Why::Invalid(nodes) => Ok(format!(in alloc; "blocked {word} {}", nodes.len())?),
         _ => Ok(format!(in alloc; "blocked {word}")?),
@@ -176,24 +176,19 @@ fn blocked(alloc: Global, why: Why) -> Result<String, Fail> {
 }
 
 // What a plan is, in words.
-fn told(alloc: Global, plan: Plan) -> Result<Text, Fail> {
-    let text = match plan {
-        Plan::Get(url) => format!(in alloc; "get {}", url.as_str())?,
+fn told(alloc: Global, plan: &Plan) -> Result<String, Fail> {
+    match plan {
+        Plan::Get(url) => Ok(format!(in alloc; "get {}", url.as_str())?),
         Plan::Post { url, media, body } => {
-            format!(in alloc;
-                "post {} {} {}",
-                url.as_str(),
-                media.as_str(),
-                body.as_str()
-            )?
+            let (url, media, body) = (url.as_str(), media.as_str(), body.as_str());
+            Ok(format!(in alloc; "post {url} {media} {body}")?)
         }
-        Plan::Blocked(why) => blocked(alloc, why)?,
-    };
-    Ok(Text::from(text))
+        Plan::Blocked(why) => blocked(alloc, why),
+    }
 }
 
 // What the form (3) sends.
-fn sent(rt: &impl Abort, alloc: Global, tree: &Tree, owners: &OwnerTable) -> Result<Text, Fail>
+fn sent(rt: &impl Abort, alloc: Global, tree: &Tree, owners: &OwnerTable) -> Result<String, Fail>
     requires { StandsFor owners.now tree.now }
 {
     let form = node(rt, tree, 3);
@@ -203,23 +198,41 @@ fn sent(rt: &impl Abort, alloc: Global, tree: &Tree, owners: &OwnerTable) -> Res
     let plan = plan(
         alloc, tree, owners, &controls, &inner, page, "XX", form, None, false,
     )?;
-    told(alloc, plan)
+    told(alloc, &plan)
+}
+
+// What a form sends, once it is made in this tree.
+fn sent_from(
+    rt: &impl Abort,
+    alloc: Global,
+    tree: &mut Tree,
+    owners: &mut OwnerTable,
+    words: &str,
+) -> Result<String, Fail>
+    requires { StandsFor owners.old tree.old }
+{
+    grow(rt, alloc, tree, owners, words)?;
+    sent(rt, alloc, tree, owners)
+}
+
+// What the form of a row sends.
+fn sent_by(rt: &impl Abort, alloc: Global, words: &str) -> Result<String, Fail> {
+    let mut tree = Tree::make(alloc)?;
+    let mut owners = OwnerTable::make(alloc);
+    sent_from(rt, alloc, &mut tree, &mut owners, words)
+}
+
+fn same_plan(rt: &impl Abort, alloc: Global, row: &str) -> Result<(), Fail> {
+    let (words, want) = sides(row);
+    let text = sent_by(rt, alloc, words)?;
+    same(rt, text.as_str(), text_of(alloc, want)?.as_str(), words);
+    Ok(())
 }
 
 #[test]
 fn forms_that_are_made_by_calls_are_sent(rt: HostRuntime) -> Result<(), Fail> {
     for row in PLANS.lines() {
-        let (words, want) = sides(row);
-        let mut tree = Tree::make(rt.alloc())?;
-        let mut owners = OwnerTable::make(rt.alloc());
-        grow(&rt, rt.alloc(), &mut tree, &mut owners, words)?;
-        let text = sent(&rt, rt.alloc(), &tree, &owners)?;
-        same(
-            &rt,
-            text.as_str(),
-            text_of(rt.alloc(), want)?.as_str(),
-            words,
-        );
+        same_plan(&rt, rt.alloc(), row)?;
     }
     Ok(())
 }

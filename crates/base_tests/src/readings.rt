@@ -5,18 +5,21 @@ use std::alloc::Global;
 use std::process::Abort;
 use std::test::Fail;
 
-// The words of a text, which spaces part.
-fn words_of(alloc: Global, text: &str) -> Result<Vec<String>, Fail> {
-    let mut words = Vec::new(alloc);
+// Puts the words of a text, which spaces part, into a list.
+fn put_words(alloc: Global, words: &mut Vec<String>, text: &str) -> Result<(), Fail> {
     for word in text.split_whitespace() {
         words.push(String::from_str(alloc, word)?)?;
     }
-    Ok(words)
+    Ok(())
 }
 
 // A source of these bytes, at most 7 a call.
 fn source_of(alloc: Global, body: &str) -> Result<SureSource, Fail> {
     Ok(SureSource::make(body.as_bytes().to_vec(alloc)?, 7))
+}
+
+fn same_status(rt: &impl Abort, given: ReadStatus, want: ReadStatus) {
+    assert_eq!(rt; given, want);
 }
 
 // Sees how a run of what a source gives ends, and what it writes.
@@ -29,7 +32,7 @@ fn ends(
     text: &str,
 ) {
     let mut sink = SureSink::make(alloc);
-    assert_eq!(rt; read_run(alloc, words, source, &mut sink), status);
+    same_status(rt, read_run(alloc, words, source, &mut sink), status);
     assert!(rt; sink.bytes() == text.as_bytes());
 }
 
@@ -42,9 +45,10 @@ fn reads(
     status: ReadStatus,
     text: &str,
 ) -> Result<(), Fail> {
-    let words = words_of(alloc, words)?;
     let mut source = source_of(alloc, body)?;
-    ends(rt, alloc, &words, &mut source, status, text);
+    let mut list = Vec::new(alloc);
+    put_words(alloc, &mut list, words)?;
+    ends(rt, alloc, &list, &mut source, status, text);
     Ok(())
 }
 
@@ -142,10 +146,10 @@ fn feeds(
     status: ReadStatus,
     text: &str,
 ) -> Result<(), Fail> {
-    let words = words_of(alloc, "plain")?;
-    let body = vec![in alloc; 120u8; length]?;
-    let mut source = SureSource::make(body, 65_536);
-    ends(rt, alloc, &words, &mut source, status, text);
+    let mut source = SureSource::make(vec![in alloc; 120u8; length]?, 65_536);
+    let mut list = Vec::new(alloc);
+    put_words(alloc, &mut list, "plain")?;
+    ends(rt, alloc, &list, &mut source, status, text);
     Ok(())
 }
 
@@ -185,7 +189,7 @@ fn a_failing_write_ends_the_run(rt: HostRuntime) -> Result<(), Fail> {
     let mut source = source_of(alloc, "a=1")?;
     let mut sink = MemSink::make(alloc, vec![in alloc; 1]?);
     let status = read_run(alloc, &Vec::new(alloc), &mut source, &mut sink);
-    assert_eq!(rt; status, ReadStatus::WriteFault);
-    assert_eq!(rt; sink.bytes().len(), 0);
+    same_status(&rt, status, ReadStatus::WriteFault);
+    assert!(rt; sink.bytes().is_empty());
     Ok(())
 }
