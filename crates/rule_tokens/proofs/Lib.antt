@@ -6,6 +6,7 @@ pub mod FlagsLaws
 pub mod FlagsText
 pub mod Hex
 pub mod QuoteLaws
+pub mod ReadOn
 pub mod Utf8
 pub mod SpacedLaws
 pub mod TextLaws

@@ -75,7 +75,12 @@ fn is_variable_part(b: u8) -> bool
 fn are_variable_parts(bytes: &[u8]) -> bool
     ensures { result ≡ list_all is_variable_part bytes.now }
 {
-    bytes.iter().all(|b| is_variable_part(*b))
+    for b in bytes {
+        if !is_variable_part(*b) {
+            return false;
+        }
+    }
+    true
 }
 
 fn is_variable(bytes: &[u8]) -> bool
@@ -101,7 +106,12 @@ fn is_class_part(b: u8) -> bool
 fn are_class_parts(bytes: &[u8]) -> bool
     ensures { result ≡ list_all is_class_part bytes.now }
 {
-    bytes.iter().all(|b| is_class_part(*b))
+    for b in bytes {
+        if !is_class_part(*b) {
+            return false;
+        }
+    }
+    true
 }
 
 fn is_class(bytes: &[u8]) -> bool

@@ -1,8 +1,8 @@
 // Writes a text in quotes.
-ghost use Rattle.std.specs.Prelude.{◌≡◌, ◌<◌, ◌++◌, ◌∷◌, [], OnOk, IfOk, encode_utf8_all, string_bytes};
+ghost use Rattle.std.specs.Prelude.{◌≡◌, ◌<◌, ◌++◌, ◌∷◌, [], None, MatchOption, OnOk, IfOk, encode_utf8_all, string_bytes};
 ghost use Rattle.std.specs.Char.{digit_char};
 ghost use Rattle.std.specs.Str.{IsUtf8};
-ghost use Rattle.rule_tokens.specs.Quoted.{IsReadBack, escape, escaped, hex, in_quotes};
+ghost use Rattle.rule_tokens.specs.Quoted.{IsReadBack, escape, escaped, hex, in_quotes, short_letter};
 
 use crate::tokens::chars_in;
 use ce_base::{NoMemory, Text};
@@ -26,27 +26,47 @@ fn push_hex(out: &mut String, n: u32) -> Result<(), NoMemory>
     push_digit(out, n % 16)
 }
 
+// The escape of a character that has a short one.
 #[tactic(auto, unfolding(crate::specs::Quoted::escape))]
+fn short_escape(c: char) -> Option<&'static str>
+    ensures { MatchOption result (short_letter c ≡ None) (λ text. text.now ≡ encode_utf8_all (escape c)) }
+{
+    match c {
+        '\\' => Some("\\\\"),
+        '"' => Some("\\\""),
+        '\n' => Some("\\n"),
+        '\r' => Some("\\r"),
+        '\t' => Some("\\t"),
+        _ => None,
+    }
+}
+
+// Puts a character at the end that has no short escape.
+#[tactic(auto, unfolding(crate::specs::Quoted::escape))]
+fn push_other(out: &mut String, c: char) -> Result<(), NoMemory>
+    requires { short_letter c ≡ None }
+    ensures { OnOk result (string_bytes out.new ≡ string_bytes out.old ++ encode_utf8_all (escape c)) }
+{
+    if !c.is_ascii_control() {
+        out.push(c)?;
+        return Ok(());
+    }
+    out.push_str("\\u{")?;
+    push_hex(out, c as u32)?;
+    out.push_str("}")?;
+    Ok(())
+}
+
 fn push_escaped(out: &mut String, c: char) -> Result<(), NoMemory>
     ensures { OnOk result (string_bytes out.new ≡ string_bytes out.old ++ encode_utf8_all (escape c)) }
 {
-    match c {
-        '\\' => out.push_str("\\\\")?,
-        '"' => out.push_str("\\\"")?,
-        '\n' => out.push_str("\\n")?,
-        '\r' => out.push_str("\\r")?,
-        '\t' => out.push_str("\\t")?,
-        _ => {
-            if c.is_ascii_control() {
-                out.push_str("\\u{")?;
-                push_hex(out, c as u32)?;
-                out.push_str("}")?;
-            } else {
-                out.push(c)?;
-            }
+    match short_escape(c) {
+        None => push_other(out, c),
+        Some(text) => {
+            out.push_str(text)?;
+            Ok(())
         }
     }
-    Ok(())
 }
 
 fn push_all_escaped(out: &mut String, chars: &[char]) -> Result<(), NoMemory>

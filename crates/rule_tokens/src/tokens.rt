@@ -81,25 +81,34 @@ fn tokens_in(alloc: Global, raws: &[Raw]) -> Result<Tokens, LineRefused>
 fn has_control(chars: &[char]) -> bool
     ensures { result ≡ list_any is_ascii_control chars.now }
 {
-    chars.iter().any(|c| c.is_ascii_control())
+    for c in chars {
+        if c.is_ascii_control() {
+            return true;
+        }
+    }
+    false
 }
 
 fn has_backslash(chars: &[char]) -> bool
     ensures { result ≡ list_any is_backslash chars.now }
 {
-    chars.iter().any(|c| *c == '\\')
-}
-
-fn has_bare_backslash(raw: &Raw) -> bool
-    ensures { result ≡ has_bare_backslash raw.now }
-{
-    !raw.quoted && has_backslash(raw.chars.as_slice())
+    for c in chars {
+        if *c == '\\' {
+            return true;
+        }
+    }
+    false
 }
 
 fn any_bare_backslash(raws: &[Raw]) -> bool
     ensures { result ≡ list_any has_bare_backslash raws.now }
 {
-    raws.iter().any(|raw| has_bare_backslash(raw))
+    for raw in raws {
+        if !raw.quoted && has_backslash(raw.chars.as_slice()) {
+            return true;
+        }
+    }
+    false
 }
 
 #[tactic(auto, unfolding(crate::specs::Tokens::tokens_of_chars))]

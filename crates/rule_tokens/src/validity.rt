@@ -26,7 +26,12 @@ const FLAG_NAMES: [&str; 10] = [
 fn is_one_of(text: &str, names: &[&str]) -> bool
     ensures { result ≡ list_any (λ name. bytes_eq text.now name.now) names.now }
 {
-    names.iter().any(|name| text == *name)
+    for name in names {
+        if text == *name {
+            return true;
+        }
+    }
+    false
 }
 
 fn is_flag_name(name: &str) -> bool
@@ -38,13 +43,23 @@ fn is_flag_name(name: &str) -> bool
 fn are_flag_names(names: &[Text]) -> bool
     ensures { result ≡ list_all (is_one_of flag_names) names.now }
 {
-    names.iter().all(|name| is_flag_name(name.as_str()))
+    for name in names {
+        if !is_flag_name(name.as_str()) {
+            return false;
+        }
+    }
+    true
 }
 
 fn has(names: &[Text], flag: &str) -> bool
     ensures { result ≡ is_one_of names.now flag.now }
 {
-    names.iter().any(|name| flag == name.as_str())
+    for name in names {
+        if flag == name.as_str() {
+            return true;
+        }
+    }
+    false
 }
 
 /// The validity flags whose names are among these.
