@@ -8,8 +8,8 @@ use crate::InternalsTable;
 use crate::table::place_of;
 use ce_base::{Fault, Flags, NoMemory, NodeNo, Refused, Text};
 use form_controls::{Attach, Internals, Value};
+use ordered_tables::TextSet;
 use std::alloc::Global;
-use text_set::TextSet;
 
 /// Internals as they are attached.
 fn new_internals(alloc: Global) -> Internals

@@ -5,7 +5,7 @@ ghost use Rattle.form_controls.specs.Internals.{is_attached, kept_by};
 use crate::InternalsTable;
 use ce_base::{Flags, NodeNo};
 use form_controls::{Internals, Value};
-use text_set::TextSet;
+use ordered_tables::TextSet;
 
 impl InternalsTable {
     fn kept(&self, n: NodeNo) -> &Internals

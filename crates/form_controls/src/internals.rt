@@ -1,7 +1,7 @@
 // What ElementInternals keeps.
 use crate::Value;
 use ce_base::{Flags, Text};
-use text_set::TextSet;
+use ordered_tables::TextSet;
 
 /// What ElementInternals keeps of an element (HTML Standard, section "Element internals").
 #[derive(Drop)]

@@ -14,8 +14,8 @@ use Rattle.tree_laws.proofs.Past.{order-has}
 use Rattle.form_controls.specs.Changes.{differs}
 use Rattle.form_controls.specs.Kinds.{is_a}
 use Rattle.form_controls.specs.Owners.{Forms, is_associated}
-use Rattle.id_index.specs.Held.{is_held}
-use Rattle.id_index.specs.declared.index.IdIndex.{IdIndex}
+use Rattle.ordered_tables.specs.Held.{is_held}
+use Rattle.ordered_tables.specs.declared.id_index.IdIndex.{IdIndex}
 use Rattle.owner_laws.specs.Locality.{IsAsideOfMove, IsUnchanged}
 use Rattle.owner_laws.proofs.Moves.{covers-graft, covers-cut}
 use Rattle.owner_laws.proofs.PutBack.{graft-up}

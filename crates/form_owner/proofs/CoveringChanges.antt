@@ -22,7 +22,7 @@ use Rattle.form_controls.specs.Changes.{differs}
 use Rattle.form_controls.specs.Disabled.{has_disabled}
 use Rattle.form_controls.specs.Kinds.{is_a, native_at}
 use Rattle.form_controls.specs.Owners.{Forms, is_associated}
-use Rattle.id_index.specs.Held.{is_held}
+use Rattle.ordered_tables.specs.Held.{is_held}
 use Rattle.owner_laws.specs.Locality.{IsAsideOfAttribute, IsUnchanged}
 use Rattle.owner_laws.proofs.Attributes.{covers-with}
 use Rattle.owner_laws.proofs.SameReads.{unchanged-marked}

@@ -15,8 +15,8 @@ use Rattle.node_trees.specs.Ids.{has_id}
 use Rattle.node_trees.specs.Nodes.{IsNode}
 use Rattle.node_trees.specs.Paths.{is_among}
 use Rattle.node_trees.specs.Spots.{attribute_at, facts_at}
-use Rattle.id_index.specs.Held.{is_held, is_known}
-use Rattle.id_index.specs.declared.index.IdIndex.{IdIndex}
+use Rattle.ordered_tables.specs.Held.{is_held, is_known}
+use Rattle.ordered_tables.specs.declared.id_index.IdIndex.{IdIndex}
 use Rattle.form_controls.specs.Kinds.{is_a}
 use Rattle.form_controls.specs.Owners.{Forms, is_associated, is_listed_native}
 use Rattle.owner_reading.specs.Owners.{listed_by}

@@ -23,7 +23,7 @@ use Rattle.tree_laws.proofs.Alike.{attribute-alike, root-alike, named-alike, con
 use Rattle.tree_laws.proofs.NewNode.{alike_new, alike_hung}
 use Rattle.tree_laws.proofs.OtherFacts.{alike_facts}
 use Rattle.tree_laws.proofs.Changed.{size-with}
-use Rattle.id_index.specs.Held.{is_known}
+use Rattle.ordered_tables.specs.Held.{is_known}
 use Rattle.form_controls.specs.Kinds.{native_at, is_a}
 use Rattle.form_controls.specs.Owners.{Forms, is_associated, is_listed_native, owner_by, form_owner, where_form, named_form, nearest_form, ancestors_below, ancestors, is_owned_by, controls_of}
 use Rattle.form_controls.specs.Disabled.{has_disabled, first_legend, is_inside, disables, is_in_disabled_fieldset, is_in_disabled_group, is_option_disabled, is_disabled}

@@ -7,12 +7,12 @@ use Rattle.std.specs.Ordering.{nat_cmp}
 use Rattle.std.proofs.lemmas.Bool.{false_from_ne_true}
 use Rattle.std.proofs.lemmas.Bool.Decides.{nat_tests}
 use Rattle.std.proofs.lemmas.Slice.Eq.{bytes_eq-Decides}
-use Rattle.id_index.specs.declared.index.IdIndex.{IdIndex}
-use Rattle.id_index.specs.Held.{is_held, is_known}
+use Rattle.ordered_tables.specs.declared.id_index.IdIndex.{IdIndex}
+use Rattle.ordered_tables.specs.Held.{is_held, is_known}
 use Rattle.node_trees.specs.Trees.{Trees}
 use Rattle.node_trees.specs.Paths.{is_among}
 use Rattle.node_trees.specs.Spots.{attribute_at}
-use Rattle.node_set.proofs.Members.{among-any}
+use Rattle.ordered_tables.proofs.Members.{among-any}
 use Rattle.form_owner.specs.declared.looks.Look.{Look}
 use Rattle.form_owner.specs.declared.looks.Look.TheVariants.{Nothing}
 use Rattle.owner_rows.specs.OwnerRow.{OwnerRow, row_of}

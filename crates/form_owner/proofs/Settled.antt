@@ -12,7 +12,7 @@ use Rattle.tree_laws.proofs.InOrder.{member_is_node}
 use Rattle.form_controls.specs.Owners.{Forms, is_associated, form_owner, is_owned_by, controls_of}
 use Rattle.form_controls.specs.Disabled.{is_disabled}
 use Rattle.form_controls.specs.Changes.{form_change, form_changes, is_change, numbers}
-use Rattle.id_index.specs.Held.{is_held, is_known}
+use Rattle.ordered_tables.specs.Held.{is_held, is_known}
 use Rattle.owner_rows.specs.OwnerRow.{OwnerRow, blank_row, row_in, row_of}
 use Rattle.owner_rows.specs.Attributes.{seen_at}
 use Rattle.form_owner.specs.Attributes.{is_naming}

@@ -1,6 +1,6 @@
 -- What the table keeps: a row and a note for each node, those of node 1 first. Past its end a table is blank.
 use Rattle.std.specs.Prelude.{List}
-use Rattle.id_index.specs.declared.index.IdIndex.{IdIndex}
+use Rattle.ordered_tables.specs.declared.id_index.IdIndex.{IdIndex}
 use Rattle.owner_rows.specs.OwnerRow.{OwnerRow}
 use Rattle.form_owner.specs.declared.looks.Look.{Look}
 

@@ -11,7 +11,7 @@ use Rattle.owner_rows.specs.Attributes.{seen_at}
 use Rattle.form_owner.specs.declared.touch.Touch.{Touch}
 use Rattle.form_owner.specs.OwnerRows.{OwnerRows}
 use Rattle.form_owner.specs.Looks.{AreRight}
-use Rattle.id_index.specs.Held.{is_held, is_known}
+use Rattle.ordered_tables.specs.Held.{is_held, is_known}
 use Rattle.form_owner.specs.Attributes.{is_naming}
 use Rattle.form_owner.specs.Touches.{IsTouched}
 

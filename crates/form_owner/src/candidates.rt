@@ -4,7 +4,7 @@ ghost use Rattle.std.specs.Option.{option_copied};
 ghost use Rattle.node_trees.specs.Nodes.{IsNode};
 ghost use Rattle.node_trees.specs.Paths.{is_among};
 ghost use Rattle.form_controls.specs.Kinds.{is_a};
-ghost use Rattle.id_index.specs.Held.{is_held, is_known};
+ghost use Rattle.ordered_tables.specs.Held.{is_held, is_known};
 ghost use Rattle.form_owner.specs.Candidates.{Considers, is_concerned, is_named_by, is_with};
 ghost use Rattle.form_owner.specs.Looks.{AreNotedWhole, AreRight};
 
@@ -13,9 +13,8 @@ use crate::node_list::node_at;
 use ce_base::{NoMemory, NodeNo, Nodes};
 use element_names::Native;
 use form_kinds::is_a;
-use id_index::IdIndex;
 use node_arena::Tree;
-use node_set::NodeSet;
+use ordered_tables::{IdIndex, NodeSet};
 use owner_reading::is_listed;
 use owner_rows::{Row, associated_in};
 

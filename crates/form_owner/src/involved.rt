@@ -7,7 +7,7 @@ ghost use Rattle.form_owner.specs.Writing.{is_moved, is_moved_among};
 use crate::Changes;
 use ce_base::{NoMemory, NodeNo};
 use node_arena::Tree;
-use node_set::NodeSet;
+use ordered_tables::NodeSet;
 use owner_rows::{Row, owner_in};
 use std::alloc::Global;
 

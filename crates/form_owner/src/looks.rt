@@ -1,7 +1,7 @@
 // Notes of what a move looks at in each node, so that it passes over most.
 ghost use Rattle.std.specs.Prelude.{◌≡◌, ◌≢◌, ◌+◌, ◌-◌, ◌<◌, ◌++◌, ◌∷◌, [], ℕ, length, true, OnOk};
 ghost use Rattle.node_trees.specs.Nodes.{IsNode};
-ghost use Rattle.id_index.specs.Held.{is_known};
+ghost use Rattle.ordered_tables.specs.Held.{is_known};
 ghost use Rattle.form_owner.specs.declared.looks.Look.TheVariants.{Nothing, Whole};
 ghost use Rattle.form_owner.specs.Looks.{AreNotedBy, IsRight, IsRightAt, IsTouching, IsUnnamed, SaysNoMore, look_at};
 
@@ -9,8 +9,8 @@ use crate::Touch;
 use crate::candidates::is_concerned;
 use crate::seeing::is_known;
 use ce_base::{NoMemory, NodeNo};
-use id_index::IdIndex;
 use node_arena::{NodeKind, Tree};
+use ordered_tables::IdIndex;
 use owner_rows::{Row, place_of};
 use std::alloc::Global;
 use std::marker::Model;

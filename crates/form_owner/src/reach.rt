@@ -3,7 +3,7 @@ ghost use Rattle.std.specs.Prelude.{◌≡◌, ◌==◌, [], true, false, IfOk, 
 ghost use Rattle.std.specs.Option.{option_copied};
 ghost use Rattle.node_trees.specs.Nodes.{IsNode, IsTidy};
 ghost use Rattle.node_trees.specs.Orders.{order_of};
-ghost use Rattle.id_index.specs.Held.{is_held, is_known};
+ghost use Rattle.ordered_tables.specs.Held.{is_held, is_known};
 ghost use Rattle.form_owner.specs.Candidates.{Considers, is_concerned, is_of_change, is_of_group, is_of_ids, is_of_legend, is_of_move, is_with_among};
 ghost use Rattle.form_owner.specs.Looks.{AreNotedWhole, AreRight};
 
@@ -12,9 +12,8 @@ use crate::looks::Looks;
 use ce_base::{NoMemory, NodeNo};
 use element_names::Native;
 use form_kinds::{has_disabled, is_a};
-use id_index::IdIndex;
 use node_arena::Tree;
-use node_set::NodeSet;
+use ordered_tables::{IdIndex, NodeSet};
 use owner_rows::{Row, disabled_seen_in, id_seen_in};
 use std::alloc::Global;
 

@@ -2,15 +2,15 @@
 ghost use Rattle.std.specs.Prelude.{◌≡◌, ◌<◌, ◌==◌, ◌-◌, ◌&&◌, ◌||◌, not, ℕ, List, false, true, if◌then◌else◌, length, OnOk};
 ghost use Rattle.std.specs.Option.{option_copied};
 ghost use Rattle.node_trees.specs.Nodes.{IsNode};
-ghost use Rattle.id_index.specs.Held.{is_held, is_known};
+ghost use Rattle.ordered_tables.specs.Held.{is_held, is_known};
 ghost use Rattle.form_owner.specs.Attributes.{is_naming, is_text};
 ghost use Rattle.form_owner.specs.Looks.{KnowsBy, known_with};
 ghost use Rattle.form_owner.specs.Writing.{AreNoted, AreSeen, AreSeenBy, IsSeenPlaced};
 
 use crate::Touch;
 use ce_base::{NoMemory, NodeNo};
-use id_index::IdIndex;
 use node_arena::Tree;
+use ordered_tables::IdIndex;
 use owner_rows::{Row, Seen, form_seen_in, place_of};
 use std::alloc::Global;
 

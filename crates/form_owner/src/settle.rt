@@ -18,7 +18,7 @@ use crate::texts::mind_touched;
 use crate::{Changes, OwnerTable, Touch};
 use ce_base::{NoMemory, NodeNo};
 use node_arena::Tree;
-use node_set::NodeSet;
+use ordered_tables::NodeSet;
 use owner_rows::{Row, place_of};
 use std::alloc::Global;
 

@@ -12,8 +12,8 @@ use crate::looks::Looks;
 use ce_base::NodeNo;
 use element_names::Native;
 use form_kinds::is_a;
-use id_index::IdIndex;
 use node_arena::Tree;
+use ordered_tables::IdIndex;
 use owner_reading::is_listed;
 use owner_rows::{Row, associated_in, controls_in, disabled_in, owner_in};
 use std::alloc::Global;
@@ -33,7 +33,7 @@ impl Model for OwnerTable {
 
     ghost Value = { OwnerRows };
 
-    ghost use Rattle.id_index.specs.contracts.index.IdIndex as index;
+    ghost use Rattle.ordered_tables.specs.contracts.id_index.IdIndex as index;
     ghost use Rattle.std.specs.Coded.{codes};
 
     ghost coded = { Prim.hlevel (codes, index.the_row.coded) };

@@ -4,7 +4,7 @@ ghost use Rattle.std.specs.BTreeSet.{contains};
 ghost use Rattle.std.specs.Ordering.{nat_cmp};
 ghost use Rattle.node_trees.specs.Nodes.{IsNode};
 ghost use Rattle.node_trees.specs.Spots.{attribute_at};
-ghost use Rattle.id_index.specs.Held.{is_held, is_known};
+ghost use Rattle.ordered_tables.specs.Held.{is_held, is_known};
 ghost use Rattle.form_owner.specs.Attributes.{is_text};
 ghost use Rattle.form_owner.specs.declared.looks.Look.TheVariants.{Nothing};
 ghost use Rattle.form_owner.specs.Looks.{AreKept, IsTouching, IsUnnamed, SaysNoMore, known_by, known_with, look_at};
@@ -14,8 +14,8 @@ use crate::Touch;
 use crate::looks::Looks;
 use crate::seeing::is_known;
 use ce_base::NodeNo;
-use id_index::IdIndex;
 use node_arena::Tree;
+use ordered_tables::IdIndex;
 use owner_rows::{Row, form_seen_in};
 use std::collections::BTreeSet;
 

@@ -30,8 +30,8 @@ use Rattle.tree_laws.proofs.Parents.{number-is}
 use Rattle.tree_laws.proofs.ShadowSpots.{attached_rows, attach_writes, attach_is}
 use Rattle.tree_laws.proofs.Sizes.{new-absent}
 use Rattle.tree_laws.proofs.Surplus.{KeepsKind}
-use Rattle.id_index.specs.Held.{is_held}
-use Rattle.id_index.specs.declared.index.IdIndex.{IdIndex}
+use Rattle.ordered_tables.specs.Held.{is_held}
+use Rattle.ordered_tables.specs.declared.id_index.IdIndex.{IdIndex}
 use Rattle.tree_laws.proofs.Sizes.{size-cut}
 use Rattle.tree_laws.proofs.Connected.{IsMoved, moved-grafted, moved-cut, parent-grafted, connected-attached}
 use Rattle.node_arena.specs.Covers.{Covers}

@@ -7,8 +7,8 @@ use Rattle.std.proofs.lemmas.Slice.Eq.{bytes_eq-Decides}
 use Rattle.node_trees.specs.Facts.{Facts, is_element, value_in}
 use Rattle.node_trees.specs.Ids.{has_id, is_id}
 use Rattle.tree_laws.proofs.ByIndex.{slice_get-append_other, slice_get-append_end}
-use Rattle.id_index.specs.Held.{is_held}
-use Rattle.id_index.specs.declared.index.IdIndex.{IdIndex}
+use Rattle.ordered_tables.specs.Held.{is_held}
+use Rattle.ordered_tables.specs.declared.id_index.IdIndex.{IdIndex}
 use Rattle.node_arena.specs.Covers.{Covers}
 use Rattle.node_arena.specs.Links.{Link, link_at}
 use Rattle.node_arena.specs.Writes.{edit_at, edit, edit_facts, follow, precede, stand, joined, parted}

@@ -4,10 +4,10 @@ ghost use Rattle.node_trees.specs.Facts.{value_in, with_value, without_value};
 ghost use Rattle.node_arena.specs.Attributes.{is_once, name_place};
 
 use ce_base::{NoMemory, Text};
+use ordered_tables::TextMap;
 use std::alloc::Global;
 use std::marker::Model;
 use std::mem;
-use text_map::TextMap;
 
 // How many attributes are found by going through them. More are kept in a map.
 const FEW: usize = 8;

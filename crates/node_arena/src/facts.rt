@@ -18,7 +18,7 @@ use crate::node::Node;
 use crate::noting::{forget, note};
 use crate::siblings::index_of;
 use ce_base::{NoMemory, NodeNo, Text};
-use id_index::IdIndex;
+use ordered_tables::IdIndex;
 use std::alloc::Global;
 
 // Sets an attribute, and notes an id.

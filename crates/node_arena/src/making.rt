@@ -16,8 +16,8 @@ use crate::marks::{Mark, make_room};
 use crate::node::Node;
 use crate::siblings::index_of;
 use ce_base::{NoMemory, NodeNo, Text};
-use id_index::IdIndex;
 use node_trees::NodeKind;
+use ordered_tables::IdIndex;
 use std::alloc::Global;
 
 /// Puts a node at the end. Nothing is noted of whether it is connected.

@@ -1,9 +1,9 @@
 // Ids in the index: it has each element for the id that it has, and may have others.
 ghost use Rattle.std.specs.Prelude.{◌≡◌, ◌≢◌, ℕ, List, Some, true, false, OnOk, option_copied};
-ghost use Rattle.id_index.specs.Held.{is_held};
+ghost use Rattle.ordered_tables.specs.Held.{is_held};
 
 use ce_base::{NoMemory, NodeNo, Text};
-use id_index::IdIndex;
+use ordered_tables::IdIndex;
 use std::alloc::Global;
 
 /// Notes a node for this value, where it is that of an id.

@@ -5,7 +5,7 @@ ghost use Rattle.node_arena.specs.NodeLinks.{links};
 
 use crate::marks::Mark;
 use crate::node::Node;
-use id_index::IdIndex;
+use ordered_tables::IdIndex;
 use std::marker::Model;
 
 /// The nodes that were made, in their trees. A contract sees the forest: nested lists, in the order of

@@ -1,6 +1,6 @@
 use Rattle.std.proofs.Common.{◌∙◌, ap, sym}
 use Rattle.node_trees.specs.Paths.{is_among}
-use Rattle.node_set.proofs.Members.{among-any}
+use Rattle.ordered_tables.proofs.Members.{among-any}
 use Rattle.form_owner.proofs.Considering.{all-passed}
 use Rattle.form_owner.proofs.candidates.consider_named.Goals as goal
 

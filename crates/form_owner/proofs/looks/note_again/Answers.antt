@@ -1,4 +1,4 @@
-use Rattle.id_index.specs.Held.{is_known}
+use Rattle.ordered_tables.specs.Held.{is_known}
 use Rattle.form_owner.proofs.Looking.{noted-again}
 use Rattle.form_owner.proofs.looks.note_again.Goals as goal
 

@@ -1,5 +1,5 @@
 use Rattle.std.proofs.Common.{◌+◌, arith}
-use Rattle.id_index.specs.Held.{is_known}
+use Rattle.ordered_tables.specs.Held.{is_known}
 use Rattle.form_owner.proofs.Looking.{noted-next}
 use Rattle.form_owner.proofs.looks.note_new.Goals as goal
 

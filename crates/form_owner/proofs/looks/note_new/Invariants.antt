@@ -1,5 +1,5 @@
 use Rattle.std.proofs.Common.{ℕ, ◌-◌, length}
-use Rattle.id_index.specs.Held.{is_known}
+use Rattle.ordered_tables.specs.Held.{is_known}
 use Rattle.form_owner.specs.Looks.{IsRightAt}
 use Rattle.form_owner.proofs.looks.note_new.Given as goal
 

@@ -1,6 +1,6 @@
 use Rattle.std.proofs.Common.{refl}
 use Rattle.std.proofs.lemmas.Result.{on_ok_weaker}
-use Rattle.id_index.specs.Held.{is_known}
+use Rattle.ordered_tables.specs.Held.{is_known}
 use Rattle.form_owner.proofs.Considering.{both, less}
 use Rattle.form_owner.proofs.Looking.{noted-whole}
 use Rattle.form_owner.proofs.reach.consider_inside.Goals as goal

@@ -1,6 +1,6 @@
 use Rattle.std.proofs.Common.{ℕ, List}
 use Rattle.tree_laws.proofs.OrderListing.{Listing, left_from}
-use Rattle.id_index.specs.Held.{is_held}
+use Rattle.ordered_tables.specs.Held.{is_held}
 use Rattle.form_owner.specs.Candidates.{Considers, is_concerned, is_with_among}
 use Rattle.form_owner.proofs.reach.consider_near.Given as goal
 

@@ -1,5 +1,5 @@
 use Rattle.std.specs.Option.{option_copied}
-use Rattle.id_index.specs.Held.{is_held}
+use Rattle.ordered_tables.specs.Held.{is_held}
 use Rattle.form_owner.specs.Candidates.{is_concerned}
 use Rattle.form_owner.proofs.Reaching.{grouped, of-change, ungrouped}
 use Rattle.form_owner.proofs.reach.of_change.Goals.{then-disabled_seen_in-has_disabled+in_ok-consider_below, else-disabled_seen_in-has_disabled}

@@ -1,4 +1,4 @@
-use Rattle.id_index.specs.Held.{is_held}
+use Rattle.ordered_tables.specs.Held.{is_held}
 use Rattle.form_owner.specs.Candidates.{is_concerned}
 use Rattle.form_owner.proofs.Reaching.{of-move}
 use Rattle.form_owner.proofs.reach.of_move.Goals as goal

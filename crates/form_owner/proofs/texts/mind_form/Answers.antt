@@ -1,6 +1,6 @@
 use Rattle.std.proofs.Common.{◌+◌, ap, sym, ◌∙◌}
 use Rattle.std.specs.Option.{option_copied}
-use Rattle.id_index.specs.Held.{is_known}
+use Rattle.ordered_tables.specs.Held.{is_known}
 use Rattle.form_owner.specs.Attributes.{is_text}
 use Rattle.form_owner.specs.Looks.{look_at}
 use Rattle.form_owner.proofs.Minding.{form-seen, kept-with, same-lent}

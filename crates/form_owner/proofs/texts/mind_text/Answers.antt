@@ -1,5 +1,5 @@
 use Rattle.std.proofs.Common.{sym, ◌∙◌}
-use Rattle.id_index.specs.Held.{is_known}
+use Rattle.ordered_tables.specs.Held.{is_known}
 use Rattle.form_owner.proofs.Minding.{text-known}
 use Rattle.form_owner.proofs.texts.mind_text.Goals as goal
 

@@ -1,5 +1,5 @@
 use Rattle.form_owner.proofs.Minding.{kept-still}
-use Rattle.id_index.specs.Held.{is_known}
+use Rattle.ordered_tables.specs.Held.{is_known}
 use Rattle.form_owner.proofs.texts.mind_touched.Goals as goal
 
 pub returns-in-Inserted : goal.returns-in-Inserted

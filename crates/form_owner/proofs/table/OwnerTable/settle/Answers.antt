@@ -2,7 +2,7 @@ use Rattle.std.proofs.Common.{◌≡◌, ap, arith, length, sym, subst, ◌∙�
 use Rattle.std.specs.Vec.{with_items}
 use Rattle.std.proofs.lemmas.List.{with_items_is}
 use Rattle.node_trees.specs.Nodes.{size}
-use Rattle.id_index.specs.Held.{is_held, is_known}
+use Rattle.ordered_tables.specs.Held.{is_held, is_known}
 use Rattle.owner_rows.specs.OwnerRow.{row_in}
 use Rattle.form_owner.specs.Candidates.{Covers}
 use Rattle.form_owner.specs.OwnerRows.{OwnerRows}

@@ -1,0 +1,5 @@
+pub mod Places
+pub mod TextPlaces
+pub mod Pairs
+pub mod Groups
+pub mod Members

@@ -1,6 +1,0 @@
-use Rattle.std.proofs.Common.{◌≡◌, ◌++◌}
-use Rattle.text_map.proofs.map.TextMap.listed.Given as goal
-
--- the pairs so far and those that are left
-abbrev pub invariant-loop-pair : goal.invariant-loop-pair
-invariant-loop-pair l = l.list.items ++ l.pair-iterator ≡ l.self
