@@ -1,2 +1,3 @@
 pub mod WordLaws
 pub mod SignLaws
+pub mod NumberLaws

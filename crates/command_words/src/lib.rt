@@ -2,6 +2,7 @@
 #![tactic(auto)]
 
 mod choice;
+mod numbers;
 mod page_url;
 mod values;
 mod words;

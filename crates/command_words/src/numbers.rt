@@ -1,16 +1,14 @@
-//! Numbers of one to nine ASCII digits.
-#![tactic(auto)]
-
+// Numbers of one to nine ASCII digits.
 ghost use Rattle.std.specs.Prelude.{◌≡◌, ◌<◌, ◌^◌, IfSome};
 ghost use Rattle.std.specs.Char.{is_ascii_digit};
 ghost use Rattle.std.specs.List.{list_all};
-ghost use Rattle.short_numbers.specs.Numbers.{is_number, number_in};
+ghost use Rattle.command_words.specs.Numbers.{is_number, number_in};
 
 // How many digits a number may have.
 const MOST_DIGITS: usize = 9;
 
-/// The number that a text of one to nine ASCII digits writes, which may begin with zeros. None for any other text.
-pub fn number_in(text: &str) -> Option<u32>
+// The number that a text of one to nine ASCII digits writes, which may begin with zeros. None for any other text.
+pub(crate) fn number_in(text: &str) -> Option<u32>
     ensures number { result ≡ number_in text.now }
     ensures small { IfSome result (λ number. number < 10 ^ 9) }
 {

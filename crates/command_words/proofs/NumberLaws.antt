@@ -6,7 +6,7 @@ use Rattle.std.specs.Char.{is_ascii_digit}
 use Rattle.std.specs.List.{list_all}
 use Rattle.std.specs.Prelude.{Result}
 use Rattle.std.specs.Str.Parse.{digits_value, ParsesUnsigned}
-use Rattle.short_numbers.specs.Numbers.{is_number}
+use Rattle.command_words.specs.Numbers.{is_number}
 
 -- all of them are digits, as `parse` reads them
 digits : IsDigitsTest (λ ds. list_all is_ascii_digit ds ≡ true)

@@ -1,9 +1,9 @@
 use Rattle.std.proofs.Common.{◌≡◌, ◌<◌, ◌^◌, ℕ, true, Option, Some, ap, sym, subst, ◌∙◌, refl}
 use Rattle.std.specs.Prelude.{IfSome}
 use Rattle.std.specs.Str.Parse.{digits_value}
-use Rattle.short_numbers.specs.Numbers.{is_number}
-use Rattle.short_numbers.proofs.NumberLaws.{number_parses, number_small}
-use Rattle.short_numbers.proofs.number_in.Goals as goal
+use Rattle.command_words.specs.Numbers.{is_number}
+use Rattle.command_words.proofs.NumberLaws.{number_parses, number_small}
+use Rattle.command_words.proofs.numbers.number_in.Goals as goal
 
 pub returns-clause-number : goal.returns-clause-number
 returns-clause-number c =
