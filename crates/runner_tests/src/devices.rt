@@ -1,5 +1,5 @@
 // Devices that fail, and one that takes little.
-use crate::script::{FIRST, ran_from, script_of, source_of, status_of, transcript_of};
+use crate::script::{FIRST, ran_from, same_status, script_of, source_of, status_of, transcript_of};
 use ce_base::{Gathering, MemSink, MemSource, Pending, Sink, Source, StdSink, Stop, write_all};
 use page_runner::Status;
 use std::alloc::Global;
@@ -44,10 +44,11 @@ fn a_failing_read_ends_the_run(rt: HostRuntime) -> Result<(), Fail> {
 // The first two reads give more commands than there is fuel, and the third one fails.
 #[test]
 fn lines_are_run_before_the_source_is_asked_again(rt: HostRuntime) -> Result<(), Fail> {
-    let script = script_of(rt.alloc(), "10001> create $a p")?;
-    let mut source = failing_source(rt.alloc(), script.as_str(), 65_000, 3)?;
-    assert_eq!(rt; ran_from(rt.alloc(), &mut source)?.status, Status::Fuel);
-    assert_eq!(rt; source.faults(), 0);
+    let alloc = rt.alloc();
+    let script = script_of(alloc, "10001> create $a p")?;
+    let mut source = failing_source(alloc, script.as_str(), 65_000, 3)?;
+    same_status(&rt, ran_from(alloc, &mut source)?.status, Status::Fuel);
+    assert!(rt; source.faults() == 0);
     Ok(())
 }
 
@@ -61,14 +62,19 @@ fn writes(
     status: Status,
     most: usize,
 ) -> Result<(), Fail> {
-    let script = script_of(alloc, text)?;
     let transcript = transcript_of(alloc, text)?;
-    let transcript = transcript.as_bytes();
-    let mut source = source_of(alloc, script.as_bytes(), 100_000)?;
     let mut sink = MemSink::make(alloc, vec![in alloc; write]?);
-    assert_eq!(rt; status_of(alloc, &mut source, &mut sink), status);
+    same_status(rt, status_into(alloc, text, &mut sink)?, status);
+    let transcript = transcript.as_bytes();
     assert!(rt; sink.bytes() == &transcript[..transcript.len().min(most)]);
     Ok(())
+}
+
+// Runs a script, in one piece, into a sink.
+pub(crate) fn status_into(alloc: Global, text: &str, sink: &mut impl Sink) -> Result<Status, Fail> {
+    let script = script_of(alloc, text)?;
+    let mut source = source_of(alloc, script.as_bytes(), 100_000)?;
+    Ok(status_of(alloc, &mut source, sink))
 }
 
 // The last command writes a value of 4000 bytes 21 times.
@@ -100,15 +106,18 @@ fn a_first_write_that_fails_below_is_a_write_fault(rt: HostRuntime) -> Result<()
     let alloc = rt.alloc();
     let bytes = "v".repeat(alloc, 65_537)?;
     let mut sink = MemSink::make(alloc, vec![in alloc; 1]?);
-    let mut pending = Pending::make(alloc);
-    let mut out = Gathering::make(&mut sink, &mut pending);
-    assert_eq!(rt;
-        write_all(&mut out, bytes.as_bytes()),
-        Err(Stop::WriteFault)
-    );
-    assert_eq!(rt; pending.as_slice().len(), 65_536);
-    assert_eq!(rt; (sink.faults(), sink.bytes().len()), (1, 0));
+    fails_below(&rt, alloc, &mut sink, bytes.as_bytes());
+    assert!(rt; sink.faults() == 1 && sink.bytes().is_empty());
     Ok(())
+}
+
+// Sees that bytes are gathered as far as they may be, and that the sink below fails then.
+fn fails_below(rt: &impl Abort, alloc: Global, sink: &mut MemSink, bytes: &[u8]) {
+    let mut pending = Pending::make(alloc);
+    let mut out = Gathering::make(sink, &mut pending);
+    let wrote = write_all(&mut out, bytes);
+    assert!(rt; matches!(wrote, Err(Stop::WriteFault)));
+    assert!(rt; pending.as_slice().len() == 65_536);
 }
 
 // A writer that takes three bytes a call, and fails at the call with this number.
@@ -137,10 +146,8 @@ impl Write for Pipe {
 
 // Runs the first script over a pipe, and says how it ended and how many faults its sink counted.
 fn ran_over(alloc: Global, pipe: &mut Pipe) -> Result<(Status, u64), Fail> {
-    let script = script_of(alloc, FIRST)?;
-    let mut source = source_of(alloc, script.as_bytes(), 100_000)?;
     let mut sink = StdSink::make(pipe);
-    let status = status_of(alloc, &mut source, &mut sink);
+    let status = status_into(alloc, FIRST, &mut sink)?;
     Ok((status, sink.faults()))
 }
 
@@ -158,7 +165,9 @@ fn pipes(
         calls: 0,
         fails,
     };
-    assert_eq!(rt; ran_over(alloc, &mut pipe)?, ended);
+    let (status, faults) = ran_over(alloc, &mut pipe)?;
+    same_status(rt, status, ended.0);
+    assert!(rt; faults == ended.1);
     assert!(rt; pipe.taken.as_slice() == taken.as_bytes());
     Ok(())
 }

@@ -1,9 +1,11 @@
 // Reads and writes that fail, each in its turn, sources without end, and callbacks within callbacks.
-use crate::devices::failing_source;
-use crate::script::{ran_from, ran_with, script_of, source_of, status_of, transcript_of};
+use crate::devices::{failing_source, status_into};
+use crate::script::{
+    ends, put_line, put_words, ran_by, ran_from, same_status, script_of, transcript_of,
+};
 use crate::worked::forms::SUBMITTED;
-use ce_base::{EndlessSource, MemSource, ShortSink, Source, SureSink};
-use page_runner::{Status, run};
+use ce_base::{EndlessSource, MemSource, ShortSink, Source};
+use page_runner::Status;
 use std::alloc::Global;
 use std::process::Abort;
 use std::test::Fail;
@@ -44,16 +46,17 @@ fn lines_in(bytes: &[u8]) -> u64 {
 // Sees what is written where the script comes in pieces of 64 bytes, and this read fails.
 fn stops_at_read(rt: &impl Abort, alloc: Global, read: usize) -> Result<(), Fail> {
     let script = script_of(alloc, SUBMITTED)?;
-    let transcript = transcript_of(alloc, SUBMITTED)?;
     let taken = read.saturating_sub(1).saturating_mul(64).min(script.len());
-    let front = front_of(
-        alloc,
-        transcript.as_str(),
-        lines_in(&script.as_bytes()[..taken]),
-    )?;
+    let front = front(alloc, lines_in(&script.as_bytes()[..taken]))?;
     let mut source = failing_source(alloc, script.as_str(), 64, read as u64)?;
     ran_from(alloc, &mut source)?.is(rt, Status::ReadFault, front.as_str());
     Ok(())
+}
+
+// The front of the transcript that the first so many lines have written.
+fn front(alloc: Global, lines: u64) -> Result<String, Fail> {
+    let transcript = transcript_of(alloc, SUBMITTED)?;
+    front_of(alloc, transcript.as_str(), lines)
 }
 
 // The last read of all is the one that gives the end.
@@ -84,13 +87,6 @@ fn short_sink(alloc: Global, write: u64) -> Result<ShortSink, Fail> {
     Ok(ShortSink::make(7, vec![in alloc; write]?))
 }
 
-// Runs the form that is submitted into a sink.
-fn status_into(alloc: Global, sink: &mut ShortSink) -> Result<Status, Fail> {
-    let script = script_of(alloc, SUBMITTED)?;
-    let mut source = source_of(alloc, script.as_bytes(), 65_536)?;
-    Ok(status_of(alloc, &mut source, sink))
-}
-
 // Sees that no more than the writes before this one took is written, and that it is a front of the transcript.
 fn stops_at_write(
     rt: &impl Abort,
@@ -99,8 +95,8 @@ fn stops_at_write(
     write: usize,
 ) -> Result<(), Fail> {
     let mut sink = short_sink(alloc, write as u64)?;
-    let status = status_into(alloc, &mut sink)?;
-    assert_eq!(rt; status, Status::WriteFault);
+    let status = status_into(alloc, SUBMITTED, &mut sink)?;
+    same_status(rt, status, Status::WriteFault);
     assert!(rt; sink.bytes().len() <= write.saturating_sub(1).saturating_mul(7));
     assert!(rt; transcript.as_bytes().starts_with(sink.bytes()));
     Ok(())
@@ -114,8 +110,8 @@ fn goes_on_to_the_end(
     write: usize,
 ) -> Result<(), Fail> {
     let mut sink = short_sink(alloc, write as u64)?;
-    let status = status_into(alloc, &mut sink)?;
-    assert_eq!(rt; status, Status::Done);
+    let status = status_into(alloc, SUBMITTED, &mut sink)?;
+    same_status(rt, status, Status::Done);
     assert!(rt; sink.bytes() == transcript.as_bytes());
     Ok(())
 }
@@ -138,22 +134,15 @@ fn one_line(alloc: Global) -> Result<MemSource, Fail> {
     Ok(MemSource::make(script, 65_536, fails))
 }
 
-fn fuel_of_one(alloc: Global) -> Result<Vec<String>, Fail> {
-    let mut words = Vec::new(alloc);
-    words.push(String::from_str(alloc, "--fuel=1")?)?;
-    Ok(words)
-}
-
 // The script comes in one read, and the second one fails.
 #[test]
 fn fuel_ends_before_the_source_is_asked_again(rt: HostRuntime) -> Result<(), Fail> {
     let alloc = rt.alloc();
-    let words = fuel_of_one(alloc)?;
+    let mut words = Vec::new(alloc);
+    put_words(alloc, &mut words, "--fuel=1")?;
     let mut source = one_line(alloc)?;
-    let mut sink = SureSink::make(alloc);
-    assert_eq!(&rt; run(alloc, &words, &mut source, &mut sink), Status::Fuel);
-    assert_eq!(&rt; source.faults(), 0);
-    assert!(&rt; sink.bytes() == b"fuel\n".as_slice());
+    ran_by(alloc, &words, &mut source)?.is(&rt, Status::Fuel, "fuel\n");
+    assert!(rt; source.faults() == 0);
     Ok(())
 }
 
@@ -181,11 +170,10 @@ const ENDLESS: &str = r#"> class A
 fn calls(rt: &impl Abort, alloc: Global, words: &str, more: usize) -> Result<(), Fail> {
     let script = script_of(alloc, ENDLESS)?;
     let mut transcript = transcript_of(alloc, ENDLESS)?;
-    let call = "call #2 attribute \"k\" \"1\" \"1\"\n".repeat(alloc, more)?;
-    transcript.push_str(call.as_str())?;
-    transcript.push_str("fuel\n")?;
-    ran_with(alloc, words, script.as_bytes(), 65_536)?.is(rt, Status::Fuel, transcript.as_str());
-    Ok(())
+    put_line(&mut transcript, "call #2 attribute \"k\" \"1\" \"1\"", more)?;
+    put_line(&mut transcript, "fuel", 1)?;
+    let (script, transcript) = (script.as_bytes(), transcript.as_str());
+    ends(rt, alloc, words, script, 65_536, Status::Fuel, transcript)
 }
 
 #[test]
@@ -194,9 +182,24 @@ fn a_callback_that_calls_itself_ends_with_the_fuel(rt: HostRuntime) -> Result<()
     calls(&rt, rt.alloc(), "--fuel 200000", 99_997)
 }
 
-// The line of a transcript for a node that is made, and for a line that does its work.
-fn replies(out: &mut String, alloc: Global, line: u64, node: u64) -> Result<(), Fail> {
-    out.push_str(format!(in alloc; "{line}: #{node}\n")?.as_str())?;
+fn put_chain(alloc: Global, out: &mut String) -> Result<(), Fail> {
+    out.push_str("create $n0 div\nappend doc $n0\n")?;
+    for i in 1..10_000_u64 {
+        let before = i - 1;
+        let lines = format!(in alloc; "create $n{i} div\nappend $n{before} $n{i}\n")?;
+        out.push_str(lines.as_str())?;
+    }
+    out.push_str("clone $copy $n0 deep\ndetach $n0\n")?;
+    Ok(())
+}
+
+fn put_replies(alloc: Global, out: &mut String) -> Result<(), Fail> {
+    for i in 0..10_000_u64 {
+        let (made, appended, node) = (2 * i + 1, 2 * i + 2, i + 2);
+        let lines = format!(in alloc; "{made}: #{node}\n{appended}: ok\n")?;
+        out.push_str(lines.as_str())?;
+    }
+    out.push_str("20001: #10002\n20002: ok\n")?;
     Ok(())
 }
 
@@ -204,22 +207,18 @@ fn replies(out: &mut String, alloc: Global, line: u64, node: u64) -> Result<(), 
 #[test]
 fn a_deep_chain_is_cloned_and_detached(rt: HostRuntime) -> Result<(), Fail> {
     let alloc = rt.alloc();
-    let mut script = String::from_str(alloc, "create $n0 div\nappend doc $n0\n")?;
-    let mut wanted = String::from_str(alloc, "1: #2\n2: ok\n")?;
-    for i in 1..10_000_u64 {
-        let before = i - 1;
-        script.push_str(format!(in alloc;
-            "create $n{i} div\nappend $n{before} $n{i}\n"
-        )?.as_str())?;
-        replies(&mut wanted, alloc, 2 * i + 1, i + 2)?;
-        wanted.push_str(format!(in alloc; "{}: ok\n", 2 * i + 2)?.as_str())?;
-    }
-    script.push_str("clone $copy $n0 deep\ndetach $n0\n")?;
-    wanted.push_str("20001: #10002\n20002: ok\n")?;
-    ran_with(alloc, "--fuel 60000", script.as_bytes(), 65_536)?.is(
+    let mut script = String::new(alloc);
+    put_chain(alloc, &mut script)?;
+    let mut wanted = String::new(alloc);
+    put_replies(alloc, &mut wanted)?;
+    let (script, wanted) = (script.as_bytes(), wanted.as_str());
+    ends(
         &rt,
+        alloc,
+        "--fuel 60000",
+        script,
+        65_536,
         Status::Done,
-        wanted.as_str(),
-    );
-    Ok(())
+        wanted,
+    )
 }

@@ -1,5 +1,5 @@
 // The lengths that a script and a line may have.
-use crate::script::ran;
+use crate::script::ends;
 use page_runner::Status;
 use std::alloc::Global;
 use std::process::Abort;
@@ -8,8 +8,7 @@ use std::test::Fail;
 // Sees how a script of so many empty lines ends.
 fn feeds(rt: &impl Abort, alloc: Global, length: usize, status: Status) -> Result<(), Fail> {
     let script = "\n".repeat(alloc, length)?;
-    ran(alloc, script.as_bytes(), 65_536)?.is(rt, status, "");
-    Ok(())
+    ends(rt, alloc, "", script.as_bytes(), 65_536, status, "")
 }
 
 #[test]
@@ -32,8 +31,7 @@ fn comments(
 ) -> Result<(), Fail> {
     let comment = "#".repeat(alloc, length)?;
     let script = format!(in alloc; "{comment}\ncreate $a p\n")?;
-    ran(alloc, script.as_bytes(), 65_536)?.is(rt, status, transcript);
-    Ok(())
+    ends(rt, alloc, "", script.as_bytes(), 65_536, status, transcript)
 }
 
 // A longer line is refused, and the next one runs.

@@ -1,6 +1,6 @@
 // Scripts that are made, by words: the summary stands in place of the transcript, and the source is not read. And one that
 // is made as a text.
-use crate::script::ran_with;
+use crate::script::{ends, ran_with, same_status};
 use made_scripts::made_script;
 use page_runner::Status;
 use std::alloc::Global;
@@ -37,15 +37,37 @@ const BY_DEFAULT: &str = "fuel used 20000
 end fuel
 ";
 
+// Sees that the fuel is spent where no word says how much there is.
+fn short_by_default(rt: &impl Abort, alloc: Global, script: &[u8]) -> Result<(), Fail> {
+    let ended = ran_with(alloc, "--make 2000", script, 1)?;
+    same_status(rt, ended.status, Status::Fuel);
+    assert!(rt; ended.text.ends_with(BY_DEFAULT));
+    Ok(())
+}
+
 #[test]
 fn a_script_is_made_and_run(rt: HostRuntime) -> Result<(), Fail> {
     let alloc = rt.alloc();
     let bad = "no line".as_bytes();
-    ran_with(alloc, "--make 2000 --fuel 20008", bad, 1)?.is(&rt, Status::Done, WHOLE);
-    ran_with(alloc, "--fuel=20007 --make=2000", bad, 1)?.is(&rt, Status::Fuel, SHORT);
-    let default = ran_with(alloc, "--make 2000", bad, 1)?;
-    assert_eq!(rt; default.status, Status::Fuel);
-    assert!(rt; default.text.ends_with(BY_DEFAULT));
+    ends(
+        &rt,
+        alloc,
+        "--make 2000 --fuel 20008",
+        bad,
+        1,
+        Status::Done,
+        WHOLE,
+    )?;
+    ends(
+        &rt,
+        alloc,
+        "--fuel=20007 --make=2000",
+        bad,
+        1,
+        Status::Fuel,
+        SHORT,
+    )?;
+    short_by_default(&rt, alloc, bad)?;
     refused(&rt, alloc, "--make 20000")?;
     refused(&rt, alloc, "--make 0")?;
     refused(&rt, alloc, "--trace --make 1")
@@ -54,14 +76,12 @@ fn a_script_is_made_and_run(rt: HostRuntime) -> Result<(), Fail> {
 #[test]
 fn the_greatest_script_is_made_and_run(rt: HostRuntime) -> Result<(), Fail> {
     let words = "--make 19999 --fuel 199998";
-    ran_with(rt.alloc(), words, b"", 1)?.is(&rt, Status::Done, GREATEST);
-    Ok(())
+    ends(&rt, rt.alloc(), words, b"", 1, Status::Done, GREATEST)
 }
 
 // Sees that words are refused.
 fn refused(rt: &impl Abort, alloc: Global, words: &str) -> Result<(), Fail> {
-    ran_with(alloc, words, "".as_bytes(), 1)?.is(rt, Status::Usage, "");
-    Ok(())
+    ends(rt, alloc, words, b"", 1, Status::Usage, "")
 }
 
 // What the summary counts are lines of its transcript.
@@ -70,7 +90,7 @@ fn a_made_script_is_a_script(rt: HostRuntime) -> Result<(), Fail> {
     let script = made_script(rt.alloc(), 2000)?;
     let script = script.as_str().as_bytes();
     let ended = ran_with(rt.alloc(), "--fuel 20008", script, 65_536)?;
-    assert_eq!(rt; ended.status, Status::Done);
-    assert_eq!(rt; ended.text.as_str().lines().count(), 14007);
+    same_status(&rt, ended.status, Status::Done);
+    assert!(rt; ended.text.as_str().lines().count() == 14007);
     Ok(())
 }

@@ -1,30 +1,19 @@
 // Scripts that are read in pieces.
-use crate::script::{FIRST, ran, script_of, transcript_of};
+use crate::script::{FIRST, comes_in, ends, script_of, transcript_of};
 use page_runner::Status;
-use std::alloc::Global;
-use std::process::Abort;
 use std::test::Fail;
-
-// Sees that the first script has its transcript, in pieces of at most `cut` bytes.
-fn comes(rt: &impl Abort, alloc: Global, cut: usize) -> Result<(), Fail> {
-    let script = script_of(alloc, FIRST)?;
-    let transcript = transcript_of(alloc, FIRST)?;
-    ran(alloc, script.as_bytes(), cut)?.is(rt, Status::Done, transcript.as_str());
-    Ok(())
-}
 
 #[test]
 fn a_script_may_come_in_pieces_of_any_size(rt: HostRuntime) -> Result<(), Fail> {
-    comes(&rt, rt.alloc(), 1)?;
-    comes(&rt, rt.alloc(), 2)?;
-    comes(&rt, rt.alloc(), 16)?;
-    comes(&rt, rt.alloc(), 4096)
+    comes_in(&rt, rt.alloc(), "", FIRST, 1)?;
+    comes_in(&rt, rt.alloc(), "", FIRST, 2)?;
+    comes_in(&rt, rt.alloc(), "", FIRST, 16)?;
+    comes_in(&rt, rt.alloc(), "", FIRST, 4096)
 }
 
 #[test]
 fn an_empty_script_writes_nothing(rt: HostRuntime) -> Result<(), Fail> {
-    ran(rt.alloc(), b"", 1)?.is(&rt, Status::Done, "");
-    Ok(())
+    ends(&rt, rt.alloc(), "", b"", 1, Status::Done, "")
 }
 
 #[test]
@@ -32,8 +21,7 @@ fn odd_lines_are_refused_and_the_next_ones_run(rt: HostRuntime) -> Result<(), Fa
     let script =
         b"create $a p\r\n\0\n\xff\ncreate $a p\rcreate $b p\n# \xc3\x81 \r\n\n  \ncreate $a p".as_slice();
     let wanted = "1: bad word\n2: bad word\n3: bad utf8\n4: bad word\n8: #2\n";
-    ran(rt.alloc(), script, 3)?.is(&rt, Status::BadLines, wanted);
-    Ok(())
+    ends(&rt, rt.alloc(), "", script, 3, Status::BadLines, wanted)
 }
 
 // A line for each cause of a refusal, but that it is too long or no UTF-8.
@@ -61,8 +49,8 @@ fn a_bad_line_says_what_is_wrong(rt: HostRuntime) -> Result<(), Fail> {
     let alloc = rt.alloc();
     let script = script_of(alloc, BAD)?;
     let transcript = transcript_of(alloc, BAD)?;
-    ran(alloc, script.as_bytes(), 1)?.is(&rt, Status::BadLines, transcript.as_str());
-    let open = r#"text $t "ab"#;
-    ran(alloc, open.as_bytes(), 1)?.is(&rt, Status::BadLines, "1: bad quote\n");
-    Ok(())
+    let (script, transcript) = (script.as_bytes(), transcript.as_str());
+    ends(&rt, alloc, "", script, 1, Status::BadLines, transcript)?;
+    let open = r#"text $t "ab"#.as_bytes();
+    ends(&rt, alloc, "", open, 1, Status::BadLines, "1: bad quote\n")
 }

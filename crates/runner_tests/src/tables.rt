@@ -1,5 +1,5 @@
 // The table of form owners that a page keeps, compared after each line of a script with what is read off its tree anew.
-ghost use Rattle.std.specs.Prelude.{◌≡◌, IfOk};
+ghost use Rattle.std.specs.Prelude.{◌≡◌, ◌+◌, ◌<◌, ◌^◌, IfOk};
 ghost use Rattle.node_trees.specs.Nodes.{IsNode, IsTidy};
 
 use crate::script::script_of;
@@ -92,18 +92,38 @@ fn begun(alloc: Global) -> Result<Session, Fail>
     }
 }
 
+// Runs a line, and sees the page after it.
+fn stands_after(
+    rt: &impl Abort,
+    alloc: Global,
+    session: Session,
+    line: &str,
+    sink: &mut SureSink,
+) -> Result<Session, Fail>
+    requires { session.line + 1 < 2 ^ 64 }
+    ensures { IfOk result (λ s. s.line ≡ session.line + 1) }
+{
+    let (next, _) = session.line(alloc, line.as_bytes(), sink)?;
+    same_page(rt, alloc, next.page(), line)?;
+    Ok(next)
+}
+
+// Sees the page after each line.
+fn stands_each(rt: &impl Abort, alloc: Global, lines: &[&str]) -> Result<(), Fail> {
+    let mut sink = SureSink::make(alloc);
+    let mut session = begun(alloc)?;
+    for i in 0..lines.len() {
+        session = stands_after(rt, alloc, session, lines[i], &mut sink)?;
+    }
+    drop(session);
+    Ok(())
+}
+
 // Sees it after each line of a script.
 fn stands(rt: &impl Abort, alloc: Global, text: &str) -> Result<(), Fail> {
     let script = script_of(alloc, text)?;
     let lines = script.lines().collect::<Vec<&str>>(alloc)?;
-    let mut sink = SureSink::make(alloc);
-    let mut session = begun(alloc)?;
-    for i in 0..lines.len() {
-        let (next, _) = session.line(alloc, lines[i].as_bytes(), &mut sink)?;
-        session = next;
-        same_page(rt, alloc, session.page(), lines[i])?;
-    }
-    Ok(())
+    stands_each(rt, alloc, &lines)
 }
 
 #[test]
