@@ -101,9 +101,16 @@ impl Queues {
         ensures depth { length self.new.stack ≡ length self.old.stack }
     {
         let number = self.count();
-        let queue = self.append(node)?;
-        self.waiting.append(node, number, r)?;
-        Ok((number, queue))
+        match self.append(node) {
+            Ok(queue) => {
+                self.waiting.append(node, number, r)?;
+                Ok((number, queue))
+            }
+            Err(refused) => {
+                drop(r);
+                Err(refused)
+            }
+        }
     }
 
     /// The next number for a reaction.
@@ -180,7 +187,10 @@ impl Queues {
     {
         match self.waiting.take(node) {
             None => None,
-            Some(w) => Some(w.0),
+            Some((number, reaction)) => {
+                drop(reaction);
+                Some(number)
+            }
         }
     }
 }

@@ -53,7 +53,10 @@ impl Waiting {
         ensures err { OnErr result (self.new ≡ self.old) }
     {
         let i = place_of(node);
-        grow(&mut self.ends, i)?;
+        if let Err(refused) = grow(&mut self.ends, i) {
+            drop(r);
+            return Err(refused);
+        }
         let ends = put_last(&mut self.cells, i, self.ends[i], number, r)?;
         self.ends[i] = Some(ends);
         Ok(())
