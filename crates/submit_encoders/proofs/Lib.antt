@@ -5,3 +5,4 @@ pub mod Heads
 pub mod Parsed
 pub mod Free
 pub mod Frame
+pub mod Pieces
