@@ -1,6 +1,8 @@
 -- What steps give.
 use Rattle.std.proofs.Common.{◌≡◌, ℕ, ap, arith}
-use Rattle.std.specs.Prelude.{Result, Ok, Err}
+use Rattle.std.specs.Prelude.{IfOk, Result, Ok, Err}
+use Rattle.node_trees.specs.Nodes.{IsNode}
+use Rattle.node_trees.specs.Trees.{Trees}
 use Rattle.ce_algorithms.specs.declared.given.Given.TheVariants.{Nothing, Node}
 use Rattle.ce_algorithms.specs.Page.{Page}
 use Rattle.ce_algorithms.specs.Steps.{Outcome, then_do, give}
@@ -8,7 +10,7 @@ use Rattle.ce_page.specs.Ends.{Does, Ends, Keeps, NeverRefuses}
 use Rattle.ce_page.specs.Numbers.{GrowsWithin, StaysWithin}
 use Rattle.ce_page.specs.declared.stop.PageStop.{PageStop}
 use Rattle.ce_page.specs.declared.stop.PageStop.TheVariants.{Refused, FuelSpent, NoMemory}
-use Rattle.page_calls.specs.Given.{node_of, nothing_of}
+use Rattle.page_calls.specs.Given.{IsThere, node_of, nothing_of}
 
 -- steps that give nothing
 pub nothing_ends : {S : Type 0} (r : Result (Unit {0}) PageStop) (s : S) (o : Outcome S (Unit {0})) → Does r s o → Ends (λ g. g) (nothing_of r) s (then_do o (λ _. give Nothing))
@@ -49,3 +51,12 @@ node_keeps (Ok n) old new h = tt
 node_keeps (Err (Refused f)) old new h = h
 node_keeps (Err FuelSpent) old new h = tt
 node_keeps (Err NoMemory) old new h = tt
+
+-- a node that is given is there
+pub node_there : (r : Result ℕ PageStop) (f : Trees) → IfOk r (IsNode f) → IfOk (node_of r) (IsThere f)
+node_there (Ok n) f h = h
+node_there (Err stop) f h = tt
+
+pub nothing_there : (r : Result (Unit {0}) PageStop) (f : Trees) → IfOk (nothing_of r) (IsThere f)
+nothing_there (Ok x) f = tt
+nothing_there (Err stop) f = tt

@@ -26,7 +26,6 @@ use std::alloc::Global;
 ///
 /// FuelSpent: a unit of fuel was wanted, and none was left; what was done before that stays. NoMemory: memory was
 /// refused, and the page is only dropped.
-#[tactic(auto, using(crate::proofs::GivenLaws::node_ends, crate::proofs::GivenLaws::nothing_ends, crate::proofs::GivenLaws::grows_where_it_stays, crate::proofs::GivenLaws::nothing_keeps, crate::proofs::GivenLaws::node_keeps, crate::proofs::GivenLaws::keeps_unrefused))]
 pub fn run(
     alloc: Global,
     page: &mut Page,
