@@ -1,7 +1,7 @@
 // The custom element state of an element.
 
 /// The custom element state of an element (DOM Standard, section "Interface Element").
-#[derive(Clone, Copy, Debug, PartialEq, Eq)]
+#[derive(Clone, Copy)]
 pub enum CustomState {
     /// It may become custom, and no definition of its name has been met.
     Undefined,

@@ -51,6 +51,17 @@ impl MemSource {
     }
 }
 
+// Whether a read into a buffer with so much room gave the end.
+fn gave_end(got: Got, room: usize) -> bool
+    ensures { result ≡ gave_end got room }
+{
+    match got {
+        Got::Bytes(count) => count == 0 && room > 0,
+        Got::End => true,
+        Got::Failed => false,
+    }
+}
+
 impl Source for MemSource {
     ghost left = { λ s. Some s.supply.left };
 
@@ -84,11 +95,7 @@ impl Source for MemSource {
             return Got::Failed;
         }
         let got = self.inner.read(buf);
-        self.ended = match got {
-            Got::Bytes(count) => count == 0 && !buf.is_empty(),
-            Got::End => true,
-            Got::Failed => false,
-        };
+        self.ended = gave_end(got, buf.len());
         got
     }
 }

@@ -3,5 +3,5 @@
 /// The validity flags of an element (HTML Standard, section "The constraint validation API"), in this
 /// order: valueMissing, typeMismatch, patternMismatch, tooLong, tooShort, rangeUnderflow,
 /// rangeOverflow, stepMismatch, badInput, customError.
-#[derive(Clone, Copy, Debug, PartialEq, Eq)]
+#[derive(Clone, Copy)]
 pub struct Flags(pub [bool; 10]);

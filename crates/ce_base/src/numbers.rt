@@ -17,7 +17,7 @@ impl Model for NodeNo {
 }
 
 /// A class, numbered from 0 in the order of its declaration.
-#[derive(Clone, Copy, Debug, PartialEq, Eq)]
+#[derive(Clone, Copy)]
 pub struct ClassNo(pub u64);
 
 impl Model for ClassNo {
@@ -31,7 +31,7 @@ impl Model for ClassNo {
 }
 
 /// A custom element definition, numbered from 0 in the order of defining.
-#[derive(Clone, Copy, Debug, PartialEq, Eq)]
+#[derive(Clone, Copy)]
 pub struct DefNo(pub u64);
 
 impl Model for DefNo {
@@ -45,7 +45,7 @@ impl Model for DefNo {
 }
 
 /// A reaction, numbered from 1 in the order of enqueuing.
-#[derive(Clone, Copy, Debug, PartialEq, Eq)]
+#[derive(Clone, Copy, Debug)]
 pub struct ReactionNo(pub u64);
 
 impl Model for ReactionNo {
@@ -59,7 +59,7 @@ impl Model for ReactionNo {
 }
 
 /// An element queue, numbered from 1 in the order of pushing. Number 0 is the backup element queue.
-#[derive(Clone, Copy, Debug, PartialEq, Eq)]
+#[derive(Clone, Copy, Debug)]
 pub struct QueueNo(pub u64);
 
 impl Model for QueueNo {

@@ -9,7 +9,7 @@ ghost use base.Fml.{GName};
 use crate::Stop;
 
 /// What a read gave.
-#[derive(Clone, Copy, Debug, PartialEq, Eq)]
+#[derive(Clone, Copy, Debug)]
 pub enum Got {
     /// So many bytes, at the front of the buffer. None for a buffer with room is the end too.
     Bytes(usize),
@@ -46,7 +46,7 @@ pub trait Source {
 }
 
 /// What a write did.
-#[derive(Clone, Copy, Debug, PartialEq, Eq)]
+#[derive(Clone, Copy)]
 pub enum Put {
     /// It took so many bytes from the front of the piece, at least one where there is one.
     Took(usize),
@@ -86,7 +86,6 @@ pub trait Sink {
 }
 
 /// Writes all of the bytes, in as many writes as it takes. Where it stops, a front of them is written.
-#[tactic(auto, using(crate::proofs::Written::wrote_part))]
 pub fn write_all<K: Sink>(sink: &mut K, bytes: &[u8]) -> Result<(), Stop>
     ensures all { OnOk result (Appends (K.held sink.old) (K.held sink.new) bytes.now) }
     ensures part { OnErr result (AppendsPart (K.held sink.old) (K.held sink.new) bytes.now) }

@@ -1,6 +1,6 @@
 use Rattle.std.proofs.Common.{◌<◌, ◌≤◌, ◌-◌, length, arith, ◌∙◌}
 use Rattle.std.proofs.lemmas.List.{take_rest, length-drop}
-use Rattle.ce_base.proofs.Written.{wrote_more}
+use Rattle.ce_base.proofs.Written.{wrote_more, wrote_no_more}
 use Rattle.ce_base.proofs.outside.write_on.Goals as goal
 
 pub loop-count-preserved : goal.loop-count-preserved
@@ -17,3 +17,15 @@ loop-count-preserved g c =
       home = c.write.ensures.home ∙ c.loop-count.invariant.home;
       below = omega arith;
     }
+
+pub returns-in-Failed-clause-written : goal.returns-in-Failed-clause-written
+returns-in-Failed-clause-written g c = wrote_no_more _ (g.K.Sink.held c.loop-count.sink) _ _ c.loop-count.invariant.written c.in-Failed.ensures.bytes
+
+pub returns-in-NoMemory-clause-written : goal.returns-in-NoMemory-clause-written
+returns-in-NoMemory-clause-written g c = wrote_no_more _ (g.K.Sink.held c.loop-count.sink) _ _ c.loop-count.invariant.written c.in-NoMemory.ensures.bytes
+
+pub returns-in-NoMemory-clause-told : goal.returns-in-NoMemory-clause-told
+returns-in-NoMemory-clause-told g c = λ rose. let failed = c.in-NoMemory.ensures.told (omega arith) in cc
+
+pub returns-clause-told : goal.returns-clause-told
+returns-clause-told g c = λ rose. absurd (omega arith)

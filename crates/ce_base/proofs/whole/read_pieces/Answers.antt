@@ -1,7 +1,24 @@
-use Rattle.std.proofs.Common.{◌≡◌, ◌++◌, length, take, arith, length-append, length-take-le}
+use Rattle.std.proofs.Common.{◌≡◌, ◌++◌, length, refl, take, arith, length-append, length-take-le}
 use Rattle.std.proofs.lemmas.Result.{err_from_is_err_and}
 use Rattle.std.proofs.KnownBytes.{Consumes-trans}
+use Rattle.ce_base.proofs.Pieces.{took_no_more}
 use Rattle.ce_base.proofs.whole.read_pieces.Goals as goal
+
+pub returns-in-End-clause-row : goal.returns-in-End-clause-row
+returns-in-End-clause-row g c = record {
+  taken = c.loop-taken.taken.items;
+  took = took_no_more _ (g.S.Source.left c.loop-taken.source) _ c.loop-taken.taken.items c.loop-taken.invariant.took c.in-End.ensures.bytes;
+  row = (c.of.ensures, c.in-End.ensures.ended, c.in-End.ensures.end refl, c.loop-taken.invariant.within);
+}
+
+pub returns-in-End-clause-told : goal.returns-in-End-clause-told
+returns-in-End-clause-told g c = λ rose. let failed = c.in-End.ensures.told (omega arith) in cc
+
+pub returns-then-count-limit-clause-told : goal.returns-then-count-limit-clause-told
+returns-then-count-limit-clause-told g c = λ rose. let failed = c.in-Bytes.ensures.told (omega arith) in cc
+
+pub returns-in_err-extend_from_slice-in-Bytes-clause-told : goal.returns-in_err-extend_from_slice-in-Bytes-clause-told
+returns-in_err-extend_from_slice-in-Bytes-clause-told g c = λ rose. let failed = c.in-Bytes.ensures.told (omega arith) in cc
 
 pub returns-then-count-limit-clause-row : goal.returns-then-count-limit-clause-row
 returns-then-count-limit-clause-row g c =
