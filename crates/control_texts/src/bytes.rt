@@ -1,5 +1,7 @@
 // One byte of a text.
 ghost use Rattle.std.specs.Prelude.{◌≡◌};
+ghost use Rattle.std.specs.Char.{is_ascii_whitespace};
+ghost use Rattle.std.specs.List.{list_all};
 ghost use Rattle.form_controls.specs.Texts.{is_newline as is_newline_byte, normal_byte, units_at as units_at_byte, units_of};
 ghost use Rattle.control_texts.specs.Reading.{collapsed_byte};
 
@@ -8,6 +10,30 @@ pub(crate) fn is_newline(b: u8) -> bool
     ensures { result ≡ is_newline_byte b }
 {
     b == b'\r' || b == b'\n'
+}
+
+// Only U+000A LF and U+000D CR.
+pub(crate) fn are_newlines(bytes: &[u8]) -> bool
+    ensures { result ≡ list_all is_newline_byte bytes.now }
+{
+    for b in bytes {
+        if !is_newline(*b) {
+            return false;
+        }
+    }
+    true
+}
+
+// Only ASCII white space.
+pub(crate) fn are_whitespace(bytes: &[u8]) -> bool
+    ensures { result ≡ list_all is_ascii_whitespace bytes.now }
+{
+    for b in bytes {
+        if !b.is_ascii_whitespace() {
+            return false;
+        }
+    }
+    true
 }
 
 // How many code units of UTF-16 begin at a byte.

@@ -2,13 +2,13 @@
 ghost use Rattle.std.specs.Prelude.{◌≡◌};
 ghost use Rattle.form_controls.specs.Texts.{collapsed, is_empty, without_newlines};
 
-use crate::bytes::is_newline;
+use crate::bytes::{are_newlines, are_whitespace};
 
 /// Nothing is left of a text once its newlines are stripped (Infra Standard, "strip newlines").
 pub fn is_only_newlines(text: &str) -> bool
     ensures { result ≡ is_empty (without_newlines text.now) }
 {
-    text.as_bytes().iter().all(|b| is_newline(*b))
+    are_newlines(text.as_bytes())
 }
 
 /// Nothing is left of a text once its white space is stripped and collapsed (Infra Standard, "strip and collapse ASCII
@@ -16,5 +16,5 @@ pub fn is_only_newlines(text: &str) -> bool
 pub fn is_only_whitespace(text: &str) -> bool
     ensures { result ≡ is_empty (collapsed text.now) }
 {
-    text.as_bytes().iter().all(|b| b.is_ascii_whitespace())
+    are_whitespace(text.as_bytes())
 }
