@@ -9,7 +9,7 @@ use std::alloc::Global;
 /// The callbacks that a class has, and whether it has a constructor of its own (HTML Standard, section "Core
 /// concepts", a definition's lifecycle callbacks), in this order: constructor, connected, disconnected,
 /// adopted, attribute, formAssociated, formDisabled, formReset, formStateRestore.
-#[derive(Clone, Copy, Debug, PartialEq, Eq)]
+#[derive(Clone, Copy)]
 pub struct Calls(pub [bool; 9]);
 
 /// What a definition takes over from its class (HTML Standard, section "Core concepts": a definition's
