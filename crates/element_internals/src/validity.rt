@@ -13,7 +13,12 @@ use std::alloc::Global;
 pub fn is_raised(flags: Flags) -> bool
     ensures { result ≡ is_raised flags }
 {
-    flags.0.iter().any(|b| *b)
+    for flag in &flags.0 {
+        if *flag {
+            return true;
+        }
+    }
+    false
 }
 
 /// The message that is kept: that of some flag, or the empty one.
