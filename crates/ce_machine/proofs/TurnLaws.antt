@@ -1,16 +1,22 @@
 -- The turns of frames are those of the definitions.
-use Rattle.std.proofs.Common.{◌≡◌, List, refl, ap, sym}
+use Rattle.std.proofs.Common.{◌≡◌, List, refl, ap, subst, sym}
+use Rattle.std.specs.Prelude.{IfOk, Result}
 use Rattle.ce_base.specs.declared.fault.Fault.{Fault}
 use Rattle.ce_algorithms.specs.declared.given.Given.{Given}
 use Rattle.ce_algorithms.specs.State.{State}
 use Rattle.ce_algorithms.specs.Steps.{Spent}
 use Rattle.ce_frames.specs.Frames.{Frame}
-use Rattle.ce_frames.specs.Turned.{ended}
+use Rattle.ce_frames.specs.Turned.{Turned, ended}
 use Rattle.ce_frames.specs.Turns.{turn, turn_threw, turn_went}
 use Rattle.ce_outcomes.specs.declared.came.Came.{Came}
 use Rattle.ce_outcomes.specs.declared.came.Came.TheVariants.{Went, Threw, Over}
 use Rattle.ce_outcomes.specs.Turns.{Turns, end_of}
 use Rattle.ce_outcomes.proofs.TurnLaws.{turns_as, turns_same}
+
+-- where nothing stopped it, it is as another turn that is the same
+pub ok_turns_as : {E : Type 0} (r : Result Came E) (frames new : List Frame) (s : State) (t u : Turned) → t ≡ u
+    → IfOk r (λ now. Turns frames new now s t) → IfOk r (λ now. Turns frames new now s u)
+ok_turns_as r frames new s t u e h = subst (λ (x : Turned). IfOk r (λ now. Turns frames new now s x)) e h
 
 -- a frame goes on
 

@@ -85,18 +85,9 @@ fn perform(state: &mut State, alloc: Global, stack: &mut Stack, c: Cmd) -> Resul
     ensures placed { OnOk result (StaysPlaced state.old.page.forest (perform_turn c (session stack.old state.old))) }
 {
     match c {
-        Cmd::Both(op) => {
-            let now = operate(state, alloc, stack, &None, op)?;
-            Ok(now)
-        }
-        Cmd::Doc { var } => {
-            let now = make_document(state, alloc, stack, var)?;
-            Ok(now)
-        }
-        c => {
-            let now = act_as_user(state, alloc, stack, c)?;
-            Ok(now)
-        }
+        Cmd::Both(op) => operate(state, alloc, stack, &None, op),
+        Cmd::Doc { var } => make_document(state, alloc, stack, var),
+        c => act_as_user(state, alloc, stack, c),
     }
 }
 
@@ -117,8 +108,7 @@ fn act_as_user(
     ensures placed { OnOk result (StaysPlaced state.old.page.forest (user_turn c (session stack.old state.old))) }
 {
     let resolved = resolve_user(state, c);
-    let now = do_resolved(state, alloc, stack, resolved, None)?;
-    Ok(now)
+    do_resolved(state, alloc, stack, resolved, None)
 }
 
 // Makes an inert document, for which a variable waits.
@@ -172,8 +162,7 @@ pub(crate) fn operate(
         }
         Ok(var) => {
             let resolved = resolve(state, alloc, this, op);
-            let now = do_resolved(state, alloc, stack, resolved, var)?;
-            Ok(now)
+            do_resolved(state, alloc, stack, resolved, var)
         }
     }
 }
@@ -199,10 +188,7 @@ fn do_resolved(
     match resolved {
         Err(Refused::Fault(f)) => Ok(Came::Threw(f)),
         Err(Refused::NoMemory) => Err(NoMemory),
-        Ok(deed) => {
-            let now = named(state, alloc, stack, var, deed)?;
-            Ok(now)
-        }
+        Ok(deed) => named(state, alloc, stack, var, deed),
     }
 }
 
@@ -227,10 +213,7 @@ fn named(
             drop(deed);
             Err(NoMemory)
         }
-        Ok(()) => {
-            let now = deed_turn(state, alloc, stack, deed)?;
-            Ok(now)
-        }
+        Ok(()) => deed_turn(state, alloc, stack, deed),
     }
 }
 

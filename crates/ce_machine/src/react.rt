@@ -50,18 +50,9 @@ pub(crate) fn deed_turn(
             local,
             is_value,
             document,
-        } => {
-            let now = create_turn(state, alloc, stack, &local, is_value, document)?;
-            Ok(now)
-        }
-        Deed::New { class } => {
-            let now = construct(state, alloc, stack, class)?;
-            Ok(now)
-        }
-        deed => {
-            let now = still_turn(state, alloc, stack, deed)?;
-            Ok(now)
-        }
+        } => create_turn(state, alloc, stack, &local, is_value, document),
+        Deed::New { class } => construct(state, alloc, stack, class),
+        deed => still_turn(state, alloc, stack, deed),
     }
 }
 

@@ -180,10 +180,7 @@ fn act(
             log_fixed(state, alloc, vals)?;
             Ok(None)
         }
-        Action::Super => {
-            let o = call_base(state, alloc, stack)?;
-            Ok(o)
-        }
+        Action::Super => call_base(state, alloc, stack),
         _ => unreachable!(),
     }
 }

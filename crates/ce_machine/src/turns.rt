@@ -74,14 +74,8 @@ fn resume_body(
     ensures lasts { OnOk result (Lasts state.old.page.forest (turn (frame_on_top stack.old) (end_of end) (session stack.old state.old))) }
 {
     match end {
-        Came::Went(given) => {
-            let now = body_went(state, alloc, stack, given)?;
-            Ok(now)
-        }
-        Came::Threw(f) => {
-            let now = body_threw(state, alloc, stack, f)?;
-            Ok(now)
-        }
+        Came::Went(given) => body_went(state, alloc, stack, given),
+        Came::Threw(f) => body_threw(state, alloc, stack, f),
         Came::Over => Ok(body_over(state, stack)),
     }
 }
@@ -139,18 +133,13 @@ fn went(
     match frame {
         Waiting::DrainingBackup(e) => {
             drop(given);
-            let now = backup_turn(state, alloc, stack, e)?;
-            Ok(now)
+            backup_turn(state, alloc, stack, e)
         }
         Waiting::Draining(queue, e, elements, kept) => {
             drop(given);
-            let now = drain_turn(state, alloc, stack, queue, e, elements, kept)?;
-            Ok(now)
+            drain_turn(state, alloc, stack, queue, e, elements, kept)
         }
-        frame => {
-            let now = go_on(state, alloc, stack, frame, given)?;
-            Ok(now)
-        }
+        frame => go_on(state, alloc, stack, frame, given),
     }
 }
 
@@ -192,40 +181,23 @@ fn settled(
         (λ now. IfCreating (waiting_of frame) (Creates state.old.page.forest state.new.page.forest (frames_of stack.old) (frames_of stack.new) now)) }
 {
     match frame {
-        Waiting::Replying(line) => {
-            let now = check_turn(state, stack, line, Ok(given))?;
-            Ok(now)
-        }
+        Waiting::Replying(line) => check_turn(state, stack, line, Ok(given)),
         Waiting::Checking(line, kept) => {
             drop(given);
-            let now = checked(state, line, kept)?;
-            Ok(now)
+            checked(state, line, kept)
         }
-        Waiting::Naming(var) => {
-            let now = named(state, var, given)?;
-            Ok(now)
-        }
-        Waiting::Stepping(queue) => {
-            let now = pop_turn(state, stack, queue, Ok(given))?;
-            Ok(now)
-        }
+        Waiting::Naming(var) => named(state, var, given),
+        Waiting::Stepping(queue) => pop_turn(state, stack, queue, Ok(given)),
         Waiting::InReaction(number) => {
             drop(given);
-            let now = finished(state, number)?;
-            Ok(now)
+            finished(state, number)
         }
-        Waiting::CreatingFit(local, document) => {
-            let now = fit_turn(state, alloc, local, document, given)?;
-            Ok(now)
-        }
+        Waiting::CreatingFit(local, document) => fit_turn(state, alloc, local, document, given),
         Waiting::CreatingExtended(n) => {
             drop(given);
             Ok(Came::Went(Given::Node(n)))
         }
-        Waiting::Upgrading(n, d) => {
-            let now = constructed_turn(state, alloc, n, d, given)?;
-            Ok(now)
-        }
+        Waiting::Upgrading(n, d) => constructed_turn(state, alloc, n, d, given),
         Waiting::Constructing => Ok(given_turn(given)),
         Waiting::DrainingBackup(_) => unreachable!(),
         Waiting::Draining(_, _, _, _) => unreachable!(),
@@ -247,30 +219,12 @@ fn threw(
         (λ now. IfCreating (waiting_of frame) (Creates state.old.page.forest state.new.page.forest (frames_of stack.old) (frames_of stack.new) now)) }
 {
     match frame {
-        Waiting::Replying(line) => {
-            let now = check_turn(state, stack, line, Err(f))?;
-            Ok(now)
-        }
-        Waiting::Stepping(queue) => {
-            let now = pop_turn(state, stack, queue, Err(f))?;
-            Ok(now)
-        }
-        Waiting::InReaction(number) => {
-            let now = reported(state, number, f)?;
-            Ok(now)
-        }
-        Waiting::CreatingFit(local, document) => {
-            let now = failed_turn(state, alloc, local, document, f)?;
-            Ok(now)
-        }
-        Waiting::CreatingExtended(n) => {
-            let now = extended_threw(state, n, f)?;
-            Ok(now)
-        }
-        Waiting::Upgrading(n, d) => {
-            let now = upgraded_turn(state, alloc, n, d, Err(f))?;
-            Ok(now)
-        }
+        Waiting::Replying(line) => check_turn(state, stack, line, Err(f)),
+        Waiting::Stepping(queue) => pop_turn(state, stack, queue, Err(f)),
+        Waiting::InReaction(number) => reported(state, number, f),
+        Waiting::CreatingFit(local, document) => failed_turn(state, alloc, local, document, f),
+        Waiting::CreatingExtended(n) => extended_threw(state, n, f),
+        Waiting::Upgrading(n, d) => upgraded_turn(state, alloc, n, d, Err(f)),
         Waiting::Checking(_, kept) => {
             drop(kept);
             Ok(Came::Threw(f))
@@ -327,6 +281,5 @@ fn reported(state: &mut State, number: ReactionNo, f: Fault) -> Result<Came, NoM
     ensures page { state.new.page ≡ state.old.page }
 {
     state.log(Event::Reported(f))?;
-    let now = finished(state, number)?;
-    Ok(now)
+    finished(state, number)
 }
