@@ -22,10 +22,12 @@ module _ (f : Trees) (root n : ℕ) (id : List ℕ) (tidy : IsTidy f) (only : Is
       let among : is_among n (tree_order_of f root) ≡ true = subst (λ r. is_among n (tree_order_of f r) ≡ true) is (root-among f tidy n only.node) in
       let has = only.has in
       let holder : is_holder f root id n ≡ true = grind (arith, has, among) in
-      look-end f root id (Some n) [] refl (look-found f root id None (n ∷ []) [] n refl (look-start f root id (n ∷ []) (n ∷ []) refl start) holder only.node refl)
+      look-end f root id (Some n) [] refl
+      (look-found f root id None (n ∷ []) [] n refl (look-start f root id (n ∷ []) (n ∷ []) refl start) holder only.node refl)
 
   pub named-nowhere : parent_at f root ≡ None → root_at f n ≢ root → None ≡ first_with_id f root id
   named-nowhere top other =
-      let apart : is_among n (tree_order_of f root) ≡ false = false_from_ne_true (is_among n (tree_order_of f root)) (λ among. other (order-top f tidy root n top among)) in
+      let apart : is_among n (tree_order_of f root) ≡ false =
+      false_from_ne_true (is_among n (tree_order_of f root)) (λ among. other (order-top f tidy root n top among)) in
       let holder : is_holder f root id n ≡ false = grind (arith, apart) in
       look-end f root id None [] refl (look-other f root id None (n ∷ []) [] n refl (look-start f root id (n ∷ []) (n ∷ []) refl start) holder)

@@ -1,5 +1,6 @@
 -- What stands above a child, from what stands above its parent.
-use Rattle.std.proofs.Common.{◌≡◌, ℕ, Bool, true, false, not, ◌&&◌, ◌||◌, ◌==◌, if◌then◌else◌, List, [], ◌∷◌, Option, Some, None, refl, ap, sym, subst, ◌∙◌, arith}
+use Rattle.std.proofs.Common.{◌≡◌, ℕ, Bool, true, false, not, ◌&&◌, ◌||◌, ◌==◌, if◌then◌else◌, List, [], ◌∷◌, Option, Some, None, refl, ap, sym, subst, ◌∙◌}
+use Rattle.std.proofs.Common.{arith}
 use Rattle.std.specs.List.{list_any}
 use Rattle.std.proofs.lemmas.Bool.{false_from_ne_true}
 use Rattle.std.proofs.lemmas.Bool.Decides.{nat_tests}
@@ -99,7 +100,8 @@ module _ (f : Trees) (n q : ℕ) (tidy : IsTidy f) (node : IsNode f n) (parent :
       grind (arith, e, form, inside-up, below-up, root)
 
 -- what stands above a root
-pub above-top : (f : Trees) (n : ℕ) → IsTidy f → IsNode f n → parent_at f n ≡ None → above_at f n ≡ record { form = None; inside = false; below = false; root = n }
+pub above-top : (f : Trees) (n : ℕ) → IsTidy f → IsNode f n → parent_at f n ≡ None
+    → above_at f n ≡ record { form = None; inside = false; below = false; root = n }
 above-top f n tidy node top =
     let above = ancestors-top f n tidy node top in
     let root = root-top f tidy n node top in

@@ -27,7 +27,8 @@ joined_onto : (c b : ℕ) (bytes : List ℕ) (o : Option (List ℕ × List ℕ))
 joined_onto c b bytes None joined = tt
 joined_onto c b bytes (Some (before, behind)) joined = ap (λ (l : List ℕ). b ∷ l) joined
 
-joined_step : (c b : ℕ) (bytes : List ℕ) (t : Bool) → nat_eq b c ≡ t → Joined c bytes (cut_at c bytes) → Joined c (b ∷ bytes) (cond t (Some ([], bytes)) (onto (b ∷ []) (cut_at c bytes)))
+joined_step : (c b : ℕ) (bytes : List ℕ) (t : Bool) → nat_eq b c ≡ t → Joined c bytes (cut_at c bytes)
+    → Joined c (b ∷ bytes) (cond t (Some ([], bytes)) (onto (b ∷ []) (cut_at c bytes)))
 joined_step c b bytes true same joined = ap (λ (x : ℕ). x ∷ bytes) (eqb-true b c same)
 joined_step c b bytes false differ joined = joined_onto c b bytes (cut_at c bytes) joined
 
@@ -66,7 +67,8 @@ before_onto : (c b : ℕ) (o : Option (List ℕ × List ℕ)) → nat_eq b c ≡
 before_onto c b None differ free = tt
 before_onto c b (Some (before, behind)) differ free = (differ, free)
 
-before_step : (c b : ℕ) (bytes : List ℕ) (t : Bool) → nat_eq b c ≡ t → Before c (cut_at c bytes) → Before c (cond t (Some ([], bytes)) (onto (b ∷ []) (cut_at c bytes)))
+before_step : (c b : ℕ) (bytes : List ℕ) (t : Bool) → nat_eq b c ≡ t → Before c (cut_at c bytes)
+    → Before c (cond t (Some ([], bytes)) (onto (b ∷ []) (cut_at c bytes)))
 before_step c b bytes true same free = tt
 before_step c b bytes false differ free = before_onto c b (cut_at c bytes) differ free
 
@@ -80,7 +82,8 @@ unfolding cut_at
 cut_none_free c [] is = tt
 cut_none_free c (b ∷ text) is = none_step c b text (nat_eq b c) (cut_at c text) refl (cut_none_free c text) refl is
   where
-    none_step : (c b : ℕ) (text : List ℕ) (t : Bool) (o : Option (List ℕ × List ℕ)) → nat_eq b c ≡ t → (cut_at c text ≡ None → Free c text) → cut_at c text ≡ o → cond t (Some ([], text)) (onto (b ∷ []) o) ≡ None → Free c (b ∷ text)
+    none_step : (c b : ℕ) (text : List ℕ) (t : Bool) (o : Option (List ℕ × List ℕ)) → nat_eq b c ≡ t → (cut_at c text ≡ None → Free c text) → cut_at c text ≡ o
+        → cond t (Some ([], text)) (onto (b ∷ []) o) ≡ None → Free c (b ∷ text)
     none_step c b text true o same more at is = absurd cc
     none_step c b text false None differ more at is = (differ, more at)
     none_step c b text false (Some x) differ more at is = absurd cc

@@ -14,7 +14,8 @@ abbrev pub TextJoined : List ℕ → List ℕ → Option (List ℕ × List ℕ) 
 TextJoined text bytes None = Unit {0}
 TextJoined text bytes (Some (before, rest)) = bytes ≡ before ++ (text ++ rest)
 
-joined_here : (text : List ℕ) (b : ℕ) (bytes : List ℕ) (h : Option (List ℕ)) (o : Option (List ℕ × List ℕ)) → behind text (b ∷ bytes) ≡ h → TextJoined text bytes o → TextJoined text (b ∷ bytes) (cut_here h (onto (b ∷ []) o))
+joined_here : (text : List ℕ) (b : ℕ) (bytes : List ℕ) (h : Option (List ℕ)) (o : Option (List ℕ × List ℕ)) → behind text (b ∷ bytes) ≡ h
+    → TextJoined text bytes o → TextJoined text (b ∷ bytes) (cut_here h (onto (b ∷ []) o))
 joined_here text b bytes (Some rest) o is joined = behind_said text (b ∷ bytes) rest is
 joined_here text b bytes None None is joined = tt
 joined_here text b bytes None (Some (before, rest)) is joined = ap (λ (l : List ℕ). b ∷ l) joined
@@ -37,10 +38,14 @@ no_some : (text bytes rest : List ℕ) → behind text bytes ≡ None → bytes 
 no_some text bytes rest none joined = let both : Some rest ≡ None = sym (behind_again text rest) ∙ (ap (behind text) (sym joined) ∙ none) in absurd cc
 
 starts_none : (text bytes value more : List ℕ) (t : Bool) → starts_with nat_eq value text ≡ t → behind text bytes ≡ None → bytes ≡ value ++ more → t ≡ false
-starts_none text bytes value more true is none joined = absurd (no_some text bytes (drop (length text) value ++ more) none (joined ∙ (ap (λ (l : List ℕ). l ++ more) (starts_said text value is) ∙ append_assoc text (drop (length text) value) more)))
+starts_none text bytes value more true is none joined =
+    absurd (no_some text bytes (drop (length text) value ++ more) none
+    (joined ∙ (ap (λ (l : List ℕ). l ++ more) (starts_said text value is) ∙ append_assoc text (drop (length text) value) more)))
 starts_none text bytes value more false is none joined = refl
 
-free_later : (text : List ℕ) (b : ℕ) (bytes before rest : List ℕ) → HasSome text → behind text (b ∷ bytes) ≡ None → bytes ≡ before ++ (text ++ rest) → ((value more : List ℕ) → before ≡ value ++ more → occurs text value ≡ false) → (value more : List ℕ) → b ∷ before ≡ value ++ more → occurs text value ≡ false
+free_later : (text : List ℕ) (b : ℕ) (bytes before rest : List ℕ) → HasSome text → behind text (b ∷ bytes) ≡ None → bytes ≡ before ++ (text ++ rest)
+    → ((value more : List ℕ) → before ≡ value ++ more → occurs text value ≡ false) → (value more : List ℕ) → b ∷ before ≡ value ++ more
+    → occurs text value ≡ false
 free_later text b bytes before rest some none joined free [] more is = none_in_none text some
 free_later text b bytes before rest some none joined free (v ∷ value) more is =
     let tail : before ≡ value ++ more = (cc) in
@@ -52,7 +57,8 @@ nil_front : (value more : List ℕ) → [] ≡ value ++ more → value ≡ []
 nil_front [] more is = refl
 nil_front (v ∷ value) more is = absurd cc
 
-free_here : (text : List ℕ) (b : ℕ) (bytes : List ℕ) (h : Option (List ℕ)) (o : Option (List ℕ × List ℕ)) → HasSome text → behind text (b ∷ bytes) ≡ h → TextJoined text bytes o → TextFree text o → TextFree text (cut_here h (onto (b ∷ []) o))
+free_here : (text : List ℕ) (b : ℕ) (bytes : List ℕ) (h : Option (List ℕ)) (o : Option (List ℕ × List ℕ)) → HasSome text → behind text (b ∷ bytes) ≡ h
+    → TextJoined text bytes o → TextFree text o → TextFree text (cut_here h (onto (b ∷ []) o))
 free_here text b bytes (Some rest) o some is joined free = λ value more e. ap (occurs text) (nil_front value more e) ∙ none_in_none text some
 free_here text b bytes None None some is joined free = tt
 free_here text b bytes None (Some (before, rest)) some is joined free = free_later text b bytes before rest some is joined free
@@ -60,7 +66,8 @@ free_here text b bytes None (Some (before, rest)) some is joined free = free_lat
 pub text_free : (text bytes : List ℕ) → HasSome text → TextFree text (cut_text text bytes)
 unfolding cut_text
 text_free text [] some = tt
-text_free text (b ∷ bytes) some = free_here text b bytes (behind text (b ∷ bytes)) (cut_text text bytes) some refl (text_joined text bytes) (text_free text bytes some)
+text_free text (b ∷ bytes) some =
+    free_here text b bytes (behind text (b ∷ bytes)) (cut_text text bytes) some refl (text_joined text bytes) (text_free text bytes some)
 
 -- ---- cut again
 
@@ -80,9 +87,16 @@ cut_dash : (text rest : List ℕ) → HasSome text → AllByRecursion IsBound te
 unfolding cut_text
 cut_dash [] rest some are = absurd (omega arith)
 cut_dash (c ∷ text) rest some are =
-    rw (miss c 13 text (10 ∷ 45 ∷ 45 ∷ ((c ∷ text) ++ rest)) are.0.cr, miss c 10 text (45 ∷ 45 ∷ ((c ∷ text) ++ rest)) are.0.lf, miss c 45 text (45 ∷ ((c ∷ text) ++ rest)) are.0.dash, miss c 45 text ((c ∷ text) ++ rest) are.0.dash, behind_again (c ∷ text) rest) refl
+    rw (
+      miss c 13 text (10 ∷ 45 ∷ 45 ∷ ((c ∷ text) ++ rest)) are.0.cr,
+      miss c 10 text (45 ∷ 45 ∷ ((c ∷ text) ++ rest)) are.0.lf,
+      miss c 45 text (45 ∷ ((c ∷ text) ++ rest)) are.0.dash,
+      miss c 45 text ((c ∷ text) ++ rest) are.0.dash,
+      behind_again (c ∷ text) rest,
+    ) refl
 
-pub cut_value : (text value rest : List ℕ) → HasSome text → AllByRecursion IsBound text → occurs text value ≡ false → cut_text text (value ++ (dashes ++ (text ++ rest))) ≡ Some (value ++ dashes, rest)
+pub cut_value : (text value rest : List ℕ) → HasSome text → AllByRecursion IsBound text → occurs text value ≡ false
+    → cut_text text (value ++ (dashes ++ (text ++ rest))) ≡ Some (value ++ dashes, rest)
 unfolding cut_text
 cut_value text [] rest some are free = cut_dash text rest some are
 cut_value text (v ∷ value) rest some are free =

@@ -18,7 +18,8 @@ starts_said front bytes is = (starts_is Decides-eqb bytes front (starts_with nat
 starts_again : (front rest : List ℕ) → starts_with nat_eq (front ++ rest) front ≡ true
 starts_again front rest = (starts_is Decides-eqb (front ++ rest) front (starts_with nat_eq (front ++ rest) front) refl).1 rest refl
 
-behind_step : (front bytes rest : List ℕ) (t : Bool) → starts_with nat_eq bytes front ≡ t → cond t (Some (drop (length front) bytes)) None ≡ Some rest → bytes ≡ front ++ rest
+behind_step : (front bytes rest : List ℕ) (t : Bool) → starts_with nat_eq bytes front ≡ t → cond t (Some (drop (length front) bytes)) None ≡ Some rest
+    → bytes ≡ front ++ rest
 behind_step front bytes rest true is e = let same : drop (length front) bytes ≡ rest = (cc) in starts_said front bytes is ∙ ap (λ (l : List ℕ). front ++ l) same
 behind_step front bytes rest false is e = absurd cc
 
@@ -49,7 +50,12 @@ differs : (b c : ℕ) → is_ascii_alphanumeric b ≡ true → (is_ascii_alphanu
 differs b c is differ = ne_eqb b c (λ e. differ (subst (λ (x : ℕ). is_ascii_alphanumeric x ≡ true) e is))
 
 bound_of : (b : ℕ) → is_ascii_alphanumeric b ≡ true → IsBound b
-bound_of b is = record { low = low_of b is; cr = differs b 13 is (λ e. absurd cc); lf = differs b 10 is (λ e. absurd cc); dash = differs b 45 is (λ e. absurd cc) }
+bound_of b is = record {
+  low = low_of b is;
+  cr = differs b 13 is (λ e. absurd cc);
+  lf = differs b 10 is (λ e. absurd cc);
+  dash = differs b 45 is (λ e. absurd cc);
+}
   where
     low_of : (x : ℕ) → is_ascii_alphanumeric x ≡ true → x < 128
     low_of x e = grind (arith, nat_tests)

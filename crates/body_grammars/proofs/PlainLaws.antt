@@ -33,7 +33,8 @@ record IsLine (e : Entry) (part : List ℕ) : Type 0 where
   pub texts : HasTexts e
   pub joined : part ≡ core e
 
-line_cut : (part line : List ℕ) (o : Option (List ℕ × List ℕ)) (e : Entry) → part ≡ line ++ 13 ∷ [] → Free 13 line → Free 10 line → Joined 61 line o → Before 61 o → read_line_cut o ≡ Some e → IsLine e part
+line_cut : (part line : List ℕ) (o : Option (List ℕ × List ℕ)) (e : Entry) → part ≡ line ++ 13 ∷ [] → Free 13 line → Free 10 line → Joined 61 line o
+    → Before 61 o → read_line_cut o ≡ Some e → IsLine e part
 line_cut part line None e whole f13 f10 joined f61 is = absurd cc
 line_cut part line (Some (name, value)) e whole f13 f10 joined f61 is =
     let both = paired_some (only_utf8 name) (only_utf8 value) e is in
@@ -42,12 +43,20 @@ line_cut part line (Some (name, value)) e whole f13 f10 joined f61 is =
     let cr = free_parts 13 name (61 ∷ value) (subst (Free 13) joined f13) in
     let lf = free_parts 10 name (61 ∷ value) (subst (Free 10) joined f10) in
     record {
-      plain = (subst (HasNo 61) n.0 (no_from_free 61 name f61), subst (HasNo 13) n.0 (no_from_free 13 name cr.0), subst (HasNo 10) n.0 (no_from_free 10 name lf.0), subst (HasNo 13) v.0 (no_from_free 13 value cr.1.1), subst (HasNo 10) v.0 (no_from_free 10 value lf.1.1));
+      plain = (
+        subst (HasNo 61) n.0 (no_from_free 61 name f61),
+        subst (HasNo 13) n.0 (no_from_free 13 name cr.0),
+        subst (HasNo 10) n.0 (no_from_free 10 name lf.0),
+        subst (HasNo 13) v.0 (no_from_free 13 value cr.1.1),
+        subst (HasNo 10) v.0 (no_from_free 10 value lf.1.1),
+      );
       texts = (n.1, v.1);
-      joined = whole ∙ (ap (λ (l : List ℕ). l ++ 13 ∷ []) joined ∙ (ap (λ (x : List ℕ). (x ++ 61 ∷ value) ++ 13 ∷ []) n.0 ∙ ap (λ (x : List ℕ). (e.name ++ 61 ∷ x) ++ 13 ∷ []) v.0));
+      joined = whole ∙ (ap (λ (l : List ℕ). l ++ 13 ∷ []) joined
+          ∙ (ap (λ (x : List ℕ). (x ++ 61 ∷ value) ++ 13 ∷ []) n.0 ∙ ap (λ (x : List ℕ). (e.name ++ 61 ∷ x) ++ 13 ∷ []) v.0));
     }
 
-line_whole : (part : List ℕ) (o : Option (List ℕ × List ℕ)) (e : Entry) → Free 10 part → Joined 13 part o → Before 13 o → read_whole_line o ≡ Some e → IsLine e part
+line_whole : (part : List ℕ) (o : Option (List ℕ × List ℕ)) (e : Entry) → Free 10 part → Joined 13 part o → Before 13 o → read_whole_line o ≡ Some e
+    → IsLine e part
 line_whole part None e f10 joined f13 is = absurd cc
 line_whole part (Some (line, b ∷ behind)) e f10 joined f13 is = absurd cc
 line_whole part (Some (line, [])) e f10 joined f13 is =
@@ -69,7 +78,8 @@ core_line e rest =
     ∙ (append_assoc (e.name ++ 61 ∷ e.value) (13 ∷ 10 ∷ []) rest ∙ sym (append_assoc (e.name ++ 61 ∷ e.value) (13 ∷ []) (10 ∷ rest)))
 
 core_free : (e : Entry) → IsPlain e → Free 10 (core e)
-core_free e plain = free_both 10 (e.name ++ 61 ∷ e.value) (13 ∷ []) (free_both 10 e.name (61 ∷ e.value) (free_from_no 10 e.name plain.2) (refl, free_from_no 10 e.value plain.4)) (refl, tt)
+core_free e plain = free_both 10 (e.name ++ 61 ∷ e.value) (13 ∷ [])
+    (free_both 10 e.name (61 ∷ e.value) (free_from_no 10 e.name plain.2) (refl, free_from_no 10 e.value plain.4)) (refl, tt)
 
 -- ---- all lines
 
@@ -97,7 +107,8 @@ lines_said (part ∷ next ∷ parts) list are is =
     subst (λ (l : List Entry). AreLines l (part ++ 10 ∷ join_with_byte 10 (next ∷ parts))) (sym joined)
     (one_line_more e rest part (join_with_byte 10 (next ∷ parts)) (line_said part e are.0 is_e) (lines_said (next ∷ parts) rest are.1 is_rest))
 
-lines_again : (list : List Entry) → AllByRecursion IsPlain list → AllByRecursion HasTexts list → read_lines (slice_split (is_byte 10) (flat_map line list)) ≡ Some list
+lines_again : (list : List Entry) → AllByRecursion IsPlain list → AllByRecursion HasTexts list
+    → read_lines (slice_split (is_byte 10) (flat_map line list)) ≡ Some list
 lines_again [] plain texts = refl
 lines_again (e ∷ list) plain texts =
     ap (λ (b : List ℕ). read_lines (slice_split (is_byte 10) b)) (core_line e (flat_map line list))
@@ -136,7 +147,9 @@ plain_said bytes list is =
 
 plain_again : (list : List Entry) (bytes : List ℕ) → PlainText list bytes → plain_entries bytes ≡ Some list
 unfolding plain_entries
-plain_again list bytes (utf8, plain, joined) = ap (λ (b : List ℕ). read_lines (slice_split (is_byte 10) b)) joined ∙ lines_again list (recursion_from_All IsPlain list plain) (texts_of list (subst IsUtf8 joined utf8))
+plain_again list bytes (utf8, plain, joined) =
+    ap (λ (b : List ℕ). read_lines (slice_split (is_byte 10) b)) joined
+    ∙ lines_again list (recursion_from_All IsPlain list plain) (texts_of list (subst IsUtf8 joined utf8))
 
 no_plain : (bytes : List ℕ) (list : List Entry) → plain_entries bytes ≡ None → PlainText list bytes → ⊥
 no_plain bytes list none is = let both : None ≡ Some list = sym none ∙ plain_again list bytes is in absurd cc

@@ -45,7 +45,8 @@ split_onto : (c b : ℕ) (bytes : List ℕ) (o : Option (List ℕ × List ℕ)) 
 split_onto c b bytes None differ split = rw (differ, split) refl
 split_onto c b bytes (Some (before, behind)) differ split = rw (differ, split) refl
 
-split_step : (c b : ℕ) (bytes : List ℕ) (t : Bool) → nat_eq b c ≡ t → Split c bytes (cut_at c bytes) → Split c (b ∷ bytes) (cond t (Some ([], bytes)) (onto (b ∷ []) (cut_at c bytes)))
+split_step : (c b : ℕ) (bytes : List ℕ) (t : Bool) → nat_eq b c ≡ t → Split c bytes (cut_at c bytes)
+    → Split c (b ∷ bytes) (cond t (Some ([], bytes)) (onto (b ∷ []) (cut_at c bytes)))
 split_step c b bytes true same split = rw same refl
 split_step c b bytes false differ split = split_onto c b bytes (cut_at c bytes) differ split
 
@@ -64,7 +65,8 @@ unfolding read_parts
 parts_none bytes cut = ap read_pairs (subst (λ (o : Option (List ℕ × List ℕ)). Split 38 bytes o) (sym cut) (cut_splits 38 bytes))
 
 -- a part that is no pair ends the reading
-pub stopped : (e : BodyRefused) (old new : List Entry) (bytes rest part behind : List ℕ) → with_front old (read_parts rest) ≡ read_parts bytes → Some (part, behind) ≡ cut_at 38 rest → IsAdded read_pair old part new (Err e) → Gives {X = List Entry} (Err e) (read_parts bytes)
+pub stopped : (e : BodyRefused) (old new : List Entry) (bytes rest part behind : List ℕ) → with_front old (read_parts rest) ≡ read_parts bytes
+    → Some (part, behind) ≡ cut_at 38 rest → IsAdded read_pair old part new (Err e) → Gives {X = List Entry} (Err e) (read_parts bytes)
 stopped NotABody old new bytes rest part behind same cut none =
     let first : then_one (read_pair part) (read_parts behind) ≡ None = ap (λ (o : Option Entry). then_one o (read_parts behind)) none in
     sym same ∙ ap (with_front old) (parts_some rest part behind cut ∙ first)
@@ -89,7 +91,8 @@ lines_step part [] is = absurd is
 lines_step [] (next ∷ parts) is = refl
 lines_step (b ∷ part) (next ∷ parts) is = refl
 
-pub lines_some : (bytes before behind : List ℕ) → Some (before, behind) ≡ cut_at 10 bytes → plain_entries bytes ≡ then_one (read_line before) (plain_entries behind)
+pub lines_some : (bytes before behind : List ℕ) → Some (before, behind) ≡ cut_at 10 bytes
+    → plain_entries bytes ≡ then_one (read_line before) (plain_entries behind)
 unfolding plain_entries
 lines_some bytes before behind cut =
     ap read_lines (subst (λ (o : Option (List ℕ × List ℕ)). Split 10 bytes o) (sym cut) (cut_splits 10 bytes))
@@ -107,7 +110,8 @@ pub lines_none : (bytes : List ℕ) → None ≡ cut_at 10 bytes → plain_entri
 unfolding plain_entries
 lines_none bytes cut = ap read_lines (subst (λ (o : Option (List ℕ × List ℕ)). Split 10 bytes o) (sym cut) (cut_splits 10 bytes)) ∙ last_is bytes
 
-pub line_stopped : (e : BodyRefused) (old new : List Entry) (bytes rest part behind : List ℕ) → with_front old (plain_entries rest) ≡ plain_entries bytes → Some (part, behind) ≡ cut_at 10 rest → IsAdded read_line old part new (Err e) → Gives {X = List Entry} (Err e) (plain_entries bytes)
+pub line_stopped : (e : BodyRefused) (old new : List Entry) (bytes rest part behind : List ℕ) → with_front old (plain_entries rest) ≡ plain_entries bytes
+    → Some (part, behind) ≡ cut_at 10 rest → IsAdded read_line old part new (Err e) → Gives {X = List Entry} (Err e) (plain_entries bytes)
 line_stopped NotABody old new bytes rest part behind same cut none =
     let first : then_one (read_line part) (plain_entries behind) ≡ None = ap (λ (o : Option Entry). then_one o (plain_entries behind)) none in
     sym same ∙ ap (with_front old) (lines_some rest part behind cut ∙ first)

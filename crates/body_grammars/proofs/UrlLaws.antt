@@ -47,7 +47,12 @@ pair_said part e is = pair_cut part (cut_at 61 part) e (cut_joined 61 part) is
 
 pair_again : (part : List ℕ) (e : Entry) → IsPair e part → read_pair part ≡ Some e
 pair_again part e p =
-    rw (p.joined, cut_again 61 p.name p.value (spelled_free e.name p.name p.spells_name).1, text_again p.name e.name p.spells_name p.name_utf8, text_again p.value e.value p.spells_value p.value_utf8) refl
+    rw (
+      p.joined,
+      cut_again 61 p.name p.value (spelled_free e.name p.name p.spells_name).1,
+      text_again p.name e.name p.spells_name p.name_utf8,
+      text_again p.value e.value p.spells_value p.value_utf8,
+    ) refl
 
 pairs_said : (parts : List (List ℕ)) (list : List Entry) → read_pairs parts ≡ Some list → ArePairs list parts
 pairs_said [] list is = let e : [] ≡ list = (cc) in subst (λ (l : List Entry). ArePairs l []) e refl
@@ -63,7 +68,8 @@ pairs_again (e ∷ list) (part ∷ parts) are = rw (pair_again part e are.0, pai
 -- ---- parts between &
 
 pair_free : (e : Entry) (part : List ℕ) → IsPair e part → Free 38 part
-pair_free e part p = subst (λ (l : List ℕ). Free 38 l) (sym p.joined) (free_both 38 p.name (61 ∷ p.value) (spelled_free e.name p.name p.spells_name).0 (refl, (spelled_free e.value p.value p.spells_value).0))
+pair_free e part p = subst (λ (l : List ℕ). Free 38 l) (sym p.joined)
+    (free_both 38 p.name (61 ∷ p.value) (spelled_free e.name p.name p.spells_name).0 (refl, (spelled_free e.value p.value p.spells_value).0))
 
 split_again : (e : Entry) (list : List Entry) (parts : List (List ℕ)) → ArePairs (e ∷ list) parts → slice_split (is_byte 38) (join_with_byte 38 parts) ≡ parts
 split_again e list [] are = absurd are
@@ -71,7 +77,8 @@ split_again e [] (part ∷ []) are = split_free 38 part (pair_free e part are.0)
 split_again e [] (part ∷ next ∷ parts) are = absurd cc
 split_again e (f ∷ list) (part ∷ []) are = absurd are.1
 split_again e (f ∷ list) (part ∷ next ∷ parts) are =
-    split_at 38 part (join_with_byte 38 (next ∷ parts)) (pair_free e part are.0) ∙ ap (λ (l : List (List ℕ)). part ∷ l) (split_again f list (next ∷ parts) are.1)
+    split_at 38 part (join_with_byte 38 (next ∷ parts)) (pair_free e part are.0)
+    ∙ ap (λ (l : List (List ℕ)). part ∷ l) (split_again f list (next ∷ parts) are.1)
 
 -- ---- bodies
 
@@ -123,7 +130,8 @@ url_again (e ∷ list) bytes (parts, are, joined) =
 no_url : (bytes : List ℕ) (list : List Entry) → urlencoded_entries bytes ≡ None → UrlText list bytes → ⊥
 no_url bytes list none is = let both : None ≡ Some list = sym none ∙ url_again list bytes is in absurd cc
 
-pub url_reads : (r : Result (List Entry) BodyRefused) (bytes : List ℕ) → Gives r (urlencoded_entries bytes) → Reads (λ (list : List Entry). UrlText list bytes) r
+pub url_reads : (r : Result (List Entry) BodyRefused) (bytes : List ℕ) → Gives r (urlencoded_entries bytes)
+    → Reads (λ (list : List Entry). UrlText list bytes) r
 url_reads (Ok list) bytes gives = url_said bytes list gives
 url_reads (Err NotABody) bytes gives = λ list is. no_url bytes list gives is
 url_reads (Err NoMemory) bytes gives = tt

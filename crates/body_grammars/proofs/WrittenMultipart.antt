@@ -46,13 +46,16 @@ no_line_end (b ∷ boundary) are = rw (are.0.cr, are.0.lf, no_line_end boundary 
 
 -- ---- parts
 
-fits_written : (boundary : List ℕ) (entries : List Entry) → has_line_end boundary ≡ false → is_broken_by entries boundary ≡ false → AllByRecursion (FitsPart boundary) (map as_part entries)
+fits_written : (boundary : List ℕ) (entries : List Entry) → has_line_end boundary ≡ false → is_broken_by entries boundary ≡ false
+    → AllByRecursion (FitsPart boundary) (map as_part entries)
 fits_written boundary [] one is = tt
 fits_written boundary (e ∷ entries) one is =
     let both = or_parts _ _ is in
     let value = (or_parts _ _ both.0).1 in
-    let name = escaped_name (with_full_newlines e.name) in
-    ((no_from_free 34 _ name.0, no_from_free 13 _ name.1, no_from_free 10 _ name.2, occurs-with_full_newlines boundary e.value one ∙ value), fits_written boundary entries one both.1)
+    let name = escaped_name (with_full_newlines e.name) in (
+      (no_from_free 34 _ name.0, no_from_free 13 _ name.1, no_from_free 10 _ name.2, occurs-with_full_newlines boundary e.value one ∙ value),
+      fits_written boundary entries one both.1,
+    )
 
 texts_written : (entries : List Entry) → AllByRecursion HasTexts entries → AllByRecursion HasTexts (map as_part entries)
 texts_written [] are = tt
@@ -62,14 +65,18 @@ parts_same : (boundary : List ℕ) (entries : List Entry) → flat_map (part_sen
 parts_same boundary [] = refl
 parts_same boundary (e ∷ entries) = ap (λ (l : List ℕ). part_sent boundary e ++ l) (parts_same boundary entries)
 
-pub multipart_back : (entries : List Entry) (boundary : List ℕ) → IsBoundary boundary → All HasTexts entries → is_broken_by entries boundary ≡ false → PartText (map as_part entries) boundary (multipart entries boundary)
+pub multipart_back : (entries : List Entry) (boundary : List ℕ) → IsBoundary boundary → All HasTexts entries → is_broken_by entries boundary ≡ false
+    → PartText (map as_part entries) boundary (multipart entries boundary)
 multipart_back entries boundary is texts free =
     let are = boundary_bounds boundary is in
     let ascii = bound_ascii boundary are in
     let list = map as_part entries in
     let texts' = texts_written entries (recursion_from_All HasTexts entries texts) in
-    let joined : multipart entries boundary ≡ flat_map (part boundary) list ++ codes "--" ++ boundary ++ codes "--" ++ newline = ap (λ (l : List ℕ). l ++ codes "--" ++ boundary ++ codes "--" ++ newline) (parts_same boundary entries) in (
-      subst IsUtf8 (sym (joined ∙ whole_body boundary list)) (front_utf8 (codes "--") (boundary ++ tail_text boundary list) (ascii_by (codes "--") refl) (front_utf8 boundary (tail_text boundary list) ascii (tail_utf8 boundary list ascii texts'))),
+    let joined : multipart entries boundary ≡ flat_map (part boundary) list ++ codes "--" ++ boundary ++ codes "--" ++ newline =
+    ap (λ (l : List ℕ). l ++ codes "--" ++ boundary ++ codes "--" ++ newline) (parts_same boundary entries) in (
+      subst IsUtf8 (sym (joined ∙ whole_body boundary list))
+          (front_utf8 (codes "--") (boundary ++ tail_text boundary list) (ascii_by (codes "--") refl)
+          (front_utf8 boundary (tail_text boundary list) ascii (tail_utf8 boundary list ascii texts'))),
       All-from_recursion (FitsPart boundary) list (fits_written boundary entries (no_line_end boundary are) free),
       joined,
     )

@@ -1,5 +1,6 @@
 -- What is written urlencoded is read back as the list, with its line ends as they are sent.
-use Rattle.std.proofs.Common.{◌≡◌, ◌<◌, ℕ, Bool, true, false, List, [], ◌∷◌, ◌++◌, length, refl, sym, ap, subst, ◌∙◌, append_assoc, arith, ◌/◌, ◌%◌, not, ◌||◌, map, inl, inr}
+use Rattle.std.proofs.Common.{◌≡◌, ◌<◌, ℕ, Bool, true, false, List, [], ◌∷◌, ◌++◌, length, refl, sym, ap, subst, ◌∙◌, append_assoc, arith, ◌/◌, ◌%◌, not, ◌||◌}
+use Rattle.std.proofs.Common.{map, inl, inr}
 use Rattle.std.proofs.lemmas.Bool.{agree_below_at, cond_both, cond-true, eqb-true, lt-ltb}
 use Rattle.std.proofs.lemmas.List.Elements.{recursion_from_All}
 use Rattle.std.specs.Char.{digit_value}
@@ -28,7 +29,8 @@ unchanged_bare : (b : ℕ) → b < 256 → is_unchanged b ≡ true → is_bare b
 unchanged_bare b small is = or_right (is_unchanged b) (is_bare b) (agree_below_at (λ x. not (is_unchanged x) || is_bare x) (λ _. true) 256 b refl small) is
 
 glyph_value : (d : ℕ) → d < 16 → digit_value (digit_glyph true d) ≡ d
-glyph_value d small = eqb-true (digit_value (digit_glyph true d)) d (agree_below_at (λ x. nat_eq (digit_value (digit_glyph true x)) x) (λ _. true) 16 d refl small)
+glyph_value d small = eqb-true (digit_value (digit_glyph true d)) d
+    (agree_below_at (λ x. nat_eq (digit_value (digit_glyph true x)) x) (λ _. true) 16 d refl small)
 
 percent_spelling : (b : ℕ) → b < 256 → IsSpelling b (percent_encode_byte b)
 unfolding percent_encode_byte
@@ -37,7 +39,14 @@ percent_spelling b small =
     let low : b % 16 < 16 = omega arith in
     let h = glyph_value (b / 16 % 16) high in
     let l = glyph_value (b % 16) low in
-    inr (inr (digit_glyph true (b / 16 % 16), digit_glyph true (b % 16), subst (λ (x : ℕ). x < 16) (sym h) high, subst (λ (x : ℕ). x < 16) (sym l) low, rw (h, l) (omega arith), refl))
+    inr (inr (
+      digit_glyph true (b / 16 % 16),
+      digit_glyph true (b % 16),
+      subst (λ (x : ℕ). x < 16) (sym h) high,
+      subst (λ (x : ℕ). x < 16) (sym l) low,
+      rw (h, l) (omega arith),
+      refl,
+    ))
 
 byte_spelling : (b : ℕ) → b < 256 → IsSpelling b (serialize_byte b)
 byte_spelling b small =
@@ -88,7 +97,8 @@ joined_some : (form : List ℕ) → NotEmpty form → separator form ≡ 38 ∷ 
 joined_some [] is = absurd is
 joined_some (b ∷ form) is = cond-true _ _ _ (lt-ltb 0 (length (b ∷ form)) (omega arith))
 
-join_step : (part : List ℕ) (e : Entry) (entries : List Entry) → join_with_byte 38 (part ∷ written_parts (e ∷ entries)) ≡ join_with_byte 38 (((part ++ 38 ∷ []) ++ serialize_pair (pair_of e)) ∷ written_parts entries)
+join_step : (part : List ℕ) (e : Entry) (entries : List Entry)
+    → join_with_byte 38 (part ∷ written_parts (e ∷ entries)) ≡ join_with_byte 38 (((part ++ 38 ∷ []) ++ serialize_pair (pair_of e)) ∷ written_parts entries)
 join_step part e [] = sym (append_assoc part (38 ∷ []) (serialize_pair (pair_of e)))
 join_step part e (f ∷ entries) =
     let tail = 38 ∷ join_with_byte 38 (written_parts (f ∷ entries)) in
@@ -103,7 +113,8 @@ extended form (e ∷ entries) is =
 
 back_by_recursion : (entries : List Entry) → AllByRecursion HasTexts entries → UrlText (map as_sent entries) (urlencoded entries)
 back_by_recursion [] are = refl
-back_by_recursion (e ∷ entries) are = (written_parts (e ∷ entries), written_pairs (e ∷ entries) are, extended (serialize_pair (pair_of e)) entries (written_not_empty (pair_of e)))
+back_by_recursion (e ∷ entries) are =
+    (written_parts (e ∷ entries), written_pairs (e ∷ entries) are, extended (serialize_pair (pair_of e)) entries (written_not_empty (pair_of e)))
 
 pub urlencoded_back : (entries : List Entry) → All HasTexts entries → UrlText (map as_sent entries) (urlencoded entries)
 urlencoded_back entries are = back_by_recursion entries (recursion_from_All HasTexts entries are)

@@ -21,7 +21,8 @@ appends_keeps (Some held) (Some mid) None bytes one two = absurd two
 appends_keeps (Some held) (Some mid) (Some held') bytes one two = two ∙ one
 
 -- what stands behind a list, where a list that is no shorter is followed by some
-behind_longer : (short long pending bytes : List ℕ) → long ++ pending ≡ short ++ bytes → length short ≤ length long → (part : List ℕ) × (part ++ pending ≡ bytes) × (long ≡ short ++ part)
+behind_longer : (short long pending bytes : List ℕ) → long ++ pending ≡ short ++ bytes → length short ≤ length long
+    → (part : List ℕ) × (part ++ pending ≡ bytes) × (long ≡ short ++ part)
 behind_longer [] long pending bytes is le = (long, is, refl)
 behind_longer (x ∷ short) [] pending bytes is le = absurd (omega (arith, le))
 behind_longer (x ∷ short) (y ∷ long) pending bytes is le =
@@ -32,14 +33,16 @@ behind_longer (x ∷ short) (y ∷ long) pending bytes is le =
     (rest.0, rest.1, ap (λ z. z ∷ long) first ∙ ap (λ l. x ∷ l) rest.2)
 
 -- the sink below has a front, if it holds no less than at first
-below_front : (held below : Option (List ℕ)) (pending bytes : List ℕ) → Appends held (behind below pending) bytes → count_of held ≤ count_of below → AppendsPart held below bytes
+below_front : (held below : Option (List ℕ)) (pending bytes : List ℕ) → Appends held (behind below pending) bytes → count_of held ≤ count_of below
+    → AppendsPart held below bytes
 below_front None below pending bytes is le = ([], (bytes, refl), tt)
 below_front (Some held) None pending bytes is le = absurd is
 below_front (Some held) (Some below) pending bytes is le =
     let p = behind_longer held below pending bytes is le in
     (p.0, (pending, p.1), p.2)
 
-below_part : (held below : Option (List ℕ)) (pending bytes : List ℕ) → AppendsPart held (behind below pending) bytes → count_of held ≤ count_of below → AppendsPart held below bytes
+below_part : (held below : Option (List ℕ)) (pending bytes : List ℕ) → AppendsPart held (behind below pending) bytes → count_of held ≤ count_of below
+    → AppendsPart held below bytes
 below_part held below pending bytes part le =
     let p = below_front held below pending part.0 part.2 le in
     (p.0, (p.1.0 ++ part.1.0, sym (append_assoc p.0 p.1.0 part.1.0) ∙ (ap (λ l. l ++ part.1.0) p.1.1 ∙ part.1.1)), p.2)

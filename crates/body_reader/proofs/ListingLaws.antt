@@ -31,5 +31,8 @@ cut_listing list i e part more small is cut =
 -- a front of the line of an entry, behind those of the entries before it
 pub wrote_front : (list : List Entry) (i : ℕ) (e : Entry) (old mid new : Option (List ℕ)) → i < length list → e ≡ get_or list i e
     → Appends old mid (listing (take i list)) → AppendsPart mid new (entry_line e) → AppendsPart old new (listing list)
-wrote_front list i e old mid new small is before (part, (more, cut), wrote) =
-    (listing (take i list) ++ part, (more ++ listing (drop (i + 1) list), cut_listing list i e part more small is cut), Appends-trans old mid new (listing (take i list)) part before wrote)
+wrote_front list i e old mid new small is before (part, (more, cut), wrote) = (
+  listing (take i list) ++ part,
+  (more ++ listing (drop (i + 1) list), cut_listing list i e part more small is cut),
+  Appends-trans old mid new (listing (take i list)) part before wrote,
+)

@@ -1,5 +1,6 @@
 -- What a run has done at each of its ends.
-use Rattle.std.proofs.Common.{◌≡◌, ◌≤◌, ℕ, Bool, List, [], ◌++◌, length, Option, Some, None, Result, Ok, Err, refl, sym, ap, subst, ◌∙◌, append-nil, arith, length-append, inl, inr}
+use Rattle.std.proofs.Common.{◌≡◌, ◌≤◌, ℕ, Bool, List, [], ◌++◌, length, Option, Some, None, Result, Ok, Err, refl, sym, ap, subst, ◌∙◌, append-nil, arith}
+use Rattle.std.proofs.Common.{length-append, inl, inr}
 use Rattle.std.proofs.KnownBytes.{Appends-nil, Consumes-nil}
 use Rattle.std.specs.Prelude.{IsErrOf, OnErr, OnOk}
 use Rattle.std.specs.Io.KnownBytes.{Appends, Consumes, IsAtEnd}
@@ -22,18 +23,24 @@ pub written_after : (t : BodyType) (bytes whole : List ℕ) (status : ReadStatus
     → OnOk r (Appends held held' whole) → OnErr r (AppendsPart held held' whole) → (IsErrOf r StopWrite → Rose before now)
     → AnswerMeets t bytes (status_after r status) held held' before now
 written_after t bytes whole status (Ok x) held held' before now row front all part cause = record { written = whole; wrote = all; row = row }
-written_after t bytes whole status (Err StopMemory) held held' before now row front all part cause = record { written = part.0; wrote = part.2; row = inr (front part.0 part.1) }
-written_after t bytes whole status (Err StopWrite) held held' before now row front all part cause = record { written = part.0; wrote = part.2; row = (cause refl, front part.0 part.1) }
+written_after t bytes whole status (Err StopMemory) held held' before now row front all part cause =
+    record { written = part.0; wrote = part.2; row = inr (front part.0 part.1) }
+written_after t bytes whole status (Err StopWrite) held held' before now row front all part cause =
+    record { written = part.0; wrote = part.2; row = (cause refl, front part.0 part.1) }
 
 pub listed_after : (t : BodyType) (bytes : List ℕ) (list : List Entry) (r : Result (Unit {0}) Stop) (held held' : Option (List ℕ)) (before now : ℕ)
-    → IsBody t list bytes → OnOk r (Appends held held' (listing list)) → OnErr r (AppendsPart held held' (listing list)) → (IsErrOf r StopWrite → Rose before now)
+    → IsBody t list bytes → OnOk r (Appends held held' (listing list)) → OnErr r (AppendsPart held held' (listing list))
+    → (IsErrOf r StopWrite → Rose before now)
     → AnswerMeets t bytes (status_after r Done) held held' before now
-listed_after t bytes list r held held' before now is = written_after t bytes (listing list) Done r held held' before now (list, is, refl) (λ part front. (listing list, inl (list, is, refl), front))
+listed_after t bytes list r held held' before now is =
+    written_after t bytes (listing list) Done r held held' before now (list, is, refl) (λ part front. (listing list, inl (list, is, refl), front))
 
 pub refused_after : (t : BodyType) (bytes : List ℕ) (r : Result (Unit {0}) Stop) (held held' : Option (List ℕ)) (before now : ℕ)
-    → ((list : List Entry) → IsBody t list bytes → ⊥) → OnOk r (Appends held held' refused_line) → OnErr r (AppendsPart held held' refused_line) → (IsErrOf r StopWrite → Rose before now)
+    → ((list : List Entry) → IsBody t list bytes → ⊥) → OnOk r (Appends held held' refused_line) → OnErr r (AppendsPart held held' refused_line)
+    → (IsErrOf r StopWrite → Rose before now)
     → AnswerMeets t bytes (status_after r Refused) held held' before now
-refused_after t bytes r held held' before now none = written_after t bytes refused_line Refused r held held' before now (none, refl) (λ part front. (refused_line, inr (none, refl), front))
+refused_after t bytes r held held' before now none =
+    written_after t bytes refused_line Refused r held held' before now (none, refl) (λ part front. (refused_line, inr (none, refl), front))
 
 -- ---- nothing was read
 
@@ -41,9 +48,11 @@ pub meets_usage : (left held : Option (List ℕ)) (ended : Bool) (sb sn kb kn : 
 meets_usage left held ended sb sn kb kn = record { taken = []; written = []; took = Consumes-nil left; wrote = Appends-nil held; as_said = (refl, refl, refl) }
 
 -- memory was refused while the words were read, which are not refused
-pub meets_unread : (said : Option BodyType) (left held : Option (List ℕ)) (ended : Bool) (sb sn kb kn : ℕ) → (said ≡ None → ⊥) → RunMeets said NoMemory left left held held ended sb sn kb kn
+pub meets_unread : (said : Option BodyType) (left held : Option (List ℕ)) (ended : Bool) (sb sn kb kn : ℕ) → (said ≡ None → ⊥)
+    → RunMeets said NoMemory left left held held ended sb sn kb kn
 meets_unread None left held ended sb sn kb kn some = absurd (some refl)
-meets_unread (Some t) left held ended sb sn kb kn some = record { taken = []; written = []; took = Consumes-nil left; wrote = Appends-nil held; as_said = (omega arith, inl refl) }
+meets_unread (Some t) left held ended sb sn kb kn some =
+    record { taken = []; written = []; took = Consumes-nil left; wrote = Appends-nil held; as_said = (omega arith, inl refl) }
 
 -- ---- a run that nothing disturbed
 
@@ -57,7 +66,8 @@ few_taken : (bytes : List ℕ) (left : Option (List ℕ)) (taken : List ℕ) →
 few_taken bytes None taken took = absurd took
 few_taken bytes (Some rest) taken took = omega (arith, ap length took, length-append taken rest)
 
-whole_row : (t : BodyType) (bytes : List ℕ) (status : ReadStatus) (call : Call) (held held' : Option (List ℕ)) → Row status t call → Consumes (Some bytes) call.left call.taken → Appends held held' call.written
+whole_row : (t : BodyType) (bytes : List ℕ) (status : ReadStatus) (call : Call) (held held' : Option (List ℕ)) → Row status t call
+    → Consumes (Some bytes) call.left call.taken → Appends held held' call.written
     → length bytes ≤ limit → (Rose call.source_before call.source_now → ⊥) → (Rose call.sink_before call.sink_now → ⊥) → RunsWhole t bytes status held held'
 whole_row t bytes Done call held held' row took wrote within calm_source calm_sink =
     let all = all_taken bytes call.left call.taken took row.0.1 in
@@ -73,8 +83,20 @@ whole_row t bytes TooLong call held held' row took wrote within calm_source calm
     let few = few_taken bytes call.left call.taken took in
     absurd (omega (arith, few, within, row.0))
 
-pub runs_whole : (said : Option BodyType) (t : BodyType) (bytes : List ℕ) (status : ReadStatus) (left left' held held' : Option (List ℕ)) (ended : Bool) (sb sn kb kn : ℕ)
-    → RunMeets said status left left' held held' ended sb sn kb kn → said ≡ Some t → left ≡ Some bytes → length bytes ≤ limit → (Rose sb sn → ⊥) → (Rose kb kn → ⊥) → RunsWhole t bytes status held held'
+pub runs_whole : (said : Option BodyType) (t : BodyType) (bytes : List ℕ) (status : ReadStatus) (left left' held held' : Option (List ℕ)) (ended : Bool)
+    (sb sn kb kn : ℕ)
+    → RunMeets said status left left' held held' ended sb sn kb kn → said ≡ Some t → left ≡ Some bytes → length bytes ≤ limit → (Rose sb sn → ⊥)
+    → (Rose kb kn → ⊥) → RunsWhole t bytes status held held'
 runs_whole said t bytes status left left' held held' ended sb sn kb kn meets is known within calm_source calm_sink =
-    let call : Call = record { taken = meets.taken; written = meets.written; ended = ended; left = left'; source_before = sb; source_now = sn; sink_before = kb; sink_now = kn } in
-    whole_row t bytes status call held held' (subst (λ (s : Option BodyType). IsAsSaid s status call) is meets.as_said) (subst (λ (l : Option (List ℕ)). Consumes l left' meets.taken) known meets.took) meets.wrote within calm_source calm_sink
+    let call : Call = record {
+      taken = meets.taken;
+      written = meets.written;
+      ended = ended;
+      left = left';
+      source_before = sb;
+      source_now = sn;
+      sink_before = kb;
+      sink_now = kn;
+    } in
+    whole_row t bytes status call held held' (subst (λ (s : Option BodyType). IsAsSaid s status call) is meets.as_said)
+    (subst (λ (l : Option (List ℕ)). Consumes l left' meets.taken) known meets.took) meets.wrote within calm_source calm_sink

@@ -7,7 +7,8 @@ use Rattle.rule_lines.specs.Acts.{Act, Both, Log, Super, Return, Throw, Bump, Ke
 use Rattle.rule_lines.specs.declared.line.Cmd.{Cmd}
 use Rattle.rule_lines.specs.declared.op.Op.{Op}
 use Rattle.reaction_queue.specs.declared.reaction.Reaction.{Reaction}
-use Rattle.reaction_queue.specs.declared.reaction.Reaction.TheVariants.{Upgrade as UpgradeReaction, Connected, Disconnected, Adopted, Attribute, FormAssociated, FormDisabled, FormReset, FormStateRestore}
+use Rattle.reaction_queue.specs.declared.reaction.Reaction.TheVariants.{Upgrade as UpgradeReaction, Connected, Disconnected, Adopted, Attribute, FormAssociated}
+use Rattle.reaction_queue.specs.declared.reaction.Reaction.TheVariants.{FormDisabled, FormReset, FormStateRestore}
 use Rattle.reaction_queue.specs.Queues.{waiting_at, with_waiting}
 use Rattle.ce_registry.specs.ClassFacts.{has_call}
 use Rattle.ce_registry.specs.declared.definition.Definition.{Definition}
@@ -26,13 +27,17 @@ use Rattle.ce_algorithms.specs.Values.{Args, no_args, text_of}
 use Rattle.ce_algorithms.specs.Body.{Flow, Next, Ended, on_flow, told, returned, caught, holds, act, body, actions_of}
 use Rattle.ce_algorithms.specs.Construct.{base_alone, constructor_body, construct}
 use Rattle.ce_algorithms.specs.Upgrade.{construct_for, drop_reactions, upgrade_threw, upgrade_now, upgrade}
-use Rattle.ce_algorithms.specs.Drain.{log_call, call_back, call_defined, run_reaction, react, drain, open_queue, pop_queue, drain_popped, reacting, with_backup, drain_first, drain_backup}
+use Rattle.ce_algorithms.specs.Drain.{log_call, call_back, call_defined, run_reaction, react, drain, open_queue, pop_queue, drain_popped, reacting, with_backup}
+use Rattle.ce_algorithms.specs.Drain.{drain_first, drain_backup}
 use Rattle.ce_algorithms.specs.Create.{construct_fit, create_failed, upgrade_failed, create_extended, create_defined, create_found, create}
 use Rattle.ce_algorithms.specs.Controls.{control_steps}
-use Rattle.ce_algorithms.specs.Perform.{create_named, define_element, gives_nothing, gives_node, page_steps, internals_steps, form_steps, steps, perform_deed, keep, kept, operate, act_as_user}
+use Rattle.ce_algorithms.specs.Perform.{create_named, define_element, gives_nothing, gives_node, page_steps, internals_steps, form_steps, steps, perform_deed}
+use Rattle.ce_algorithms.specs.Perform.{keep, kept, operate, act_as_user}
 use Rattle.ce_algorithms.specs.Deeds.{resolve, resolve_user, is_reacting, variable}
 use Rattle.ce_algorithms.specs.Model.{level}
-use Rattle.ce_algorithms.proofs.Framed.{Framed, framed_steps, framed_bind, framed_seq, framed_give, framed_done, framed_read, framed_read_page, framed_look, framed_change_page, framed_log, framed_on_page, framed_spend, framed_set_variable, framed_list, framed_if, framed_catch, framed_finally}
+use Rattle.ce_algorithms.proofs.Framed.{Framed, framed_steps, framed_bind, framed_seq, framed_give, framed_done, framed_read, framed_read_page, framed_look}
+use Rattle.ce_algorithms.proofs.Framed.{framed_change_page, framed_log, framed_on_page, framed_spend, framed_set_variable, framed_list, framed_if, framed_catch}
+use Rattle.ce_algorithms.proofs.Framed.{framed_finally}
 use Rattle.ce_algorithms.proofs.Submission.{framed_submit_steps}
 
 -- what calls nothing again
@@ -121,7 +126,9 @@ module _ (again : Again) (below : (call : Call) → Framed (again call)) where
   act_framed k args this (Keep val) = search (framed_steps) depth 12
   act_framed k args this (Try a) = framed_catch (framed_seq framed_spend (act_framed k args this a)) (framed_caught this)
   act_framed k args this (If equal left right a) =
-      framed_bind (framed_read (λ s. (class_of s k).memory) (λ events s. refl)) (λ memory. framed_if (holds equal (text_of memory args left) (text_of memory args right)) (framed_seq framed_spend (act_framed k args this a)) (framed_give (Next this)))
+      framed_bind (framed_read (λ s. (class_of s k).memory) (λ events s. refl))
+      (λ memory. framed_if (holds equal (text_of memory args left) (text_of memory args right)) (framed_seq framed_spend (act_framed k args this a))
+      (framed_give (Next this)))
 
   pub body_framed : (k : ℕ) (args : Args) (this : Option ℕ) (actions : List Act) → Framed (body again k args this actions)
   body_framed k args this [] = framed_give this
@@ -134,7 +141,8 @@ module _ (again : Again) (below : (call : Call) → Framed (again call)) where
   -- construction and upgrade
 
   pub constructor_body_framed : (k : ℕ) (c : Class) → Framed (constructor_body again k c)
-  constructor_body_framed k c = framed_if (has_call Constructor c.facts.calls) (body_framed k no_args None (actions_of Constructor c.bodies)) (framed_base_alone k)
+  constructor_body_framed k c = framed_if (has_call Constructor c.facts.calls) (body_framed k no_args None (actions_of Constructor c.bodies))
+      (framed_base_alone k)
 
   pub construct_framed : (k : ℕ) → Framed (construct again k)
   construct_framed k = search (framed_steps, constructor_body_framed) depth 12
@@ -168,7 +176,10 @@ module _ (again : Again) (below : (call : Call) → Framed (again call)) where
 
   pub drain_framed : (ns : List ℕ) → Framed (drain again ns)
   drain_framed [] = framed_done
-  drain_framed (n ∷ ns) = framed_bind (framed_read_page (λ p. waiting_at p.queues n)) (λ waiting. framed_list waiting _ _ (drain_framed ns) (λ w ws. framed_seq (framed_change_page (with_queues (with_waiting n ws))) (framed_seq (react_framed n w) (framed_seq (below (DrainRest (n ∷ ns))) framed_done))))
+  drain_framed (n ∷ ns) = framed_bind (framed_read_page (λ p. waiting_at p.queues n))
+      (λ waiting. framed_list waiting _ _ (drain_framed ns)
+      (λ w ws. framed_seq (framed_change_page (with_queues (with_waiting n ws)))
+      (framed_seq (react_framed n w) (framed_seq (below (DrainRest (n ∷ ns))) framed_done))))
 
   pub drain_popped_framed : (number : ℕ) → Framed (drain_popped again number)
   drain_popped_framed number = search (framed_steps, framed_pop_queue, drain_framed) depth 12
@@ -178,7 +189,8 @@ module _ (again : Again) (below : (call : Call) → Framed (again call)) where
 
   drain_first_framed : (elements : List ℕ) → Framed (drain_first again elements)
   drain_first_framed [] = framed_done
-  drain_first_framed (n ∷ ns) = framed_seq (framed_change_page (with_queues (with_backup ns))) (framed_seq (drain_framed (n ∷ [])) (framed_seq (below DrainBackup) framed_done))
+  drain_first_framed (n ∷ ns) = framed_seq (framed_change_page (with_queues (with_backup ns)))
+      (framed_seq (drain_framed (n ∷ [])) (framed_seq (below DrainBackup) framed_done))
 
   pub drain_backup_framed : Framed (drain_backup again)
   drain_backup_framed = framed_bind (framed_read_page (λ p. p.queues.backup)) drain_first_framed
@@ -192,7 +204,8 @@ module _ (again : Again) (below : (call : Call) → Framed (again call)) where
   create_extended_framed local is d x = search (framed_steps, upgrade_framed, framed_upgrade_failed) depth 14
 
   pub create_defined_framed : (local : List ℕ) (is : Option (List ℕ)) (d n : ℕ) (x : Definition) → Framed (create_defined again local is d n x)
-  create_defined_framed local is d n x = framed_if (is_autonomous x) (framed_catch (construct_fit_framed local d x.class) (framed_create_failed local d)) (create_extended_framed local is d n)
+  create_defined_framed local is d n x =
+      framed_if (is_autonomous x) (framed_catch (construct_fit_framed local d x.class) (framed_create_failed local d)) (create_extended_framed local is d n)
 
   pub create_found_framed : (local : List ℕ) (is : Option (List ℕ)) (d : ℕ) (o : Option ℕ) → Framed (create_found again local is d o)
   create_found_framed local is d None = framed_on_page (make_undefined local is d)

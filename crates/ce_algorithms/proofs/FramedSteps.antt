@@ -81,5 +81,6 @@ framed_run_lines line [] = framed_done
 framed_run_lines line (l ∷ ls) = framed_seq (framed_run_line line l) (framed_run_lines (line + 1) ls)
 
 -- what a line does behind events
-pub run_line_behind : (line : ℕ) (l : Result Said Bad) (events : List Event) (s : State) → run_line model line l (behind events s) ≡ behind_in events (run_line model line l s)
+pub run_line_behind : (line : ℕ) (l : Result Said Bad) (events : List Event) (s : State)
+    → run_line model line l (behind events s) ≡ behind_in events (run_line model line l s)
 run_line_behind line l events s = (framed_run_line line l).at events s

@@ -6,7 +6,8 @@ use Rattle.rule_tokens.specs.declared.operand.Operand.{Operand}
 use Rattle.rule_lines.specs.Acts.{Act, Both, Log, Super, Return, Throw, Bump, Keep, Try, If}
 use Rattle.rule_lines.specs.declared.op.Op.{Op}
 use Rattle.reaction_queue.specs.declared.reaction.Reaction.{Reaction}
-use Rattle.reaction_queue.specs.declared.reaction.Reaction.TheVariants.{Upgrade as UpgradeReaction, Connected, Disconnected, Adopted, Attribute, FormAssociated, FormDisabled, FormReset, FormStateRestore}
+use Rattle.reaction_queue.specs.declared.reaction.Reaction.TheVariants.{Upgrade as UpgradeReaction, Connected, Disconnected, Adopted, Attribute, FormAssociated}
+use Rattle.reaction_queue.specs.declared.reaction.Reaction.TheVariants.{FormDisabled, FormReset, FormStateRestore}
 use Rattle.reaction_queue.specs.Queues.{waiting_at, with_waiting}
 use Rattle.ce_registry.specs.ClassFacts.{has_call}
 use Rattle.ce_registry.specs.declared.definition.Definition.{Definition}
@@ -24,15 +25,18 @@ use Rattle.ce_algorithms.specs.Values.{Args, no_args, text_of}
 use Rattle.ce_algorithms.specs.Body.{Flow, Next, Ended, on_flow, told, returned, caught, holds, act, body, actions_of}
 use Rattle.ce_algorithms.specs.Construct.{base_alone, constructor_body, construct}
 use Rattle.ce_algorithms.specs.Upgrade.{construct_for, drop_reactions, upgrade_threw, upgrade_now, upgrade}
-use Rattle.ce_algorithms.specs.Drain.{log_call, call_back, call_defined, run_reaction, react, drain, open_queue, pop_queue, drain_popped, reacting, with_backup, drain_taken, drain_first, drain_backup}
+use Rattle.ce_algorithms.specs.Drain.{log_call, call_back, call_defined, run_reaction, react, drain, open_queue, pop_queue, drain_popped, reacting, with_backup}
+use Rattle.ce_algorithms.specs.Drain.{drain_taken, drain_first, drain_backup}
 use Rattle.ce_algorithms.specs.Create.{construct_fit, create_failed, upgrade_failed, create_extended, create_defined, create_found, create}
 use Rattle.ce_algorithms.specs.Perform.{create_named, define_element, gives_nothing, gives_node, steps, perform_deed, keep, kept, operate}
 use Rattle.ce_algorithms.specs.Deeds.{resolve, is_reacting, variable}
 use Rattle.ce_algorithms.specs.Model.{clock, level}
-use Rattle.ce_algorithms.proofs.PageSteps.{keeps_make_in_state, keeps_base_call, keeps_pop_construction, keeps_begin_upgrade, keeps_tell_form, keeps_define_name, keeps_control_steps, keeps_internals_steps, keeps_form_steps, keeps_page_steps}
+use Rattle.ce_algorithms.proofs.PageSteps.{keeps_make_in_state, keeps_base_call, keeps_pop_construction, keeps_begin_upgrade, keeps_tell_form}
+use Rattle.ce_algorithms.proofs.PageSteps.{keeps_define_name, keeps_control_steps, keeps_internals_steps, keeps_form_steps, keeps_page_steps}
 use Rattle.ce_algorithms.proofs.Low.{Lower, lower, with_waiting_load, light_state, light_definition, light_begun, light_ended, light_dropped}
 use Rattle.ce_algorithms.proofs.Submission.{tied_submit_steps}
-use Rattle.ce_algorithms.proofs.Tied.{Tied, Tame, tame_le, tied_steps, tied_bind, tied_seq, tied_down, tied_give, tied_done, tied_read, tied_log, tied_look, tied_set_variable, tied_page, tied_spend, tied_if, tied_catch, tied_finally}
+use Rattle.ce_algorithms.proofs.Tied.{Tied, Tame, tame_le, tied_steps, tied_bind, tied_seq, tied_down, tied_give, tied_done, tied_read, tied_log, tied_look}
+use Rattle.ce_algorithms.proofs.Tied.{tied_set_variable, tied_page, tied_spend, tied_if, tied_catch, tied_finally}
 
 -- what calls nothing again
 
@@ -114,13 +118,15 @@ module _ (b : ℕ) (f g : Again) (below : (call : Call) → Tied b (f call) (g c
   act_tied k args this (Try a) = tied_catch (tied_down (tied_spend (act_tied k args this a))) (tied_caught this)
   act_tied k args this (If equal left right a) =
       let h : Tied b (spend >> act f k args this a) (spend >> act g k args this a) = tied_down (tied_spend (act_tied k args this a)) in
-      tied_bind (tied_read (λ s. (class_of s k).memory)) (λ memory. tied_if (holds equal (text_of memory args left) (text_of memory args right)) h (tied_give (Next this)))
+      tied_bind (tied_read (λ s. (class_of s k).memory))
+      (λ memory. tied_if (holds equal (text_of memory args left) (text_of memory args right)) h (tied_give (Next this)))
 
   body_tied : (k : ℕ) (args : Args) (this : Option ℕ) (actions : List Act) → Tied (suc b) (body f k args this actions) (body g k args this actions)
   body_tied k args this [] = tied_give this
   body_tied k args this (a ∷ rest) = tied_spend (tied_bind (act_tied k args this a) (go (λ t. body_tied k args t rest)))
     where
-      go : ((t : Option ℕ) → Tied (suc b) (body f k args t rest) (body g k args t rest)) → (flow : Flow) → Tied b (on_flow (λ t. body f k args t rest) flow) (on_flow (λ t. body g k args t rest) flow)
+      go : ((t : Option ℕ) → Tied (suc b) (body f k args t rest) (body g k args t rest)) → (flow : Flow)
+          → Tied b (on_flow (λ t. body f k args t rest) flow) (on_flow (λ t. body g k args t rest) flow)
       go h (Next t) = tied_down (h t)
       go h (Ended r) = tied_give r
 
@@ -136,7 +142,15 @@ module _ (b : ℕ) (f g : Again) (below : (call : Call) → Tied b (f call) (g c
   construct_for_tied n d = search (tied_steps, light_state, construct_tied) depth 16
 
   upgrade_now_tied : (n d : ℕ) → Tied (suc b) (upgrade_now f n d) (upgrade_now g n d)
-  upgrade_now_tied n d = search (tied_steps, keeps_begin_upgrade Lower lower, construct_for_tied, keeps_pop_construction Lower lower, tied_upgrade_threw, keeps_tell_form Lower lower, light_state) depth 16
+  upgrade_now_tied n d = search (
+    tied_steps,
+    keeps_begin_upgrade Lower lower,
+    construct_for_tied,
+    keeps_pop_construction Lower lower,
+    tied_upgrade_threw,
+    keeps_tell_form Lower lower,
+    light_state,
+  ) depth 16
 
   upgrade_tied : (n d : ℕ) → Tied (suc b) (upgrade f n d) (upgrade g n d)
   upgrade_tied n d = search (tied_steps, upgrade_now_tied) depth 12
@@ -162,16 +176,20 @@ module _ (b : ℕ) (f g : Again) (below : (call : Call) → Tied b (f call) (g c
   drain_tied [] = tied_done
   drain_tied (n ∷ ns) = record { at = λ s lt. go (drain_tied ns) s lt (waiting_at s.page.queues n) refl }
     where
-      go : Tied (suc b) (drain f ns) (drain g ns) → (s : State) → clock s < suc b → (ws : List (ℕ × Reaction)) → waiting_at s.page.queues n ≡ ws → Tame (clock s)
-          ((elim ws as (λ _. Step State (Unit {0})) [ [] ↦ drain f ns | w ∷ ws' ↦ change_page (with_queues (with_waiting n ws')) >> (react f n w >> (f (DrainRest (n ∷ ns)) >> done)) ]) s)
-          ((elim ws as (λ _. Step State (Unit {0})) [ [] ↦ drain g ns | w ∷ ws' ↦ change_page (with_queues (with_waiting n ws')) >> (react g n w >> (g (DrainRest (n ∷ ns)) >> done)) ]) s)
+      go : Tied (suc b) (drain f ns) (drain g ns) → (s : State) → clock s < suc b → (ws : List (ℕ × Reaction)) → waiting_at s.page.queues n ≡ ws
+          → Tame (clock s)
+          ((elim ws as (λ _. Step State (Unit {0}))
+          [ [] ↦ drain f ns | w ∷ ws' ↦ change_page (with_queues (with_waiting n ws')) >> (react f n w >> (f (DrainRest (n ∷ ns)) >> done)) ]) s)
+          ((elim ws as (λ _. Step State (Unit {0}))
+          [ [] ↦ drain g ns | w ∷ ws' ↦ change_page (with_queues (with_waiting n ws')) >> (react g n w >> (g (DrainRest (n ∷ ns)) >> done)) ]) s)
       go h s lt [] eq = h.at s lt
       go h s lt (w ∷ ws) eq =
           let t : State = record s { page = with_queues (with_waiting n ws) s.page } in
           let i = with_waiting_load n ws s.page.queues in
           let j : length (waiting_at s.page.queues n) ≡ length ws + 1 = ap length eq ∙ omega arith in
           let low : clock t + 1 ≤ clock s = omega (arith, i, j) in
-          let rest : Tied b (react f n w >> (f (DrainRest (n ∷ ns)) >> done)) (react g n w >> (g (DrainRest (n ∷ ns)) >> done)) = tied_seq (tied_down (react_tied n w)) (tied_seq (below (DrainRest (n ∷ ns))) tied_done) in
+          let rest : Tied b (react f n w >> (f (DrainRest (n ∷ ns)) >> done)) (react g n w >> (g (DrainRest (n ∷ ns)) >> done)) =
+          tied_seq (tied_down (react_tied n w)) (tied_seq (below (DrainRest (n ∷ ns))) tied_done) in
           tame_le (clock t) (clock s) _ _ (omega (arith, low)) (rest.at t (omega (arith, low, lt)))
 
   drain_popped_tied : (number : ℕ) → Tied (suc b) (drain_popped f number) (drain_popped g number)
@@ -202,8 +220,10 @@ module _ (b : ℕ) (f g : Again) (below : (call : Call) → Tied b (f call) (g c
   create_extended_tied : (local : List ℕ) (is : Option (List ℕ)) (d x : ℕ) → Tied (suc b) (create_extended f local is d x) (create_extended g local is d x)
   create_extended_tied local is d x = search (tied_steps, keeps_make_in_state Lower lower, upgrade_tied, tied_upgrade_failed) depth 14
 
-  create_defined_tied : (local : List ℕ) (is : Option (List ℕ)) (d n : ℕ) (x : Definition) → Tied (suc b) (create_defined f local is d n x) (create_defined g local is d n x)
-  create_defined_tied local is d n x = tied_if (is_autonomous x) (tied_catch (construct_fit_tied local d x.class) (tied_create_failed local d)) (create_extended_tied local is d n)
+  create_defined_tied : (local : List ℕ) (is : Option (List ℕ)) (d n : ℕ) (x : Definition)
+      → Tied (suc b) (create_defined f local is d n x) (create_defined g local is d n x)
+  create_defined_tied local is d n x =
+      tied_if (is_autonomous x) (tied_catch (construct_fit_tied local d x.class) (tied_create_failed local d)) (create_extended_tied local is d n)
 
   create_found_tied : (local : List ℕ) (is : Option (List ℕ)) (d : ℕ) (o : Option ℕ) → Tied (suc b) (create_found f local is d o) (create_found g local is d o)
   create_found_tied local is d None = tied_page (keeps_make_in_state Lower lower local is d _)

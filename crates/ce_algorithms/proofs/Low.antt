@@ -4,7 +4,8 @@ use Rattle.std.specs.Prelude.{◌-◌, sum_by}
 use Rattle.std.proofs.lemmas.List.Sums.{sum_by-cons}
 use Rattle.ce_base.specs.declared.custom_state.CustomState.{CustomState}
 use Rattle.reaction_queue.specs.declared.reaction.Reaction.{Reaction}
-use Rattle.reaction_queue.specs.Queues.{Queues, Open, list_at, ahead, with_list, waiting_at, with_waiting, counted, appended_to, enqueued, pushed_queue, popped_queue}
+use Rattle.reaction_queue.specs.Queues.{Queues, Open, list_at, ahead, with_list, waiting_at, with_waiting, counted, appended_to, enqueued, pushed_queue}
+use Rattle.reaction_queue.specs.Queues.{popped_queue}
 use Rattle.ce_algorithms.specs.Steps.{Step}
 use Rattle.ce_algorithms.specs.Page.{Page, Work, with_queues, with_state, with_definition}
 use Rattle.ce_algorithms.specs.Enqueue.{noted}
@@ -20,7 +21,8 @@ ahead_waits [] (l ∷ ls) = let h = sum_by-cons waits [] (l ∷ ls) in omega (ar
 ahead_waits (x ∷ xs) ls = sum_by-cons waits (x ∷ xs) ls
 
 -- the list at a place given anew
-with_list_waits : (i : ℕ) (xs : List (ℕ × Reaction)) (lists : List (List (ℕ × Reaction))) → sum_by waits (with_list i xs lists) + length (list_at i lists) ≡ sum_by waits lists + length xs
+with_list_waits : (i : ℕ) (xs : List (ℕ × Reaction)) (lists : List (List (ℕ × Reaction)))
+    → sum_by waits (with_list i xs lists) + length (list_at i lists) ≡ sum_by waits lists + length xs
 with_list_waits zero xs [] = let h = ahead_waits xs [] in omega (arith, h)
 with_list_waits zero xs (l ∷ ls) = let h = ahead_waits xs ls in let k = sum_by-cons waits l ls in omega (arith, h, k)
 with_list_waits (suc i) xs [] = let h = ahead_waits [] (with_list i xs []) in let k = with_list_waits i xs [] in omega (arith, h, k)
@@ -31,7 +33,8 @@ with_list_waits (suc i) xs (l ∷ ls) =
     omega (arith, h, k, m)
 
 -- a node's reaction queue given anew
-pub with_waiting_load : (n : ℕ) (reactions : List (ℕ × Reaction)) (q : Queues) → load (with_waiting n reactions q) + length (waiting_at q n) ≡ load q + length reactions
+pub with_waiting_load : (n : ℕ) (reactions : List (ℕ × Reaction)) (q : Queues)
+    → load (with_waiting n reactions q) + length (waiting_at q n) ≡ load q + length reactions
 with_waiting_load n reactions q = let h = with_list_waits (n - 1) reactions q.waiting in omega (arith, h)
 
 -- an element appended to the current queue, or to the backup queue
@@ -59,7 +62,8 @@ Lower v w = clock_of w ≤ clock_of v
 abbrev pub Low : {A : Type 0} → Step Work A → Type 0
 Low f = Keeps Lower f
 
-enqueued_lower : (n : ℕ) (r : Reaction) (k : ℕ) (w : Work) → w.fuel ≡ suc k → Lower w (record { page = noted n r (with_queues (enqueued n r) w.page); fuel = k })
+enqueued_lower : (n : ℕ) (r : Reaction) (k : ℕ) (w : Work) → w.fuel ≡ suc k
+    → Lower w (record { page = noted n r (with_queues (enqueued n r) w.page); fuel = k })
 enqueued_lower n r k w e = let h = enqueued_load n r w.page.queues in omega (arith, h, e)
 
 pub lower : Closed Lower

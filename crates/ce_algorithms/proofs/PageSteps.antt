@@ -9,8 +9,10 @@ use Rattle.reaction_queue.specs.declared.reaction.Reaction.TheVariants.{Upgrade,
 use Rattle.reaction_queue.specs.Queues.{enqueued}
 use Rattle.ce_registry.specs.declared.class_facts.ClassFacts.{ClassFacts}
 use Rattle.ce_registry.specs.declared.definition.Definition.{Definition}
-use Rattle.ce_algorithms.specs.Steps.{Step, Outcome, Goes, Throws, Spent, then_do, ◌>>=◌, ◌>>◌, give, done, throw, when, throw_if, throw_any, found, find_or, where_is, throw_where, refuse, for_each, read}
-use Rattle.ce_algorithms.specs.Page.{Page, Work, Element, spend, spend_from, read_page, change_page, with_controls, with_internals, with_forest, with_queues, with_element, with_state, with_definition}
+use Rattle.ce_algorithms.specs.Steps.{Step, Outcome, Goes, Throws, Spent, then_do, ◌>>=◌, ◌>>◌, give, done, throw, when, throw_if, throw_any, found, find_or}
+use Rattle.ce_algorithms.specs.Steps.{where_is, throw_where, refuse, for_each, read}
+use Rattle.ce_algorithms.specs.Page.{Page, Work, Element, spend, spend_from, read_page, change_page, with_controls, with_internals, with_forest, with_queues}
+use Rattle.ce_algorithms.specs.Page.{with_element, with_state, with_definition}
 use Rattle.ce_algorithms.specs.Making.{with_new, make_node, make_element, make_text, make_shadow_root}
 use Rattle.ce_algorithms.specs.Enqueue.{noted, enqueue, enqueue_callback, enqueue_upgrade, enqueue_found, try_upgrade}
 use Rattle.ce_base.specs.declared.flags.Flags.{Flags}
@@ -71,7 +73,8 @@ pub record Closed (R : Work → Work → Type 0) : Type 0 where
 module _ (R : Work → Work → Type 0) (c : Closed R) where
   -- steps one after another
 
-  keeps_then_do : {A B : Type 0} (w : Work) (o : Outcome Work A) (k : A → Step Work B) → R w (work_in o) → ((a : A) → Keeps R (k a)) → R w (work_in (then_do o k))
+  keeps_then_do : {A B : Type 0} (w : Work) (o : Outcome Work A) (k : A → Step Work B) → R w (work_in o) → ((a : A) → Keeps R (k a))
+      → R w (work_in (then_do o k))
   keeps_then_do w (Goes a v) k h l = c.next w v _ h ((l a).at v)
   keeps_then_do w (Throws f v) k h l = h
   keeps_then_do w (Spent v) k h l = h
@@ -167,7 +170,29 @@ module _ (R : Work → Work → Type 0) (c : Closed R) where
       go w zero e = c.same w
       go w (suc k) e = c.enqueued n r k w e
 
-  pub ruleset page_steps = (keeps_where_is, keeps_throw_where, keeps_refuse, keeps_find_or, keeps_bind, keeps_seq, keeps_read, keeps_read_page, keeps_done, keeps_give, keeps_when, keeps_each, keeps_throw_if, keeps_spend, keeps_forest, keeps_state, keeps_definition, keeps_defined, keeps_new, keeps_stacks, keeps_enqueue)
+  pub ruleset page_steps = (
+    keeps_where_is,
+    keeps_throw_where,
+    keeps_refuse,
+    keeps_find_or,
+    keeps_bind,
+    keeps_seq,
+    keeps_read,
+    keeps_read_page,
+    keeps_done,
+    keeps_give,
+    keeps_when,
+    keeps_each,
+    keeps_throw_if,
+    keeps_spend,
+    keeps_forest,
+    keeps_state,
+    keeps_definition,
+    keeps_defined,
+    keeps_new,
+    keeps_stacks,
+    keeps_enqueue,
+  )
 
   -- enqueues
 
@@ -248,7 +273,8 @@ module _ (R : Work → Work → Type 0) (c : Closed R) where
 
   -- attributes
 
-  pub keeps_handle_attribute_change : (old : Page) (n : ℕ) (name : List ℕ) (before after : Option (List ℕ)) → Keeps R (handle_attribute_change old n name before after)
+  pub keeps_handle_attribute_change : (old : Page) (n : ℕ) (name : List ℕ) (before after : Option (List ℕ))
+      → Keeps R (handle_attribute_change old n name before after)
   keeps_handle_attribute_change old n name before after = search (page_steps, keeps_enqueue_callback, keeps_tell_others) depth 12
 
   pub keeps_set_attribute : (n : ℕ) (name value : List ℕ) → Keeps R (set_attribute n name value)
@@ -308,7 +334,8 @@ module _ (R : Work → Work → Type 0) (c : Closed R) where
   pub keeps_copy_below : (parent : ℕ) (ts : Trees) → Keeps R (copy_below parent ts)
   keeps_copy_below parent none = keeps_done
   keeps_copy_below parent (tree m x shadow children rest) =
-      keeps_bind (keeps_copy_node m x (is_element x.kind)) (λ n. keeps_seq (keeps_pre_insert parent n None) (keeps_seq (keeps_copy_below n children) (keeps_copy_below parent rest)))
+      keeps_bind (keeps_copy_node m x (is_element x.kind))
+      (λ n. keeps_seq (keeps_pre_insert parent n None) (keeps_seq (keeps_copy_below n children) (keeps_copy_below parent rest)))
 
   -- controls
 
@@ -405,7 +432,19 @@ module _ (R : Work → Work → Type 0) (c : Closed R) where
   keeps_begin_upgrade n d = search (page_steps, keeps_enqueue_attribute, keeps_enqueue_callback) depth 16
 
   -- what an operation does on the page: each deed by the same rules
-  pub ruleset deed_steps = (page_steps, keeps_make_node, keeps_make_shadow_root, keeps_pre_insert, keeps_remove, keeps_adopt, keeps_set_attribute, keeps_remove_attribute, keeps_copy_node, keeps_copy_below, keeps_try_upgrade)
+  pub ruleset deed_steps = (
+    page_steps,
+    keeps_make_node,
+    keeps_make_shadow_root,
+    keeps_pre_insert,
+    keeps_remove,
+    keeps_adopt,
+    keeps_set_attribute,
+    keeps_remove_attribute,
+    keeps_copy_node,
+    keeps_copy_below,
+    keeps_try_upgrade,
+  )
 
   pub keeps_page_steps : (what : PageDeed) → Keeps R (perform.page_steps what)
   keeps_page_steps (page_deeds.Upgrade n) = search deed_steps depth 20

@@ -15,7 +15,8 @@ use Rattle.ce_algorithms.specs.State.{State}
 use Rattle.ce_algorithms.specs.Controls.{ignored_or}
 use Rattle.ce_algorithms.specs.Reset.{reset_form}
 use Rattle.ce_algorithms.specs.Submission.{plan, submitted, submit, request, act_on, activate_in, press, submit_steps}
-use Rattle.ce_algorithms.proofs.Framed.{Framed, framed_bind, framed_seq, framed_give, framed_done, framed_throw, framed_read, framed_read_page, framed_log, framed_on_page, framed_if}
+use Rattle.ce_algorithms.proofs.Framed.{Framed, framed_bind, framed_seq, framed_give, framed_done, framed_throw, framed_read, framed_read_page, framed_log}
+use Rattle.ce_algorithms.proofs.Framed.{framed_on_page, framed_if}
 use Rattle.ce_algorithms.proofs.Low.{Lower, lower}
 use Rattle.ce_algorithms.proofs.PageSteps.{keeps_reset_form}
 use Rattle.ce_algorithms.proofs.Tied.{Tied, tied_bind, tied_seq, tied_give, tied_done, tied_throw, tied_read, tied_read_page, tied_log, tied_page, tied_if}
@@ -31,10 +32,13 @@ framed_throw_any None = framed_done
 framed_throw_any (Some f) = framed_throw f
 
 framed_submit : (form : ℕ) (submitter : Option ℕ) (by_call : Bool) → Framed (submit form submitter by_call)
-framed_submit form submitter by_call = framed_bind (framed_read (λ (s : State). plan s.page s.site form submitter by_call) (λ events s. refl)) (λ sent. framed_log (submitted form sent))
+framed_submit form submitter by_call =
+    framed_bind (framed_read (λ (s : State). plan s.page s.site form submitter by_call) (λ events s. refl)) (λ sent. framed_log (submitted form sent))
 
 framed_request : (form : ℕ) (submitter : Option ℕ) → Framed (request form submitter)
-framed_request form submitter = framed_seq (framed_bind (framed_read (λ (s : State). request_fit (forms_of s.page) form submitter) (λ events s. refl)) framed_throw_any) (framed_submit form submitter false)
+framed_request form submitter =
+    framed_seq (framed_bind (framed_read (λ (s : State). request_fit (forms_of s.page) form submitter) (λ events s. refl)) framed_throw_any)
+    (framed_submit form submitter false)
 
 framed_act_on : (button form : ℕ) (kind : Option InputKind) → Framed (act_on button form kind)
 framed_act_on button form kind =
@@ -68,11 +72,13 @@ tied_submit : {b : ℕ} (form : ℕ) (submitter : Option ℕ) (by_call : Bool) �
 tied_submit form submitter by_call = tied_bind (tied_read (λ (s : State). plan s.page s.site form submitter by_call)) (λ sent. tied_log (submitted form sent))
 
 tied_request : {b : ℕ} (form : ℕ) (submitter : Option ℕ) → Tied b (request form submitter) (request form submitter)
-tied_request form submitter = tied_seq (tied_bind (tied_read (λ (s : State). request_fit (forms_of s.page) form submitter)) tied_throw_any) (tied_submit form submitter false)
+tied_request form submitter = tied_seq (tied_bind (tied_read (λ (s : State). request_fit (forms_of s.page) form submitter)) tied_throw_any)
+    (tied_submit form submitter false)
 
 tied_act_on : {b : ℕ} (button form : ℕ) (kind : Option InputKind) → Tied b (act_on button form kind) (act_on button form kind)
 tied_act_on button form kind =
-    tied_if (is_kind Submit kind) (tied_submit form (Some button) false) (tied_if (is_kind Reset kind) (tied_page (keeps_reset_form Lower lower form)) tied_done)
+    tied_if (is_kind Submit kind) (tied_submit form (Some button) false)
+    (tied_if (is_kind Reset kind) (tied_page (keeps_reset_form Lower lower form)) tied_done)
 
 tied_activate_in : {b : ℕ} (button : ℕ) (owner : Option ℕ) → Tied b (activate_in button owner) (activate_in button owner)
 tied_activate_in button None = tied_done

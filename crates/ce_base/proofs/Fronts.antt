@@ -8,12 +8,14 @@ pub drop-drop : (xs : List ℕ) (at n : ℕ) → drop n (drop at xs) ≡ drop (a
 drop-drop xs at n = grind (arith, common_steps)
 
 -- what is left is the front that was copied over a buffer, and then what is left behind it
-pub left-copied : (content copied rest : List ℕ) (at n : ℕ) → length copied ≡ n → copied ≡ take n (drop at content) → drop at content ≡ take n (copied ++ rest) ++ drop (at + n) content
+pub left-copied : (content copied rest : List ℕ) (at n : ℕ) → length copied ≡ n → copied ≡ take n (drop at content)
+    → drop at content ≡ take n (copied ++ rest) ++ drop (at + n) content
 left-copied content copied rest at n len is =
     let front : take n (copied ++ rest) ≡ copied = rw (← len) (take-append_seam copied rest) in
     rw (front, is, ← drop-drop content at n) (sym (take-append-drop n (drop at content)))
 
 -- a loop that copies the members of a list comes to one more
-pub copied-more : {A : Type 0} (xs items new : List A) (i : ℕ) (x y : A) → i < length xs → items ≡ take i xs → x ≡ get_or xs i x → y ≡ x → new ≡ items ++ y ∷ [] → new ≡ take (i + 1) xs
+pub copied-more : {A : Type 0} (xs items new : List A) (i : ℕ) (x y : A) → i < length xs → items ≡ take i xs → x ≡ get_or xs i x → y ≡ x
+    → new ≡ items ++ y ∷ [] → new ≡ take (i + 1) xs
 copied-more xs items new i x y within so_far is same longer =
     longer ∙ ap (λ z. items ++ z ∷ []) same ∙ ap (λ ys. ys ++ x ∷ []) so_far ∙ ap (λ z. take i xs ++ z ∷ []) is ∙ sym (take_more xs i x within)

@@ -16,7 +16,8 @@ use Rattle.ce_algorithms.specs.declared.deed.SubmitDeed.{SubmitDeed}
 use Rattle.ce_algorithms.specs.declared.deed.SubmitDeed.TheVariants as submit_deeds
 use Rattle.ce_algorithms.specs.declared.deed.Deed.{Deed}
 use Rattle.ce_algorithms.specs.declared.deed.Deed.TheVariants as deeds
-use Rattle.ce_algorithms.specs.Steps.{Step, Outcome, Goes, Throws, Spent, then_do, ◌>>=◌, ◌>>◌, give, done, throw, settle, read, throw_any, throw_if, found, find_or, throw_where, for_each, attempt, attempt_in}
+use Rattle.ce_algorithms.specs.Steps.{Step, Outcome, Goes, Throws, Spent, then_do, ◌>>=◌, ◌>>◌, give, done, throw, settle, read, throw_any, throw_if, found}
+use Rattle.ce_algorithms.specs.Steps.{find_or, throw_where, for_each, attempt, attempt_in}
 use Rattle.ce_algorithms.specs.Page.{Page, Work}
 use Rattle.ce_algorithms.specs.State.{State, Class, view, log, read_page, change_page, on_page, with_outcome, work_of, set_variable, change_class, class_of}
 use Rattle.ce_algorithms.specs.Forms.{forms_of, form_owner, is_disabled}
@@ -186,7 +187,8 @@ blind_gives h = blind_seq h (blind_give _)
 -- a definition reads what is known of its class, and freezes it
 defines_blind : (name : List ℕ) (k : ℕ) (base : Option (List ℕ)) (facts : ClassFacts)
     → IsBlind (on_page (define_name name k facts base) >> change_class k (λ c. record c { frozen = true }))
-defines_blind name k base facts = blind_seq (blind_on_page (define_name name k facts base)) (blind_change_class k (λ c. record c { frozen = true }) (λ c b. refl))
+defines_blind name k base facts =
+    blind_seq (blind_on_page (define_name name k facts base)) (blind_change_class k (λ c. record c { frozen = true }) (λ c b. refl))
 
 pub define_blind : (name : List ℕ) (k : ℕ) (base : Option (List ℕ)) → IsBlind (define_element name k base)
 define_blind name k base =
@@ -212,10 +214,13 @@ blind_throw_any None = blind_done
 blind_throw_any (Some f) = blind_throw f
 
 blind_submit : (form : ℕ) (submitter : Option ℕ) (by_call : Bool) → IsBlind (submit form submitter by_call)
-blind_submit form submitter by_call = blind_bind (blind_read (λ (s : State). plan s.page s.site form submitter by_call) (λ bs s. refl)) (λ sent. blind_log (submitted form sent))
+blind_submit form submitter by_call =
+    blind_bind (blind_read (λ (s : State). plan s.page s.site form submitter by_call) (λ bs s. refl)) (λ sent. blind_log (submitted form sent))
 
 blind_request : (form : ℕ) (submitter : Option ℕ) → IsBlind (request form submitter)
-blind_request form submitter = blind_seq (blind_bind (blind_read (λ (s : State). request_fit (forms_of s.page) form submitter) (λ bs s. refl)) blind_throw_any) (blind_submit form submitter false)
+blind_request form submitter =
+    blind_seq (blind_bind (blind_read (λ (s : State). request_fit (forms_of s.page) form submitter) (λ bs s. refl)) blind_throw_any)
+    (blind_submit form submitter false)
 
 blind_act_on : (button form : ℕ) (kind : Option InputKind) → IsBlind (act_on button form kind)
 blind_act_on button form kind =

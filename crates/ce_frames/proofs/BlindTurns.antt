@@ -22,7 +22,8 @@ use Rattle.ce_algorithms.specs.Drain.{with_backup}
 use Rattle.ce_algorithms.specs.Deeds.{is_reacting, IsStill}
 use Rattle.ce_algorithms.specs.Perform.{gives_node, keep, named, steps}
 use Rattle.ce_algorithms.specs.Session.{reply}
-use Rattle.ce_frames.specs.Frames.{Frame, Replying, Checking, DrainingBackup, Naming, Stepping, Draining, InReaction, CreatingFit, CreatingExtended, Upgrading, Constructing, InBody}
+use Rattle.ce_frames.specs.Frames.{Frame, Replying, Checking, DrainingBackup, Naming, Stepping, Draining, InReaction, CreatingFit, CreatingExtended, Upgrading}
+use Rattle.ce_frames.specs.Frames.{Constructing, InBody}
 use Rattle.ce_frames.specs.Handing.{node_in}
 use Rattle.ce_frames.specs.Rest.{Went, Threw, Over}
 use Rattle.ce_frames.specs.Places.{Behaviour}
@@ -33,7 +34,9 @@ use Rattle.ce_frames.specs.DrainTurns.{next_backup_turn, checked_turn, check_tur
 use Rattle.ce_frames.specs.Turns.{turn}
 use Rattle.ce_frames.specs.Whole.{whole, whole_in, whole_turned, state_in, IsBlind, IsBlindTurn, GoesBlind, CatchesBlind}
 use Rattle.ce_frames.proofs.Wholes.{class_name_joined, class_facts_joined}
-use Rattle.ce_frames.proofs.BlindSteps.{blind_steps, blind_give, blind_done, blind_throw, blind_settle, blind_read_page, blind_change_page, blind_log, blind_set_variable, blind_on_page, blind_bind, blind_seq, blind_throw_if, blind_found, blind_attempt, blind_open_queue, blind_pop_queue, still_blind}
+use Rattle.ce_frames.proofs.BlindSteps.{blind_steps, blind_give, blind_done, blind_throw, blind_settle, blind_read_page, blind_change_page, blind_log}
+use Rattle.ce_frames.proofs.BlindSteps.{blind_set_variable, blind_on_page, blind_bind, blind_seq, blind_throw_if, blind_found, blind_attempt, blind_open_queue}
+use Rattle.ce_frames.proofs.BlindSteps.{blind_pop_queue, still_blind}
 
 -- where a turn has ended
 

@@ -20,7 +20,8 @@ use Rattle.ce_algorithms.specs.State.{State, Class, class_of, logged, on_page, w
 use Rattle.ce_algorithms.specs.Values.{Args, no_args}
 use Rattle.ce_algorithms.specs.Body.{actions_of, body}
 use Rattle.ce_algorithms.specs.Construct.{base_alone, constructor_body, construct}
-use Rattle.ce_algorithms.specs.Upgrade.{is_upgradable, begin_upgrade, same_node, construct_class, construct_for, upgrade_now, upgrade, upgrade_threw, upgrade_ends, drop_reactions}
+use Rattle.ce_algorithms.specs.Upgrade.{is_upgradable, begin_upgrade, same_node, construct_class, construct_for, upgrade_now, upgrade, upgrade_threw}
+use Rattle.ce_algorithms.specs.Upgrade.{upgrade_ends, drop_reactions}
 use Rattle.ce_algorithms.specs.Create.{create_extended, create_found, create, fitting, create_failed}
 use Rattle.ce_algorithms.specs.Perform.{gives_node}
 use Rattle.ce_algorithms.specs.Model.{model}
@@ -29,7 +30,8 @@ use Rattle.ce_frames.specs.Handing.{nothing, a_node, a_result}
 use Rattle.ce_frames.specs.After.{after, constructed, created, extended, upgraded}
 use Rattle.ce_frames.specs.Rest.{rest}
 use Rattle.ce_frames.specs.Turned.{turn_after, hand_down, below}
-use Rattle.ce_frames.specs.ConstructTurns.{begin_body, constructor_turn, construct_turn, construct_for_turn, upgrade_now_turn, upgrade_turn, create_extended_turn, create_found_turn, create_turn, fitting_given, created_turn, same_given, upgraded_turn}
+use Rattle.ce_frames.specs.ConstructTurns.{begin_body, constructor_turn, construct_turn, construct_for_turn, upgrade_now_turn, upgrade_turn}
+use Rattle.ce_frames.specs.ConstructTurns.{create_extended_turn, create_found_turn, create_turn, fitting_given, created_turn, same_given, upgraded_turn}
 use Rattle.ce_frames.proofs.Joins.{then_assoc, dropped_nothing, numbered_node, resulted_result}
 use Rattle.ce_frames.proofs.Comes.{comes, Comes, comes_ended, comes_down, comes_below, comes_after, comes_then, comes_if, comes_when}
 
@@ -73,7 +75,8 @@ construct_for_comes n d =
 
 upgrading_comes : (n d : ℕ) → Comes (below (Upgrading n d) (construct_for_turn n d)) (λ s. nothing (upgraded n d (construct_for model n d s)))
 unfolding after
-upgrading_comes n d = comes_below (Upgrading n d) (construct_for_comes n d) (λ s. ap (λ o. nothing (upgraded n d (then_do o (same_node n)))) (numbered_node (construct_class model n d s)))
+upgrading_comes n d = comes_below (Upgrading n d) (construct_for_comes n d)
+    (λ s. ap (λ o. nothing (upgraded n d (then_do o (same_node n)))) (numbered_node (construct_class model n d s)))
 
 upgrade_now_comes : (n d : ℕ) → Comes (upgrade_now_turn n d) (λ s. nothing (upgrade_now model n d s))
 upgrade_now_comes n d = record { at = λ s. go (on_page (begin_upgrade n d) (logged (UpgradeBegun n) s)) }

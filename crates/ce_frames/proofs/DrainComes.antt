@@ -18,7 +18,8 @@ use Rattle.ce_algorithms.specs.Calls.{DrainRest, DrainBackup}
 use Rattle.ce_algorithms.specs.Values.{args_of}
 use Rattle.ce_algorithms.specs.Body.{body}
 use Rattle.ce_algorithms.specs.Upgrade.{upgrade}
-use Rattle.ce_algorithms.specs.Drain.{log_call, actions_for, call_back, call_defined, run_reaction, react, drain, drain_first, with_backup, drain_backup, drain_all_backup}
+use Rattle.ce_algorithms.specs.Drain.{log_call, actions_for, call_back, call_defined, run_reaction, react, drain, drain_first, with_backup, drain_backup}
+use Rattle.ce_algorithms.specs.Drain.{drain_all_backup}
 use Rattle.ce_algorithms.specs.Model.{model}
 use Rattle.ce_algorithms.specs.Session.{reply, reply_to}
 use Rattle.ce_algorithms.proofs.Steady.{model_level}
@@ -26,7 +27,8 @@ use Rattle.ce_frames.specs.Frames.{Frame, Checking, DrainingBackup, Draining, In
 use Rattle.ce_frames.specs.Handing.{nothing, a_result, dropped}
 use Rattle.ce_frames.specs.After.{after, backup_on, drain_on, settled}
 use Rattle.ce_frames.specs.Turned.{Turn, below}
-use Rattle.ce_frames.specs.DrainTurns.{call_turn, reaction_turn, take_turn, taken_turn, drain_turn, next_backup_turn, taken_backup_turn, backup_turn, checked_turn, check_turn}
+use Rattle.ce_frames.specs.DrainTurns.{call_turn, reaction_turn, take_turn, taken_turn, drain_turn, next_backup_turn, taken_backup_turn, backup_turn}
+use Rattle.ce_frames.specs.DrainTurns.{checked_turn, check_turn}
 use Rattle.ce_frames.proofs.Joins.{then_assoc, then_same, nothing_then, dropped_nothing}
 use Rattle.ce_frames.proofs.Comes.{comes, Comes, comes_ended, comes_with_below, comes_down, comes_below, comes_bind}
 use Rattle.ce_frames.proofs.ConstructComes.{begin_comes, upgrade_comes}
@@ -132,7 +134,8 @@ drain_comes queue (n ∷ ns) kept = record { at = λ s. taken_comes queue n ns k
 
 -- the backup element queue
 
-next_backup_comes : (elements : List ℕ) (s : State) → comes (next_backup_turn elements s) ≡ nothing (then_do (drain_first model elements s) (λ _. log (QueueClosed 0)))
+next_backup_comes : (elements : List ℕ) (s : State)
+    → comes (next_backup_turn elements s) ≡ nothing (then_do (drain_first model elements s) (λ _. log (QueueClosed 0)))
 unfolding after
 next_backup_comes [] s = comes_ended (Goes Nothing (logged (QueueClosed 0) s))
 next_backup_comes (n ∷ ns) s =

@@ -7,10 +7,12 @@ use Rattle.ce_base.specs.declared.fault.Fault.{Fault}
 use Rattle.reaction_queue.specs.declared.reaction.Reaction.{Reaction}
 use Rattle.reaction_queue.specs.Queues.{Queues, Open, waiting_at, with_waiting, counted, appended_to, enqueued}
 use Rattle.ce_events.specs.declared.event.Event.{Event}
-use Rattle.ce_algorithms.specs.Steps.{Step, Outcome, Goes, Throws, Spent, then_do, ◌>>=◌, ◌>>◌, give, done, throw, settle, read, throw_if, found, throw_where, for_each, catch_in, attempt_in}
+use Rattle.ce_algorithms.specs.Steps.{Step, Outcome, Goes, Throws, Spent, then_do, ◌>>=◌, ◌>>◌, give, done, throw, settle, read, throw_if, found, throw_where}
+use Rattle.ce_algorithms.specs.Steps.{for_each, catch_in, attempt_in}
 use Rattle.ce_algorithms.specs.Page.{Page, Work, with_queues, with_state, with_definition}
 use Rattle.ce_algorithms.specs.Enqueue.{noted}
-use Rattle.ce_algorithms.specs.State.{State, Class, View, view, look, log, logged, on_page, with_outcome, work_of, read_page, change_page, set_variable, change_class}
+use Rattle.ce_algorithms.specs.State.{State, Class, View, view, look, log, logged, on_page, with_outcome, work_of, read_page, change_page, set_variable}
+use Rattle.ce_algorithms.specs.State.{change_class}
 use Rattle.ce_algorithms.proofs.PageSteps.{Keeps, Closed, work_in}
 use Rattle.ce_algorithms.proofs.Low.{lower, with_waiting_load}
 use Rattle.ce_frames.specs.Work.{elements_in, places, potential_of, potential}
@@ -163,5 +165,21 @@ falls_each [] h = falls_done
 falls_each (x ∷ xs) h = falls_seq (h x) (falls_each xs h)
 
 -- what the proofs by `search` cite
-pub ruleset falls_steps =
-    (falls_throw_where, falls_bind, falls_seq, falls_read, falls_read_page, falls_give, falls_throw, falls_log, falls_change_class, falls_state, falls_definition, falls_dropped, falls_throw_if, falls_each, falls_look, falls_page)
+pub ruleset falls_steps = (
+  falls_throw_where,
+  falls_bind,
+  falls_seq,
+  falls_read,
+  falls_read_page,
+  falls_give,
+  falls_throw,
+  falls_log,
+  falls_change_class,
+  falls_state,
+  falls_definition,
+  falls_dropped,
+  falls_throw_if,
+  falls_each,
+  falls_look,
+  falls_page,
+)

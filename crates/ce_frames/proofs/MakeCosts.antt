@@ -26,18 +26,23 @@ use Rattle.ce_algorithms.specs.Deeds.{resolve, is_reacting_on_forms, is_reacting
 use Rattle.ce_algorithms.specs.Body.{Flow, Next, Ended, actions_of, act, holds}
 use Rattle.ce_algorithms.specs.Upgrade.{is_upgradable}
 use Rattle.ce_algorithms.specs.Perform.{gives_nothing, gives_node, steps}
-use Rattle.ce_algorithms.proofs.PageSteps.{keeps_base_call, keeps_begin_upgrade, keeps_make_in_state, keeps_control_steps, keeps_internals_steps, keeps_form_steps, keeps_page_steps}
+use Rattle.ce_algorithms.proofs.PageSteps.{keeps_base_call, keeps_begin_upgrade, keeps_make_in_state, keeps_control_steps, keeps_internals_steps}
+use Rattle.ce_algorithms.proofs.PageSteps.{keeps_form_steps, keeps_page_steps}
 use Rattle.ce_frames.specs.Frames.{Naming, Stepping, Draining, CreatingFit, CreatingExtended, Upgrading, Constructing, InBody}
 use Rattle.ce_frames.specs.Handing.{given_of}
 use Rattle.ce_frames.specs.After.{guard}
 use Rattle.ce_frames.specs.Work.{weight}
 use Rattle.ce_frames.specs.Turned.{Turn, turn_after, no_calls}
-use Rattle.ce_frames.specs.ConstructTurns.{begin_body, constructor_turn, construct_turn, construct_for_turn, upgrade_now_turn, upgrade_turn, create_extended_turn, create_found_turn, create_turn}
+use Rattle.ce_frames.specs.ConstructTurns.{begin_body, constructor_turn, construct_turn, construct_for_turn, upgrade_now_turn, upgrade_turn}
+use Rattle.ce_frames.specs.ConstructTurns.{create_extended_turn, create_found_turn, create_turn}
 use Rattle.ce_frames.specs.OperateTurns.{next_turn, pop_turn, steps_turn, create_named_turn, deed_turn, named_turn, operate_turn}
 use Rattle.ce_frames.specs.BodyTurns.{guarded_step, flow_turn, act_turn, body_turn}
-use Rattle.ce_frames.proofs.Falls.{Sinks, sinks, Falls, falls_steps, falls_bind, falls_seq, falls_give, falls_read, falls_read_page, falls_log, falls_page, falls_set_variable, falls_throw_if, falls_throw_where, falls_settle, falls_look, falls_attempt, falls_state, falls_catch, logged_potential}
+use Rattle.ce_frames.proofs.Falls.{Sinks, sinks, Falls, falls_steps, falls_bind, falls_seq, falls_give, falls_read, falls_read_page, falls_log, falls_page}
+use Rattle.ce_frames.proofs.Falls.{falls_set_variable, falls_throw_if, falls_throw_where, falls_settle, falls_look, falls_attempt, falls_state, falls_catch}
+use Rattle.ce_frames.proofs.Falls.{logged_potential}
 use Rattle.ce_frames.proofs.StepFalls.{falls_returned, falls_define_element, falls_submit_steps}
-use Rattle.ce_frames.proofs.Costs.{Costs, costs_more, costs_down, costs_go_on, costs_below, costs_bind, costs_seq, costs_if, costs_when, costs_spend, popped_potential, falls_open_queue}
+use Rattle.ce_frames.proofs.Costs.{Costs, costs_more, costs_down, costs_go_on, costs_below, costs_bind, costs_seq, costs_if, costs_when, costs_spend}
+use Rattle.ce_frames.proofs.Costs.{popped_potential, falls_open_queue}
 
 -- constructions
 

@@ -1,12 +1,14 @@
 -- A behaviour that moves from one place to another is still in one place.
-use Rattle.std.proofs.Common.{◌≡◌, ℕ, zero, suc, ◌<◌, Bool, true, false, List, [], ◌∷◌, ◌++◌, map, length, drop, Option, Some, None, refl, sym, ap, ◌∙◌, subst, arith, append_assoc, append-nil}
+use Rattle.std.proofs.Common.{◌≡◌, ℕ, zero, suc, ◌<◌, Bool, true, false, List, [], ◌∷◌, ◌++◌, map, length, drop, Option, Some, None, refl, sym, ap, ◌∙◌, subst}
+use Rattle.std.proofs.Common.{arith, append_assoc, append-nil}
 use Rattle.std.specs.Prelude.{slice_get, slice_set, ◌==◌}
 use Rattle.std.proofs.lemmas.Bool.{eqb-true, eqb-false, eq-eqb, false≢true}
 use Rattle.std.proofs.lemmas.Option.{slice_get_within}
 use Rattle.rule_tokens.specs.declared.callback.CallName.{CallName}
 use Rattle.rule_lines.specs.Acts.{Act}
 use Rattle.ce_frames.specs.Frames.{Frame}
-use Rattle.ce_frames.specs.Places.{Behaviour, Place, Held, Wait, Body, is_of, NoneOf, held_in, holding, place_if, places_of, home_in, home_of, Homes, OnlyLast, Stands, IsTopmost, seen}
+use Rattle.ce_frames.specs.Places.{Behaviour, Place, Held, Wait, Body, is_of, NoneOf, held_in, holding, place_if, places_of, home_in, home_of, Homes, OnlyLast}
+use Rattle.ce_frames.specs.Places.{Stands, IsTopmost, seen}
 use Rattle.ce_base.proofs.Places.{set_found, set_other, each_number}
 
 -- lists of places

@@ -3,7 +3,8 @@ use Rattle.std.proofs.Common.{◌≡◌, true, false, List, [], ◌∷◌, ◌++
 use Rattle.ce_algorithms.specs.declared.given.Given.{Given}
 use Rattle.ce_algorithms.specs.Steps.{Outcome, Spent}
 use Rattle.ce_algorithms.specs.State.{State}
-use Rattle.ce_frames.specs.Frames.{Frame, Replying, Checking, DrainingBackup, Naming, Stepping, Draining, InReaction, CreatingFit, CreatingExtended, Upgrading, Constructing, InBody}
+use Rattle.ce_frames.specs.Frames.{Frame, Replying, Checking, DrainingBackup, Naming, Stepping, Draining, InReaction, CreatingFit, CreatingExtended, Upgrading}
+use Rattle.ce_frames.specs.Frames.{Constructing, InBody}
 use Rattle.ce_frames.specs.After.{after}
 use Rattle.ce_frames.specs.Rest.{rest}
 

@@ -8,7 +8,8 @@ use Rattle.form_controls.specs.Kinds.{is_kind, kind_of}
 use Rattle.form_submission.specs.Requests.{request_fit}
 use Rattle.rule_tokens.specs.declared.operand.Operand.{Operand}
 use Rattle.reaction_queue.specs.declared.reaction.Reaction.{Reaction}
-use Rattle.reaction_queue.specs.declared.reaction.Reaction.TheVariants.{Upgrade, Connected, Disconnected, Adopted, Attribute, FormAssociated, FormDisabled, FormReset, FormStateRestore}
+use Rattle.reaction_queue.specs.declared.reaction.Reaction.TheVariants.{Upgrade, Connected, Disconnected, Adopted, Attribute, FormAssociated, FormDisabled}
+use Rattle.reaction_queue.specs.declared.reaction.Reaction.TheVariants.{FormReset, FormStateRestore}
 use Rattle.ce_algorithms.specs.declared.deed.SubmitDeed.{SubmitDeed}
 use Rattle.ce_algorithms.specs.declared.deed.SubmitDeed.TheVariants as submit_deeds
 use Rattle.ce_algorithms.specs.declared.given.Given.{Given}
@@ -26,7 +27,8 @@ use Rattle.ce_algorithms.specs.Create.{fitting, create_failed, upgrade_failed}
 use Rattle.ce_algorithms.specs.Perform.{define_element, keep, named}
 use Rattle.ce_algorithms.proofs.PageSteps.{keeps_make_in_state, keeps_tell_form, keeps_define_name, keeps_reset_form}
 use Rattle.ce_frames.specs.ConstructTurns.{fitting_given, same_given}
-use Rattle.ce_frames.proofs.Falls.{Sinks, sinks, Falls, falls_steps, falls_bind, falls_seq, falls_give, falls_done, falls_read, falls_read_page, falls_page, falls_throw_if, falls_log, falls_set_variable, falls_throw}
+use Rattle.ce_frames.proofs.Falls.{Sinks, sinks, Falls, falls_steps, falls_bind, falls_seq, falls_give, falls_done, falls_read, falls_read_page, falls_page}
+use Rattle.ce_frames.proofs.Falls.{falls_throw_if, falls_log, falls_set_variable, falls_throw}
 
 -- steps
 
@@ -69,14 +71,17 @@ falls_throw_any None = falls_done
 falls_throw_any (Some f) = falls_throw f
 
 falls_submit : (form : ℕ) (submitter : Option ℕ) (by_call : Bool) → Falls (submit form submitter by_call)
-falls_submit form submitter by_call = falls_bind (falls_read (λ (s : State). plan s.page s.site form submitter by_call)) (λ sent. falls_log (submitted form sent))
+falls_submit form submitter by_call =
+    falls_bind (falls_read (λ (s : State). plan s.page s.site form submitter by_call)) (λ sent. falls_log (submitted form sent))
 
 falls_request : (form : ℕ) (submitter : Option ℕ) → Falls (request form submitter)
-falls_request form submitter = falls_seq (falls_bind (falls_read (λ (s : State). request_fit (forms_of s.page) form submitter)) falls_throw_any) (falls_submit form submitter false)
+falls_request form submitter =
+    falls_seq (falls_bind (falls_read (λ (s : State). request_fit (forms_of s.page) form submitter)) falls_throw_any) (falls_submit form submitter false)
 
 falls_act_on : (button form : ℕ) (kind : Option InputKind) → Falls (act_on button form kind)
 falls_act_on button form kind =
-    falls_if (is_kind Submit kind) (falls_submit form (Some button) false) (falls_if (is_kind Reset kind) (falls_page (keeps_reset_form Sinks sinks form)) falls_done)
+    falls_if (is_kind Submit kind) (falls_submit form (Some button) false)
+    (falls_if (is_kind Reset kind) (falls_page (keeps_reset_form Sinks sinks form)) falls_done)
 
 falls_activate_in : (button : ℕ) (owner : Option ℕ) → Falls (activate_in button owner)
 falls_activate_in button None = falls_done

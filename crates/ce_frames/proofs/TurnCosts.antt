@@ -19,7 +19,8 @@ use Rattle.ce_algorithms.specs.Values.{args_of}
 use Rattle.ce_algorithms.specs.Drain.{actions_for, with_backup}
 use Rattle.ce_algorithms.specs.Session.{reply}
 use Rattle.ce_algorithms.proofs.PageSteps.{keeps_pop_construction}
-use Rattle.ce_frames.specs.Frames.{Frame, Replying, Checking, DrainingBackup, Naming, Stepping, Draining, InReaction, CreatingFit, CreatingExtended, Upgrading, Constructing, InBody}
+use Rattle.ce_frames.specs.Frames.{Frame, Replying, Checking, DrainingBackup, Naming, Stepping, Draining, InReaction, CreatingFit, CreatingExtended, Upgrading}
+use Rattle.ce_frames.specs.Frames.{Constructing, InBody}
 use Rattle.ce_frames.specs.Handing.{node_in}
 use Rattle.ce_frames.specs.Rest.{End, Went, Threw, Over}
 use Rattle.ce_frames.specs.Work.{weight, potential, work}
@@ -27,9 +28,12 @@ use Rattle.ce_frames.specs.Turned.{Turned, hand_down, left, Turn}
 use Rattle.ce_frames.specs.ConstructTurns.{created_turn, upgrade_result_turn, upgraded_turn}
 use Rattle.ce_frames.specs.DrainTurns.{call_turn, reaction_turn, take_turn, taken_turn, drain_turn, next_backup_turn, taken_backup_turn, checked_turn}
 use Rattle.ce_frames.specs.Turns.{turn_went, turn_threw, turn}
-use Rattle.ce_frames.proofs.Falls.{falls_give, falls_read, falls_read_page, falls_log, logged_potential, Sinks, sinks, falls_page, falls_attempt, falls_found, falls_throw}
-use Rattle.ce_frames.proofs.StepFalls.{falls_told, falls_log_call, falls_named, falls_fitting_given, falls_same_given, falls_create_failed, falls_upgrade_failed, falls_upgrade_threw, falls_upgrade_ends}
-use Rattle.ce_frames.proofs.Costs.{cost, Costs, cost_ended, cost_with_below, costs_down, costs_more, costs_go_on, costs_below, costs_bind, costs_seq, taken_potential, backup_potential}
+use Rattle.ce_frames.proofs.Falls.{falls_give, falls_read, falls_read_page, falls_log, logged_potential, Sinks, sinks, falls_page, falls_attempt, falls_found}
+use Rattle.ce_frames.proofs.Falls.{falls_throw}
+use Rattle.ce_frames.proofs.StepFalls.{falls_told, falls_log_call, falls_named, falls_fitting_given, falls_same_given, falls_create_failed}
+use Rattle.ce_frames.proofs.StepFalls.{falls_upgrade_failed, falls_upgrade_threw, falls_upgrade_ends}
+use Rattle.ce_frames.proofs.Costs.{cost, Costs, cost_ended, cost_with_below, costs_down, costs_more, costs_go_on, costs_below, costs_bind, costs_seq}
+use Rattle.ce_frames.proofs.Costs.{taken_potential, backup_potential}
 use Rattle.ce_frames.proofs.MakeCosts.{begin_costs, upgrade_costs, close_costs, next_costs, pop_costs, body_costs, falls_gives_node, falls_gives_nothing}
 
 -- reactions

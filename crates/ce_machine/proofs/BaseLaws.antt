@@ -68,11 +68,14 @@ module _ (old : Stacked) (b : HasBody (frames_of old)) (class : ℕ) (s : State)
   acts o is = ap behind (is ∙ ap (λ k. on_page (base_call k) (session old s)) own) ∙ super_is
 
   -- it has given a node
-  pub based_is : (n : ℕ) (s1 : State) → Goes n s1 ≡ base s → based_turn n (frame_on_top old) (session old s1) ≡ acting_turn Super (frame_on_top old) (session old s)
-  based_is n s1 is = ap (λ (f : Frame). based_turn n f (session old s1)) (on_top old b) ∙ acts (Goes n (session old s1)) (goes_whole base old old n s s1 (blind_on_page (base_call class)) refl is)
+  pub based_is : (n : ℕ) (s1 : State) → Goes n s1 ≡ base s
+      → based_turn n (frame_on_top old) (session old s1) ≡ acting_turn Super (frame_on_top old) (session old s)
+  based_is n s1 is = ap (λ (f : Frame). based_turn n f (session old s1)) (on_top old b)
+      ∙ acts (Goes n (session old s1)) (goes_whole base old old n s s1 (blind_on_page (base_call class)) refl is)
 
   -- it has thrown
-  pub base_throws : (f : Fault) (guarded : Bool) (s1 : State) → guarded ≡ guarded_of (top_of (frames_of old)) → Throws f s1 ≡ base s → stopped_turn (Throwing f guarded) (frame_on_top old) (session old s1) ≡ acting_turn Super (frame_on_top old) (session old s)
+  pub base_throws : (f : Fault) (guarded : Bool) (s1 : State) → guarded ≡ guarded_of (top_of (frames_of old)) → Throws f s1 ≡ base s
+      → stopped_turn (Throwing f guarded) (frame_on_top old) (session old s1) ≡ acting_turn Super (frame_on_top old) (session old s)
   base_throws f guarded s1 on is =
       ap (λ (g : Bool). stopped_turn (Throwing f g) (frame_on_top old) (session old s1)) (on ∙ ap guarded_of b.top)
       ∙ ap (λ (x : Frame). stopped_turn (Throwing f b.body.guarded) x (session old s1)) (on_top old b)
@@ -81,25 +84,31 @@ module _ (old : Stacked) (b : HasBody (frames_of old)) (class : ℕ) (s : State)
   -- the fuel is spent in it
   spent_is : (s1 : State) → Spent s1 ≡ base s → ended (Spent (session old s1)) ≡ acting_turn Super (frame_on_top old) (session old s)
   spent_is s1 is =
-      ap (λ (o : Outcome State Flow). turn_after o (flow_turn (λ next. body_turn b.body.class b.body.args next b.body.actions))) (sym (guard_spent b.body.guarded b.body.this (session old s1)))
+      ap (λ (o : Outcome State Flow). turn_after o (flow_turn (λ next. body_turn b.body.class b.body.args next b.body.actions)))
+      (sym (guard_spent b.body.guarded b.body.this (session old s1)))
       ∙ acts (Spent (session old s1)) (spent_whole base old s s1 (blind_on_page (base_call class)) is)
 
-  pub base_spent_turns : (new : Stacked) (s1 : State) → Spent s1 ≡ base s → frames_of new ≡ below_top (frames_of old) → behaviours_of new ≡ behaviours_of old → Turns (below_top (frames_of old)) (frames_of new) Over (session new s1) (acting_turn Super (frame_on_top old) (session old s))
+  pub base_spent_turns : (new : Stacked) (s1 : State) → Spent s1 ≡ base s → frames_of new ≡ below_top (frames_of old) → behaviours_of new ≡ behaviours_of old
+      → Turns (below_top (frames_of old)) (frames_of new) Over (session new s1) (acting_turn Super (frame_on_top old) (session old s))
   base_spent_turns new s1 is fs same =
-      turns_ended (below_top (frames_of old)) (frames_of new) Over (session new s1) (Spent (session old s1)) _ fs (ap (λ (t : State). Spent t) (session_is old new s1 s1 same refl)) (spent_is s1 is)
+      turns_ended (below_top (frames_of old)) (frames_of new) Over (session new s1) (Spent (session old s1)) _ fs
+      (ap (λ (t : State). Spent t) (session_is old new s1 s1 same refl)) (spent_is s1 is)
 
-  pub base_spent_lasts : (s1 : State) → Spent s1 ≡ base s → size s.page.forest ≤ size s1.page.forest → Lasts s.page.forest (acting_turn Super (frame_on_top old) (session old s))
+  pub base_spent_lasts : (s1 : State) → Spent s1 ≡ base s → size s.page.forest ≤ size s1.page.forest
+      → Lasts s.page.forest (acting_turn Super (frame_on_top old) (session old s))
   base_spent_lasts s1 is le = lasts_ended s.page.forest (Spent (session old s1)) _ le tt (spent_is s1 is)
 
 -- the node is `this`
 
 -- unless `this` was set before
-pub set_before : (old : Stacked) (b : HasBody (frames_of old)) (n : ℕ) (s : State) (this : Option ℕ) (guarded : Bool) → this ≡ this_of (top_of (frames_of old)) → is_some this ≡ true → guarded ≡ guarded_of (top_of (frames_of old))
+pub set_before : (old : Stacked) (b : HasBody (frames_of old)) (n : ℕ) (s : State) (this : Option ℕ) (guarded : Bool) → this ≡ this_of (top_of (frames_of old))
+    → is_some this ≡ true → guarded ≡ guarded_of (top_of (frames_of old))
     → stopped_turn (Throwing ReferenceError guarded) (frame_on_top old) (session old s) ≡ based_turn n (frame_on_top old) (session old s)
 set_before old b n s this guarded is on g =
     ap (λ (x : Bool). stopped_turn (Throwing ReferenceError x) (frame_on_top old) (session old s)) (g ∙ ap guarded_of b.top)
     ∙ ap (λ (x : Frame). stopped_turn (Throwing ReferenceError b.body.guarded) x (session old s)) (on_top old b)
-    ∙ ap (λ (x : Bool). turn_after (guard b.body.guarded b.body.this (then_do (throw_if x ReferenceError (session old s)) (λ _. give (Next (Some n))))) (flow_turn (λ next. body_turn b.body.class b.body.args next b.body.actions)))
+    ∙ ap (λ (x : Bool). turn_after (guard b.body.guarded b.body.this (then_do (throw_if x ReferenceError (session old s)) (λ _. give (Next (Some n)))))
+    (flow_turn (λ next. body_turn b.body.class b.body.args next b.body.actions)))
     (sym (ap is_some (sym (is ∙ ap this_of b.top)) ∙ on))
     ∙ sym (ap (λ (x : Frame). based_turn n x (session old s)) (on_top old b))
 
@@ -113,13 +122,17 @@ module _ (old new : Stacked) (n : ℕ) (s : State) (h : SetsThis old new n) wher
   abbrev new_body : HasBody (frames_of new)
   new_body = record { body = record h.body { this = Some n }; top = new_top }
 
-  based : is_some h.body.this ≡ false → body_turn h.body.class h.body.args (Some n) h.body.actions (session old s) ≡ based_turn n (frame_on_top old) (session old s)
+  based : is_some h.body.this ≡ false
+      → body_turn h.body.class h.body.args (Some n) h.body.actions (session old s) ≡ based_turn n (frame_on_top old) (session old s)
   based off =
-      ap (λ (o : Outcome State Flow). turn_after o (flow_turn (λ next. body_turn h.body.class h.body.args next h.body.actions))) (sym (guard_goes h.body.guarded h.body.this (Next (Some n)) (session old s)))
-      ∙ ap (λ (x : Bool). turn_after (guard h.body.guarded h.body.this (then_do (throw_if x ReferenceError (session old s)) (λ _. give (Next (Some n))))) (flow_turn (λ next. body_turn h.body.class h.body.args next h.body.actions))) (sym off)
+      ap (λ (o : Outcome State Flow). turn_after o (flow_turn (λ next. body_turn h.body.class h.body.args next h.body.actions)))
+      (sym (guard_goes h.body.guarded h.body.this (Next (Some n)) (session old s)))
+      ∙ ap (λ (x : Bool). turn_after (guard h.body.guarded h.body.this (then_do (throw_if x ReferenceError (session old s)) (λ _. give (Next (Some n)))))
+      (flow_turn (λ next. body_turn h.body.class h.body.args next h.body.actions))) (sym off)
       ∙ sym (ap (λ (x : Frame). based_turn n x (session old s)) (on_top old old_body))
 
-  pub this_goes_on : (this : Option ℕ) → this ≡ this_of (top_of (frames_of old)) → is_some this ≡ false → IsNode s.page.forest n → ArePaired old s → GoesOn old new s s (based_turn n)
+  pub this_goes_on : (this : Option ℕ) → this ≡ this_of (top_of (frames_of old)) → is_some this ≡ false → IsNode s.page.forest n → ArePaired old s
+      → GoesOn old new s s (based_turn n)
   this_goes_on this is off node paired = record {
     body = new_body;
     below = ap below_top h.frames ∙ below_push (below_top (frames_of old)) (in_body (record h.body { this = Some n }));

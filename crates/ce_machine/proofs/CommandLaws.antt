@@ -36,7 +36,8 @@ unfolding frames_of
 none_seen stack h = ap (map (seen (bodies_in (behaviours_of stack)))) h
 
 -- what it leaves to come
-begun_over : (old new : Stacked) (now : Came) (line : ℕ) (c : Cmd) (s s1 : State) → frames_of old ≡ [] → Turns (frames_of old) (frames_of new) now s1 (command_turn line c s) → over new (came_in now s1) ≡ nothing (command model line c s)
+begun_over : (old new : Stacked) (now : Came) (line : ℕ) (c : Cmd) (s s1 : State) → frames_of old ≡ []
+    → Turns (frames_of old) (frames_of new) now s1 (command_turn line c s) → over new (came_in now s1) ≡ nothing (command model line c s)
 unfolding over
 begun_over old new now line c s s1 none h =
     let t : Turned = command_turn line c s in
@@ -45,7 +46,8 @@ begun_over old new now line c s s1 none h =
     ∙ begun_is line c s
 
 -- what its frames hand down is there
-pub begun_placed : (under new : List Frame) (now : Came) (F : Trees) (s1 : State) (t : Turned) → under ≡ [] → Turns under new now s1 t → StaysPlaced F t → ArePlaced s1.page.forest new (end_of now)
+pub begun_placed : (under new : List Frame) (now : Came) (F : Trees) (s1 : State) (t : Turned) → under ≡ [] → Turns under new now s1 t → StaysPlaced F t
+    → ArePlaced s1.page.forest new (end_of now)
 begun_placed under new now F s1 t none h k =
     subst (λ (G : Trees). ArePlaced G new (end_of now)) (sym (ap (λ (x : State). x.page.forest) h.state))
     (subst (λ e. ArePlaced t.state.page.forest new e) (sym h.end)
@@ -62,20 +64,26 @@ did_dropped : {t : Bool} {h0 h1 : Option (List ℕ)} {o x : Outcome State Given}
 did_dropped {x} d = did_through dropped d (λ events. dropped_behind events x) did_nothing
 
 -- the loop's outcome is the command's
-command_did : {t : Bool} {h0 h1 : Option (List ℕ)} {x : Outcome State Given} (old new : Stacked) (now : Came) (line : ℕ) (c : Cmd) (s s1 : State) → frames_of old ≡ [] → Turns (frames_of old) (frames_of new) now s1 (command_turn line c s) → Did t h0 h1 (over new (came_in now s1)) x → Did t h0 h1 (command model line c s) (dropped x)
+command_did : {t : Bool} {h0 h1 : Option (List ℕ)} {x : Outcome State Given} (old new : Stacked) (now : Came) (line : ℕ) (c : Cmd) (s s1 : State)
+    → frames_of old ≡ [] → Turns (frames_of old) (frames_of new) now s1 (command_turn line c s) → Did t h0 h1 (over new (came_in now s1)) x
+    → Did t h0 h1 (command model line c s) (dropped x)
 command_did {t} {h0} {h1} {x} old new now line c s s1 none h d =
     subst (λ o. Did t h0 h1 o (dropped x)) (ap dropped (begun_over old new now line c s s1 none h) ∙ dropped_nothing (command model line c s)) (did_dropped d)
 
-pub command_ran : {t : Bool} {h0 h1 : Option (List ℕ)} (old new : Stacked) (now last : Came) (line : ℕ) (c : Cmd) (s s1 s2 : State) → frames_of old ≡ [] → Turns (frames_of old) (frames_of new) now s1 (command_turn line c s) → Did t h0 h1 (over new (came_in now s1)) (came_in last s2)
+pub command_ran : {t : Bool} {h0 h1 : Option (List ℕ)} (old new : Stacked) (now last : Came) (line : ℕ) (c : Cmd) (s s1 s2 : State) → frames_of old ≡ []
+    → Turns (frames_of old) (frames_of new) now s1 (command_turn line c s) → Did t h0 h1 (over new (came_in now s1)) (came_in last s2)
     → Did t h0 h1 (command model line c s) (endings.outcome_of (end_for last) s2)
 command_ran old new now (Went g) line c s s1 s2 none h d = command_did old new now line c s s1 none h d
-command_ran old new now (Threw f) line c s s1 s2 none h d = let e = command_did old new now line c s s1 none h d in absurd (command-no_throw line c s s2 f e.events e.same)
+command_ran old new now (Threw f) line c s s1 s2 none h d = let e =
+    command_did old new now line c s s1 none h d in absurd (command-no_throw line c s s2 f e.events e.same)
 command_ran old new now Over line c s s1 s2 none h d = command_did old new now line c s s1 none h d
 
 -- none throws
-pub command_is_quiet : {t : Bool} {h0 h1 : Option (List ℕ)} (old new : Stacked) (now last : Came) (line : ℕ) (c : Cmd) (s s1 s2 : State) → frames_of old ≡ [] → Turns (frames_of old) (frames_of new) now s1 (command_turn line c s) → Did t h0 h1 (over new (came_in now s1)) (came_in last s2) → IsNoFault last
+pub command_is_quiet : {t : Bool} {h0 h1 : Option (List ℕ)} (old new : Stacked) (now last : Came) (line : ℕ) (c : Cmd) (s s1 s2 : State) → frames_of old ≡ []
+    → Turns (frames_of old) (frames_of new) now s1 (command_turn line c s) → Did t h0 h1 (over new (came_in now s1)) (came_in last s2) → IsNoFault last
 command_is_quiet old new now (Went g) line c s s1 s2 none h d = tt
-command_is_quiet old new now (Threw f) line c s s1 s2 none h d = let e = command_did old new now line c s s1 none h d in command-no_throw line c s s2 f e.events e.same
+command_is_quiet old new now (Threw f) line c s s1 s2 none h d = let e =
+    command_did old new now line c s s1 none h d in command-no_throw line c s s2 f e.events e.same
 command_is_quiet old new now Over line c s s1 s2 none h d = tt
 
 log_nothing : (o : Outcome State (Unit {0})) → log_of (nothing o) ≡ log_of o
@@ -84,6 +92,8 @@ log_nothing (Throws f s) = refl
 log_nothing (Spent s) = refl
 
 -- a front of it was written
-pub command_part : (t : Bool) (h0 h1 : Option (List ℕ)) (old new : Stacked) (now : Came) (line : ℕ) (c : Cmd) (s s1 : State) → frames_of old ≡ [] → Turns (frames_of old) (frames_of new) now s1 (command_turn line c s) → AppendsPart h0 h1 (text t (log_of (over new (came_in now s1)))) → AppendsPart h0 h1 (text t (log_of (command model line c s)))
+pub command_part : (t : Bool) (h0 h1 : Option (List ℕ)) (old new : Stacked) (now : Came) (line : ℕ) (c : Cmd) (s s1 : State) → frames_of old ≡ []
+    → Turns (frames_of old) (frames_of new) now s1 (command_turn line c s) → AppendsPart h0 h1 (text t (log_of (over new (came_in now s1))))
+    → AppendsPart h0 h1 (text t (log_of (command model line c s)))
 command_part t h0 h1 old new now line c s s1 none h p =
     subst (λ l. AppendsPart h0 h1 (text t l)) (ap log_of (begun_over old new now line c s s1 none h) ∙ log_nothing (command model line c s)) p

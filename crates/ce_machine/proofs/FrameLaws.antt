@@ -7,7 +7,8 @@ use Rattle.ce_frames.specs.Turns.{turn, turn_threw, turn_went}
 use Rattle.ce_frames.specs.Whole.{CatchesBlind, GoesBlind}
 use Rattle.ce_frames.proofs.BlindTurns.{threw_blind, went_blind}
 use Rattle.frame_stack.specs.declared.waiting.Waiting.{Waiting}
-use Rattle.frame_stack.specs.declared.waiting.Waiting.TheVariants.{Replying, Checking, DrainingBackup, Naming, Stepping, Draining, InReaction, CreatingFit, CreatingExtended, Upgrading, Constructing}
+use Rattle.frame_stack.specs.declared.waiting.Waiting.TheVariants.{Replying, Checking, DrainingBackup, Naming, Stepping, Draining, InReaction, CreatingFit}
+use Rattle.frame_stack.specs.declared.waiting.Waiting.TheVariants.{CreatingExtended, Upgrading, Constructing}
 use Rattle.frame_stack.specs.Frames.{waiting_of}
 use Rattle.ce_drains.specs.Blind.{BlindAt}
 

@@ -29,7 +29,8 @@ use Rattle.ce_machine.specs.Turns.{left, over}
 -- one turn
 
 -- what is still to come stays
-pub turned_rest : (old new : Stacked) (under : List Frame) (f : Frame) (end now : Came) (s s1 : State) → frames_of old ≡ under ++ f ∷ [] → Turns under (frames_of new) now s1 (turn f (end_of end) s) → over new (came_in now s1) ≡ over old (came_in end s)
+pub turned_rest : (old new : Stacked) (under : List Frame) (f : Frame) (end now : Came) (s s1 : State) → frames_of old ≡ under ++ f ∷ []
+    → Turns under (frames_of new) now s1 (turn f (end_of end) s) → over new (came_in now s1) ≡ over old (came_in end s)
 unfolding over
 turned_rest old new under f end now s s1 popped h =
     let t : Turned = turn f (end_of end) s in
@@ -39,7 +40,8 @@ turned_rest old new under f end now s s1 popped h =
     ∙ ap (λ l. rest l (outcome_of (end_of end) s)) (sym popped)
 
 -- what is left to do falls
-pub turned_left : (old new : Stacked) (under : List Frame) (f : Frame) (end now : Came) (s s1 : State) → frames_of old ≡ under ++ f ∷ [] → Turns under (frames_of new) now s1 (turn f (end_of end) s) → left new s1 < left old s
+pub turned_left : (old new : Stacked) (under : List Frame) (f : Frame) (end now : Came) (s s1 : State) → frames_of old ≡ under ++ f ∷ []
+    → Turns under (frames_of new) now s1 (turn f (end_of end) s) → left new s1 < left old s
 unfolding left
 turned_left old new under f end now s s1 popped h =
     let t : Turned = turn f (end_of end) s in
@@ -50,24 +52,35 @@ turned_left old new under f end now s s1 popped h =
 
 -- the log is written out
 
-flush_did : {t : Bool} {h0 h1 h2 : Option (List ℕ)} {o : Outcome State Given} (frames : List Frame) (end : End) (s : State) → Did t h0 h1 o (rest frames (outcome_of end s)) → Appends h1 h2 (text t s.log) → Did t h0 h2 o (rest frames (outcome_of end (forgotten s)))
+flush_did : {t : Bool} {h0 h1 h2 : Option (List ℕ)} {o : Outcome State Given} (frames : List Frame) (end : End) (s : State)
+    → Did t h0 h1 o (rest frames (outcome_of end s)) → Appends h1 h2 (text t s.log) → Did t h0 h2 o (rest frames (outcome_of end (forgotten s)))
 flush_did {t} {h0} {h1} {h2} {o} frames end s d w =
-    let more : Did t h1 h2 (rest frames (outcome_of end s)) (rest frames (outcome_of end (forgotten s))) = record { events = s.log; written = w; same = rest_forgotten frames end s } in
+    let more : Did t h1 h2 (rest frames (outcome_of end s)) (rest frames (outcome_of end (forgotten s))) =
+    record { events = s.log; written = w; same = rest_forgotten frames end s } in
     did_through (λ x. x) d (λ events. refl) more
 
-flush_part : {t : Bool} {h0 h1 : Option (List ℕ)} {o : Outcome State Given} (h2 : Option (List ℕ)) (frames : List Frame) (end : End) (s : State) → Did t h0 h1 o (rest frames (outcome_of end s)) → AppendsPart h1 h2 (text t s.log) → AppendsPart h0 h2 (text t (log_of o))
+flush_part : {t : Bool} {h0 h1 : Option (List ℕ)} {o : Outcome State Given} (h2 : Option (List ℕ)) (frames : List Frame) (end : End) (s : State)
+    → Did t h0 h1 o (rest frames (outcome_of end s)) → AppendsPart h1 h2 (text t s.log) → AppendsPart h0 h2 (text t (log_of o))
 flush_part {t} {h0} {h1} {o} h2 frames end s d p =
-    let grows : Grows s.log (log_of (rest frames (outcome_of end s))) = record { more = log_of (rest frames (outcome_of end (forgotten s))); is = sym (ap log_of (rest_forgotten frames end s) ∙ log_of-behind s.log (rest frames (outcome_of end (forgotten s)))) } in
+    let grows : Grows s.log (log_of (rest frames (outcome_of end s))) =
+    record {
+      more = log_of (rest frames (outcome_of end (forgotten s)));
+      is = sym (ap log_of (rest_forgotten frames end s) ∙ log_of-behind s.log (rest frames (outcome_of end (forgotten s))));
+    } in
     part_through h2 (λ x. x) d (λ events. refl) (part_grows t h1 h2 grows p)
 
 -- what was logged is written out
-pub flushed : {t : Bool} {h0 h1 h2 : Option (List ℕ)} {o : Outcome State Given} (stack : Stacked) (now : Came) (s s' : State) → Did t h0 h1 o (over stack (came_in now (session stack s))) → Appends h1 h2 (text t s.log) → s' ≡ forgotten s → Did t h0 h2 o (over stack (came_in now (session stack s')))
+pub flushed : {t : Bool} {h0 h1 h2 : Option (List ℕ)} {o : Outcome State Given} (stack : Stacked) (now : Came) (s s' : State)
+    → Did t h0 h1 o (over stack (came_in now (session stack s))) → Appends h1 h2 (text t s.log) → s' ≡ forgotten s
+    → Did t h0 h2 o (over stack (came_in now (session stack s')))
 unfolding over
 flushed {t} {h0} {h1} {h2} {o} stack now s s' d w is =
-    subst (λ x. Did t h0 h2 o (rest (frames_of stack) (outcome_of (end_of now) (session stack x)))) (sym is) (flush_did (frames_of stack) (end_of now) (session stack s) d w)
+    subst (λ x. Did t h0 h2 o (rest (frames_of stack) (outcome_of (end_of now) (session stack x)))) (sym is)
+    (flush_did (frames_of stack) (end_of now) (session stack s) d w)
 
 -- a front of it was
-pub flushed_part : {t : Bool} {h0 h1 : Option (List ℕ)} {o : Outcome State Given} (h2 : Option (List ℕ)) (stack : Stacked) (now : Came) (s : State) → Did t h0 h1 o (over stack (came_in now (session stack s))) → AppendsPart h1 h2 (text t s.log) → AppendsPart h0 h2 (text t (log_of o))
+pub flushed_part : {t : Bool} {h0 h1 : Option (List ℕ)} {o : Outcome State Given} (h2 : Option (List ℕ)) (stack : Stacked) (now : Came) (s : State)
+    → Did t h0 h1 o (over stack (came_in now (session stack s))) → AppendsPart h1 h2 (text t s.log) → AppendsPart h0 h2 (text t (log_of o))
 unfolding over
 flushed_part h2 stack now s d p = flush_part h2 (frames_of stack) (end_of now) (session stack s) d p
 
@@ -81,7 +94,8 @@ pub no_frames : (l : List Frame) → is_empty l ≡ true → l ≡ []
 no_frames [] h = refl
 no_frames (f ∷ l) h = absurd (let e : false ≡ true = h in cc)
 
-pub ended_did : {t : Bool} {h0 h1 : Option (List ℕ)} {o : Outcome State Given} (stack : Stacked) (x : Outcome State Given) → frames_of stack ≡ [] → Did t h0 h1 o (over stack x) → Did t h0 h1 o x
+pub ended_did : {t : Bool} {h0 h1 : Option (List ℕ)} {o : Outcome State Given} (stack : Stacked) (x : Outcome State Given) → frames_of stack ≡ []
+    → Did t h0 h1 o (over stack x) → Did t h0 h1 o x
 unfolding over rest
 ended_did {t} {h0} {h1} {o} stack x none d = subst (λ l. Did t h0 h1 o (rest l x)) none d
 

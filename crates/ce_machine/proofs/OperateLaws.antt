@@ -46,31 +46,39 @@ use Rattle.ce_outcomes.proofs.TurnLaws.{turns_as, turns_below, turns_same}
 
 -- steps and their queue
 
-next_lasts : (F : Trees) (queue : ℕ) (es : List ℕ) (kept : Result Given Fault) (s : State) → size F ≤ size s.page.forest → IsKeptThere s.page.forest kept → Lasts F (next_turn queue es kept s)
+next_lasts : (F : Trees) (queue : ℕ) (es : List ℕ) (kept : Result Given Fault) (s : State) → size F ≤ size s.page.forest → IsKeptThere s.page.forest kept
+    → Lasts F (next_turn queue es kept s)
 next_lasts F queue [] (Ok given) s le h = record { grows = le; gives = h; placed = tt }
 next_lasts F queue [] (Err f) s le h = record { grows = le; gives = tt; placed = tt }
 next_lasts F queue (n ∷ ns) kept s le h = record { grows = le; gives = h; placed = (tt, tt) }
 
-pop_lasts : (F : Trees) (queue : ℕ) (kept : Result Given Fault) (s : State) → size F ≤ size s.page.forest → IsKeptThere s.page.forest kept → Lasts F (pop_turn queue kept s)
-pop_lasts F queue kept s le h = next_lasts F queue (current_elements s.page.queues) kept (logged (DrainBegun queue) (record s { page = with_queues popped_queue s.page })) le h
+pop_lasts : (F : Trees) (queue : ℕ) (kept : Result Given Fault) (s : State) → size F ≤ size s.page.forest → IsKeptThere s.page.forest kept
+    → Lasts F (pop_turn queue kept s)
+pop_lasts F queue kept s le h =
+    next_lasts F queue (current_elements s.page.queues) kept (logged (DrainBegun queue) (record s { page = with_queues popped_queue s.page })) le h
 
-stepped_lasts : (F : Trees) (queue : ℕ) (kept : Result Given Fault) (s : State) (o : Outcome State Given) → settle kept s ≡ o → size F ≤ size s.page.forest → IsKeptThere s.page.forest kept → Lasts F (turn_after (attempt_in o) (pop_turn queue))
+stepped_lasts : (F : Trees) (queue : ℕ) (kept : Result Given Fault) (s : State) (o : Outcome State Given) → settle kept s ≡ o → size F ≤ size s.page.forest
+    → IsKeptThere s.page.forest kept → Lasts F (turn_after (attempt_in o) (pop_turn queue))
 stepped_lasts F queue (Ok given) s o e le h = subst (λ x. Lasts F (turn_after (attempt_in x) (pop_turn queue))) e (pop_lasts F queue (Ok given) s le h)
 stepped_lasts F queue (Err f) s o e le h = subst (λ x. Lasts F (turn_after (attempt_in x) (pop_turn queue))) e (pop_lasts F queue (Err f) s le h)
 
-pub went_lasts : (ran : Result Given PageStop) (given : Given) (queue : ℕ) (s : State) → ran ≡ Ok given → IfOk ran (IsThere s.page.forest) → (F : Trees) (o : Outcome State Given) → size F ≤ size s.page.forest → Ends (λ g. g) ran s o → Lasts F (turn_after (attempt_in o) (pop_turn queue))
+pub went_lasts : (ran : Result Given PageStop) (given : Given) (queue : ℕ) (s : State) → ran ≡ Ok given → IfOk ran (IsThere s.page.forest)
+    → (F : Trees) (o : Outcome State Given) → size F ≤ size s.page.forest → Ends (λ g. g) ran s o → Lasts F (turn_after (attempt_in o) (pop_turn queue))
 went_lasts (Ok g) given queue s is h F o le e = stepped_lasts F queue (Ok g) s o e le h
 went_lasts (Err x) given queue s is h F o le e = cc
 
 -- their queue was pushed before
-react_is : (queue : ℕ) (step : Step State Given) (s s1 : State) → Goes queue s1 ≡ open_queue s → turn_after (attempt_in (step s1)) (pop_turn queue) ≡ steps_turn step s
+react_is : (queue : ℕ) (step : Step State Given) (s s1 : State) → Goes queue s1 ≡ open_queue s
+    → turn_after (attempt_in (step s1)) (pop_turn queue) ≡ steps_turn step s
 unfolding steps_turn
 react_is queue step s s1 e = ap (λ (x : Outcome State ℕ). turn_after x (λ q t. turn_after (attempt_in (step t)) (pop_turn q))) e
 
-pub react_turns : (frames new : List Frame) (now : Came) (queue : ℕ) (step : Step State Given) (s s1 s2 : State) → Goes queue s1 ≡ open_queue s → Turns frames new now s2 (turn_after (attempt_in (step s1)) (pop_turn queue)) → Turns frames new now s2 (steps_turn step s)
+pub react_turns : (frames new : List Frame) (now : Came) (queue : ℕ) (step : Step State Given) (s s1 s2 : State) → Goes queue s1 ≡ open_queue s
+    → Turns frames new now s2 (turn_after (attempt_in (step s1)) (pop_turn queue)) → Turns frames new now s2 (steps_turn step s)
 react_turns frames new now queue step s s1 s2 e h = turns_as frames new now s2 _ _ (react_is queue step s s1 e) h
 
-pub react_lasts : (F : Trees) (queue : ℕ) (step : Step State Given) (s s1 : State) → Goes queue s1 ≡ open_queue s → Lasts F (turn_after (attempt_in (step s1)) (pop_turn queue)) → Lasts F (steps_turn step s)
+pub react_lasts : (F : Trees) (queue : ℕ) (step : Step State Given) (s s1 : State) → Goes queue s1 ≡ open_queue s
+    → Lasts F (turn_after (attempt_in (step s1)) (pop_turn queue)) → Lasts F (steps_turn step s)
 react_lasts F queue step s s1 e h = subst (Lasts F) (react_is queue step s s1 e) h
 
 -- a deed whose steps wait for nothing
@@ -99,25 +107,30 @@ pub deed_runs : (deed : Deed) (s : State) → IsStill deed → is_reacting deed 
 unfolding by_queue
 deed_runs deed s still is = ap (λ b. by_queue b deed s) (sym is) ∙ deed_is deed s still
 
-pub deed_lasts : (F : Trees) (deed : Deed) (s : State) → IsStill deed → is_reacting deed ≡ false → Lasts F (ended (steps model deed s)) → Lasts F (deed_turn deed s)
+pub deed_lasts : (F : Trees) (deed : Deed) (s : State) → IsStill deed → is_reacting deed ≡ false → Lasts F (ended (steps model deed s))
+    → Lasts F (deed_turn deed s)
 deed_lasts F deed s still is h = subst (Lasts F) (deed_runs deed s still is) h
 
-pub react_deed_lasts : (F : Trees) (deed : Deed) (s : State) → IsStill deed → is_reacting deed ≡ true → Lasts F (steps_turn (steps model deed) s) → Lasts F (deed_turn deed s)
+pub react_deed_lasts : (F : Trees) (deed : Deed) (s : State) → IsStill deed → is_reacting deed ≡ true → Lasts F (steps_turn (steps model deed) s)
+    → Lasts F (deed_turn deed s)
 react_deed_lasts F deed s still is h = subst (Lasts F) (deed_reacts deed s still is) h
 
 pub still_at : (deed : Deed) (s : State) → IsStill deed → BlindAt (deed_turn deed) s
 still_at deed s still = blind_at (deed_turn deed) (deed_turn_blind deed still) s
 
-pub react_deed_turns : (frames new : List Frame) (now : Came) (deed : Deed) (s s1 : State) → IsStill deed → is_reacting deed ≡ true → Turns frames new now s1 (steps_turn (steps model deed) s) → Turns frames new now s1 (deed_turn deed s)
+pub react_deed_turns : (frames new : List Frame) (now : Came) (deed : Deed) (s s1 : State) → IsStill deed → is_reacting deed ≡ true
+    → Turns frames new now s1 (steps_turn (steps model deed) s) → Turns frames new now s1 (deed_turn deed s)
 react_deed_turns frames new now deed s s1 still is h = turns_as frames new now s1 _ _ (deed_reacts deed s still is) h
 
-pub run_deed_turns : (frames : List Frame) (now : Came) (deed : Deed) (s s1 : State) → IsStill deed → is_reacting deed ≡ false → came_in now s1 ≡ steps model deed s → Turns frames frames now s1 (deed_turn deed s)
+pub run_deed_turns : (frames : List Frame) (now : Came) (deed : Deed) (s s1 : State) → IsStill deed → is_reacting deed ≡ false
+    → came_in now s1 ≡ steps model deed s → Turns frames frames now s1 (deed_turn deed s)
 run_deed_turns frames now deed s s1 still is e = turns_as frames frames now s1 _ _ (deed_runs deed s still is) (turns_same frames now s1 _ e)
 
 -- a creation
 
 -- its queue was pushed before, and waits for it
-pub create_turns : (frames frames' new : List Frame) (now : Came) (queue : ℕ) (name : List ℕ) (is : Option (List ℕ)) (document : ℕ) (s s1 s2 : State) → Goes queue s1 ≡ open_queue s → frames' ≡ frames ++ waiting.Stepping queue ∷ [] → Turns frames' new now s2 (create_named_turn name is document s1)
+pub create_turns : (frames frames' new : List Frame) (now : Came) (queue : ℕ) (name : List ℕ) (is : Option (List ℕ)) (document : ℕ) (s s1 s2 : State)
+    → Goes queue s1 ≡ open_queue s → frames' ≡ frames ++ waiting.Stepping queue ∷ [] → Turns frames' new now s2 (create_named_turn name is document s1)
     → Turns frames new now s2 (deed_turn (deeds.Create name is document) s)
 unfolding deed_turn
 create_turns frames frames' new now queue name is document s s1 s2 opened pushed h =
@@ -125,7 +138,8 @@ create_turns frames frames' new now queue name is document s s1 s2 opened pushed
     (ap (λ (o : Outcome State ℕ). turn_after o (λ q. below (waiting.Stepping q) (create_named_turn name is document))) opened)
     (turns_below frames frames' new (waiting.Stepping queue) now (create_named_turn name is document) s1 s1 s2 pushed refl h)
 
-pub create_lasts : (F : Trees) (queue : ℕ) (name : List ℕ) (is : Option (List ℕ)) (document : ℕ) (s s1 : State) → Goes queue s1 ≡ open_queue s → s1.page.forest ≡ F → Lasts s1.page.forest (create_named_turn name is document s1) → Lasts F (deed_turn (deeds.Create name is document) s)
+pub create_lasts : (F : Trees) (queue : ℕ) (name : List ℕ) (is : Option (List ℕ)) (document : ℕ) (s s1 : State) → Goes queue s1 ≡ open_queue s
+    → s1.page.forest ≡ F → Lasts s1.page.forest (create_named_turn name is document s1) → Lasts F (deed_turn (deeds.Create name is document) s)
 unfolding deed_turn
 create_lasts F queue name is document s s1 opened same h =
     let n = ap size same in
@@ -146,22 +160,28 @@ named_placed F (Some var) turn s h = record { grows = h.grows; placed = (h.gives
 
 -- one of its operands is at fault
 
-refused_is : (this : Option ℕ) (find : View → Result Deed Fault) (var : Option (List ℕ)) (f : Fault) (s : State) (r : Result Deed RefusedWith) → r ≡ Err (IsFault f) → Resolves r (find (view this s)) → ended (Throws f s) ≡ resolved_turn this find var s
+refused_is : (this : Option ℕ) (find : View → Result Deed Fault) (var : Option (List ℕ)) (f : Fault) (s : State) (r : Result Deed RefusedWith)
+    → r ≡ Err (IsFault f) → Resolves r (find (view this s)) → ended (Throws f s) ≡ resolved_turn this find var s
 refused_is this find var f s r is h =
     let found : find (view this s) ≡ Err f = subst (λ (x : Result Deed RefusedWith). Resolves x (find (view this s))) is h in
     ap (λ (x : Result Deed Fault). turn_after (settle x s) (λ d. named_turn var (deed_turn d))) (sym found)
 
-pub refused_turns : (frames : List Frame) (this : Option ℕ) (find : View → Result Deed Fault) (var : Option (List ℕ)) (f : Fault) (s : State) (r : Result Deed RefusedWith) → r ≡ Err (IsFault f) → Resolves r (find (view this s)) → Turns frames frames (Threw f) s (resolved_turn this find var s)
-refused_turns frames this find var f s r is h = turns_as frames frames (Threw f) s _ _ (refused_is this find var f s r is h) (turns_same frames (Threw f) s (Throws f s) refl)
+pub refused_turns : (frames : List Frame) (this : Option ℕ) (find : View → Result Deed Fault) (var : Option (List ℕ)) (f : Fault) (s : State)
+    (r : Result Deed RefusedWith) → r ≡ Err (IsFault f) → Resolves r (find (view this s)) → Turns frames frames (Threw f) s (resolved_turn this find var s)
+refused_turns frames this find var f s r is h =
+    turns_as frames frames (Threw f) s _ _ (refused_is this find var f s r is h) (turns_same frames (Threw f) s (Throws f s) refl)
 
 -- operands read no behaviour
-pub resolved_whole : (this : Option ℕ) (op : Op) (old : Stacked) (s : State) (r : Result Deed RefusedWith) → Resolves r (resolve (view this s) op) → Resolves r (resolve (view this (session old s)) op)
+pub resolved_whole : (this : Option ℕ) (op : Op) (old : Stacked) (s : State) (r : Result Deed RefusedWith) → Resolves r (resolve (view this s) op)
+    → Resolves r (resolve (view this (session old s)) op)
 resolved_whole this op old s r h = subst (λ (x : Result Deed Fault). Resolves r x) (sym (resolve_blind this op (behaviours_of old) s)) h
 
-pub resolved_user_whole : (c : Cmd) (old : Stacked) (s : State) (r : Result Deed RefusedWith) → Resolves r (resolve_user (view None s) c) → Resolves r (resolve_user (view None (session old s)) c)
+pub resolved_user_whole : (c : Cmd) (old : Stacked) (s : State) (r : Result Deed RefusedWith) → Resolves r (resolve_user (view None s) c)
+    → Resolves r (resolve_user (view None (session old s)) c)
 resolved_user_whole c old s r h = subst (λ (x : Result Deed Fault). Resolves r x) (sym (resolve_user_blind c (behaviours_of old) s)) h
 
 -- commands
 
 pub document_at : (var : List ℕ) (s : State) → BlindAt (named_turn (Some var) (hand_down (on_page (algorithms.gives_node make_document)))) s
-document_at var s = blind_at (named_turn (Some var) (hand_down (on_page (algorithms.gives_node make_document)))) (blind_below (waiting.Naming var) (blind_page (algorithms.gives_node make_document))) s
+document_at var s = blind_at (named_turn (Some var) (hand_down (on_page (algorithms.gives_node make_document))))
+    (blind_below (waiting.Naming var) (blind_page (algorithms.gives_node make_document))) s

@@ -8,7 +8,8 @@ use Rattle.node_trees.specs.Kinds.{IsElement}
 use Rattle.node_trees.specs.Nodes.{IsNode, size}
 use Rattle.node_trees.specs.Trees.{Trees}
 use Rattle.reaction_queue.specs.declared.reaction.Reaction.{Reaction}
-use Rattle.reaction_queue.specs.declared.reaction.Reaction.TheVariants.{Upgrade, Connected, Disconnected, Adopted, Attribute, FormAssociated, FormDisabled, FormReset, FormStateRestore}
+use Rattle.reaction_queue.specs.declared.reaction.Reaction.TheVariants.{Upgrade, Connected, Disconnected, Adopted, Attribute, FormAssociated, FormDisabled}
+use Rattle.reaction_queue.specs.declared.reaction.Reaction.TheVariants.{FormReset, FormStateRestore}
 use Rattle.reaction_queue.specs.Queues.{current_elements, popped_queue, waiting_at, with_waiting}
 use Rattle.ce_registry.specs.declared.definition.Definition.{Definition}
 use Rattle.ce_events.specs.declared.event.Event.TheVariants.{DrainBegun, QueueClosed, Started}
@@ -30,7 +31,8 @@ use Rattle.ce_frames.specs.Frames.{Frame}
 use Rattle.ce_outcomes.specs.declared.came.Came.{Came}
 use Rattle.ce_outcomes.specs.declared.came.Came.TheVariants.{Went, Threw, Over}
 use Rattle.frame_stack.specs.declared.waiting.Waiting.{Waiting}
-use Rattle.frame_stack.specs.declared.waiting.Waiting.TheVariants.{Replying, Checking, DrainingBackup, Naming, Stepping, Draining, InReaction, CreatingFit, CreatingExtended, Upgrading, Constructing}
+use Rattle.frame_stack.specs.declared.waiting.Waiting.TheVariants.{Replying, Checking, DrainingBackup, Naming, Stepping, Draining, InReaction, CreatingFit}
+use Rattle.frame_stack.specs.declared.waiting.Waiting.TheVariants.{CreatingExtended, Upgrading, Constructing}
 use Rattle.frame_stack.specs.Frames.{waiting_of}
 use Rattle.ce_page.specs.Rows.{HasRows}
 use Rattle.ce_page.proofs.RowLemmas.{row_element}
@@ -60,7 +62,8 @@ this_grows F G le (Some n) h = record { low = h.low; high = let x = h.high in om
 
 -- frames on frames
 
-given_below : (F G : Trees) → size F ≤ size G → (xs above above' : List Frame) (e e' : End) → (Gives F above e → Gives G above' e') → Gives F (xs ++ above) e → Gives G (xs ++ above') e'
+given_below : (F G : Trees) → size F ≤ size G → (xs above above' : List Frame) (e e' : End) → (Gives F above e → Gives G above' e') → Gives F (xs ++ above) e
+    → Gives G (xs ++ above') e'
 given_below F G le [] above above' e e' g h = g h
 given_below F G le (waiting.Draining queue ns kept ∷ xs) above above' e e' g h = kept_grows F G le kept h
 given_below F G le (waiting.Stepping queue ∷ xs) above above' e e' g h = given_below F G le xs above above' e e' g h
@@ -70,7 +73,8 @@ given_below F G le (waiting.Constructing ∷ xs) above above' e e' g h = given_b
 given_below F G le (waiting.InBody class args this guarded actions ∷ xs) above above' e e' g h = tt
 given_below F G le (x ∷ xs) above above' e e' g h = h
 
-named_below : (F G : Trees) → size F ≤ size G → (x : Frame) (xs above above' : List Frame) (e e' : End) → (Gives F above e → Gives G above' e') → IsNamed F x (xs ++ above) e → IsNamed G x (xs ++ above') e'
+named_below : (F G : Trees) → size F ≤ size G → (x : Frame) (xs above above' : List Frame) (e e' : End) → (Gives F above e → Gives G above' e')
+    → IsNamed F x (xs ++ above) e → IsNamed G x (xs ++ above') e'
 named_below F G le (waiting.Naming var) xs above above' e e' g h = given_below F G le xs above above' e e' g h
 named_below F G le (waiting.Stepping queue) xs above above' e e' g h = given_below F G le xs above above' e e' g h
 named_below F G le (waiting.CreatingFit local document) xs above above' e e' g h = given_below F G le xs above above' e e' g h
@@ -79,7 +83,8 @@ named_below F G le (waiting.InBody class args this guarded actions) xs above abo
 named_below F G le x xs above above' e e' g h = h
 
 -- other frames above the same ones
-placed_below : (F G : Trees) → size F ≤ size G → (xs above above' : List Frame) (e e' : End) → (Gives F above e → Gives G above' e') → ArePlaced G above' e' → ArePlaced F (xs ++ above) e → ArePlaced G (xs ++ above') e'
+placed_below : (F G : Trees) → size F ≤ size G → (xs above above' : List Frame) (e e' : End) → (Gives F above e → Gives G above' e') → ArePlaced G above' e'
+    → ArePlaced F (xs ++ above) e → ArePlaced G (xs ++ above') e'
 placed_below F G le [] above above' e e' g p h = p
 placed_below F G le (x ∷ xs) above above' e e' g p h = (named_below F G le x xs above above' e e' g h.0, placed_below F G le xs above above' e e' g p h.1)
 
@@ -96,7 +101,8 @@ record Stays (F G : Trees) (f : Frame) (e : End) (t : Turned) : Type 0 where
 
 -- callbacks
 
-call_placed : (G : Trees) (n : ℕ) (r : Reaction) (d : Option Definition) (s : State) → (((x : Definition) → d ≡ Some x → IsNode G n)) → ArePlaced G (call_turn n r d s).pushed (call_turn n r d s).end
+call_placed : (G : Trees) (n : ℕ) (r : Reaction) (d : Option Definition) (s : State) → (((x : Definition) → d ≡ Some x → IsNode G n))
+    → ArePlaced G (call_turn n r d s).pushed (call_turn n r d s).end
 call_placed G n r None s there = tt
 call_placed G n (Upgrade c) (Some d) s there = (there d refl, tt)
 call_placed G n Connected (Some d) s there = (there d refl, tt)
@@ -117,11 +123,14 @@ defined_element p n d rows is = go (element_of p n).definition refl
     go (Some k) e = row_element p n k rows e
 
 -- so it is a node
-defined_placed : (G : Trees) (n : ℕ) (r : Reaction) (s : State) → HasRows s.page.elements s.page.forest → size s.page.forest ≤ size G → ArePlaced G (call_turn n r (definition_of s.page n) s).pushed (call_turn n r (definition_of s.page n) s).end
+defined_placed : (G : Trees) (n : ℕ) (r : Reaction) (s : State) → HasRows s.page.elements s.page.forest → size s.page.forest ≤ size G
+    → ArePlaced G (call_turn n r (definition_of s.page n) s).pushed (call_turn n r (definition_of s.page n) s).end
 defined_placed G n r s rows le =
-    call_placed G n r (definition_of s.page n) s (λ d is. let x = (defined_element s.page n d rows is).node in record { low = x.low; high = let high = x.high in omega (arith, high, le) })
+    call_placed G n r (definition_of s.page n) s
+    (λ d is. let x = (defined_element s.page n d rows is).node in record { low = x.low; high = let high = x.high in omega (arith, high, le) })
 
-reaction_placed : (G : Trees) (n : ℕ) (r : Reaction) (s : State) → HasRows s.page.elements s.page.forest → size s.page.forest ≤ size G → ArePlaced G (reaction_turn n r s).pushed (reaction_turn n r s).end
+reaction_placed : (G : Trees) (n : ℕ) (r : Reaction) (s : State) → HasRows s.page.elements s.page.forest → size s.page.forest ≤ size G
+    → ArePlaced G (reaction_turn n r s).pushed (reaction_turn n r s).end
 unfolding reaction_turn
 reaction_placed G n (Upgrade d) s rows le = upgrade_settles n d s G
 reaction_placed G n Connected s rows le = defined_placed G n Connected s rows le
@@ -140,32 +149,41 @@ taken n number ws s = logged (Started number) (record s { page = with_queues (wi
 -- drains
 
 -- what was kept
-kept_gives : (F G : Trees) → size F ≤ size G → (kept : Result Given Fault) (s : State) (f : Frame) (e : End) → (Gives F (f ∷ []) e → IsKeptThere F kept) → Stays F G f e (ended (settle kept s))
+kept_gives : (F G : Trees) → size F ≤ size G → (kept : Result Given Fault) (s : State) (f : Frame) (e : End) → (Gives F (f ∷ []) e → IsKeptThere F kept)
+    → Stays F G f e (ended (settle kept s))
 kept_gives F G le (Ok given) s f e k = record { gives = λ h. there_grows F G le given (k h); placed = tt }
 kept_gives F G le (Err x) s f e k = record { gives = λ _. tt; placed = tt }
 
 -- a queue was popped
-next_stays : (F G : Trees) → size F ≤ size G → (f : Frame) (e : End) (queue : ℕ) (es : List ℕ) (kept : Result Given Fault) (s : State) → (Gives F (f ∷ []) e → IsKeptThere F kept) → Stays F G f e (next_turn queue es kept s)
+next_stays : (F G : Trees) → size F ≤ size G → (f : Frame) (e : End) (queue : ℕ) (es : List ℕ) (kept : Result Given Fault) (s : State)
+    → (Gives F (f ∷ []) e → IsKeptThere F kept) → Stays F G f e (next_turn queue es kept s)
 next_stays F G le f e queue [] kept s k = kept_gives F G le kept (logged (QueueClosed queue) s) f e k
 next_stays F G le f e queue (n ∷ ns) kept s k = record { gives = λ h. kept_grows F G le kept (k h); placed = (tt, tt) }
 
-stepped_stays : (F G : Trees) → size F ≤ size G → (queue : ℕ) (kept : Result Given Fault) (e : End) (s : State) → (Gives F (waiting.Stepping queue ∷ []) e → IsKeptThere F kept) → Stays F G (waiting.Stepping queue) e (pop_turn queue kept s)
+stepped_stays : (F G : Trees) → size F ≤ size G → (queue : ℕ) (kept : Result Given Fault) (e : End) (s : State)
+    → (Gives F (waiting.Stepping queue ∷ []) e → IsKeptThere F kept) → Stays F G (waiting.Stepping queue) e (pop_turn queue kept s)
 stepped_stays F G le queue kept e s k =
-    next_stays F G le (waiting.Stepping queue) e queue (current_elements s.page.queues) kept (logged (DrainBegun queue) (record s { page = with_queues popped_queue s.page })) k
+    next_stays F G le (waiting.Stepping queue) e queue (current_elements s.page.queues) kept
+    (logged (DrainBegun queue) (record s { page = with_queues popped_queue s.page })) k
 
-drain_stays : (G : Trees) (queue n : ℕ) (ns : List ℕ) (kept : Result Given Fault) (e : End) (s : State) (ws : List (ℕ × Reaction)) → HasRows s.page.elements s.page.forest → size s.page.forest ≤ size G → Stays s.page.forest G (waiting.Draining queue (n ∷ ns) kept) e (taken_turn queue n ns kept ws s)
+drain_stays : (G : Trees) (queue n : ℕ) (ns : List ℕ) (kept : Result Given Fault) (e : End) (s : State) (ws : List (ℕ × Reaction))
+    → HasRows s.page.elements s.page.forest → size s.page.forest ≤ size G
+    → Stays s.page.forest G (waiting.Draining queue (n ∷ ns) kept) e (taken_turn queue n ns kept ws s)
 drain_stays G queue n ns kept e s [] rows le = next_stays s.page.forest G le (waiting.Draining queue (n ∷ ns) kept) e queue ns kept s (λ h. h)
-drain_stays G queue n ns kept e s (w ∷ ws) rows le = record { gives = λ h. kept_grows s.page.forest G le kept h; placed = (tt, (tt, reaction_placed G n w.1 (taken n w.0 ws s) rows le)) }
+drain_stays G queue n ns kept e s (w ∷ ws) rows le =
+    record { gives = λ h. kept_grows s.page.forest G le kept h; placed = (tt, (tt, reaction_placed G n w.1 (taken n w.0 ws s) rows le)) }
 
 next_backup_stays : (F G : Trees) (f : Frame) (e : End) (es : List ℕ) (s : State) → (Gives F (f ∷ []) e → ⊥) → Stays F G f e (next_backup_turn es s)
 next_backup_stays F G f e [] s never = record { gives = λ h. absurd (never h); placed = tt }
 next_backup_stays F G f e (n ∷ ns) s never = record { gives = λ h. absurd (never h); placed = (tt, tt) }
 
-backup_stays : (G : Trees) (n : ℕ) (e : End) (s : State) (ws : List (ℕ × Reaction)) → HasRows s.page.elements s.page.forest → size s.page.forest ≤ size G → Stays s.page.forest G (waiting.DrainingBackup n) e (taken_backup_turn n ws s)
+backup_stays : (G : Trees) (n : ℕ) (e : End) (s : State) (ws : List (ℕ × Reaction)) → HasRows s.page.elements s.page.forest → size s.page.forest ≤ size G
+    → Stays s.page.forest G (waiting.DrainingBackup n) e (taken_backup_turn n ws s)
 backup_stays G n e s [] rows le = next_backup_stays s.page.forest G (waiting.DrainingBackup n) e s.page.queues.backup s (λ k. k)
 backup_stays G n e s (w ∷ ws) rows le = record { gives = λ k. absurd k; placed = (tt, (tt, reaction_placed G n w.1 (taken n w.0 ws s) rows le)) }
 
-check_stays : (F G : Trees) (line : ℕ) (kept : Result Given Fault) (e : End) (s : State) (es : List ℕ) → Stays F G (waiting.Replying line) e (checked_turn line kept es s)
+check_stays : (F G : Trees) (line : ℕ) (kept : Result Given Fault) (e : End) (s : State) (es : List ℕ)
+    → Stays F G (waiting.Replying line) e (checked_turn line kept es s)
 check_stays F G line kept e s [] = record { gives = λ h. absurd h; placed = tt }
 check_stays F G line kept e s (n ∷ ns) = record { gives = λ h. absurd h; placed = (tt, (tt, tt)) }
 
@@ -192,13 +210,15 @@ node_stays : (F G : Trees) → size F ≤ size G → (n : ℕ) → IsNode F n �
 node_stays F G le n h = record { low = h.low; high = let high = h.high in omega (arith, high, le) }
 
 -- a constructor's body has to have given a node
-constructed_stays : (F G : Trees) → size F ≤ size G → (given : Given) (s : State) → Stays F G waiting.Constructing (ends.Went given) (ended (gives_node (found (node_in given) ReferenceError) s))
+constructed_stays : (F G : Trees) → size F ≤ size G → (given : Given) (s : State)
+    → Stays F G waiting.Constructing (ends.Went given) (ended (gives_node (found (node_in given) ReferenceError) s))
 constructed_stays F G le (Node n) s = record { gives = λ h. node_stays F G le n h; placed = tt }
 constructed_stays F G le Nothing s = record { gives = λ h. tt; placed = tt }
 constructed_stays F G le (Answers a) s = record { gives = λ h. tt; placed = tt }
 constructed_stays F G le Ignored s = record { gives = λ h. tt; placed = tt }
 
-threw_stays : (F G : Trees) → size F ≤ size G → (w : Waiting) (x : Fault) (s : State) → IsQuick w → Stays F G (waiting_of w) (ends.Threw x) (turn (waiting_of w) (ends.Threw x) s)
+threw_stays : (F G : Trees) → size F ≤ size G → (w : Waiting) (x : Fault) (s : State) → IsQuick w
+    → Stays F G (waiting_of w) (ends.Threw x) (turn (waiting_of w) (ends.Threw x) s)
 unfolding turn
 threw_stays F G le (CreatingFit local document) x s q = absurd q
 threw_stays F G le (CreatingExtended n) x s q = record { gives = λ h. node_stays F G le n h; placed = tt }
@@ -212,7 +232,8 @@ threw_stays F G le (Draining queue n ns kept) x s q = record { gives = λ h. tt;
 threw_stays F G le (InReaction number) x s q = record { gives = λ h. tt; placed = tt }
 threw_stays F G le Constructing x s q = record { gives = λ h. tt; placed = tt }
 
-went_stays : (G : Trees) (w : Waiting) (given : Given) (s : State) → HasRows s.page.elements s.page.forest → size s.page.forest ≤ size G → IsQuick w → Stays s.page.forest G (waiting_of w) (ends.Went given) (turn (waiting_of w) (ends.Went given) s)
+went_stays : (G : Trees) (w : Waiting) (given : Given) (s : State) → HasRows s.page.elements s.page.forest → size s.page.forest ≤ size G → IsQuick w
+    → Stays s.page.forest G (waiting_of w) (ends.Went given) (turn (waiting_of w) (ends.Went given) s)
 unfolding turn
 went_stays G (CreatingFit local document) given s rows le q = absurd q
 went_stays G (CreatingExtended n) given s rows le q = record { gives = λ h. node_stays s.page.forest G le n h; placed = tt }
@@ -226,7 +247,8 @@ went_stays G (Draining queue n ns kept) given s rows le q = drain_stays G queue 
 went_stays G (InReaction number) given s rows le q = record { gives = λ h. tt; placed = tt }
 went_stays G Constructing given s rows le q = constructed_stays s.page.forest G le given s
 
-stays : (G : Trees) (w : Waiting) (end : Came) (s : State) → HasRows s.page.elements s.page.forest → size s.page.forest ≤ size G → IsQuick w → Stays s.page.forest G (waiting_of w) (end_of end) (turn (waiting_of w) (end_of end) s)
+stays : (G : Trees) (w : Waiting) (end : Came) (s : State) → HasRows s.page.elements s.page.forest → size s.page.forest ≤ size G → IsQuick w
+    → Stays s.page.forest G (waiting_of w) (end_of end) (turn (waiting_of w) (end_of end) s)
 stays G w (Went given) s rows le q = went_stays G w given s rows le q
 stays G w (Threw x) s rows le q = threw_stays s.page.forest G le w x s q
 stays G w Over s rows le q = over_stays s.page.forest G (waiting_of w) s
@@ -237,14 +259,17 @@ topmost_placed F old under f e popped h = placed_above F under (f ∷ []) e (sub
 
 -- a turn keeps it
 
-quick_placed : (old under new : List Frame) (w : Waiting) (end now : Came) (s s1 : State) → IsQuick w → HasRows s.page.elements s.page.forest → size s.page.forest ≤ size s1.page.forest → old ≡ under ++ waiting_of w ∷ [] → Turns under new now s1 (turn (waiting_of w) (end_of end) s) → ArePlaced s.page.forest old (end_of end)
+quick_placed : (old under new : List Frame) (w : Waiting) (end now : Came) (s s1 : State) → IsQuick w → HasRows s.page.elements s.page.forest
+    → size s.page.forest ≤ size s1.page.forest → old ≡ under ++ waiting_of w ∷ [] → Turns under new now s1 (turn (waiting_of w) (end_of end) s)
+    → ArePlaced s.page.forest old (end_of end)
     → ArePlaced s1.page.forest new (end_of now)
 quick_placed old under new w end now s s1 q rows le popped h placed =
     let t : Turned = turn (waiting_of w) (end_of end) s in
     let F : Trees = s.page.forest in
     let G : Trees = s1.page.forest in
     let k = stays G w end s rows le q in
-    let after : ArePlaced G (under ++ t.pushed) t.end = placed_below F G le under (waiting_of w ∷ []) t.pushed (end_of end) t.end k.gives k.placed (subst (λ l. ArePlaced F l (end_of end)) popped placed) in
+    let after : ArePlaced G (under ++ t.pushed) t.end =
+    placed_below F G le under (waiting_of w ∷ []) t.pushed (end_of end) t.end k.gives k.placed (subst (λ l. ArePlaced F l (end_of end)) popped placed) in
     subst (λ e. ArePlaced G new e) (sym h.end) (subst (λ l. ArePlaced G l t.end) (sym h.frames) after)
 
 end_there : (F : Trees) (now : Came) → IsEndThere F now → Reaches F (end_of now)
@@ -252,39 +277,57 @@ end_there F (Went given) h = h
 end_there F (Threw x) h = tt
 end_there F Over h = tt
 
-created_placed : (old under new : List Frame) (local : List ℕ) (document : ℕ) (end now : Came) (F G : Trees) → old ≡ under ++ waiting.CreatingFit local document ∷ [] → Creates F G under new now → ArePlaced F old (end_of end) → ArePlaced G new (end_of now)
+created_placed : (old under new : List Frame) (local : List ℕ) (document : ℕ) (end now : Came) (F G : Trees)
+    → old ≡ under ++ waiting.CreatingFit local document ∷ [] → Creates F G under new now → ArePlaced F old (end_of end) → ArePlaced G new (end_of now)
 created_placed old under new local document end now F G popped c placed =
     let after : ArePlaced G (under ++ []) (end_of now) =
-    placed_below F G c.grows under (waiting.CreatingFit local document ∷ []) [] (end_of end) (end_of now) (λ _. end_there G now c.there) tt (subst (λ l. ArePlaced F l (end_of end)) popped placed) in
+    placed_below F G c.grows under (waiting.CreatingFit local document ∷ []) [] (end_of end) (end_of now) (λ _. end_there G now c.there) tt
+    (subst (λ l. ArePlaced F l (end_of end)) popped placed) in
     subst (λ l. ArePlaced G l (end_of now)) (append-nil under ∙ sym c.same) after
 
-pub turned_placed : (old under new : List Frame) (w : Waiting) (end now : Came) (s s1 : State) → HasRows s.page.elements s.page.forest → size s.page.forest ≤ size s1.page.forest → old ≡ under ++ waiting_of w ∷ [] → Turns under new now s1 (turn (waiting_of w) (end_of end) s)
-    → IfCreating (waiting_of w) (Creates s.page.forest s1.page.forest under new now) → ArePlaced s.page.forest old (end_of end) → ArePlaced s1.page.forest new (end_of now)
-turned_placed old under new (CreatingFit local document) end now s s1 rows le popped h c placed = created_placed old under new local document end now s.page.forest s1.page.forest popped c placed
-turned_placed old under new (CreatingExtended n) end now s s1 rows le popped h c placed = quick_placed old under new (CreatingExtended n) end now s s1 tt rows le popped h placed
-turned_placed old under new (Upgrading n d) end now s s1 rows le popped h c placed = quick_placed old under new (Upgrading n d) end now s s1 tt rows le popped h placed
-turned_placed old under new (Stepping queue) end now s s1 rows le popped h c placed = quick_placed old under new (Stepping queue) end now s s1 tt rows le popped h placed
-turned_placed old under new (Replying line) end now s s1 rows le popped h c placed = quick_placed old under new (Replying line) end now s s1 tt rows le popped h placed
-turned_placed old under new (Checking line kept) end now s s1 rows le popped h c placed = quick_placed old under new (Checking line kept) end now s s1 tt rows le popped h placed
-turned_placed old under new (DrainingBackup n) end now s s1 rows le popped h c placed = quick_placed old under new (DrainingBackup n) end now s s1 tt rows le popped h placed
-turned_placed old under new (Naming var) end now s s1 rows le popped h c placed = quick_placed old under new (Naming var) end now s s1 tt rows le popped h placed
-turned_placed old under new (Draining queue n ns kept) end now s s1 rows le popped h c placed = quick_placed old under new (Draining queue n ns kept) end now s s1 tt rows le popped h placed
-turned_placed old under new (InReaction number) end now s s1 rows le popped h c placed = quick_placed old under new (InReaction number) end now s s1 tt rows le popped h placed
-turned_placed old under new Constructing end now s s1 rows le popped h c placed = quick_placed old under new Constructing end now s s1 tt rows le popped h placed
+pub turned_placed : (old under new : List Frame) (w : Waiting) (end now : Came) (s s1 : State) → HasRows s.page.elements s.page.forest
+    → size s.page.forest ≤ size s1.page.forest → old ≡ under ++ waiting_of w ∷ [] → Turns under new now s1 (turn (waiting_of w) (end_of end) s)
+    → IfCreating (waiting_of w) (Creates s.page.forest s1.page.forest under new now) → ArePlaced s.page.forest old (end_of end)
+    → ArePlaced s1.page.forest new (end_of now)
+turned_placed old under new (CreatingFit local document) end now s s1 rows le popped h c placed =
+    created_placed old under new local document end now s.page.forest s1.page.forest popped c placed
+turned_placed old under new (CreatingExtended n) end now s s1 rows le popped h c placed =
+    quick_placed old under new (CreatingExtended n) end now s s1 tt rows le popped h placed
+turned_placed old under new (Upgrading n d) end now s s1 rows le popped h c placed =
+    quick_placed old under new (Upgrading n d) end now s s1 tt rows le popped h placed
+turned_placed old under new (Stepping queue) end now s s1 rows le popped h c placed =
+    quick_placed old under new (Stepping queue) end now s s1 tt rows le popped h placed
+turned_placed old under new (Replying line) end now s s1 rows le popped h c placed =
+    quick_placed old under new (Replying line) end now s s1 tt rows le popped h placed
+turned_placed old under new (Checking line kept) end now s s1 rows le popped h c placed =
+    quick_placed old under new (Checking line kept) end now s s1 tt rows le popped h placed
+turned_placed old under new (DrainingBackup n) end now s s1 rows le popped h c placed =
+    quick_placed old under new (DrainingBackup n) end now s s1 tt rows le popped h placed
+turned_placed old under new (Naming var) end now s s1 rows le popped h c placed =
+    quick_placed old under new (Naming var) end now s s1 tt rows le popped h placed
+turned_placed old under new (Draining queue n ns kept) end now s s1 rows le popped h c placed =
+    quick_placed old under new (Draining queue n ns kept) end now s s1 tt rows le popped h placed
+turned_placed old under new (InReaction number) end now s s1 rows le popped h c placed =
+    quick_placed old under new (InReaction number) end now s s1 tt rows le popped h placed
+turned_placed old under new Constructing end now s s1 rows le popped h c placed =
+    quick_placed old under new Constructing end now s s1 tt rows le popped h placed
 
 -- a turn of a body keeps it
 
-pub body_placed : (old : Stacked) (new : List Frame) (end : End) (now : Came) (F : Trees) (s1 : State) (t : Turned) → HasBody (frames_of old) → Turns (below_top (frames_of old)) new now s1 t → Lasts F t → ArePlaced F (frames_of old) end → ArePlaced s1.page.forest new (end_of now)
+pub body_placed : (old : Stacked) (new : List Frame) (end : End) (now : Came) (F : Trees) (s1 : State) (t : Turned) → HasBody (frames_of old)
+    → Turns (below_top (frames_of old)) new now s1 t → Lasts F t → ArePlaced F (frames_of old) end → ArePlaced s1.page.forest new (end_of now)
 body_placed old new end now F s1 t b h k placed =
     let G : Trees = t.state.page.forest in
     let f : Frame = frame_on_top old in
     let after : ArePlaced G (below_top (frames_of old) ++ t.pushed) t.end =
-    placed_below F G k.grows (below_top (frames_of old)) (f ∷ []) t.pushed end t.end (λ _. k.gives) k.placed (subst (λ l. ArePlaced F l end) (popped_body old b) placed) in
+    placed_below F G k.grows (below_top (frames_of old)) (f ∷ []) t.pushed end t.end (λ _. k.gives) k.placed
+    (subst (λ l. ArePlaced F l end) (popped_body old b) placed) in
     let at : G ≡ s1.page.forest = sym (ap (λ (x : State). x.page.forest) h.state) in
     subst (λ G. ArePlaced G new (end_of now)) at (subst (λ e. ArePlaced G new e) (sym h.end) (subst (λ l. ArePlaced G l t.end) (sym h.frames) after))
 
 -- what `this` is in it is there
-pub body_there : (old : Stacked) (end : End) (F : Trees) → HasBody (frames_of old) → ArePlaced F (frames_of old) end → IfSome (this_of (top_of (frames_of old))) (IsNode F)
+pub body_there : (old : Stacked) (end : End) (F : Trees) → HasBody (frames_of old) → ArePlaced F (frames_of old) end
+    → IfSome (this_of (top_of (frames_of old))) (IsNode F)
 body_there old end F b placed =
     let top = topmost_placed F (frames_of old) (below_top (frames_of old)) (frame_on_top old) end (popped_body old b) placed in
     let named = subst (λ (f : Frame). IsNamed F f [] end) (on_top old b) top.0 in

@@ -11,13 +11,15 @@ use Rattle.ce_machine.specs.Ended.{IsAtRest}
 use Rattle.ce_machine.specs.Rested.{AreAtHome}
 
 -- classes remember what their behaviours do
-memories_joined : (cs : List Class) (bs : List Behaviour) → length cs ≡ length bs → map (λ (c : Class). c.memory) (joined cs bs) ≡ map (λ (b : Behaviour). b.memory) bs
+memories_joined : (cs : List Class) (bs : List Behaviour) → length cs ≡ length bs
+    → map (λ (c : Class). c.memory) (joined cs bs) ≡ map (λ (b : Behaviour). b.memory) bs
 memories_joined [] [] h = refl
 memories_joined [] (b ∷ bs) h = absurd (omega arith)
 memories_joined (c ∷ cs) [] h = absurd (omega arith)
 memories_joined (c ∷ cs) (b ∷ bs) h = ap (λ ms. b.memory ∷ ms) (memories_joined cs bs (omega arith))
 
-pub all_at_home : (stack : Stacked) (s : State) → IsAtRest stack s → Stands stack.homes stack.frames (behaviours_of stack) → AreAtHome (record { session = session stack s; stack = stack })
+pub all_at_home : (stack : Stacked) (s : State) → IsAtRest stack s → Stands stack.homes stack.frames (behaviours_of stack)
+    → AreAtHome (record { session = session stack s; stack = stack })
 all_at_home stack s rest stands =
     let bs = behaviours_of stack in
     let none : stack.frames ≡ [] = rest.frames in

@@ -20,14 +20,19 @@ ok_turns_as r frames new s t u e h = subst (λ (x : Turned). IfOk r (λ now. Tur
 
 -- a frame goes on
 
-pub resumed_went : (frames new : List Frame) (f : Frame) (end now : Came) (given : Given) (s s1 : State) → end ≡ Went given → Turns frames new now s1 (turn_went f given s) → Turns frames new now s1 (turn f (end_of end) s)
+pub resumed_went : (frames new : List Frame) (f : Frame) (end now : Came) (given : Given) (s s1 : State) → end ≡ Went given
+    → Turns frames new now s1 (turn_went f given s) → Turns frames new now s1 (turn f (end_of end) s)
 unfolding turn
-resumed_went frames new f end now given s s1 is h = turns_as frames new now s1 (turn_went f given s) (turn f (end_of end) s) (ap (λ e. turn f (end_of e) s) (sym is)) h
+resumed_went frames new f end now given s s1 is h =
+    turns_as frames new now s1 (turn_went f given s) (turn f (end_of end) s) (ap (λ e. turn f (end_of e) s) (sym is)) h
 
-pub resumed_threw : (frames new : List Frame) (f : Frame) (end now : Came) (x : Fault) (s s1 : State) → end ≡ Threw x → Turns frames new now s1 (turn_threw f x s) → Turns frames new now s1 (turn f (end_of end) s)
+pub resumed_threw : (frames new : List Frame) (f : Frame) (end now : Came) (x : Fault) (s s1 : State) → end ≡ Threw x
+    → Turns frames new now s1 (turn_threw f x s) → Turns frames new now s1 (turn f (end_of end) s)
 unfolding turn
-resumed_threw frames new f end now x s s1 is h = turns_as frames new now s1 (turn_threw f x s) (turn f (end_of end) s) (ap (λ e. turn f (end_of e) s) (sym is)) h
+resumed_threw frames new f end now x s s1 is h =
+    turns_as frames new now s1 (turn_threw f x s) (turn f (end_of end) s) (ap (λ e. turn f (end_of e) s) (sym is)) h
 
 pub resumed_over : (frames : List Frame) (f : Frame) (end : Came) (s : State) → end ≡ Over → Turns frames frames Over s (turn f (end_of end) s)
 unfolding turn
-resumed_over frames f end s is = turns_as frames frames Over s (ended (Spent s)) (turn f (end_of end) s) (ap (λ e. turn f (end_of e) s) (sym is)) (turns_same frames Over s (Spent s) refl)
+resumed_over frames f end s is =
+    turns_as frames frames Over s (ended (Spent s)) (turn f (end_of end) s) (ap (λ e. turn f (end_of e) s) (sym is)) (turns_same frames Over s (Spent s) refl)

@@ -27,7 +27,8 @@ node_there (Err x) F h = tt
 -- the construction for an upgrade has ended
 
 -- the stack has lost its entry
-result_is : (n d : ℕ) (r : Result (Unit {0}) Fault) (s s0 : State) → Goes tt s0 ≡ on_page (pop_construction d) s → upgrade_result_turn n r s0 ≡ upgraded_turn n d r s
+result_is : (n d : ℕ) (r : Result (Unit {0}) Fault) (s s0 : State) → Goes tt s0 ≡ on_page (pop_construction d) s
+    → upgrade_result_turn n r s0 ≡ upgraded_turn n d r s
 result_is n d r s s0 popped = ap (λ (o : Outcome State (Unit {0})). turn_after o (λ _. upgrade_result_turn n r)) popped
 
 down_is : (o : Outcome State (Unit {0})) → ended (then_do o (λ _. give Nothing)) ≡ turn_after o (λ _. go_on)
@@ -36,17 +37,20 @@ down_is (Throws f s) = refl
 down_is (Spent s) = refl
 
 -- it ends
-pub ends_is : (n d : ℕ) (r : Result (Unit {0}) Fault) (s s0 s1 : State) (now : Came) → r ≡ Ok tt → Goes tt s0 ≡ on_page (pop_construction d) s → came_in now s1 ≡ then_do (upgrade_ends n s0) (λ _. give Nothing) → ended (came_in now s1) ≡ upgraded_turn n d r s
+pub ends_is : (n d : ℕ) (r : Result (Unit {0}) Fault) (s s0 s1 : State) (now : Came) → r ≡ Ok tt → Goes tt s0 ≡ on_page (pop_construction d) s
+    → came_in now s1 ≡ then_do (upgrade_ends n s0) (λ _. give Nothing) → ended (came_in now s1) ≡ upgraded_turn n d r s
 ends_is n d r s s0 s1 now is popped came =
     ap ended came ∙ down_is (upgrade_ends n s0) ∙ ap (λ (x : Result (Unit {0}) Fault). upgrade_result_turn n x s0) (sym is) ∙ result_is n d r s s0 popped
 
 -- it threw
-pub threw_is : (n d : ℕ) (r : Result (Unit {0}) Fault) (f : Fault) (s s0 s1 : State) → r ≡ Err f → Goes tt s0 ≡ on_page (pop_construction d) s → Throws f s1 ≡ upgrade_threw n f s0 → ended (Throws f s1) ≡ upgraded_turn n d r s
+pub threw_is : (n d : ℕ) (r : Result (Unit {0}) Fault) (f : Fault) (s s0 s1 : State) → r ≡ Err f → Goes tt s0 ≡ on_page (pop_construction d) s
+    → Throws f s1 ≡ upgrade_threw n f s0 → ended (Throws f s1) ≡ upgraded_turn n d r s
 threw_is n d r f s s0 s1 is popped threw =
     ap (λ (o : Outcome State (Unit {0})). ended (then_do o (λ _. give Nothing))) threw
     ∙ ap (λ (x : Result (Unit {0}) Fault). upgrade_result_turn n x s0) (sym is)
     ∙ result_is n d r s s0 popped
 
 -- what was constructed for a creation does not fit
-pub misfit_is : (local : List ℕ) (document n : ℕ) (f : Fault) (s : State) → Throws f s ≡ fitting local document n s → turn_threw (waiting.CreatingFit local document) f s ≡ turn_went (waiting.CreatingFit local document) (Node n) s
+pub misfit_is : (local : List ℕ) (document n : ℕ) (f : Fault) (s : State) → Throws f s ≡ fitting local document n s
+    → turn_threw (waiting.CreatingFit local document) f s ≡ turn_went (waiting.CreatingFit local document) (Node n) s
 misfit_is local document n f s is = ap (λ (o : Outcome State ℕ). turn_after (attempt_in o) (created_turn local document)) is

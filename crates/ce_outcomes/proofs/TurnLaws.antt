@@ -23,7 +23,8 @@ pub turns_as : (frames new : List Frame) (now : Came) (s : State) (t u : Turned)
 turns_as frames new now s t u e h = subst (λ x. Turns frames new now s x) e h
 
 -- a frame is pushed below what comes
-pub turns_pushed : (frames frames' new : List Frame) (f : Frame) (now : Came) (s : State) (t : Turned) → frames' ≡ frames ++ f ∷ [] → Turns frames' new now s t → Turns frames new now s (with_below f t)
+pub turns_pushed : (frames frames' new : List Frame) (f : Frame) (now : Came) (s : State) (t : Turned) → frames' ≡ frames ++ f ∷ [] → Turns frames' new now s t
+    → Turns frames new now s (with_below f t)
 turns_pushed frames frames' new f now s t pushed h = record {
   frames = h.frames ∙ ap (λ l. l ++ t.pushed) pushed ∙ append_assoc frames (f ∷ []) t.pushed;
   end = h.end;
@@ -31,10 +32,13 @@ turns_pushed frames frames' new f now s t pushed h = record {
 }
 
 -- a frame is pushed, and then comes a turn
-pub turns_below : (frames frames' new : List Frame) (f : Frame) (now : Came) (turn : Turn) (s s1 s2 : State) → frames' ≡ frames ++ f ∷ [] → s1 ≡ s → Turns frames' new now s2 (turn s1) → Turns frames new now s2 (below f turn s)
+pub turns_below : (frames frames' new : List Frame) (f : Frame) (now : Came) (turn : Turn) (s s1 s2 : State) → frames' ≡ frames ++ f ∷ [] → s1 ≡ s
+    → Turns frames' new now s2 (turn s1) → Turns frames new now s2 (below f turn s)
 turns_below frames frames' new f now turn s s1 s2 pushed same h =
     turns_pushed frames frames' new f now s2 (turn s) pushed (turns_as frames' new now s2 (turn s1) (turn s) (ap turn same) h)
 
 -- it ends, with no frame pushed
-pub turns_ended : (below new : List Frame) (now : Came) (s : State) (o : Outcome State Given) (t : Turned) → new ≡ below → came_in now s ≡ o → ended o ≡ t → Turns below new now s t
-turns_ended below new now s o t same is e = turns_as below new now s (ended o) t e (subst (λ l. Turns below l now s (ended o)) (sym same) (turns_same below now s o is))
+pub turns_ended : (below new : List Frame) (now : Came) (s : State) (o : Outcome State Given) (t : Turned) → new ≡ below → came_in now s ≡ o → ended o ≡ t
+    → Turns below new now s t
+turns_ended below new now s o t same is e =
+    turns_as below new now s (ended o) t e (subst (λ l. Turns below l now s (ended o)) (sym same) (turns_same below now s o is))

@@ -1,5 +1,6 @@
 -- Which elements are form-associated custom ones, where the rows and the definitions of a page change.
-use Rattle.std.proofs.Common.{◌≡◌, ◌≢◌, ℕ, zero, suc, ◌+◌, ◌-◌, ◌<◌, ◌≤◌, ◌==◌, Bool, true, false, not, ◌&&◌, ◌||◌, cond, List, [], ◌∷◌, ◌++◌, length, Option, Some, None, refl, sym, ap, ◌∙◌, subst, inl, inr, arith, length-append}
+use Rattle.std.proofs.Common.{◌≡◌, ◌≢◌, ℕ, zero, suc, ◌+◌, ◌-◌, ◌<◌, ◌≤◌, ◌==◌, Bool, true, false, not, ◌&&◌, ◌||◌, cond, List, [], ◌∷◌, ◌++◌, length, Option}
+use Rattle.std.proofs.Common.{Some, None, refl, sym, ap, ◌∙◌, subst, inl, inr, arith, length-append}
 use Rattle.std.specs.Prelude.{filter, slice_get}
 use Rattle.std.specs.List.{range_with_len}
 use Rattle.std.specs.Option.{option_and_then}
@@ -20,10 +21,12 @@ use Rattle.ce_page.proofs.RowLemmas.{definition_in-new, definition_in-other}
 abbrev associated_by : List Definition → Option ℕ → Bool
 associated_by definitions d = is_form_associated (option_and_then (slice_get definitions) d)
 
-pub same_rows : (definitions : List Definition) (old new : List Element) → length new ≡ length old → ((i : ℕ) → definition_in new i ≡ definition_in old i) → associated_in new definitions ≡ associated_in old definitions
+pub same_rows : (definitions : List Definition) (old new : List Element) → length new ≡ length old → ((i : ℕ) → definition_in new i ≡ definition_in old i)
+    → associated_in new definitions ≡ associated_in old definitions
 same_rows definitions old new long same =
     ap (λ n. filter (is_associated_in new definitions) (range_with_len 1 n)) long
-    ∙ filter-members (is_associated_in new definitions) (is_associated_in old definitions) (range_with_len 1 (length old)) (λ n _. ap (associated_by definitions) (same (n - 1)))
+    ∙ filter-members (is_associated_in new definitions) (is_associated_in old definitions) (range_with_len 1 (length old))
+    (λ n _. ap (associated_by definitions) (same (n - 1)))
 
 -- a row put behind the others
 
@@ -35,10 +38,12 @@ filter-last : (p : ℕ → Bool) (xs : List ℕ) (x : ℕ) → p x ≡ false →
 filter-last p [] x other = ap (λ b. cond b (x ∷ []) []) other
 filter-last p (y ∷ ys) x other = ap (λ v. cond (p y) (y ∷ v) v) (filter-last p ys x other)
 
-pub row_behind : (definitions : List Definition) (elements : List Element) → associated_in (elements ++ uncustomized ∷ []) definitions ≡ associated_in elements definitions
+pub row_behind : (definitions : List Definition) (elements : List Element)
+    → associated_in (elements ++ uncustomized ∷ []) definitions ≡ associated_in elements definitions
 row_behind definitions elements =
     ap (λ n. filter (is_associated_in (elements ++ uncustomized ∷ []) definitions) (range_with_len 1 n)) (length-append elements (uncustomized ∷ []))
-    ∙ filter-members (is_associated_in (elements ++ uncustomized ∷ []) definitions) (is_associated_in elements definitions) (range_with_len 1 (length elements + 1)) (λ n _. ap (associated_by definitions) (definition_in-new elements (n - 1)))
+    ∙ filter-members (is_associated_in (elements ++ uncustomized ∷ []) definitions) (is_associated_in elements definitions)
+    (range_with_len 1 (length elements + 1)) (λ n _. ap (associated_by definitions) (definition_in-new elements (n - 1)))
     ∙ ap (filter (is_associated_in elements definitions)) (range-more 1 (length elements))
     ∙ filter-last (is_associated_in elements definitions) (range_with_len 1 (length elements)) (1 + length elements) none
   where
@@ -55,10 +60,12 @@ got_before [] x d lt = absurd (omega (arith, lt))
 got_before (y ∷ ys) x zero lt = refl
 got_before (y ∷ ys) x (suc d) lt = got_before ys x d (omega (arith, lt))
 
-pub definition_behind : (definitions : List Definition) (x : Definition) (elements : List Element) → ((i d : ℕ) → definition_in elements i ≡ Some d → d < length definitions)
+pub definition_behind : (definitions : List Definition) (x : Definition) (elements : List Element)
+    → ((i d : ℕ) → definition_in elements i ≡ Some d → d < length definitions)
     → associated_in elements (definitions ++ x ∷ []) ≡ associated_in elements definitions
 definition_behind definitions x elements given =
-    filter-members (is_associated_in elements (definitions ++ x ∷ [])) (is_associated_in elements definitions) (range_with_len 1 (length elements)) (λ n _. by_definition (n - 1) (definition_in elements (n - 1)) refl)
+    filter-members (is_associated_in elements (definitions ++ x ∷ [])) (is_associated_in elements definitions) (range_with_len 1 (length elements))
+    (λ n _. by_definition (n - 1) (definition_in elements (n - 1)) refl)
   where
     by_definition : (i : ℕ) (d : Option ℕ) → definition_in elements i ≡ d → associated_by (definitions ++ x ∷ []) d ≡ associated_by definitions d
     by_definition i None is = refl
@@ -66,9 +73,11 @@ definition_behind definitions x elements given =
 
 -- numbers that are among others
 
-among_by : (p : ℕ → Bool) (xs : List ℕ) (x m : ℕ) → is_among m (filter p xs) ≡ (p m && is_among m xs) → (b : Bool) → p x ≡ b → is_among m (cond b (x ∷ filter p xs) (filter p xs)) ≡ (p m && ((x == m) || is_among m xs))
+among_by : (p : ℕ → Bool) (xs : List ℕ) (x m : ℕ) → is_among m (filter p xs) ≡ (p m && is_among m xs) → (b : Bool) → p x ≡ b
+    → is_among m (cond b (x ∷ filter p xs) (filter p xs)) ≡ (p m && ((x == m) || is_among m xs))
 among_by p xs x m rest b is = elim (cases_eq x m) [
-  | inl e ↦ subst (λ k. is_among k (filter p xs) ≡ (p k && is_among k xs) → is_among k (cond b (x ∷ filter p xs) (filter p xs)) ≡ (p k && ((x == k) || is_among k xs))) e (here b is) rest
+  | inl e ↦ subst (λ k. is_among k (filter p xs) ≡ (p k && is_among k xs)
+      → is_among k (cond b (x ∷ filter p xs) (filter p xs)) ≡ (p k && ((x == k) || is_among k xs))) e (here b is) rest
   | inr ne ↦ other (apart ne) b
 ]
   where
@@ -78,7 +87,8 @@ among_by p xs x m rest b is = elim (cases_eq x m) [
     apart : x ≢ m → (x == m) ≡ false
     apart ne = grind (arith, nat_tests)
 
-    here : (b : Bool) → p x ≡ b → is_among x (filter p xs) ≡ (p x && is_among x xs) → is_among x (cond b (x ∷ filter p xs) (filter p xs)) ≡ (p x && ((x == x) || is_among x xs))
+    here : (b : Bool) → p x ≡ b → is_among x (filter p xs) ≡ (p x && is_among x xs)
+        → is_among x (cond b (x ∷ filter p xs) (filter p xs)) ≡ (p x && ((x == x) || is_among x xs))
     here true e h = ap (λ v. v || is_among x (filter p xs)) same ∙ sym (ap (λ v. v && ((x == x) || is_among x xs)) e ∙ ap (λ v. v || is_among x xs) same)
     here false e h = h ∙ ap (λ v. v && is_among x xs) e ∙ sym (ap (λ v. v && ((x == x) || is_among x xs)) e)
 
@@ -123,8 +133,10 @@ has_row definitions (e ∷ elements) zero is = omega arith
 has_row definitions (e ∷ elements) (suc i) is = let h = has_row definitions elements i is in omega (arith, h)
 
 -- a node is among them where its row says so
-pub is_associated_at : (definitions : List Definition) (elements : List Element) (n : ℕ) → 0 < n → is_among n (associated_in elements definitions) ≡ is_associated_in elements definitions n
-is_associated_at definitions elements n low = among_filter (is_associated_in elements definitions) (range_with_len 1 (length elements)) n ∙ by_test (is_associated_in elements definitions n) refl
+pub is_associated_at : (definitions : List Definition) (elements : List Element) (n : ℕ) → 0 < n
+    → is_among n (associated_in elements definitions) ≡ is_associated_in elements definitions n
+is_associated_at definitions elements n low =
+    among_filter (is_associated_in elements definitions) (range_with_len 1 (length elements)) n ∙ by_test (is_associated_in elements definitions n) refl
   where
     by_test : (b : Bool) → is_associated_in elements definitions n ≡ b → (b && is_among n (range_with_len 1 (length elements))) ≡ b
     by_test false is = refl
@@ -152,7 +164,8 @@ module _ (definitions : List Definition) (elements : List Element) (n : ℕ) (d 
   listed m = among_filter now (range_with_len 1 (length (redefined elements n d))) m ∙ ap (λ k. now m && is_among m (range_with_len 1 k)) long
 
   there : now n ≡ true → is_among n numbers ≡ true
-  there on = let lt = has_row definitions (redefined elements n d) (n - 1) on in among_range 1 (length elements) n (omega (arith, low)) (omega (arith, lt, low, long))
+  there on = let lt = has_row definitions (redefined elements n d) (n - 1) on in
+      among_range 1 (length elements) n (omega (arith, low)) (omega (arith, lt, low, long))
 
   apart_stays : (m : ℕ) → n ≢ m → (now m && is_among m numbers) ≡ (before m && is_among m numbers)
   apart_stays zero apart =
@@ -170,7 +183,8 @@ module _ (definitions : List Definition) (elements : List Element) (n : ℕ) (d 
   marked true is m = elim (cases_eq n m) [
     | inl e ↦
         let here : (n == m) ≡ true = grind (arith, nat_tests) in
-        ap (λ v. v || is_among m (associated_in elements definitions)) here ∙ subst (λ k. true ≡ (now k && is_among k numbers)) e (sym (ap (λ v. v && is_among n numbers) (sym is) ∙ there (sym is)))
+        ap (λ v. v || is_among m (associated_in elements definitions)) here
+        ∙ subst (λ k. true ≡ (now k && is_among k numbers)) e (sym (ap (λ v. v && is_among n numbers) (sym is) ∙ there (sym is)))
     | inr ne ↦
         let other : (n == m) ≡ false = grind (arith, nat_tests) in
         ap (λ v. v || is_among m (associated_in elements definitions)) other ∙ among_filter before numbers m ∙ sym (apart_stays m ne)
@@ -178,12 +192,14 @@ module _ (definitions : List Definition) (elements : List Element) (n : ℕ) (d 
   marked false is m = among_filter (λ k. not (k == n)) (associated_in elements definitions) m ∙ elim (cases_eq n m) [
     | inl e ↦
         let here : (m == n) ≡ true = grind (arith, nat_tests) in
-        ap (λ v. not v && is_among m (associated_in elements definitions)) here ∙ subst (λ k. false ≡ (now k && is_among k numbers)) e (sym (ap (λ v. v && is_among n numbers) (sym is)))
+        ap (λ v. not v && is_among m (associated_in elements definitions)) here
+        ∙ subst (λ k. false ≡ (now k && is_among k numbers)) e (sym (ap (λ v. v && is_among n numbers) (sym is)))
     | inr ne ↦
         let other : (m == n) ≡ false = grind (arith, nat_tests) in
         ap (λ v. not v && is_among m (associated_in elements definitions)) other ∙ among_filter before numbers m ∙ sym (apart_stays m ne)
   ]
 
   -- which are form-associated, as the owner table has it
-  pub redefined_members : (on : Bool) → on ≡ now n → (m : ℕ) → is_among m (associated_in (redefined elements n d) definitions) ≡ is_among m (with_associated n on (associated_in elements definitions))
+  pub redefined_members : (on : Bool) → on ≡ now n → (m : ℕ)
+      → is_among m (associated_in (redefined elements n d) definitions) ≡ is_among m (with_associated n on (associated_in elements definitions))
   redefined_members on is m = listed m ∙ sym (marked on is m)

@@ -1,5 +1,6 @@
 -- What copying nodes leaves as it was.
-use Rattle.std.proofs.Common.{◌≡◌, ◌≢◌, ℕ, zero, suc, ◌+◌, ◌<◌, Bool, true, false, ◌&&◌, ◌||◌, if◌then◌else◌, List, [], ◌∷◌, add-one, drop, drop-cons, get_or, length, Some, None, refl, ap, sym, ◌∙◌, subst, arith}
+use Rattle.std.proofs.Common.{◌≡◌, ◌≢◌, ℕ, zero, suc, ◌+◌, ◌<◌, Bool, true, false, ◌&&◌, ◌||◌, if◌then◌else◌, List, [], ◌∷◌, add-one, drop, drop-cons, get_or}
+use Rattle.std.proofs.Common.{length, Some, None, refl, ap, sym, ◌∙◌, subst, arith}
 use Rattle.std.specs.Prelude.{◌-◌, ◌≤◌, ◌++◌, map, reverse, slice_get}
 use Rattle.std.proofs.lemmas.Grind.{common_steps}
 use Rattle.std.proofs.lemmas.Bool.Decides.{nat_tests}
@@ -78,22 +79,27 @@ tested : (text among top text_node document child : Bool) → text ≡ false →
     else if text_node && document then Some HierarchyRequestError else if document && child then Some HierarchyRequestError else None) ≡ None
 tested text among top text_node document child a b c d = grind (arith, a, b, c, d)
 
-pub may_append : (f : Trees) (p n : ℕ) → IsElement f p → IsAlone f n → (is_document (kind_at f n) || is_shadow_root (kind_at f n)) ≡ false → p ≢ n → may_insert f p n None ≡ None
+pub may_append : (f : Trees) (p n : ℕ) → IsElement f p → IsAlone f n → (is_document (kind_at f n) || is_shadow_root (kind_at f n)) ≡ false → p ≢ n
+    → may_insert f p n None ≡ None
 may_append f p n x alone kind apart =
-    tested (is_text (kind_at f p)) (is_among n (path p f)) (is_document (kind_at f n) || is_shadow_root (kind_at f n)) (is_text (kind_at f n)) (is_document (kind_at f p)) (has_element_child f p)
+    tested (is_text (kind_at f p)) (is_among n (path p f)) (is_document (kind_at f n) || is_shadow_root (kind_at f n)) (is_text (kind_at f n))
+    (is_document (kind_at f p)) (has_element_child f p)
     (ap is_text x.kind) (alone.apart p apart) kind (ap is_document x.kind)
 
 -- one of a list has its turn
 
-pub turned : {A : Type 0} (f : A → Step Work (Unit {0})) (xs : List A) (i : ℕ) (a : A) (w v : Work) (o : Outcome Work (Unit {0})) → drop i xs ≡ a ∷ drop (i + 1) xs → Goes tt v ≡ f a w
+pub turned : {A : Type 0} (f : A → Step Work (Unit {0})) (xs : List A) (i : ℕ) (a : A) (w v : Work) (o : Outcome Work (Unit {0}))
+    → drop i xs ≡ a ∷ drop (i + 1) xs → Goes tt v ≡ f a w
     → for_each (drop i xs) f w ≡ o → for_each (drop (i + 1) xs) f v ≡ o
 turned f xs i a w v o e turn all =
     let split : then_do (f a w) (λ _. for_each (drop (i + 1) xs) f) ≡ o = rw e at all in
     rw (← turn) at split
 
 -- a node is to be copied before those that wait
-pub pushed : {A : Type 0} (f : ℕ → A) (nodes : List ℕ) (left from : ℕ) (old new first : List A) → 0 < left → left ≤ length nodes → drop (left - 1) nodes ≡ from ∷ drop (left - 1 + 1) nodes
-    → new ≡ old ++ f from ∷ [] → reverse old ≡ map f (drop left nodes) ++ reverse first → (left - 1 ≤ length nodes) × (reverse new ≡ map f (drop (left - 1) nodes) ++ reverse first)
+pub pushed : {A : Type 0} (f : ℕ → A) (nodes : List ℕ) (left from : ℕ) (old new first : List A) → 0 < left → left ≤ length nodes
+    → drop (left - 1) nodes ≡ from ∷ drop (left - 1 + 1) nodes
+    → new ≡ old ++ f from ∷ [] → reverse old ≡ map f (drop left nodes) ++ reverse first
+    → (left - 1 ≤ length nodes) × (reverse new ≡ map f (drop (left - 1) nodes) ++ reverse first)
 pushed f nodes left from old new first some within here more waiting =
     let back : left - 1 + 1 ≡ left = omega arith in
     let rest : drop (left - 1) nodes ≡ from ∷ drop left nodes = subst (λ k. drop (left - 1) nodes ≡ from ∷ drop k nodes) back here in

@@ -32,7 +32,8 @@ module _ (f g : Trees) (k : KeepsKinds f g) where
   entries_kept [] x = tt
   entries_kept (entry ∷ entries) x = (entry_kept entry x.0, entries_kept entries x.1)
 
-  pub sound_kept : {elements : List Element} {waiting : List (List (ℕ × Reaction))} {stacks : List (List (Option ℕ))} → IsSound elements waiting stacks f → IsSound elements waiting stacks g
+  pub sound_kept : {elements : List Element} {waiting : List (List (ℕ × Reaction))} {stacks : List (List (Option ℕ))} → IsSound elements waiting stacks f
+      → IsSound elements waiting stacks g
   sound_kept h = record {
     rows = rows_kept h.rows;
     waits = λ i some. element_kept (h.waits i some);

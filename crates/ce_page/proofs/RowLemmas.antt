@@ -1,5 +1,6 @@
 -- What has a definition is an element.
-use Rattle.std.proofs.Common.{◌≡◌, ◌≢◌, ℕ, zero, suc, ◌+◌, ◌-◌, ◌<◌, List, [], ◌∷◌, ◌++◌, get_or, length, Option, Some, None, IfSome, refl, ap, sym, ◌∙◌, subst, inl, inr, arith, length-append}
+use Rattle.std.proofs.Common.{◌≡◌, ◌≢◌, ℕ, zero, suc, ◌+◌, ◌-◌, ◌<◌, List, [], ◌∷◌, ◌++◌, get_or, length, Option, Some, None, IfSome, refl, ap, sym, ◌∙◌, subst}
+use Rattle.std.proofs.Common.{inl, inr, arith, length-append}
 use Rattle.std.specs.Prelude.{slice_get, slice_set}
 use Rattle.std.proofs.lemmas.Bool.{cases_eq}
 use Rattle.std.proofs.lemmas.Bool.Decides.{nat_tests}
@@ -44,7 +45,8 @@ if_any (Some a) x = x
 found_place : (rows n i : ℕ) → row_place rows n ≡ Some i → (i ≡ n - 1) × (i < rows)
 found_place rows n i is = (grind (arith, nat_tests), grind (arith, nat_tests))
 
-pub row_there : (elements : List Element) (n i : ℕ) (e : Element) → row_place (length elements) n ≡ Some i → e ≡ get_or elements i e → (i ≡ n - 1) × (or_uncustomized (slice_get elements i) ≡ e)
+pub row_there : (elements : List Element) (n i : ℕ) (e : Element) → row_place (length elements) n ≡ Some i → e ≡ get_or elements i e
+    → (i ≡ n - 1) × (or_uncustomized (slice_get elements i) ≡ e)
 row_there elements n i e place read =
     let found = found_place (length elements) n i place in
     (found.0, ap or_uncustomized (slice_get_read elements (length elements) i e refl found.1 read))
@@ -111,7 +113,8 @@ definition_in-other (x ∷ elements) (suc i) zero e apart = refl
 definition_in-other (x ∷ elements) (suc i) (suc j) e apart = definition_in-other elements i j e (λ k. apart (ap suc k))
 
 -- it has the definition that stood there
-pub definition_in-set : (elements : List Element) (i : ℕ) (e : Element) → definition_in elements i ≡ e.definition → (j : ℕ) → definition_in (slice_set elements i e) j ≡ definition_in elements j
+pub definition_in-set : (elements : List Element) (i : ℕ) (e : Element) → definition_in elements i ≡ e.definition → (j : ℕ)
+    → definition_in (slice_set elements i e) j ≡ definition_in elements j
 definition_in-set [] i e same j = refl
 definition_in-set (x ∷ elements) zero e same zero = sym same
 definition_in-set (x ∷ elements) zero e same (suc j) = refl
@@ -134,7 +137,8 @@ sound_set {elements} {waiting} {stacks} {forest} i e here h = record {
   where
     defined : (j d : ℕ) → definition_in (slice_set elements i e) j ≡ Some d → IsElement forest (j + 1)
     defined j d is = elim (cases_eq i j) [
-      | inl same ↦ subst (λ k. IsElement forest (k + 1)) same (if_some e.definition (definition_in-here elements i d e (subst (λ k. definition_in (slice_set elements i e) k ≡ Some d) (sym same) is)) here)
+      | inl same ↦ subst (λ k. IsElement forest (k + 1)) same
+          (if_some e.definition (definition_in-here elements i d e (subst (λ k. definition_in (slice_set elements i e) k ≡ Some d) (sym same) is)) here)
       | inr other ↦ h.rows.defined j d (sym (definition_in-other elements i j e other) ∙ is)
     ]
       where
@@ -144,7 +148,8 @@ sound_set {elements} {waiting} {stacks} {forest} i e here h = record {
 
 -- the row of n given the definition that it has
 
-pub same_row : (elements : List Element) (i : ℕ) (d : Option ℕ) → definition_in elements i ≡ d → slice_set elements i (record (or_uncustomized (slice_get elements i)) { definition = d }) ≡ elements
+pub same_row : (elements : List Element) (i : ℕ) (d : Option ℕ) → definition_in elements i ≡ d
+    → slice_set elements i (record (or_uncustomized (slice_get elements i)) { definition = d }) ≡ elements
 same_row [] i d is = refl
 same_row (e ∷ elements) zero d is = ap (λ x. record e { definition = x } ∷ elements) (sym is)
 same_row (e ∷ elements) (suc i) d is = ap (λ es. e ∷ es) (same_row elements i d is)

@@ -11,7 +11,8 @@ use Rattle.ce_algorithms.specs.Page.{Page}
 -- a page as it is kept is the page that callers see
 module _ (inside now : Page) (view_is : inside ≡ now) where
   pub inserted : (parent node : ℕ) (before : Option ℕ) (new : Trees) → IsNode now.forest parent → IsNode now.forest node → IsNodeOrNone now.forest before
-      → may_insert now.forest parent node before ≡ None → parent_at now.forest node ≡ None → IsTidy inside.forest → size new ≡ size inside.forest → new ≡ graft inside.forest parent node before
+      → may_insert now.forest parent node before ≡ None → parent_at now.forest node ≡ None → IsTidy inside.forest → size new ≡ size inside.forest
+      → new ≡ graft inside.forest parent node before
       → IsInserted node inside.forest new
   inserted parent node before new is_parent is_node is_before may free tidy size_is is = record {
     tidy = tidy;
@@ -26,7 +27,8 @@ module _ (inside now : Page) (view_is : inside ≡ now) where
     is = is;
   }
 
-  pub removed : (node parent : ℕ) (new : Trees) → IsNode now.forest node → parent_at inside.forest node ≡ Some parent → IsTidy inside.forest → size new ≡ size inside.forest → new ≡ cut inside.forest node
+  pub removed : (node parent : ℕ) (new : Trees) → IsNode now.forest node → parent_at inside.forest node ≡ Some parent → IsTidy inside.forest
+      → size new ≡ size inside.forest → new ≡ cut inside.forest node
       → IsRemoved node parent inside.forest new
   removed node parent new is_node placed tidy size_is is = record {
     tidy = tidy;
@@ -36,7 +38,8 @@ module _ (inside now : Page) (view_is : inside ≡ now) where
     is = is;
   }
 
-  pub attribute_set : (n : ℕ) (name value : List ℕ) (new : Trees) → IsNode now.forest n → kind_at now.forest n ≡ ElementKind → IsTidy inside.forest → size new ≡ size inside.forest
+  pub attribute_set : (n : ℕ) (name value : List ℕ) (new : Trees) → IsNode now.forest n → kind_at now.forest n ≡ ElementKind → IsTidy inside.forest
+      → size new ≡ size inside.forest
       → new ≡ with_attribute n name value inside.forest → IsChanged n inside.forest new
   attribute_set n name value new is_node is_element tidy size_is is = record {
     tidy = tidy;
@@ -49,7 +52,8 @@ module _ (inside now : Page) (view_is : inside ≡ now) where
     is = inl (value, is);
   }
 
-  pub attribute_taken : (n : ℕ) (name : List ℕ) (new : Trees) → IsNode now.forest n → kind_at now.forest n ≡ ElementKind → IsTidy inside.forest → size new ≡ size inside.forest
+  pub attribute_taken : (n : ℕ) (name : List ℕ) (new : Trees) → IsNode now.forest n → kind_at now.forest n ≡ ElementKind → IsTidy inside.forest
+      → size new ≡ size inside.forest
       → new ≡ without_attribute n name inside.forest → IsChanged n inside.forest new
   attribute_taken n name new is_node is_element tidy size_is is = record {
     tidy = tidy;

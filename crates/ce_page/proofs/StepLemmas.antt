@@ -27,10 +27,12 @@ on_ok (Err e) x = tt
 pub others_come : (result : Result (Unit {0}) PageStop) (last : Work) (cs : List Change) (seen order : List ℕ) (o : Outcome Work (Unit {0})) (gone : Work)
     → Goes tt gone ≡ o → seen ≡ order → Does result last (tell_others cs seen gone) → Does result last (then_do o (λ _. tell_others cs order))
 others_come result last cs seen order o gone went same h =
-    subst (λ (x : Outcome Work (Unit {0})). Does result last (then_do x (λ _. tell_others cs order))) went (subst (λ v. Does result last (tell_others cs v gone)) same h)
+    subst (λ (x : Outcome Work (Unit {0})). Does result last (then_do x (λ _. tell_others cs order))) went
+    (subst (λ v. Does result last (tell_others cs v gone)) same h)
 
 -- a step has gone, and the next one does the rest
-pub goes_on : (result : Result (Unit {0}) PageStop) (last gone : Work) (o : Outcome Work (Unit {0})) (next : Step Work (Unit {0})) → Goes tt gone ≡ o → Does result last (next gone) → Does result last (then_do o (λ _. next))
+pub goes_on : (result : Result (Unit {0}) PageStop) (last gone : Work) (o : Outcome Work (Unit {0})) (next : Step Work (Unit {0})) → Goes tt gone ≡ o
+    → Does result last (next gone) → Does result last (then_do o (λ _. next))
 goes_on result last gone o next went h = subst (λ (x : Outcome Work (Unit {0})). Does result last (then_do x (λ _. next))) went h
 
 -- one of a walk has had its turn
@@ -38,7 +40,8 @@ module _ (turn : ℕ → Step Work (Unit {0})) (n : ℕ) (all rest : List ℕ) (
   pub turn_gone : (gone : Work) → Goes tt gone ≡ turn n w → for_each rest turn gone ≡ for_each all turn w
   turn_gone gone went = ap (λ (o : Outcome Work (Unit {0})). then_do o (λ _. for_each rest turn)) went ∙ ap (λ ns. for_each ns turn w) (sym begins)
 
-  pub turn_stopped : (stop : PageStop) (last : Work) → Does {A = Unit {0}} (Err stop) last (turn n w) → Does {A = Unit {0}} (Err stop) last (for_each all turn w)
+  pub turn_stopped : (stop : PageStop) (last : Work) → Does {A = Unit {0}} (Err stop) last (turn n w)
+      → Does {A = Unit {0}} (Err stop) last (for_each all turn w)
   turn_stopped stop last does = subst (λ ns. Does {A = Unit {0}} (Err stop) last (for_each ns turn w)) (sym begins) (by_stop stop does)
     where
       by_stop : (s : PageStop) → Does {A = Unit {0}} (Err s) last (turn n w) → Does {A = Unit {0}} (Err s) last (for_each (n ∷ rest) turn w)
@@ -52,13 +55,16 @@ module _ (order : List ℕ) (c : Change) (rest all : List Change) (w : Work) (be
       → tell_others rest order gone ≡ tell_others all order w
   other_gone outside gone test went = subst (λ cs. tell_others rest order gone ≡ tell_others cs order w) (sym begins) (by_test outside test went)
     where
-      by_test : (b : Bool) → b ≡ not (is_among c.node order) → Goes tt gone ≡ (if b then tell_form_change c else done) w → tell_others rest order gone ≡ tell_others (c ∷ rest) order w
+      by_test : (b : Bool) → b ≡ not (is_among c.node order) → Goes tt gone ≡ (if b then tell_form_change c else done) w
+          → tell_others rest order gone ≡ tell_others (c ∷ rest) order w
       by_test true is goes = rw (← is) (ap (λ (o : Outcome Work (Unit {0})). then_do o (λ _. tell_others rest order)) goes)
       by_test false is goes = let same : gone ≡ w = cc in rw (← is) (ap (λ (v : Work). tell_others rest order v) same)
 
-  pub other_stopped : (outside : Bool) (stop : PageStop) (last : Work) → outside ≡ not (is_among c.node order) → Does {A = Unit {0}} (Err stop) last ((if outside then tell_form_change c else done) w)
+  pub other_stopped : (outside : Bool) (stop : PageStop) (last : Work) → outside ≡ not (is_among c.node order)
+      → Does {A = Unit {0}} (Err stop) last ((if outside then tell_form_change c else done) w)
       → Does {A = Unit {0}} (Err stop) last (tell_others all order w)
-  other_stopped outside stop last test does = subst (λ cs. Does {A = Unit {0}} (Err stop) last (tell_others cs order w)) (sym begins) (by_test outside test stop does)
+  other_stopped outside stop last test does =
+      subst (λ cs. Does {A = Unit {0}} (Err stop) last (tell_others cs order w)) (sym begins) (by_test outside test stop does)
     where
       by_test : (b : Bool) → b ≡ not (is_among c.node order) → (s : PageStop) → Does {A = Unit {0}} (Err s) last ((if b then tell_form_change c else done) w)
           → Does {A = Unit {0}} (Err s) last (tell_others (c ∷ rest) order w)
@@ -69,8 +75,10 @@ module _ (order : List ℕ) (c : Change) (rest all : List Change) (w : Work) (be
       by_test b is NoMemory d = tt
 
 -- a node that may be put among the children of a parent is adopted, and then put in
-pub pre_inserted : (result : Result (Unit {0}) PageStop) (last : Work) (old mid : Page) (parent n : ℕ) (before child : Option ℕ) (fuel after : ℕ) → may_insert old.forest parent n before ≡ None
-    → child ≡ reference_child old.forest n before → Goes tt (work mid after) ≡ adopt (document_at old.forest parent) n (work old fuel) → Does result last (put_in parent n child (work mid after))
+pub pre_inserted : (result : Result (Unit {0}) PageStop) (last : Work) (old mid : Page) (parent n : ℕ) (before child : Option ℕ) (fuel after : ℕ)
+    → may_insert old.forest parent n before ≡ None
+    → child ≡ reference_child old.forest n before → Goes tt (work mid after) ≡ adopt (document_at old.forest parent) n (work old fuel)
+    → Does result last (put_in parent n child (work mid after))
     → Does result last (pre_insert parent n before (work old fuel))
 pre_inserted result last old mid parent n before child fuel after may is went h =
     let rest : Step Work (Unit {0}) = read_page (λ p. reference_child p.forest n before) >>= insert parent n in
@@ -80,33 +88,40 @@ pre_inserted result last old mid parent n before child fuel after may is went h 
 
 -- so at the end of the parent
 pub appended : (result : Result (Unit {0}) PageStop) (last : Work) (old mid : Page) (parent n before after : ℕ) → may_insert old.forest parent n None ≡ None
-    → Goes tt (work mid after) ≡ adopt (document_at old.forest parent) n (work old before) → Does result last (put_in parent n None (work mid after)) → Does result last (pre_insert parent n None (work old before))
+    → Goes tt (work mid after) ≡ adopt (document_at old.forest parent) n (work old before) → Does result last (put_in parent n None (work mid after))
+    → Does result last (pre_insert parent n None (work old before))
 appended result last old mid parent n before after may went h = pre_inserted result last old mid parent n None None before after may refl went h
 
 module _ (old now : Page) (fuel : ℕ) (cs : List Change) (changed : cs ≡ form_changes old now) where
-  pub put_in_is : (parent node : ℕ) (before : Option ℕ) (walk : List ℕ) → now ≡ with_forest (λ f. graft f parent node before) old → walk ≡ order_of now.forest node
+  pub put_in_is : (parent node : ℕ) (before : Option ℕ) (walk : List ℕ) → now ≡ with_forest (λ f. graft f parent node before) old
+      → walk ≡ order_of now.forest node
       → put_in parent node before (work old fuel) ≡ told (inserted cs) cs walk (order_of now.forest node) (work now fuel)
   put_in_is parent node before walk is order =
       ap (λ (p : Page). told (inserted (form_changes old p)) (form_changes old p) (order_of p.forest node) (order_of p.forest node) (work p fuel)) (sym is)
       ∙ ap (λ v. told (inserted v) v (order_of now.forest node) (order_of now.forest node) (work now fuel)) (sym changed)
       ∙ ap (λ v. told (inserted cs) cs v (order_of now.forest node) (work now fuel)) (sym order)
 
-  pub remove_is : (node : ℕ) (was_connected : Bool) (walk : List ℕ) → now ≡ with_forest (λ f. cut f node) old → walk ≡ order_of now.forest node → was_connected ≡ is_connected_parent old (parent_at old.forest node)
+  pub remove_is : (node : ℕ) (was_connected : Bool) (walk : List ℕ) → now ≡ with_forest (λ f. cut f node) old → walk ≡ order_of now.forest node
+      → was_connected ≡ is_connected_parent old (parent_at old.forest node)
       → remove node (work old fuel) ≡ told (removed cs was_connected) cs walk (order_of now.forest node) (work now fuel)
   remove_is node was_connected walk is order was =
-      ap (λ (p : Page). told (removed (form_changes old p) (is_connected_parent old (parent_at old.forest node))) (form_changes old p) (order_of p.forest node) (order_of p.forest node) (work p fuel)) (sym is)
-      ∙ ap (λ v. told (removed v (is_connected_parent old (parent_at old.forest node))) v (order_of now.forest node) (order_of now.forest node) (work now fuel)) (sym changed)
+      ap (λ (p : Page). told (removed (form_changes old p) (is_connected_parent old (parent_at old.forest node))) (form_changes old p) (order_of p.forest node)
+      (order_of p.forest node) (work p fuel)) (sym is)
+      ∙ ap (λ v. told (removed v (is_connected_parent old (parent_at old.forest node))) v (order_of now.forest node) (order_of now.forest node) (work now fuel))
+      (sym changed)
       ∙ ap (λ v. told (removed cs (is_connected_parent old (parent_at old.forest node))) cs v (order_of now.forest node) (work now fuel)) (sym order)
       ∙ ap (λ b. told (removed cs b) cs walk (order_of now.forest node) (work now fuel)) (sym was)
 
-  pub set_is : (n : ℕ) (name value : List ℕ) (was : Option (List ℕ)) → now ≡ with_forest (with_attribute n name value) old → was ≡ attribute_at old.forest n name
+  pub set_is : (n : ℕ) (name value : List ℕ) (was : Option (List ℕ)) → now ≡ with_forest (with_attribute n name value) old
+      → was ≡ attribute_at old.forest n name
       → set_attribute n name value (work old fuel) ≡ handled n (Attribute name was (Some value)) cs (work now fuel)
   set_is n name value was is before =
       ap (λ (p : Page). handled n (Attribute name (attribute_at old.forest n name) (Some value)) (form_changes old p) (work p fuel)) (sym is)
       ∙ ap (λ v. handled n (Attribute name (attribute_at old.forest n name) (Some value)) v (work now fuel)) (sym changed)
       ∙ ap (λ o. handled n (Attribute name o (Some value)) cs (work now fuel)) (sym before)
 
-  pub taken_is : (n : ℕ) (name : List ℕ) (was : Option (List ℕ)) → now ≡ with_forest (without_attribute n name) old → was ≡ attribute_at old.forest n name → is_some (attribute_at old.forest n name) ≡ true
+  pub taken_is : (n : ℕ) (name : List ℕ) (was : Option (List ℕ)) → now ≡ with_forest (without_attribute n name) old → was ≡ attribute_at old.forest n name
+      → is_some (attribute_at old.forest n name) ≡ true
       → remove_attribute n name (work old fuel) ≡ handled n (Attribute name was None) cs (work now fuel)
   taken_is n name was is before there = ap (λ o. remove_there n name o (work old fuel)) (sym before) ∙ by_value was (ap is_some before ∙ there)
     where

@@ -18,7 +18,8 @@ use Rattle.ce_page.specs.Ends.{Does}
 use Rattle.ce_page.specs.Telling.{Tells}
 
 -- a call that does a step tells whom the step tells: all that is due where it goes, and a part where the fuel was spent
-pub tells_by : (result : Result (Unit {0}) PageStop) (last : Work) (old : Page) (o : Outcome Work (Unit {0})) → ((v : Work) → o ≡ Goes tt v → TellsExactly old v.page) → ((v : Work) → o ≡ Spent v → TellsPart old v.page)
+pub tells_by : (result : Result (Unit {0}) PageStop) (last : Work) (old : Page) (o : Outcome Work (Unit {0}))
+    → ((v : Work) → o ≡ Goes tt v → TellsExactly old v.page) → ((v : Work) → o ≡ Spent v → TellsPart old v.page)
     → Does result last o → Tells result old last.page
 tells_by (Ok x) last old o all part does = all last (sym does)
 tells_by (Err (Refused f)) last old o all part does = tt
@@ -29,11 +30,13 @@ module _ (result : Result (Unit {0}) PageStop) (last w : Work) where
   pub removal_tells : (node : ℕ) → IsTidy w.page.forest → Does result last (remove node w) → Tells result w.page last.page
   removal_tells node tidy = tells_by result last w.page (remove node w) (removal-exactly node w tidy) (removal-partly node w tidy)
 
-  pub insertion_tells : (parent node : ℕ) (before : Option ℕ) → IsTidy w.page.forest → IsNode w.page.forest parent → may_insert w.page.forest parent node before ≡ None
+  pub insertion_tells : (parent node : ℕ) (before : Option ℕ) → IsTidy w.page.forest → IsNode w.page.forest parent
+      → may_insert w.page.forest parent node before ≡ None
       → Does result last (put_in parent node before w) → Tells result w.page last.page
   insertion_tells parent node before tidy is may =
       let off = not_inside w.page.forest parent node before may in
-      tells_by result last w.page (put_in parent node before w) (insertion-exactly parent node before w tidy is off) (insertion-partly parent node before w tidy is off)
+      tells_by result last w.page (put_in parent node before w) (insertion-exactly parent node before w tidy is off)
+      (insertion-partly parent node before w tidy is off)
 
   pub setting_tells : (n : ℕ) (name value : List ℕ) → Does result last (set_attribute n name value w) → Tells result w.page last.page
   setting_tells n name value = tells_by result last w.page (set_attribute n name value w) (setting-exactly n name value w) (setting-partly n name value w)
@@ -42,11 +45,13 @@ module _ (result : Result (Unit {0}) PageStop) (last w : Work) where
   taking_tells n name = tells_by result last w.page (remove_attribute n name w) (taking-exactly n name w) (taking-partly n name w)
 
 -- the state to which a step has gone is one
-pub tells_from : (result : Result (Unit {0}) PageStop) (mid gone : Work) (new : Page) (o : Outcome Work (Unit {0})) → Goes tt gone ≡ o → Goes tt mid ≡ o → Tells result gone.page new → Tells result mid.page new
+pub tells_from : (result : Result (Unit {0}) PageStop) (mid gone : Work) (new : Page) (o : Outcome Work (Unit {0})) → Goes tt gone ≡ o → Goes tt mid ≡ o
+    → Tells result gone.page new → Tells result mid.page new
 tells_from result mid gone new o went goes = let same : gone ≡ mid = cc in subst (λ (w : Work). Tells result w.page new) same
 
 -- a step that was stopped has not gone
-pub tells_not : (result : Result (Unit {0}) PageStop) (stop : PageStop) (mid last : Work) (new : Page) (o : Outcome Work (Unit {0})) → result ≡ Err stop → Does {A = Unit {0}} (Err stop) last o → Goes tt mid ≡ o → Tells result mid.page new
+pub tells_not : (result : Result (Unit {0}) PageStop) (stop : PageStop) (mid last : Work) (new : Page) (o : Outcome Work (Unit {0})) → result ≡ Err stop
+    → Does {A = Unit {0}} (Err stop) last o → Goes tt mid ≡ o → Tells result mid.page new
 tells_not result stop mid last new o is does goes = subst (λ r. Tells r mid.page new) (sym is) (by_stop stop does)
   where
     by_stop : (s : PageStop) → Does {A = Unit {0}} (Err s) last o → Tells (Err s) mid.page new

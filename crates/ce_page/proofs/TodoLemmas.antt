@@ -64,8 +64,10 @@ new_parent old now p none new = tt
 new_parent old now p (tree m x s k r) new = new
 
 -- a copy of an element is one, and below the copy of another node nothing is to be copied
-pub copied_parent : (old now : Trees) (n : ℕ) (k : Trees) (element : Bool) → (element ≡ false → k ≡ none) → size old < n → IsNode now n → kind_at now n ≡ copied_kind element → connected now n ≡ false → IsNewParent old now n k
-copied_parent old now n k true leaf later node kind apart = new_parent old now n k (record { later = later; element = record { node = node; kind = kind }; apart = apart })
+pub copied_parent : (old now : Trees) (n : ℕ) (k : Trees) (element : Bool) → (element ≡ false → k ≡ none) → size old < n → IsNode now n
+    → kind_at now n ≡ copied_kind element → connected now n ≡ false → IsNewParent old now n k
+copied_parent old now n k true leaf later node kind apart =
+    new_parent old now n k (record { later = later; element = record { node = node; kind = kind }; apart = apart })
 copied_parent old now n k false leaf later node kind apart = rw (leaf refl) tt
 
 still_parent : (old now new : Trees) → KeepsKinds now new → KeepsApart now new → (p : ℕ) (k : Trees) → IsNewParent old now p k → IsNewParent old new p k
@@ -109,11 +111,22 @@ pub record First (old now : Trees) (frames : List (ℕ × Trees)) (e : Rest) (re
   pub allowed : AreToCopy old now left
   pub step : (w : Work) → copy_all top frames w ≡ then_do (copy_one e.parent e.from facts w) (λ n. copy_below n children >> copy_all top left)
 
-first : (old now : Trees) (frames : List (ℕ × Trees)) (e : Rest) (rest : List Rest) (top : ℕ) → e ∷ rest ≡ entries frames → AreToCopy old now frames → First old now frames e rest top
+first : (old now : Trees) (frames : List (ℕ × Trees)) (e : Rest) (rest : List Rest) (top : ℕ) → e ∷ rest ≡ entries frames → AreToCopy old now frames
+    → First old now frames e rest top
 first old now [] e rest top is a = absurd cc
 first old now ((p, none) ∷ ws) e rest top is a =
     let f = first old now ws e rest top is a.1.1 in
-    record { facts = f.facts; children = f.children; left = f.left; parent = f.parent; known = f.known; below = f.below; waiting = f.waiting; allowed = f.allowed; step = f.step }
+    record {
+      facts = f.facts;
+      children = f.children;
+      left = f.left;
+      parent = f.parent;
+      known = f.known;
+      below = f.below;
+      waiting = f.waiting;
+      allowed = f.allowed;
+      step = f.step;
+    }
 first old now ((p, tree m x s k r) ∷ ws) e rest top is a =
     let it : e ≡ record { parent = p; from = m } = cc in
     let others : rest ≡ below_parent p (roots r) ++ entries ws = cc in
@@ -131,8 +144,10 @@ first old now ((p, tree m x s k r) ∷ ws) e rest top is a =
 
 -- the copy begins
 
-pub begun : (old now : Trees) (node top : ℕ) (x : Facts) (k : Trees) (children : List ℕ) (todo : List Rest) (w v : Work) → children ≡ roots k → AreRead old k → IsNewParent old now top k
-    → KeepsNodes old now → size old ≤ size now → reverse todo ≡ below_parent top children ++ reverse [] → Goes top v ≡ copy_node node x (is_element x.kind) w → IsCopying old now todo top (copy_tree node x k w) v
+pub begun : (old now : Trees) (node top : ℕ) (x : Facts) (k : Trees) (children : List ℕ) (todo : List Rest) (w v : Work) → children ≡ roots k → AreRead old k
+    → IsNewParent old now top k
+    → KeepsNodes old now → size old ≤ size now → reverse todo ≡ below_parent top children ++ reverse [] → Goes top v ≡ copy_node node x (is_element x.kind) w
+    → IsCopying old now todo top (copy_tree node x k w) v
 begun old now node top x k children todo w v numbers read parent kept grown todo_is made = record {
   frames = (top, k) ∷ [];
   waiting = todo_is ∙ ap (λ ns. below_parent top ns ++ []) numbers;
@@ -159,7 +174,8 @@ module _ {old now : Trees} {todo : List Rest} {top : ℕ} {whole : Outcome Work 
         first old now c.frames e (reverse rest) top (sym last ∙ sym (ap reverse is) ∙ c.waiting) c.allowed
 
     pub from_node : IsNode now e.from
-    from_node = let node = turn.known.node in let low = node.low in let high = node.high in let grown = c.grown in record { low = low; high = omega (arith, high, grown) }
+    from_node = let node = turn.known.node in let low = node.low in let high = node.high in let grown =
+        c.grown in record { low = low; high = omega (arith, high, grown) }
 
     same_facts : facts_at now e.from ≡ turn.facts
     same_facts = ap (λ (s : Spot). s.facts) (c.kept e.from turn.known.node) ∙ turn.known.facts
@@ -169,7 +185,8 @@ module _ {old now : Trees} {todo : List Rest} {top : ℕ} {whole : Outcome Work 
     onward = rw same_facts (sym (turn.step w) ∙ c.step)
 
     -- where the first node was copied
-    pub next : (new : Trees) (n : ℕ) (v : Work) (children : List ℕ) (pushed : List Rest) → Goes n v ≡ copy_one e.parent e.from (facts_at now e.from) w → IsCopied now new (copied_kind (is_element (kind_at now e.from))) e.parent n
+    pub next : (new : Trees) (n : ℕ) (v : Work) (children : List ℕ) (pushed : List Rest) → Goes n v ≡ copy_one e.parent e.from (facts_at now e.from) w
+        → IsCopied now new (copied_kind (is_element (kind_at now e.from))) e.parent n
         → children ≡ children_at now e.from → reverse pushed ≡ below_parent n children ++ reverse rest → IsCopying old new pushed top whole v
     next new n v children pushed made copy children_is pushed_is =
         let later = copy.later in
@@ -181,7 +198,10 @@ module _ {old now : Trees} {todo : List Rest} {top : ℕ} {whole : Outcome Work 
         record {
           frames = (n, turn.children) ∷ turn.left;
           waiting = pushed_is ∙ ap (λ ns. below_parent n ns ++ reverse rest) numbers ∙ ap (λ es. below_parent n (roots turn.children) ++ es) turn.waiting;
-          allowed = (copied_parent old new n turn.children (is_element turn.facts.kind) turn.known.leaf (omega (arith, later, grown)) copy.node kind copy.loose, (turn.below, still old now new copy.kinds copy.apart turn.left turn.allowed));
+          allowed = (
+            copied_parent old new n turn.children (is_element turn.facts.kind) turn.known.leaf (omega (arith, later, grown)) copy.node kind copy.loose,
+            (turn.below, still old now new copy.kinds copy.apart turn.left turn.allowed),
+          );
           kept = λ m at.
               let high = at.high in
               copy.others m (record { low = at.low; high = omega (arith, high, grown) }) (λ same. omega (arith, same, high, parent_later)) ∙ c.kept m at;

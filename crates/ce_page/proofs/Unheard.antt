@@ -25,10 +25,12 @@ module _ (now : Page) (fuel : ℕ) where
   each_removed (n ∷ ns) = each_removed ns
 
   -- nothing is said of form owners, and what was removed was not connected
-  pub removal_unheard : (cs : List Change) (was : Bool) (ns order : List ℕ) → cs ≡ [] → was ≡ false → told (removed cs was) cs ns order (work now fuel) ≡ Goes tt (work now fuel)
+  pub removal_unheard : (cs : List Change) (was : Bool) (ns order : List ℕ) → cs ≡ [] → was ≡ false
+      → told (removed cs was) cs ns order (work now fuel) ≡ Goes tt (work now fuel)
   removal_unheard cs was ns order none apart = rw (none, apart) (ap (λ (o : Outcome Work (Unit {0})). then_do o (λ _. tell_others [] order)) (each_removed ns))
 
-  each_inserted : (b : Bool) (ns : List ℕ) → b ≡ false → All (λ m. connected now.forest m ≡ b) ns → for_each ns (inserted []) (work now fuel) ≡ Goes tt (work now fuel)
+  each_inserted : (b : Bool) (ns : List ℕ) → b ≡ false → All (λ m. connected now.forest m ≡ b) ns
+      → for_each ns (inserted []) (work now fuel) ≡ Goes tt (work now fuel)
   each_inserted b [] apart all = refl
   each_inserted b (n ∷ ns) apart all =
       let P : ℕ → Type 0 = λ m. connected now.forest m ≡ b in

@@ -23,13 +23,16 @@ appended_to-waiting : (s : List Open) (n : ℕ) (q : Queues) → (appended_to s 
 appended_to-waiting [] n q = refl
 appended_to-waiting (o ∷ os) n q = refl
 
-pub enqueued_waits : (forest : Trees) (n : ℕ) (r : Reaction) (q : Queues) → IsElement forest (n - 1 + 1) → WaitAtElements q.waiting forest → WaitAtElements (enqueued n r q).waiting forest
+pub enqueued_waits : (forest : Trees) (n : ℕ) (r : Reaction) (q : Queues) → IsElement forest (n - 1 + 1) → WaitAtElements q.waiting forest
+    → WaitAtElements (enqueued n r q).waiting forest
 enqueued_waits forest n r q here h =
-    subst (λ waiting. WaitAtElements waiting forest) (sym (appended_to-waiting q.stack n (with_reaction n r (counted q)))) (given_waits forest (n - 1) _ q.waiting here h)
+    subst (λ waiting. WaitAtElements waiting forest) (sym (appended_to-waiting q.stack n (with_reaction n r (counted q))))
+    (given_waits forest (n - 1) _ q.waiting here h)
 
 -- the first reaction of a node taken
 
-waits_there : (forest : Trees) (old new : Queues) (n : ℕ) (w : ℕ × Reaction) → WaitAtElements old.waiting forest → waiting_at old n ≡ w ∷ waiting_at new n → IsElement forest (n - 1 + 1)
+waits_there : (forest : Trees) (old new : Queues) (n : ℕ) (w : ℕ × Reaction) → WaitAtElements old.waiting forest → waiting_at old n ≡ w ∷ waiting_at new n
+    → IsElement forest (n - 1 + 1)
 waits_there forest old new n w h first = h (n - 1) (λ none. absurd (differ (sym none ∙ first)))
   where
     differ : [] ≡ w ∷ waiting_at new n → ⊥
@@ -38,7 +41,8 @@ waits_there forest old new n w h first = h (n - 1) (λ none. absurd (differ (sym
 taken_waits : (forest : Trees) (old new : Queues) (n : ℕ) (w : ℕ × Reaction) → WaitAtElements old.waiting forest → waiting_at old n ≡ w ∷ waiting_at new n
     → new ≡ with_waiting n (waiting_at new n) old → WaitAtElements new.waiting forest
 taken_waits forest old new n w h first others =
-    subst (λ (q : Queues). WaitAtElements q.waiting forest) (sym others) (given_waits forest (n - 1) (waiting_at new n) old.waiting (waits_there forest old new n w h first) h)
+    subst (λ (q : Queues). WaitAtElements q.waiting forest) (sym others)
+    (given_waits forest (n - 1) (waiting_at new n) old.waiting (waits_there forest old new n w h first) h)
 
 pub next_waits : (forest : Trees) (old new : Queues) (n : ℕ) (r : Option (ℕ × Reaction)) → WaitAtElements old.waiting forest
     → MatchOption r (waiting_at old n ≡ []) (λ w. waiting_at old n ≡ w ∷ waiting_at new n)
@@ -46,7 +50,8 @@ pub next_waits : (forest : Trees) (old new : Queues) (n : ℕ) (r : Option (ℕ 
 next_waits forest old new n None h first others = subst (λ (q : Queues). WaitAtElements q.waiting forest) (sym others) h
 next_waits forest old new n (Some w) h first others = taken_waits forest old new n w h first others
 
-pub next_element : (forest : Trees) (old new : Queues) (n : ℕ) (r : Option (ℕ × Reaction)) → (IsElement forest (n - 1 + 1) → IsElement forest n) → WaitAtElements old.waiting forest
+pub next_element : (forest : Trees) (old new : Queues) (n : ℕ) (r : Option (ℕ × Reaction)) → (IsElement forest (n - 1 + 1) → IsElement forest n)
+    → WaitAtElements old.waiting forest
     → MatchOption r (waiting_at old n ≡ []) (λ w. waiting_at old n ≡ w ∷ waiting_at new n) → IfSome r (λ w. IsElement forest n)
 next_element forest old new n None at h first = tt
 next_element forest old new n (Some w) at h first = at (waits_there forest old new n w h first)

@@ -3,7 +3,8 @@ use Rattle.std.proofs.Common.{◌≡◌, ℕ, true, false, List, [], ◌∷◌, 
 use Rattle.rule_tokens.specs.declared.callback.CallName.{CallName}
 use Rattle.rule_tokens.specs.declared.callback.CallOrUpgrade.TheVariants.{Call}
 use Rattle.reaction_queue.specs.declared.reaction.Reaction.{Reaction}
-use Rattle.reaction_queue.specs.declared.reaction.Reaction.TheVariants.{Upgrade, Connected, Disconnected, Adopted, Attribute, FormAssociated, FormDisabled, FormReset, FormStateRestore}
+use Rattle.reaction_queue.specs.declared.reaction.Reaction.TheVariants.{Upgrade, Connected, Disconnected, Adopted, Attribute, FormAssociated, FormDisabled}
+use Rattle.reaction_queue.specs.declared.reaction.Reaction.TheVariants.{FormReset, FormStateRestore}
 use Rattle.reaction_queue.specs.Reactions.{what_of}
 use Rattle.ce_registry.specs.declared.definition.Definition.{Definition}
 use Rattle.ce_algorithms.specs.Body.{actions_of}
@@ -57,13 +58,18 @@ calls_some n class r None s h = cc
 calls_some n class r (Some d) s h = let same : class ≡ d.class = cc in ap (λ k. callback_turn n k r s) same
 
 -- its element has no definition
-pub call_none : (frames : List Frame) (n : ℕ) (r : Reaction) (s : State) → is_callback r ≡ true → None ≡ callee (definition_of s.page n) → Turns frames frames (Went Nothing) s (reaction_turn n r s)
+pub call_none : (frames : List Frame) (n : ℕ) (r : Reaction) (s : State) → is_callback r ≡ true → None ≡ callee (definition_of s.page n)
+    → Turns frames frames (Went Nothing) s (reaction_turn n r s)
 call_none frames n r s is none =
-    turns_as frames frames (Went Nothing) s (go_on s) (reaction_turn n r s) (sym (reaction_is n r s is ∙ calls_none n r (definition_of s.page n) s none)) (turns_same frames (Went Nothing) s (Goes Nothing s) refl)
+    turns_as frames frames (Went Nothing) s (go_on s) (reaction_turn n r s) (sym (reaction_is n r s is ∙ calls_none n r (definition_of s.page n) s none))
+    (turns_same frames (Went Nothing) s (Goes Nothing s) refl)
 
 -- its callback begins
-pub call_some : (frames new : List Frame) (now : Came) (n class : ℕ) (r : Reaction) (s s1 : State) → is_callback r ≡ true → Some class ≡ callee (definition_of s.page n) → Turns frames new now s1 (callback_turn n class r s) → Turns frames new now s1 (reaction_turn n r s)
-call_some frames new now n class r s s1 is some h = turns_as frames new now s1 (callback_turn n class r s) (reaction_turn n r s) (calls_some n class r (definition_of s.page n) s some ∙ sym (reaction_is n r s is)) h
+pub call_some : (frames new : List Frame) (now : Came) (n class : ℕ) (r : Reaction) (s s1 : State) → is_callback r ≡ true
+    → Some class ≡ callee (definition_of s.page n) → Turns frames new now s1 (callback_turn n class r s) → Turns frames new now s1 (reaction_turn n r s)
+call_some frames new now n class r s s1 is some h =
+    turns_as frames new now s1 (callback_turn n class r s) (reaction_turn n r s)
+    (calls_some n class r (definition_of s.page n) s some ∙ sym (reaction_is n r s is)) h
 
 -- a callback begins
 
@@ -78,7 +84,8 @@ call_blind n (FormDisabled disabled) = blind_log _
 call_blind n FormReset = blind_log _
 call_blind n (FormStateRestore state why) = blind_log _
 
-module _ (old new : Stacked) (n class : ℕ) (r : Reaction) (s s1 : State) (told : Goes tt s1 ≡ log_call n r s) (paired : ArePaired old s) (same : behaviours_of new ≡ behaviours_of old) where
+module _ (old new : Stacked) (n class : ℕ) (r : Reaction) (s s1 : State) (told : Goes tt s1 ≡ log_call n r s) (paired : ArePaired old s)
+    (same : behaviours_of new ≡ behaviours_of old) where
   count : length s1.classes ≡ length s.classes
   count = ap (λ (o : Outcome State (Unit {0})). length (state_in o).classes) told ∙ (call_blind n r).classes s
 
@@ -88,15 +95,18 @@ module _ (old new : Stacked) (n class : ℕ) (r : Reaction) (s s1 : State) (told
   abbrev begins : State → Turned
   begins t = begin_body class (args_of r) (Some n) (actions_for (what_of r) (class_of t class).bodies) t
 
-  actions_are : (call : CallName) → what_of r ≡ Call call → actions_for (what_of r) (class_of (session old s1) class).bodies ≡ actions_at call class (behaviours_of old)
+  actions_are : (call : CallName) → what_of r ≡ Call call
+      → actions_for (what_of r) (class_of (session old s1) class).bodies ≡ actions_at call class (behaviours_of old)
   actions_are call what =
       ap (λ w. actions_for w (class_of (session old s1) class).bodies) what
       ∙ ap (actions_of call) (class_bodies_joined s1 (behaviours_of old) class (count ∙ paired))
 
   pub begun_turns : (call : CallName) (args : Args) → what_of r ≡ Call call → args ≡ args_of r
-      → frames_of new ≡ frames_of old ++ InBody class args (Some n) false (actions_at call class (behaviours_of old)) ∷ [] → Turns (frames_of old) (frames_of new) (Went Nothing) (session new s1) (callback_turn n class r (session old s))
+      → frames_of new ≡ frames_of old ++ InBody class args (Some n) false (actions_at call class (behaviours_of old)) ∷ []
+      → Turns (frames_of old) (frames_of new) (Went Nothing) (session new s1) (callback_turn n class r (session old s))
   begun_turns call args what is put =
-      turns_as (frames_of old) (frames_of new) (Went Nothing) (session new s1) _ _ (ap (λ (o : Outcome State (Unit {0})). turn_after o (λ _. begins)) told_whole)
+      turns_as (frames_of old) (frames_of new) (Went Nothing) (session new s1) _ _
+      (ap (λ (o : Outcome State (Unit {0})). turn_after o (λ _. begins)) told_whole)
       (record {
         frames = put ∙ ap (λ (a : Args). frames_of old ++ InBody class a (Some n) false (actions_at call class (behaviours_of old)) ∷ []) is
             ∙ ap (λ l. frames_of old ++ InBody class (args_of r) (Some n) false l ∷ []) (sym (actions_are call what));

@@ -39,25 +39,31 @@ came_lasts_in F (Went given) s le h = record { grows = le; gives = h; placed = t
 came_lasts_in F (Threw f) s le h = record { grows = le; gives = tt; placed = tt }
 came_lasts_in F Over s le h = record { grows = le; gives = tt; placed = tt }
 
-pub down_lasts : (F : Trees) (now : Came) (s : State) (o : Outcome State Given) → came_in now s ≡ o → size F ≤ size s.page.forest → IsEndThere s.page.forest now → Lasts F (ended o)
+pub down_lasts : (F : Trees) (now : Came) (s : State) (o : Outcome State Given) → came_in now s ≡ o → size F ≤ size s.page.forest
+    → IsEndThere s.page.forest now → Lasts F (ended o)
 down_lasts F now s o is le h = subst (λ x. Lasts F (ended x)) is (came_lasts_in F now s le h)
 
 -- a class is constructed
 
 constructor_after : Bool → ℕ → Turn
-constructor_after has class s = (if has then below waiting.Constructing (begin_body class no_args None (actions_of Constructor (class_of s class).bodies)) else hand_down (algorithms.gives_node (on_page (base_call class)))) (logged (Construct (class_of s class).name) s)
+constructor_after has class s =
+    (if has then below waiting.Constructing (begin_body class no_args None (actions_of Constructor (class_of s class).bodies)) else hand_down
+    (algorithms.gives_node (on_page (base_call class)))) (logged (Construct (class_of s class).name) s)
 
 -- by a constructor of its own
 
-own_is : (class : ℕ) (s : State) → has_call Constructor (class_of s class).facts.calls ≡ true → own_turn class (logged (Construct (class_of s class).name) s) ≡ construct_turn class s
+own_is : (class : ℕ) (s : State) → has_call Constructor (class_of s class).facts.calls ≡ true
+    → own_turn class (logged (Construct (class_of s class).name) s) ≡ construct_turn class s
 unfolding construct_turn constructor_after
 own_is class s on = ap (λ has. constructor_after has class s) (sym on)
 
 -- what a class has is the same behind the line
-calls_told : (class : ℕ) (s s1 : State) (has : Bool) → s1 ≡ logged (Construct (class_of s class).name) s → has ≡ has_call Constructor (class_of s1 class).facts.calls → has_call Constructor (class_of s class).facts.calls ≡ has
+calls_told : (class : ℕ) (s s1 : State) (has : Bool) → s1 ≡ logged (Construct (class_of s class).name) s
+    → has ≡ has_call Constructor (class_of s1 class).facts.calls → has_call Constructor (class_of s class).facts.calls ≡ has
 calls_told class s s1 has told h = sym (h ∙ ap (λ (t : State). has_call Constructor (class_of t class).facts.calls) told)
 
-module _ (old : Stacked) (class : ℕ) (s s1 : State) (has : true ≡ has_call Constructor (class_of s1 class).facts.calls) (told : s1 ≡ logged (Construct (class_of s class).name) s) where
+module _ (old : Stacked) (class : ℕ) (s s1 : State) (has : true ≡ has_call Constructor (class_of s1 class).facts.calls)
+    (told : s1 ≡ logged (Construct (class_of s class).name) s) where
   on : has_call Constructor (class_of s class).facts.calls ≡ true
   on = calls_told class s s1 true told has
 
@@ -67,20 +73,26 @@ module _ (old : Stacked) (class : ℕ) (s s1 : State) (has : true ≡ has_call C
       ∙ ap (λ name. own_turn class (logged (Construct name) (session old s))) (sym (class_name_joined s (behaviours_of old) class))
       ∙ own_is class (session old s) (ap (λ facts. has_call Constructor facts.calls) (class_facts_joined s (behaviours_of old) class) ∙ on)
 
-  pub own_constructs : (frames new : List Frame) (now : Came) (t : State) → Turns frames new now t (own_turn class (session old s1)) → Turns frames new now t (construct_turn class (session old s))
+  pub own_constructs : (frames new : List Frame) (now : Came) (t : State) → Turns frames new now t (own_turn class (session old s1))
+      → Turns frames new now t (construct_turn class (session old s))
   own_constructs frames new now t h = turns_as frames new now t _ _ own_whole h
 
   pub own_lasts : Lasts s.page.forest (construct_turn class (session old s))
-  own_lasts = subst (Lasts s.page.forest) own_whole (let same = ap (λ (t : State). size t.page.forest) told in record { grows = omega (arith, same); gives = tt; placed = (tt, (tt, tt)) })
+  own_lasts = subst (Lasts s.page.forest) own_whole
+      (let same = ap (λ (t : State). size t.page.forest) told in record { grows = omega (arith, same); gives = tt; placed = (tt, (tt, tt)) })
 
 -- its body begins, above the construction's frame
-module _ (old mid new : Stacked) (class : ℕ) (s : State) (paired : ArePaired old s) (put : frames_of mid ≡ frames_of old ++ waiting.Constructing ∷ []) (kept : behaviours_of mid ≡ behaviours_of old) (same : behaviours_of new ≡ behaviours_of mid) where
+module _ (old mid new : Stacked) (class : ℕ) (s : State) (paired : ArePaired old s) (put : frames_of mid ≡ frames_of old ++ waiting.Constructing ∷ [])
+    (kept : behaviours_of mid ≡ behaviours_of old) (same : behaviours_of new ≡ behaviours_of mid) where
   actions_are : actions_of Constructor (class_of (session old s) class).bodies ≡ actions_at Constructor class (behaviours_of old)
   actions_are = ap (actions_of Constructor) (class_bodies_joined s (behaviours_of old) class paired)
 
-  pub own_turns : (args : Args) → args ≡ no_args → frames_of new ≡ frames_of mid ++ InBody class args None false (actions_at Constructor class (behaviours_of mid)) ∷ [] → Turns (frames_of old) (frames_of new) (Went Nothing) (session new s) (own_turn class (session old s))
+  pub own_turns : (args : Args) → args ≡ no_args
+      → frames_of new ≡ frames_of mid ++ InBody class args None false (actions_at Constructor class (behaviours_of mid)) ∷ []
+      → Turns (frames_of old) (frames_of new) (Went Nothing) (session new s) (own_turn class (session old s))
   own_turns args is begun =
-      turns_pushed (frames_of old) (frames_of mid) (frames_of new) waiting.Constructing (Went Nothing) (session new s) (begin_body class no_args None (actions_of Constructor (class_of (session old s) class).bodies) (session old s)) put
+      turns_pushed (frames_of old) (frames_of mid) (frames_of new) waiting.Constructing (Went Nothing) (session new s)
+      (begin_body class no_args None (actions_of Constructor (class_of (session old s) class).bodies) (session old s)) put
       (record {
         frames = begun
             ∙ ap (λ (a : Args). frames_of mid ++ InBody class a None false (actions_at Constructor class (behaviours_of mid)) ∷ []) is
@@ -92,14 +104,16 @@ module _ (old mid new : Stacked) (class : ℕ) (s : State) (paired : ArePaired o
 
 -- by the base call alone
 
-base_is : (class : ℕ) (s : State) → has_call Constructor (class_of s class).facts.calls ≡ false → ended (algorithms.gives_node (on_page (base_call class)) (logged (Construct (class_of s class).name) s)) ≡ construct_turn class s
+base_is : (class : ℕ) (s : State) → has_call Constructor (class_of s class).facts.calls ≡ false
+    → ended (algorithms.gives_node (on_page (base_call class)) (logged (Construct (class_of s class).name) s)) ≡ construct_turn class s
 unfolding construct_turn constructor_after
 base_is class s off = ap (λ has. constructor_after has class s) (sym off)
 
 base_at : (class : ℕ) (s : State) → has_call Constructor (class_of s class).facts.calls ≡ false → BlindAt (construct_turn class) s
 base_at class s off = record { same = λ bs. construct_blind class bs s off; classes = construct_classes class s off }
 
-module _ (old : Stacked) (class : ℕ) (s s1 s2 : State) (now : Came) (has : false ≡ has_call Constructor (class_of s1 class).facts.calls) (told : s1 ≡ logged (Construct (class_of s class).name) s) (came : came_in now s2 ≡ algorithms.gives_node (on_page (base_call class)) s1) where
+module _ (old : Stacked) (class : ℕ) (s s1 s2 : State) (now : Came) (has : false ≡ has_call Constructor (class_of s1 class).facts.calls)
+    (told : s1 ≡ logged (Construct (class_of s class).name) s) (came : came_in now s2 ≡ algorithms.gives_node (on_page (base_call class)) s1) where
   off : has_call Constructor (class_of s class).facts.calls ≡ false
   off = calls_told class s s1 false told has
 

@@ -20,7 +20,8 @@ use Rattle.ce_outcomes.proofs.TurnLaws.{turns_as}
 pub session_is : (old new : Stacked) (s t : State) → behaviours_of new ≡ behaviours_of old → s ≡ t → session new s ≡ session old t
 session_is old new s t same is = ap (λ (bs : List Behaviour). whole bs s) same ∙ ap (whole (behaviours_of old)) is
 
-pub paired_is : (old new : Stacked) (s t : State) → behaviours_of new ≡ behaviours_of old → length t.classes ≡ length s.classes → ArePaired old s → ArePaired new t
+pub paired_is : (old new : Stacked) (s t : State) → behaviours_of new ≡ behaviours_of old → length t.classes ≡ length s.classes → ArePaired old s
+    → ArePaired new t
 paired_is old new s t same count paired = count ∙ paired ∙ sym (ap length same)
 
 -- in each state
@@ -39,12 +40,14 @@ as_at t u s each is h = record {
 
 -- of the whole session
 
-pub lifted : (t : Turn) (old new : Stacked) (under frames : List Frame) (now : Came) (s s1 : State) → BlindAt t s → Turns under frames now s1 (t s) → behaviours_of new ≡ behaviours_of old → Turns under frames now (session new s1) (t (session old s))
+pub lifted : (t : Turn) (old new : Stacked) (under frames : List Frame) (now : Came) (s s1 : State) → BlindAt t s → Turns under frames now s1 (t s)
+    → behaviours_of new ≡ behaviours_of old → Turns under frames now (session new s1) (t (session old s))
 lifted t old new under frames now s s1 b h same =
     turns_as under frames now (session new s1) (whole_turned (behaviours_of old) (t s)) (t (session old s)) (sym (b.same (behaviours_of old)))
     (record { frames = h.frames; end = h.end; state = session_is old new s1 (t s).state same h.state })
 
-pub lifted_paired : (t : Turn) (old new : Stacked) (under frames : List Frame) (now : Came) (s s1 : State) → BlindAt t s → Turns under frames now s1 (t s) → behaviours_of new ≡ behaviours_of old → ArePaired old s → ArePaired new s1
+pub lifted_paired : (t : Turn) (old new : Stacked) (under frames : List Frame) (now : Came) (s s1 : State) → BlindAt t s → Turns under frames now s1 (t s)
+    → behaviours_of new ≡ behaviours_of old → ArePaired old s → ArePaired new s1
 lifted_paired t old new under frames now s s1 b h same paired = paired_is old new s s1 same (ap (λ (x : State). length x.classes) h.state ∙ b.classes) paired
 
 pub lifted_lasts : (t : Turn) (old : Stacked) (F : Trees) (s : State) → BlindAt t s → Lasts F (t s) → Lasts F (t (session old s))
@@ -52,11 +55,15 @@ lifted_lasts t old F s b h = subst (Lasts F) (sym (b.same (behaviours_of old))) 
 
 -- steps of the whole session
 
-pub goes_whole : {A : Type 0} (step : Step State A) (old new : Stacked) (a : A) (s s1 : State) → IsBlind step → behaviours_of new ≡ behaviours_of old → Goes a s1 ≡ step s → Goes a (session new s1) ≡ step (session old s)
-goes_whole step old new a s s1 b same is = ap (λ (t : State). Goes a t) (session_is old new s1 s1 same refl) ∙ ap (whole_in (behaviours_of old)) is ∙ sym (b.same (behaviours_of old) s)
+pub goes_whole : {A : Type 0} (step : Step State A) (old new : Stacked) (a : A) (s s1 : State) → IsBlind step → behaviours_of new ≡ behaviours_of old
+    → Goes a s1 ≡ step s → Goes a (session new s1) ≡ step (session old s)
+goes_whole step old new a s s1 b same is = ap (λ (t : State). Goes a t) (session_is old new s1 s1 same refl) ∙ ap (whole_in (behaviours_of old)) is
+    ∙ sym (b.same (behaviours_of old) s)
 
-pub throws_whole : {A : Type 0} (step : Step State A) (old : Stacked) (f : Fault) (s s1 : State) → IsBlind step → Throws f s1 ≡ step s → Throws f (session old s1) ≡ step (session old s)
+pub throws_whole : {A : Type 0} (step : Step State A) (old : Stacked) (f : Fault) (s s1 : State) → IsBlind step → Throws f s1 ≡ step s
+    → Throws f (session old s1) ≡ step (session old s)
 throws_whole step old f s s1 b is = ap (whole_in (behaviours_of old)) is ∙ sym (b.same (behaviours_of old) s)
 
-pub spent_whole : {A : Type 0} (step : Step State A) (old : Stacked) (s s1 : State) → IsBlind step → Spent s1 ≡ step s → Spent (session old s1) ≡ step (session old s)
+pub spent_whole : {A : Type 0} (step : Step State A) (old : Stacked) (s s1 : State) → IsBlind step → Spent s1 ≡ step s
+    → Spent (session old s1) ≡ step (session old s)
 spent_whole step old s s1 b is = ap (whole_in (behaviours_of old)) is ∙ sym (b.same (behaviours_of old) s)

@@ -17,7 +17,8 @@ use Rattle.ce_algorithms.specs.State.{State, change_page, class_of, logged, on_p
 use Rattle.ce_algorithms.specs.Steps.{Outcome, Goes, Throws, Spent, attempt_in, throw_if}
 use Rattle.ce_algorithms.specs.Upgrade.{begin_upgrade, is_shadow_refused, is_upgradable, upgrade_ends, upgrade_threw}
 use Rattle.ce_algorithms.specs.Values.{no_args}
-use Rattle.ce_frames.specs.ConstructTurns.{begin_body, construct_for_turn, construct_turn, same_given, upgrade_now_turn, upgrade_result_turn, upgrade_turn, upgraded_turn}
+use Rattle.ce_frames.specs.ConstructTurns.{begin_body, construct_for_turn, construct_turn, same_given, upgrade_now_turn, upgrade_result_turn, upgrade_turn}
+use Rattle.ce_frames.specs.ConstructTurns.{upgraded_turn}
 use Rattle.ce_frames.specs.Frames.{Constructing, Upgrading}
 use Rattle.ce_frames.specs.Turned.{Turn, Turned, ◌>>=◌, ◌>>◌, below, ended, go_on, hand_down, turn_after, when_turn}
 use Rattle.ce_frames.specs.Turns.{turn_threw, turn_went}
@@ -45,14 +46,17 @@ settled_if false t u s h k = k
 construct_settles : (class : ℕ) (s : State) → Settled (construct_turn class s)
 unfolding construct_turn
 construct_settles class s =
-    settled_if (has_call Constructor (class_of s class).facts.calls) (below Constructing (begin_body class no_args None (actions_of Constructor (class_of s class).bodies))) (hand_down (gives_node (on_page (base_call class)))) (logged (Construct (class_of s class).name) s)
+    settled_if (has_call Constructor (class_of s class).facts.calls)
+    (below Constructing (begin_body class no_args None (actions_of Constructor (class_of s class).bodies)))
+    (hand_down (gives_node (on_page (base_call class)))) (logged (Construct (class_of s class).name) s)
     (λ F. (tt, (tt, tt))) (settled_ended (gives_node (on_page (base_call class)) (logged (Construct (class_of s class).name) s)))
 
 -- upgrades
 
 for_settles : (n d : ℕ) (s : State) → Settled (construct_for_turn n d s)
 for_settles n d s =
-    settled_after (throw_if (is_shadow_refused s.page n d) NotSupportedError s) (λ _. change_page (with_state n Precustomized) >> (read_page (λ p. (definition_at p d).class) >>= construct_turn))
+    settled_after (throw_if (is_shadow_refused s.page n d) NotSupportedError s)
+    (λ _. change_page (with_state n Precustomized) >> (read_page (λ p. (definition_at p d).class) >>= construct_turn))
     (λ _ t. construct_settles (definition_at (with_state n Precustomized t.page) d).class (record t { page = with_state n Precustomized t.page }))
 
 pub upgrade_settles : (n d : ℕ) (s : State) → Settled (upgrade_turn n d s)
@@ -60,7 +64,8 @@ unfolding upgrade_turn
 upgrade_settles n d s = go (is_upgradable (state_of s.page n))
   where
     go : (b : Bool) → Settled (when_turn b (upgrade_now_turn n d) s)
-    go true = settled_after (on_page (begin_upgrade n d) (logged (UpgradeBegun n) s)) (λ _. below (Upgrading n d) (construct_for_turn n d)) (λ _ t F. (tt, for_settles n d t F))
+    go true = settled_after (on_page (begin_upgrade n d) (logged (UpgradeBegun n) s)) (λ _. below (Upgrading n d) (construct_for_turn n d))
+        (λ _ t F. (tt, for_settles n d t F))
     go false = λ F. tt
 
 -- their ends

@@ -29,12 +29,14 @@ idle_is n d s off = ap (λ b. when_turn b (upgrade_now_turn n d) s) (sym off)
 
 -- it is upgraded
 
-pub now_turns : (frames new : List Frame) (now : Came) (n d : ℕ) (s s1 : State) → is_upgradable (state_of s.page n) ≡ true → Turns frames new now s1 (upgrade_now_turn n d s) → Turns frames new now s1 (upgrade_turn n d s)
+pub now_turns : (frames new : List Frame) (now : Came) (n d : ℕ) (s s1 : State) → is_upgradable (state_of s.page n) ≡ true
+    → Turns frames new now s1 (upgrade_now_turn n d s) → Turns frames new now s1 (upgrade_turn n d s)
 now_turns frames new now n d s s1 on h = turns_as frames new now s1 _ _ (now_is n d s on) h
 
 -- it is left as it is
 
-pub idle_turns : (frames : List Frame) (n d : ℕ) (s : State) → is_upgradable (state_of s.page n) ≡ false → Turns frames frames (Went Nothing) s (upgrade_turn n d s)
+pub idle_turns : (frames : List Frame) (n d : ℕ) (s : State) → is_upgradable (state_of s.page n) ≡ false
+    → Turns frames frames (Went Nothing) s (upgrade_turn n d s)
 idle_turns frames n d s off = turns_as frames frames (Went Nothing) s _ _ (idle_is n d s off) (turns_same frames (Went Nothing) s (Goes Nothing s) refl)
 
 -- the steps before the construction
@@ -49,7 +51,8 @@ module _ (n d : ℕ) (s s0 : State) (told : s0 ≡ logged (UpgradeBegun n) s) wh
   begun_is : (o : Outcome State (Unit {0})) → o ≡ on_page (begin_upgrade n d) s0 → turn_after o constructing ≡ upgrade_now_turn n d s
   begun_is o h = ap (λ (x : Outcome State (Unit {0})). turn_after x constructing) (begins o h)
 
-  pub begun_turns : (frames frames' new : List Frame) (now : Came) (s1 s2 : State) → Goes tt s1 ≡ on_page (begin_upgrade n d) s0 → frames' ≡ frames ++ waiting.Upgrading n d ∷ [] → Turns frames' new now s2 (construct_for_turn n d s1) → Turns frames new now s2 (upgrade_now_turn n d s)
+  pub begun_turns : (frames frames' new : List Frame) (now : Came) (s1 s2 : State) → Goes tt s1 ≡ on_page (begin_upgrade n d) s0
+      → frames' ≡ frames ++ waiting.Upgrading n d ∷ [] → Turns frames' new now s2 (construct_for_turn n d s1) → Turns frames new now s2 (upgrade_now_turn n d s)
   begun_turns frames frames' new now s1 s2 went pushed h =
       turns_as frames new now s2 (constructing tt s1) _ (begun_is (Goes tt s1) went)
       (turns_below frames frames' new (waiting.Upgrading n d) now (construct_for_turn n d) s1 s1 s2 pushed refl h)
@@ -63,13 +66,17 @@ for_is : (n d : ℕ) (s : State) → is_shadow_refused s.page n d ≡ false → 
 for_is n d s off = ap (λ b. turn_after (throw_if b NotSupportedError s) (λ _. rest_for n d)) (sym off)
 
 -- it is refused
-pub refused_turns : (frames : List Frame) (n d : ℕ) (s : State) → is_shadow_refused s.page n d ≡ true → Turns frames frames (Threw NotSupportedError) s (construct_for_turn n d s)
+pub refused_turns : (frames : List Frame) (n d : ℕ) (s : State) → is_shadow_refused s.page n d ≡ true
+    → Turns frames frames (Threw NotSupportedError) s (construct_for_turn n d s)
 refused_turns frames n d s on =
-    turns_as frames frames (Threw NotSupportedError) s (ended (Throws NotSupportedError s)) _ (ap (λ b. turn_after (throw_if b NotSupportedError s) (λ _. rest_for n d)) (sym on))
+    turns_as frames frames (Threw NotSupportedError) s (ended (Throws NotSupportedError s)) _
+    (ap (λ b. turn_after (throw_if b NotSupportedError s) (λ _. rest_for n d)) (sym on))
     (turns_same frames (Threw NotSupportedError) s (Throws NotSupportedError s) refl)
 
-module _ (n d class : ℕ) (s s1 : State) (off : is_shadow_refused s.page n d ≡ false) (set : Goes tt s1 ≡ change_page (with_state n Precustomized) s) (is : class ≡ (definition_at s1.page d).class) where
-  pub constructs_turns : (frames new : List Frame) (now : Came) (s2 : State) → Turns frames new now s2 (construct_turn class s1) → Turns frames new now s2 (construct_for_turn n d s)
+module _ (n d class : ℕ) (s s1 : State) (off : is_shadow_refused s.page n d ≡ false) (set : Goes tt s1 ≡ change_page (with_state n Precustomized) s)
+    (is : class ≡ (definition_at s1.page d).class) where
+  pub constructs_turns : (frames new : List Frame) (now : Came) (s2 : State) → Turns frames new now s2 (construct_turn class s1)
+      → Turns frames new now s2 (construct_for_turn n d s)
   constructs_turns frames new now s2 h =
       turns_as frames new now s2 _ _
       (ap (λ c. construct_turn c s1) is

@@ -17,7 +17,8 @@ pub same_some : {A : Type 0} (found said : Option A) (a b : A) → found ≡ sai
 same_some found said a b is one other = cc
 
 -- the number at the end of a script is neither that of Usage nor that of WriteFault
-number_at_end : (spent long bad : Bool) → let number = number_of (cond spent Fuel (cond long TooLong (cond bad BadLines Done))) in (number ≡ 2 → ⊥) × (number ≡ 5 → ⊥)
+number_at_end : (spent long bad : Bool) → let number =
+    number_of (cond spent Fuel (cond long TooLong (cond bad BadLines Done))) in (number ≡ 2 → ⊥) × (number ≡ 5 → ⊥)
 number_at_end true long bad = (λ h. omega (arith, h), λ h. omega (arith, h))
 number_at_end false true bad = (λ h. omega (arith, h), λ h. omega (arith, h))
 number_at_end false false true = (λ h. omega (arith, h), λ h. omega (arith, h))

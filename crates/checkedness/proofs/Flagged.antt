@@ -17,7 +17,8 @@ module _ (p : ℕ → Bool) where
   last-passes found [] passes = passes
   last-passes found (m ∷ ms) passes = by_test (last-passes (Some m) ms) (last-passes found ms passes) (p m) refl
     where
-      by_test : (p m ≡ true → IfSome (last_or (Some m) (filter p ms)) (λ k. p k ≡ true)) → IfSome (last_or found (filter p ms)) (λ k. p k ≡ true) → (b : Bool) → p m ≡ b →
+      by_test : (p m ≡ true → IfSome (last_or (Some m) (filter p ms)) (λ k. p k ≡ true)) → IfSome (last_or found (filter p ms)) (λ k. p k ≡ true) → (b : Bool)
+          → p m ≡ b →
           IfSome (last_or found (cond b (m ∷ filter p ms) (filter p ms))) (λ k. p k ≡ true)
       by_test here behind true e = here e
       by_test here behind false e = behind

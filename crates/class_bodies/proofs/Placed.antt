@@ -1,9 +1,11 @@
 -- The actions of a callback's body stand where they are said to.
-use Rattle.std.proofs.Common.{◌≡◌, ◌≢◌, ◌<◌, ◌+◌, ◌++◌, ◌∷◌, [], ℕ, zero, suc, Bool, true, false, List, None, Some, length, get_or, drop, sym, refl, ap, subst, ◌∙◌, arith}
+use Rattle.std.proofs.Common.{◌≡◌, ◌≢◌, ◌<◌, ◌+◌, ◌++◌, ◌∷◌, [], ℕ, zero, suc, Bool, true, false, List, None, Some, length, get_or, drop, sym, refl, ap, subst}
+use Rattle.std.proofs.Common.{◌∙◌, arith}
 use Rattle.std.specs.Prelude.{slice_get, slice_set, if◌then◌else◌}
 use Rattle.rule_tokens.specs.Callbacks.{all_calls}
 use Rattle.rule_tokens.specs.declared.callback.CallName.{CallName}
-use Rattle.rule_tokens.specs.declared.callback.CallName.TheVariants.{Constructor, Connected, Disconnected, Adopted, Attribute, FormAssociated, FormDisabled, FormReset, FormStateRestore}
+use Rattle.rule_tokens.specs.declared.callback.CallName.TheVariants.{Constructor, Connected, Disconnected, Adopted, Attribute, FormAssociated, FormDisabled}
+use Rattle.rule_tokens.specs.declared.callback.CallName.TheVariants.{FormReset, FormStateRestore}
 use Rattle.rule_lines.specs.Acts.{Act, act_of}
 use Rattle.rule_lines.specs.declared.action.Action.{Action}
 use Rattle.reaction_queue.specs.Queues.{or_empty}
@@ -98,12 +100,15 @@ module _ (xs ys : List (CallName × Action)) (places : List (List ℕ)) (call : 
       put_other places k (place_of c) new (λ (same : k ≡ place_of c). other_place call c e (sym k_is ∙ same))
       ∙ placed c ∙ sym (other_more c call (act_of action) e 0 (lines_of xs))
 
-  each_placed : (c : CallName) (b : Bool) → same_call call c ≡ b → kept_for c (slice_set places k new) ≡ places_from c 0 (lines_of xs ++ (call, act_of action) ∷ [])
-  each_placed c true e = subst (λ (d : CallName). kept_for d (slice_set places k new) ≡ places_from d 0 (lines_of xs ++ (call, act_of action) ∷ [])) (same_is call c e) own_placed
+  each_placed : (c : CallName) (b : Bool) → same_call call c ≡ b
+      → kept_for c (slice_set places k new) ≡ places_from c 0 (lines_of xs ++ (call, act_of action) ∷ [])
+  each_placed c true e = subst (λ (d : CallName). kept_for d (slice_set places k new) ≡ places_from d 0 (lines_of xs ++ (call, act_of action) ∷ []))
+      (same_is call c e) own_placed
   each_placed c false e = other_placed c e
 
   pub placed_more : ArePlaced (lines_of ys) (slice_set places k new)
-  placed_more c = each_placed c (same_call call c) refl ∙ ap (λ (ls : List (CallName × Act)). places_from c 0 ls) (sym (ap lines_of ys_is ∙ lines_append xs (call, action)))
+  placed_more c = each_placed c (same_call call c) refl
+      ∙ ap (λ (ls : List (CallName × Act)). places_from c 0 ls) (sym (ap lines_of ys_is ∙ lines_append xs (call, action)))
 
 -- an action is found
 
@@ -115,17 +120,20 @@ record Found (call : CallName) (lines : List (CallName × Act)) (i index p : ℕ
 
 finds : (call : CallName) (lines : List (CallName × Act)) (i index p : ℕ) → slice_get (places_from call i lines) index ≡ Some p → Found call lines i index p
 finds call [] i index p e = absurd (let h : None ≡ Some p = e in cc)
-finds call (l ∷ lines) i index p e = let f = go (same_call l.0 call) index (finds call lines (i + 1)) e in record { at = f.0; is = f.1; within = f.2; next = f.3 }
+finds call (l ∷ lines) i index p e = let f =
+    go (same_call l.0 call) index (finds call lines (i + 1)) e in record { at = f.0; is = f.1; within = f.2; next = f.3 }
   where
     go : (b : Bool) (index : ℕ) → ((index p : ℕ) → slice_get (places_from call (i + 1) lines) index ≡ Some p → Found call lines (i + 1) index p)
         → slice_get (if b then i ∷ places_from call (i + 1) lines else places_from call (i + 1) lines) index ≡ Some p
         → (at : ℕ) × (p ≡ i + at) × (at < length (l ∷ lines)) × ((d : CallName × Act)
-        → drop index (if b then l.1 ∷ actions_of call lines else actions_of call lines) ≡ (get_or (l ∷ lines) at d).1 ∷ drop (suc index) (if b then l.1 ∷ actions_of call lines else actions_of call lines))
+        → drop index (if b then l.1 ∷ actions_of call lines else actions_of call lines)
+        ≡ (get_or (l ∷ lines) at d).1 ∷ drop (suc index) (if b then l.1 ∷ actions_of call lines else actions_of call lines))
     go true zero on e = let same : i ≡ p = cc in (0, omega arith, omega arith, λ d. refl)
     go true (suc index) on e = let f = on index p e in (suc f.at, let h = f.is in omega arith, let h = f.within in omega arith, f.next)
     go false index on e = let f = on index p e in (suc f.at, let h = f.is in omega arith, let h = f.within in omega arith, f.next)
 
-ends : (call : CallName) (lines : List (CallName × Act)) (i index : ℕ) → slice_get (places_from call i lines) index ≡ None → drop index (actions_of call lines) ≡ []
+ends : (call : CallName) (lines : List (CallName × Act)) (i index : ℕ) → slice_get (places_from call i lines) index ≡ None
+    → drop index (actions_of call lines) ≡ []
 ends call [] i zero e = refl
 ends call [] i (suc index) e = refl
 ends call (l ∷ lines) i index e = go (same_call l.0 call) index (ends call lines (i + 1)) e
@@ -138,7 +146,8 @@ ends call (l ∷ lines) i index e = go (same_call l.0 call) index (ends call lin
     go false index on e = on index e
 
 -- the line at a place, without where its inner action lies in memory
-line_at : (xs : List (CallName × Action)) (k : ℕ) (x : CallName × Action) → k < length xs → x ≡ get_or xs k x → get_or (lines_of xs) k (x.0, act_of x.1) ≡ (x.0, act_of x.1)
+line_at : (xs : List (CallName × Action)) (k : ℕ) (x : CallName × Action) → k < length xs → x ≡ get_or xs k x
+    → get_or (lines_of xs) k (x.0, act_of x.1) ≡ (x.0, act_of x.1)
 line_at [] k x within is = absurd (omega arith)
 line_at (z ∷ xs) zero x within is = ap (λ (y : CallName × Action). (y.0, act_of y.1)) (sym is)
 line_at (z ∷ xs) (suc k) x within is = let less : k < length xs = omega arith in line_at xs k x less is

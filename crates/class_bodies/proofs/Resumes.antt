@@ -31,7 +31,8 @@ texts_fixed memory args [] = refl
 texts_fixed memory args (v ∷ vals) = ap (λ ts. text_of memory args v ∷ ts) (texts_fixed memory args vals)
 
 -- what goes on needs no guard
-guard_goes : (this : Option ℕ) (guarded : Bool) (rest : Option ℕ → Turn) (s : State) → turn_after (guard guarded this (Goes (Next this) s)) (flow_turn rest) ≡ rest this s
+guard_goes : (this : Option ℕ) (guarded : Bool) (rest : Option ℕ → Turn) (s : State)
+    → turn_after (guard guarded this (Goes (Next this) s)) (flow_turn rest) ≡ rest this s
 guard_goes this true rest s = refl
 guard_goes this false rest s = refl
 
@@ -42,10 +43,13 @@ module _ (class : ℕ) (args : Args) (s : State) (k : Class) (at : slice_get s.c
   memory_there : (memory : Memory) (fuel : ℕ) → (class_of (remembering class memory fuel s) class).memory ≡ memory
   memory_there memory fuel = ap (λ (c : Class). c.memory) (class_there memory fuel)
 
-  changes : (f : Memory → Memory) (memory : Memory) (fuel : ℕ) → change_memory class f (remembering class memory fuel s) ≡ Goes tt (remembering class (f memory) fuel s)
+  changes : (f : Memory → Memory) (memory : Memory) (fuel : ℕ)
+      → change_memory class f (remembering class memory fuel s) ≡ Goes tt (remembering class (f memory) fuel s)
   changes f memory fuel =
-      ap (λ (c : Class). Goes tt (record (remembering class memory fuel s) { classes = slice_set (remembering class memory fuel s).classes class (record c { memory = f c.memory }) })) (class_there memory fuel)
-      ∙ ap (λ (cs : List Class). Goes tt (record (remembering class memory fuel s) { classes = cs })) (set-set s.classes class (record (class_of s class) { memory = memory }) (record (class_of s class) { memory = f memory }))
+      ap (λ (c : Class). Goes tt (record (remembering class memory fuel s)
+      { classes = slice_set (remembering class memory fuel s).classes class (record c { memory = f c.memory }) })) (class_there memory fuel)
+      ∙ ap (λ (cs : List Class). Goes tt (record (remembering class memory fuel s) { classes = cs }))
+      (set-set s.classes class (record (class_of s class) { memory = memory }) (record (class_of s class) { memory = f memory }))
 
   -- the turn after an action
   abbrev next_turn : Option ℕ → List Act → Option Stop → Turn
@@ -64,13 +68,16 @@ module _ (class : ℕ) (args : Args) (s : State) (k : Class) (at : slice_get s.c
 
   -- the turn of an `if`
   abbrev if_turn : Bool → Option ℕ → List Act → Bool → Act → Turn
-  if_turn b this left guarded a = if b then spend >> act_turn class args this guarded left (λ next. body_turn class args next left) a else body_turn class args this left
+  if_turn b this left guarded a =
+      if b then spend >> act_turn class args this guarded left (λ next. body_turn class args next left) a else body_turn class args this left
 
   act_stops : (this : Option ℕ) (left : List Act) (guarded : Bool) (a : Act) (memory : Memory) (fuel : ℕ)
-      → act_turn class args this guarded left (λ next. body_turn class args next left) a (remembering class memory fuel s) ≡ acted_turn this left (acted args guarded a memory fuel)
+      → act_turn class args this guarded left (λ next. body_turn class args next left) a (remembering class memory fuel s)
+      ≡ acted_turn this left (acted args guarded a memory fuel)
   unfolding act_turn
   act_stops this left guarded (Both op) memory fuel =
-      ap (λ (m : Memory). below (InBody class args this guarded left) (operate_turn this (fixed m args op)) (remembering class memory fuel s)) (memory_there memory fuel)
+      ap (λ (m : Memory). below (InBody class args this guarded left) (operate_turn this (fixed m args op)) (remembering class memory fuel s))
+      (memory_there memory fuel)
   act_stops this left guarded (Log vals) memory fuel =
       guard_goes this guarded (λ next. body_turn class args next left)
       (logged (Logged (map (text_of (class_of (remembering class memory fuel s) class).memory args) vals)) (remembering class memory fuel s))
@@ -79,23 +86,32 @@ module _ (class : ℕ) (args : Args) (s : State) (k : Class) (at : slice_get s.c
   act_stops this left guarded Super memory fuel = refl
   act_stops this left guarded (Return operand) memory fuel = refl
   act_stops this left guarded (Throw val) memory fuel =
-      ap (λ (m : Memory). turn_after (guard guarded this (Throws (UserThrow (text_of m args val)) (remembering class memory fuel s))) (flow_turn (λ next. body_turn class args next left))) (memory_there memory fuel)
+      ap (λ (m : Memory). turn_after (guard guarded this (Throws (UserThrow (text_of m args val)) (remembering class memory fuel s)))
+      (flow_turn (λ next. body_turn class args next left))) (memory_there memory fuel)
   act_stops this left guarded Bump memory fuel =
-      ap (λ (o : Outcome State (Unit {0})). turn_after (guard guarded this (then_do o (λ _. give (Next this)))) (flow_turn (λ next. body_turn class args next left)))
+      ap (λ (o : Outcome State (Unit {0})). turn_after (guard guarded this (then_do o (λ _. give (Next this))))
+      (flow_turn (λ next. body_turn class args next left)))
       (changes (λ (m : Memory). record m { count = bumped m.count }) memory fuel)
       ∙ guard_goes this guarded (λ next. body_turn class args next left) (remembering class (record memory { count = bumped memory.count }) fuel s)
   act_stops this left guarded (Keep val) memory fuel =
-      ap (λ (o : Outcome State (Unit {0})). turn_after (guard guarded this (then_do o (λ _. give (Next this)))) (flow_turn (λ next. body_turn class args next left)))
+      ap (λ (o : Outcome State (Unit {0})). turn_after (guard guarded this (then_do o (λ _. give (Next this))))
+      (flow_turn (λ next. body_turn class args next left)))
       (changes (λ (m : Memory). record m { kept = text_of m args val }) memory fuel)
       ∙ guard_goes this guarded (λ next. body_turn class args next left) (remembering class (record memory { kept = text_of memory args val }) fuel s)
   act_stops this left guarded (Try a) memory fuel =
-      spent_stops this left memory (act_turn class args this true left (λ next. body_turn class args next left) a) (acted args true a memory) (λ n. act_stops this left true a memory n) fuel
+      spent_stops this left memory (act_turn class args this true left (λ next. body_turn class args next left) a) (acted args true a memory)
+      (λ n. act_stops this left true a memory n) fuel
   act_stops this left guarded (If equal l r a) memory fuel =
-      ap (λ (m : Memory). if_turn (holds equal (text_of m args l) (text_of m args r)) this left guarded a (remembering class memory fuel s)) (memory_there memory fuel)
-      ∙ go (holds equal (text_of memory args l) (text_of memory args r)) (spent_stops this left memory (act_turn class args this guarded left (λ next. body_turn class args next left) a) (acted args guarded a memory) (λ n. act_stops this left guarded a memory n) fuel)
+      ap (λ (m : Memory). if_turn (holds equal (text_of m args l) (text_of m args r)) this left guarded a (remembering class memory fuel s))
+      (memory_there memory fuel)
+      ∙ go (holds equal (text_of memory args l) (text_of memory args r))
+      (spent_stops this left memory (act_turn class args this guarded left (λ next. body_turn class args next left) a) (acted args guarded a memory)
+      (λ n. act_stops this left guarded a memory n) fuel)
     where
-      go : (b : Bool) → if_turn true this left guarded a (remembering class memory fuel s) ≡ acted_turn this left (spending memory fuel (acted args guarded a memory))
-          → if_turn b this left guarded a (remembering class memory fuel s) ≡ acted_turn this left (if b then spending memory fuel (acted args guarded a memory) else goes_on memory fuel)
+      go : (b : Bool) → if_turn true this left guarded a (remembering class memory fuel s)
+          ≡ acted_turn this left (spending memory fuel (acted args guarded a memory))
+          → if_turn b this left guarded a (remembering class memory fuel s)
+          ≡ acted_turn this left (if b then spending memory fuel (acted args guarded a memory) else goes_on memory fuel)
       go true same = same
       go false same = refl
 
@@ -104,7 +120,9 @@ module _ (class : ℕ) (args : Args) (s : State) (k : Class) (at : slice_get s.c
   unfolding body_turn
   body_stops this [] memory fuel = refl
   body_stops this (a ∷ left) memory zero = refl
-  body_stops this (a ∷ left) memory (suc n) = act_stops this left false a memory n ∙ go (body_stops this left) (acted args false a memory n).stop (acted args false a memory n).memory (acted args false a memory n).fuel
+  body_stops this (a ∷ left) memory (suc n) =
+      act_stops this left false a memory n
+      ∙ go (body_stops this left) (acted args false a memory n).stop (acted args false a memory n).memory (acted args false a memory n).fuel
     where
       go : ((m : Memory) (f : ℕ) → body_turn class args this left (remembering class m f s) ≡ resumed_turn class args this (resumed args left m f) s)
           → (o : Option Stop) (m : Memory) (f : ℕ)
@@ -118,7 +136,8 @@ module _ (class : ℕ) (args : Args) (s : State) (k : Class) (at : slice_get s.c
       ap (λ (cs : List Class). record s { classes = cs })
       (ap (λ (o : Option Class). slice_set s.classes class (record (or_new_class o) { memory = k.memory })) at ∙ put_back s.classes class k at)
 
-  pub body_resumed : (this : Option ℕ) (actions : List Act) → body_turn class args this actions s ≡ resumed_turn class args this (resumed args actions k.memory s.fuel) s
+  pub body_resumed : (this : Option ℕ) (actions : List Act)
+      → body_turn class args this actions s ≡ resumed_turn class args this (resumed args actions k.memory s.fuel) s
   body_resumed this actions = ap (body_turn class args this actions) (sym remembered) ∙ body_stops this actions k.memory s.fuel
 
 pub body_resumes : (class : ℕ) (args : Args) (this : Option ℕ) (actions : List Act) (s : State) (k : Class) → slice_get s.classes class ≡ Some k

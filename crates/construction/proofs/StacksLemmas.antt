@@ -49,7 +49,8 @@ stack_of-push (suc e) (s ∷ stacks) = stack_of-push e stacks
 
 -- the stack in a place of more stacks is changed: s becomes t
 
-module _ (d : ℕ) (old more : List (List (Option ℕ))) (s t : List (Option ℕ)) (lt : d < length more) (grows : more ≡ grown (d + 1) old) (read : s ≡ get_or more d s) where
+module _ (d : ℕ) (old more : List (List (Option ℕ))) (s t : List (Option ℕ)) (lt : d < length more) (grows : more ≡ grown (d + 1) old)
+    (read : s ≡ get_or more d s) where
   was : s ≡ stack_of d old
   was = sym (stack_of-read d more s lt read) ∙ ap (stack_of d) grows ∙ stack_of-grown d (d + 1) old
 
@@ -63,7 +64,8 @@ module _ (d : ℕ) (old more : List (List (Option ℕ))) (s t : List (Option ℕ
   pushes-others e other = stack_of-others e d t more other ∙ ap (stack_of e) grows ∙ stack_of-grown e (d + 1) old
 
 -- a stack that stays, given anew in its place
-pub stays : (old more : List (List (Option ℕ))) (d : ℕ) (s t : List (Option ℕ)) → s ≡ get_or more d s → t ≡ s → ((e : ℕ) → stack_of e more ≡ stack_of e old) → (e : ℕ) → stack_of e (slice_set more d t) ≡ stack_of e old
+pub stays : (old more : List (List (Option ℕ))) (d : ℕ) (s t : List (Option ℕ)) → s ≡ get_or more d s → t ≡ s → ((e : ℕ) → stack_of e more ≡ stack_of e old)
+    → (e : ℕ) → stack_of e (slice_set more d t) ≡ stack_of e old
 stays old more d s t read is same e =
     ap (stack_of e) (ap (slice_set more d) (is ∙ read) ∙ set-get_or more d s) ∙ same e
 
@@ -72,7 +74,8 @@ stays old more d s t read is same e =
 pub read-of : (d : ℕ) (stacks : List (List (Option ℕ))) (s : List (Option ℕ)) → d < length stacks → s ≡ get_or stacks d s → s ≡ stack_of d stacks
 read-of d stacks s lt read = sym (stack_of-read d stacks s lt read)
 
-module _ (change : List (Option ℕ) → List (Option ℕ)) (d : ℕ) (stacks : List (List (Option ℕ))) (s t : List (Option ℕ)) (lt : d < length stacks) (read : s ≡ get_or stacks d s) (is : t ≡ change s) where
+module _ (change : List (Option ℕ) → List (Option ℕ)) (d : ℕ) (stacks : List (List (Option ℕ))) (s t : List (Option ℕ)) (lt : d < length stacks)
+    (read : s ≡ get_or stacks d s) (is : t ≡ change s) where
   pub changes : slice_set stacks d t ≡ with_stack d (change (stack_of d stacks)) stacks
   changes = ap (slice_set stacks d) (is ∙ ap change (read-of d stacks s lt read))
 
@@ -80,7 +83,8 @@ module _ (change : List (Option ℕ) → List (Option ℕ)) (d : ℕ) (stacks : 
   changes-stack = stack_of-same d t stacks lt ∙ is ∙ ap change (read-of d stacks s lt read)
 
 -- the marker takes the place of an element that stands last in a stack
-pub marks : (d : ℕ) (stacks : List (List (Option ℕ))) (s t : List (Option ℕ)) → d < length stacks → s ≡ get_or stacks d s → t ≡ marked s → slice_set stacks d t ≡ with_marker d (stack_of d stacks) stacks
+pub marks : (d : ℕ) (stacks : List (List (Option ℕ))) (s t : List (Option ℕ)) → d < length stacks → s ≡ get_or stacks d s → t ≡ marked s
+    → slice_set stacks d t ≡ with_marker d (stack_of d stacks) stacks
 marks d stacks s t lt read is = go s read is ∙ ap (λ entries. with_marker d entries stacks) (sym (stack_of-read d stacks s lt read))
   where
     go : (s : List (Option ℕ)) → s ≡ get_or stacks d s → t ≡ marked s → slice_set stacks d t ≡ with_marker d s stacks

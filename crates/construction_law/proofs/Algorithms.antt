@@ -36,8 +36,11 @@ use Rattle.ce_algorithms.specs.Deeds.{resolve, resolve_user, variable}
 use Rattle.ce_algorithms.specs.Session.{perform, command}
 use Rattle.ce_algorithms.specs.Model.{clock, level, run, model}
 use Rattle.construction_law.proofs.StackDepths.{one_more, pop_takes_back}
-use Rattle.construction_law.proofs.Steps.{Stays, Leaves, of_session, leaves_steps, leaves_goes, leaves_give, leaves_done, leaves_read, leaves_bind, leaves_seq, leaves_list, leaves_if, leaves_catch, leaves_on_page, leaves_look, leaves_spend}
-use Rattle.construction_law.proofs.Primitives.{leaves_document, leaves_tell_form, leaves_define_name, leaves_make_in_state, leaves_control_steps, leaves_ignored_or, leaves_internals_steps, leaves_reset_form, leaves_form_steps, leaves_page_steps, leaves_base_call, Deepens, begin_deepens}
+use Rattle.construction_law.proofs.Steps.{Stays, Leaves, of_session, leaves_steps, leaves_goes, leaves_give, leaves_done, leaves_read, leaves_bind, leaves_seq}
+use Rattle.construction_law.proofs.Steps.{leaves_list, leaves_if, leaves_catch, leaves_on_page, leaves_look, leaves_spend}
+use Rattle.construction_law.proofs.Primitives.{leaves_document, leaves_tell_form, leaves_define_name, leaves_make_in_state, leaves_control_steps}
+use Rattle.construction_law.proofs.Primitives.{leaves_ignored_or, leaves_internals_steps, leaves_reset_form, leaves_form_steps, leaves_page_steps}
+use Rattle.construction_law.proofs.Primitives.{leaves_base_call, Deepens, begin_deepens}
 
 -- what calls nothing again
 
@@ -87,16 +90,20 @@ module _ (again : Again) (below : (call : Call) → Leaves of_session (again cal
   act_leaves class args this (Return operand) = leaves_returned this operand
   act_leaves class args this (Try action) = leaves_catch (leaves_seq leaves_spend (act_leaves class args this action)) (λ f. leaves_goes _ _ (λ s. refl))
   act_leaves class args this (If equal left right action) =
-      leaves_bind (leaves_read (λ s. (class_of s class).memory)) (λ memory. leaves_if (holds equal (text_of memory args left) (text_of memory args right)) (leaves_seq leaves_spend (act_leaves class args this action)) (leaves_give (Next this)))
+      leaves_bind (leaves_read (λ s. (class_of s class).memory))
+      (λ memory. leaves_if (holds equal (text_of memory args left) (text_of memory args right))
+      (leaves_seq leaves_spend (act_leaves class args this action)) (leaves_give (Next this)))
   act_leaves class args this (Both op) = search (leaves_steps, below, leaves_told) depth 12
   act_leaves class args this Super = search (leaves_steps, leaves_base_call) depth 12
   act_leaves class args this action = search leaves_steps depth 12
 
   body_leaves : (class : ℕ) (args : Args) (this : Option ℕ) (actions : List Act) → Leaves of_session (body again class args this actions)
   body_leaves class args this [] = leaves_give _
-  body_leaves class args this (action ∷ rest) = leaves_seq leaves_spend (leaves_bind (act_leaves class args this action) (go (λ next. body_leaves class args next rest)))
+  body_leaves class args this (action ∷ rest) =
+      leaves_seq leaves_spend (leaves_bind (act_leaves class args this action) (go (λ next. body_leaves class args next rest)))
     where
-      go : ((next : Option ℕ) → Leaves of_session (body again class args next rest)) → (flow : Flow) → Leaves of_session (on_flow (λ next. body again class args next rest) flow)
+      go : ((next : Option ℕ) → Leaves of_session (body again class args next rest)) → (flow : Flow)
+          → Leaves of_session (on_flow (λ next. body again class args next rest) flow)
       go h (Next next) = h next
       go h (Ended result) = leaves_give _
 
@@ -129,9 +136,11 @@ module _ (again : Again) (below : (call : Call) → Leaves of_session (again cal
       constructed depths (Spent s) h = h
 
       begun : (depths : ℕ → ℕ) (s : State) (o : Outcome Work (Unit {0})) → Deepens d depths o →
-          Stays of_session depths (then_do (with_outcome o (logged (UpgradeBegun n) s)) (λ _. catch (finally (construct_for again n d) (on_page (pop_construction d))) (upgrade_threw n) >> upgrade_ends n))
+          Stays of_session depths (then_do (with_outcome o (logged (UpgradeBegun n) s))
+          (λ _. catch (finally (construct_for again n d) (on_page (pop_construction d))) (upgrade_threw n) >> upgrade_ends n))
       begun depths s (Goes a w) h =
-          let t = with_work w (logged (UpgradeBegun n) s) in constructed depths (construct_for again n d t) ((construct_for_leaves n d).at (one_more d depths) t h)
+          let t = with_work w (logged (UpgradeBegun n) s) in
+          constructed depths (construct_for again n d t) ((construct_for_leaves n d).at (one_more d depths) t h)
       begun depths s (Throws f w) h = h
       begun depths s (Spent w) h = h
 

@@ -84,7 +84,8 @@ leaves_inserted changes n = search (leaves_steps, leaves_form_change, leaves_con
 leaves_pre_insert : (parent n : ℕ) (before : Option ℕ) → Leaves of_page (pre_insert parent n before)
 leaves_pre_insert parent n before = search (leaves_steps, leaves_adopt, leaves_inserted, leaves_form_change) depth 16
 
-leaves_attribute_change : (old : Page) (n : ℕ) (name : List ℕ) (before after : Option (List ℕ)) → Leaves of_page (handle_attribute_change old n name before after)
+leaves_attribute_change : (old : Page) (n : ℕ) (name : List ℕ) (before after : Option (List ℕ))
+    → Leaves of_page (handle_attribute_change old n name before after)
 leaves_attribute_change old n name before after = search (leaves_steps, leaves_callback, leaves_form_change) depth 12
 
 leaves_remove_there : (n : ℕ) (name : List ℕ) (value : Option (List ℕ)) → Leaves of_page (remove_there n name value)
@@ -114,7 +115,8 @@ leaves_copy_node from x false = search leaves_steps depth 12
 leaves_copy_below : (parent : ℕ) (trees : Trees) → Leaves of_page (copy_below parent trees)
 leaves_copy_below parent none = leaves_done
 leaves_copy_below parent (tree m x shadow children rest) =
-    leaves_bind (leaves_copy_node m x (is_element x.kind)) (λ n. leaves_seq (leaves_pre_insert parent n None) (leaves_seq (leaves_copy_below n children) (leaves_copy_below parent rest)))
+    leaves_bind (leaves_copy_node m x (is_element x.kind))
+    (λ n. leaves_seq (leaves_pre_insert parent n None) (leaves_seq (leaves_copy_below n children) (leaves_copy_below parent rest)))
 
 ruleset deed_steps = (leaves_steps, leaves_pre_insert, leaves_remove, leaves_adopt, leaves_attribute_change, leaves_remove_there, leaves_enqueue_found)
 
@@ -166,7 +168,8 @@ pub leaves_base_call : (class : ℕ) → Leaves of_page (base_call class)
 leaves_base_call class = record { at = λ depths w. go depths w (by_class w.page.definitions class) }
   where
     go : (depths : ℕ → ℕ) (w : Work) (d : Option ℕ) → AreDeep depths (of_page w) →
-        Stays of_page depths ((found d TypeError >>= (λ d. read_page (λ p. definition_at p d) >>= (λ x. read_page (λ p. stack_of d p.stacks) >>= (λ entries. base_entry d x entries)))) w)
+        Stays of_page depths ((found d TypeError
+        >>= (λ d. read_page (λ p. definition_at p d) >>= (λ x. read_page (λ p. stack_of d p.stacks) >>= (λ entries. base_entry d x entries)))) w)
     go depths w None h = h
     go depths w (Some d) h = base_stays d (definition_at w.page d) (stack_of d w.page.stacks) depths w refl h
 

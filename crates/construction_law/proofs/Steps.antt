@@ -2,7 +2,8 @@
 use Rattle.std.proofs.Common.{◌≡◌, ℕ, zero, suc, Bool, true, false, List, [], ◌∷◌, Option, Some, None, ap, ◌∙◌, refl}
 use Rattle.std.specs.Prelude.{if◌then◌else◌, Result, Ok, Err}
 use Rattle.ce_base.specs.declared.fault.Fault.{Fault}
-use Rattle.ce_algorithms.specs.Steps.{Step, Outcome, Goes, Throws, Spent, then_do, ◌>>=◌, ◌>>◌, give, done, read, throw, when, throw_if, throw_any, found, settle, for_each, catch, catch_in, finally, finally_in, attempt, attempt_in}
+use Rattle.ce_algorithms.specs.Steps.{Step, Outcome, Goes, Throws, Spent, then_do, ◌>>=◌, ◌>>◌, give, done, read, throw, when, throw_if, throw_any, found}
+use Rattle.ce_algorithms.specs.Steps.{settle, for_each, catch, catch_in, finally, finally_in, attempt, attempt_in}
 use Rattle.ce_algorithms.specs.Page.{Work}
 use Rattle.ce_algorithms.specs.Page as page
 use Rattle.ce_algorithms.specs.State.{State, View, view, look, spend, spend_from, on_page, with_outcome, work_of}
@@ -26,7 +27,8 @@ of_session s = s.page.stacks
 -- steps that go on, or throw
 
 -- a step that goes on and changes no stack: what is given, read, logged, or changed elsewhere
-pub leaves_goes : {S A : Type 0} {stacks : S → Stacks} (answer : S → A) (changed : S → S) → ((s : S) → stacks (changed s) ≡ stacks s) → Leaves stacks (λ s. Goes (answer s) (changed s))
+pub leaves_goes : {S A : Type 0} {stacks : S → Stacks} (answer : S → A) (changed : S → S) → ((s : S) → stacks (changed s) ≡ stacks s)
+    → Leaves stacks (λ s. Goes (answer s) (changed s))
 leaves_goes answer changed same = record { at = λ depths s h d. ap (deep d) (same s) ∙ h d }
 
 pub leaves_give : {S A : Type 0} {stacks : S → Stacks} (a : A) → Leaves stacks (give a)
@@ -43,13 +45,15 @@ leaves_throw f = record { at = λ depths s h. h }
 
 -- steps one after another
 
-stays_then : {S A B : Type 0} (stacks : S → Stacks) (depths : ℕ → ℕ) (o : Outcome S A) (k : A → Step S B) → Stays stacks depths o → ((a : A) → Leaves stacks (k a)) →
+stays_then : {S A B : Type 0} (stacks : S → Stacks) (depths : ℕ → ℕ) (o : Outcome S A) (k : A → Step S B) → Stays stacks depths o
+    → ((a : A) → Leaves stacks (k a)) →
     Stays stacks depths (then_do o k)
 stays_then stacks depths (Goes a s) k h next = (next a).at depths s h
 stays_then stacks depths (Throws f s) k h next = h
 stays_then stacks depths (Spent s) k h next = h
 
-pub leaves_bind : {S A B : Type 0} {stacks : S → Stacks} {f : Step S A} {k : A → Step S B} → Leaves stacks f → ((a : A) → Leaves stacks (k a)) → Leaves stacks (f >>= k)
+pub leaves_bind : {S A B : Type 0} {stacks : S → Stacks} {f : Step S A} {k : A → Step S B} → Leaves stacks f → ((a : A) → Leaves stacks (k a))
+    → Leaves stacks (f >>= k)
 leaves_bind {stacks} {f} {k} h next = record { at = λ depths s d. stays_then stacks depths (f s) k (h.at depths s d) next }
 
 pub leaves_seq : {S A B : Type 0} {stacks : S → Stacks} {f : Step S A} {g : Step S B} → Leaves stacks f → Leaves stacks g → Leaves stacks (f >> g)
@@ -78,7 +82,8 @@ leaves_found None f = leaves_throw f
 leaves_found (Some a) f = leaves_give a
 
 -- a step for each member of a list
-pub leaves_each : {S A : Type 0} {stacks : S → Stacks} {f : A → Step S (Unit {0})} (xs : List A) → ((a : A) → Leaves stacks (f a)) → Leaves stacks (for_each xs f)
+pub leaves_each : {S A : Type 0} {stacks : S → Stacks} {f : A → Step S (Unit {0})} (xs : List A) → ((a : A) → Leaves stacks (f a))
+    → Leaves stacks (for_each xs f)
 leaves_each [] h = leaves_done
 leaves_each (x ∷ xs) h = leaves_seq (h x) (leaves_each xs h)
 
@@ -90,13 +95,15 @@ leaves_list (x ∷ rest) none some h next = next x rest
 
 -- faults that are caught, or go through
 
-stays_caught : {S A : Type 0} (stacks : S → Stacks) (depths : ℕ → ℕ) (o : Outcome S A) (k : Fault → Step S A) → Stays stacks depths o → ((f : Fault) → Leaves stacks (k f)) →
+stays_caught : {S A : Type 0} (stacks : S → Stacks) (depths : ℕ → ℕ) (o : Outcome S A) (k : Fault → Step S A) → Stays stacks depths o
+    → ((f : Fault) → Leaves stacks (k f)) →
     Stays stacks depths (catch_in o k)
 stays_caught stacks depths (Goes a s) k h next = h
 stays_caught stacks depths (Throws f s) k h next = (next f).at depths s h
 stays_caught stacks depths (Spent s) k h next = h
 
-pub leaves_catch : {S A : Type 0} {stacks : S → Stacks} {f : Step S A} {k : Fault → Step S A} → Leaves stacks f → ((x : Fault) → Leaves stacks (k x)) → Leaves stacks (catch f k)
+pub leaves_catch : {S A : Type 0} {stacks : S → Stacks} {f : Step S A} {k : Fault → Step S A} → Leaves stacks f → ((x : Fault) → Leaves stacks (k x))
+    → Leaves stacks (catch f k)
 leaves_catch {stacks} {f} {k} h next = record { at = λ depths s d. stays_caught stacks depths (f s) k (h.at depths s d) next }
 
 stays_last : {S A : Type 0} (stacks : S → Stacks) (depths : ℕ → ℕ) (o : Outcome S A) (last : Step S (Unit {0})) → Stays stacks depths o → Leaves stacks last →
@@ -105,7 +112,8 @@ stays_last stacks depths (Goes a s) last h next = (leaves_seq next (leaves_give 
 stays_last {A} stacks depths (Throws f s) last h next = let k : Leaves {A = A} stacks (last >> throw f) = leaves_seq next (leaves_throw f) in k.at depths s h
 stays_last stacks depths (Spent s) last h next = h
 
-pub leaves_finally : {S A : Type 0} {stacks : S → Stacks} {f : Step S A} {last : Step S (Unit {0})} → Leaves stacks f → Leaves stacks last → Leaves stacks (finally f last)
+pub leaves_finally : {S A : Type 0} {stacks : S → Stacks} {f : Step S A} {last : Step S (Unit {0})} → Leaves stacks f → Leaves stacks last
+    → Leaves stacks (finally f last)
 leaves_finally {stacks} {f} {last} h next = record { at = λ depths s d. stays_last stacks depths (f s) last (h.at depths s d) next }
 
 stays_answered : {S A : Type 0} (stacks : S → Stacks) (depths : ℕ → ℕ) (o : Outcome S A) → Stays stacks depths o → Stays stacks depths (attempt_in o)
@@ -152,4 +160,23 @@ leaves_look {A} this find = record { at = λ depths s. go depths s (find (view t
     go depths s (Err f) h = h
 
 -- what the proofs by `search` cite
-pub ruleset leaves_steps = (leaves_bind, leaves_seq, leaves_goes, leaves_throw, leaves_when, leaves_throw_if, leaves_throw_any, leaves_found, leaves_if, leaves_each, leaves_catch, leaves_finally, leaves_attempt, leaves_spend_of_page, leaves_spend, leaves_on_page, leaves_look, refl)
+pub ruleset leaves_steps = (
+  leaves_bind,
+  leaves_seq,
+  leaves_goes,
+  leaves_throw,
+  leaves_when,
+  leaves_throw_if,
+  leaves_throw_any,
+  leaves_found,
+  leaves_if,
+  leaves_each,
+  leaves_catch,
+  leaves_finally,
+  leaves_attempt,
+  leaves_spend_of_page,
+  leaves_spend,
+  leaves_on_page,
+  leaves_look,
+  refl,
+)

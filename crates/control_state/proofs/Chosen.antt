@@ -26,7 +26,8 @@ first-among p (Some y) [] = refl
 first-among p o (x ∷ xs) = first-among p (first_where (p x) o x) xs ∙ first-found p o x xs
 
 -- and the first of all parts
-pub first-part : (parts : ℕ → List ℕ) (o : Option ℕ) (xs : List ℕ) → fold (λ v x. option_or v (first_of (parts x))) o xs ≡ option_or o (first_of (flat_map parts xs))
+pub first-part : (parts : ℕ → List ℕ) (o : Option ℕ) (xs : List ℕ)
+    → fold (λ v x. option_or v (first_of (parts x))) o xs ≡ option_or o (first_of (flat_map parts xs))
 first-part parts None [] = refl
 first-part parts (Some y) [] = refl
 first-part parts o (x ∷ xs) = first-part parts (option_or o (first_of (parts x))) xs ∙ by_case o (parts x) (flat_map parts xs)
@@ -69,12 +70,14 @@ module _ (controls : List Control) (f : Trees) where
   last-is v [] = refl
   last-is v (x ∷ xs) = last-is (noted controls f v x) xs ∙ by_test (is_selected controls f x)
     where
-      by_test : (b : Bool) → last_or (cond b (Some x) v.last) (filter (is_selected controls f) xs) ≡ last_or v.last (cond b (x ∷ filter (is_selected controls f) xs) (filter (is_selected controls f) xs))
+      by_test : (b : Bool) → last_or (cond b (Some x) v.last) (filter (is_selected controls f) xs)
+          ≡ last_or v.last (cond b (x ∷ filter (is_selected controls f) xs) (filter (is_selected controls f) xs))
       by_test true = refl
       by_test false = refl
 
   -- where only one can be chosen
-  pub one-found : (v : Found) (xs : List ℕ) → v ≡ noted_all controls f nothing_found xs → option_or v.last v.enabled ≡ chosen_one f (filter (is_selected controls f) xs) xs
+  pub one-found : (v : Found) (xs : List ℕ) → v ≡ noted_all controls f nothing_found xs
+      → option_or v.last v.enabled ≡ chosen_one f (filter (is_selected controls f) xs) xs
   one-found v xs e = rw (e, last-is nothing_found xs, enabled-is nothing_found xs) refl
 
   -- where several can be

@@ -1,5 +1,6 @@
 -- Lists that are made of options, and what stands in them.
-use Rattle.std.proofs.Common.{◌≡◌, All, ℕ, ◌+◌, Bool, true, false, cond, List, [], ◌∷◌, ◌++◌, get_or, take, Option, Some, None, ap, sym, subst, ◌∙◌, arith, append_assoc, append-nil}
+use Rattle.std.proofs.Common.{◌≡◌, All, ℕ, ◌+◌, Bool, true, false, cond, List, [], ◌∷◌, ◌++◌, get_or, take, Option, Some, None, ap, sym, subst, ◌∙◌, arith}
+use Rattle.std.proofs.Common.{append_assoc, append-nil}
 use Rattle.std.specs.Prelude.{filter, flat_map, find, fold, slice_get, if◌then◌else◌}
 use Rattle.std.specs.List.{last_or}
 use Rattle.std.specs.Option.{option_or, option_to_list}
@@ -48,7 +49,8 @@ module _ (P : ℕ → Type 0) where
 
   all-flat : (parts : ℕ → List ℕ) (xs : List ℕ) → ((n : ℕ) → is_among n xs ≡ true → All P (parts n)) → All P (flat_map parts xs)
   all-flat parts [] h = All-nil P
-  all-flat parts (x ∷ xs) h = All-append P (parts x) (flat_map parts xs) (h x (grind (arith, nat_tests))) (all-flat parts xs (λ n e. h n (grind (arith, nat_tests))))
+  all-flat parts (x ∷ xs) h = All-append P (parts x) (flat_map parts xs) (h x (grind (arith, nat_tests)))
+      (all-flat parts xs (λ n e. h n (grind (arith, nat_tests))))
 
   all-last : (o : Option ℕ) (xs : List ℕ) → All P (option_to_list o) → All P xs → All P (option_to_list (last_or o xs))
   all-last o [] one a = one
@@ -87,14 +89,17 @@ module _ (f : Trees) (tidy : IsTidy f) where
   pub options-nodes : (select : ℕ) → IsNode f select → All (IsNode f) (options_of f select)
   options-nodes select node = all-flat (IsNode f) (options_at f) (children_at f select) (λ n e. options_at-nodes n (child-node f select tidy node n e))
 
-  pub one-nodes : (controls : List Control) (select : ℕ) → IsNode f select → All (IsNode f) (option_to_list (chosen_one f (selected_of controls f select) (options_of f select)))
+  pub one-nodes : (controls : List Control) (select : ℕ) → IsNode f select
+      → All (IsNode f) (option_to_list (chosen_one f (selected_of controls f select) (options_of f select)))
   one-nodes controls select node =
-      all-one (IsNode f) f (selected_of controls f select) (options_of f select) (All-filter _ (IsNode f) (options_of f select) (options-nodes select node)) (options-nodes select node)
+      all-one (IsNode f) f (selected_of controls f select) (options_of f select) (All-filter _ (IsNode f) (options_of f select) (options-nodes select node))
+      (options-nodes select node)
 
   chosen-nodes : (controls : List Control) (select : ℕ) → IsNode f select → All (IsNode f) (chosen controls f select)
   chosen-nodes controls select node = by_test (is_multiple f select)
     where
-      by_test : (b : Bool) → All (IsNode f) (cond b (selected_of controls f select) (option_to_list (chosen_one f (selected_of controls f select) (options_of f select))))
+      by_test : (b : Bool) → All (IsNode f)
+          (cond b (selected_of controls f select) (option_to_list (chosen_one f (selected_of controls f select) (options_of f select))))
       by_test true = All-filter _ (IsNode f) (options_of f select) (options-nodes select node)
       by_test false = one-nodes controls select node
 
@@ -105,6 +110,7 @@ module _ (f : Trees) (tidy : IsTidy f) where
       by_list [] all is = absurd cc
       by_list (x ∷ xs) all is = let same : x ≡ option = cc in subst (IsNode f) same (All-head (IsNode f) x xs all)
 
-  pub first-or-none : (controls : List Control) (select : ℕ) (found : Option ℕ) → IsNode f select → found ≡ first_of (chosen controls f select) → IsNodeOrNone f found
+  pub first-or-none : (controls : List Control) (select : ℕ) (found : Option ℕ) → IsNode f select → found ≡ first_of (chosen controls f select)
+      → IsNodeOrNone f found
   first-or-none controls select None node e = tt
   first-or-none controls select (Some option) node e = first-node controls select option node e

@@ -47,13 +47,15 @@ module _ (f : Trees) (xs : List ℕ) (apart : AreApart xs) (nodes : (n : ℕ) �
       let longer = ap length (left-next xs n next apart here.among e) in
       subst (λ v. length (left_from next xs) < length (left_from v xs)) (sym is) (omega (arith, longer))
 
-pub walk-ends : {S : Type 0} (f : Trees) (xs : List ℕ) (step : S → ℕ → S) (start now : S) (at : Option ℕ) → Walks f xs step start now at → at ≡ None → now ≡ fold step start xs
+pub walk-ends : {S : Type 0} (f : Trees) (xs : List ℕ) (step : S → ℕ → S) (start now : S) (at : Option ℕ) → Walks f xs step start now at → at ≡ None
+    → now ≡ fold step start xs
 walk-ends f xs step start now at walk is = let here = subst (Walks f xs step start now) is walk in sym here.is
 
 -- along the children of a node, from one sibling to the next
 
 module _ (f : Trees) (p : ℕ) (tidy : IsTidy f) (node : IsNode f p) {S : Type 0} (step : S → ℕ → S) (start : S) where
-  sibling : (now : S) (at next : Option ℕ) (n : ℕ) → Walks f (children_at f p) step start now at → at ≡ Some n → next ≡ next_sibling_at f n → next ≡ after n (children_at f p)
+  sibling : (now : S) (at next : Option ℕ) (n : ℕ) → Walks f (children_at f p) step start now at → at ≡ Some n → next ≡ next_sibling_at f n
+      → next ≡ after n (children_at f p)
   sibling now at next n walk is e =
       let here = subst (Walks f (children_at f p) step start now) is walk in
       e ∙ ap (next_among f n) (child-parent f p tidy node n here.among)
@@ -61,12 +63,14 @@ module _ (f : Trees) (p : ℕ) (tidy : IsTidy f) (node : IsNode f p) {S : Type 0
   pub walk-on : (now new : S) (at next : Option ℕ) (n : ℕ) → Walks f (children_at f p) step start now at → at ≡ Some n →
       next ≡ next_sibling_at f n → new ≡ step now n → Walks f (children_at f p) step start new next
   walk-on now new at next n walk is e made =
-      goes-on f (children_at f p) (children_at-apart f p tidy node) (child-node f p tidy node) step start now new at next n walk is (sibling now at next n walk is e) made
+      goes-on f (children_at f p) (children_at-apart f p tidy node) (child-node f p tidy node) step start now new at next n walk is
+      (sibling now at next n walk is e) made
 
   pub walk-less : (now : S) (at next : Option ℕ) (n : ℕ) → Walks f (children_at f p) step start now at → at ≡ Some n →
       next ≡ next_sibling_at f n → length (left_from next (children_at f p)) < length (left_from at (children_at f p))
   walk-less now at next n walk is e =
-      is-less f (children_at f p) (children_at-apart f p tidy node) (child-node f p tidy node) step start now at next n walk is (sibling now at next n walk is e)
+      is-less f (children_at f p) (children_at-apart f p tidy node) (child-node f p tidy node) step start now at next n walk is
+      (sibling now at next n walk is e)
 
 -- along the tree order of a node
 
@@ -81,7 +85,8 @@ module _ (f : Trees) (root : ℕ) (tidy : IsTidy f) {S : Type 0} (step : S → �
 
   pub order-on : (now new : S) (at next : Option ℕ) (n : ℕ) → Walks f (tree_order_of f root) step start now at → at ≡ Some n →
       next ≡ after n (tree_order_of f root) → new ≡ step now n → Walks f (tree_order_of f root) step start new next
-  order-on now new at next n walk is e made = goes-on f (tree_order_of f root) (tree_order-apart f root tidy) in-order step start now new at next n walk is e made
+  order-on now new at next n walk is e made =
+      goes-on f (tree_order_of f root) (tree_order-apart f root tidy) in-order step start now new at next n walk is e made
 
   pub order-less : (now : S) (at next : Option ℕ) (n : ℕ) → Walks f (tree_order_of f root) step start now at → at ≡ Some n →
       next ≡ after n (tree_order_of f root) → length (left_from next (tree_order_of f root)) < length (left_from at (tree_order_of f root))
@@ -89,7 +94,8 @@ module _ (f : Trees) (root : ℕ) (tidy : IsTidy f) {S : Type 0} (step : S → �
 
 -- steps that pass some over, or take some together
 
-pub fold-filter : {S : Type 0} (step : S → ℕ → S) (passes : ℕ → Bool) (s : S) (xs : List ℕ) → fold (λ v n. if passes n then step v n else v) s xs ≡ fold step s (filter passes xs)
+pub fold-filter : {S : Type 0} (step : S → ℕ → S) (passes : ℕ → Bool) (s : S) (xs : List ℕ)
+    → fold (λ v n. if passes n then step v n else v) s xs ≡ fold step s (filter passes xs)
 fold-filter step passes s [] = refl
 fold-filter {S = S} step passes s (x ∷ xs) = by_test (passes x) (λ v. fold-filter step passes v xs)
   where
@@ -98,6 +104,7 @@ fold-filter {S = S} step passes s (x ∷ xs) = by_test (passes x) (λ v. fold-fi
     by_test true later = later (step s x)
     by_test false later = later s
 
-pub fold-flat : {S : Type 0} (step : S → ℕ → S) (parts : ℕ → List ℕ) (s : S) (xs : List ℕ) → fold (λ v n. fold step v (parts n)) s xs ≡ fold step s (flat_map parts xs)
+pub fold-flat : {S : Type 0} (step : S → ℕ → S) (parts : ℕ → List ℕ) (s : S) (xs : List ℕ)
+    → fold (λ v n. fold step v (parts n)) s xs ≡ fold step s (flat_map parts xs)
 fold-flat step parts s [] = refl
 fold-flat step parts s (x ∷ xs) = fold-flat step parts (fold step s (parts x)) xs ∙ sym (fold-append step s (parts x) (flat_map parts xs))

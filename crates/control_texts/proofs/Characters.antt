@@ -1,5 +1,6 @@
 -- What a reader of bytes does at the bytes of one character.
-use Rattle.std.proofs.Common.{◌≡◌, ℕ, ◌+◌, ◌/◌, ◌%◌, ◌≤◌, ◌<◌, Bool, true, false, not, ◌&&◌, ◌||◌, cond, eqb, ltb, List, [], ◌∷◌, ◌++◌, length, refl, arith, ap, ◌∙◌, sym, append_assoc}
+use Rattle.std.proofs.Common.{◌≡◌, ℕ, ◌+◌, ◌/◌, ◌%◌, ◌≤◌, ◌<◌, Bool, true, false, not, ◌&&◌, ◌||◌, cond, eqb, ltb, List, [], ◌∷◌, ◌++◌, length, refl, arith, ap}
+use Rattle.std.proofs.Common.{◌∙◌, sym, append_assoc}
 use Rattle.std.proofs.Math.Utf8.{encode}
 use Rattle.std.proofs.lemmas.Bool.Decides.{nat_tests}
 use Rattle.std.proofs.lemmas.Str.{encode_ascii, length-encode, len_utf8_bounds}
@@ -20,7 +21,10 @@ record Begins (bytes : List ℕ) : Type 0 where
   high : 128 ≤ first
   rest_high : High rest
 
-encode-high : (c : ℕ) (short middle : Bool) → High (cond short ((192 + c / 64) ∷ (128 + c % 64) ∷ []) (cond middle ((224 + c / 4096) ∷ (128 + (c / 64) % 64) ∷ (128 + c % 64) ∷ []) ((240 + c / 262144) ∷ (128 + (c / 4096) % 64) ∷ (128 + (c / 64) % 64) ∷ (128 + c % 64) ∷ [])))
+encode-high : (c : ℕ) (short middle : Bool)
+    → High (cond short ((192 + c / 64) ∷ (128 + c % 64) ∷ [])
+    (cond middle ((224 + c / 4096) ∷ (128 + (c / 64) % 64) ∷ (128 + c % 64) ∷ [])
+    ((240 + c / 262144) ∷ (128 + (c / 4096) % 64) ∷ (128 + (c / 64) % 64) ∷ (128 + c % 64) ∷ [])))
 encode-high c true middle = (omega arith, (omega arith, tt))
 encode-high c false true = (omega arith, (omega arith, (omega arith, tt)))
 encode-high c false false = (omega arith, (omega arith, (omega arith, (omega arith, tt))))
@@ -83,7 +87,8 @@ normal-high [] rest h = refl
 normal-high (b ∷ bytes) rest h =
     let r = not_return b h.0 in rw r (ap (λ more. b ∷ more) (normal-high bytes rest h.1))
 
-normal-begun : (behind : Bool) (b : ℕ) (bytes rest : List ℕ) → 128 ≤ b → High bytes → normalized_from behind ((b ∷ bytes) ++ rest) ≡ (b ∷ bytes) ++ normalized_from false rest
+normal-begun : (behind : Bool) (b : ℕ) (bytes rest : List ℕ) → 128 ≤ b → High bytes
+    → normalized_from behind ((b ∷ bytes) ++ rest) ≡ (b ∷ bytes) ++ normalized_from false rest
 normal-begun true b bytes rest l h =
     let r = not_return b l in
     let f = not_feed b l in
@@ -99,7 +104,8 @@ normal_char-high true c h =
 normal_char-high false c h =
     let r = not_return c h in rw r refl
 
-normal-at : (behind : Bool) (c : ℕ) (rest : List ℕ) (low : Bool) → ltb c 128 ≡ low → normalized_from behind (encode c ++ rest) ≡ normal_char behind c ++ normalized_from (eqb c 13) rest
+normal-at : (behind : Bool) (c : ℕ) (rest : List ℕ) (low : Bool) → ltb c 128 ≡ low
+    → normalized_from behind (encode c ++ rest) ≡ normal_char behind c ++ normalized_from (eqb c 13) rest
 normal-at behind c rest true l =
     let e = encode_ascii c (low_code c l) in rw e refl
 normal-at behind c rest false l =
@@ -108,7 +114,8 @@ normal-at behind c rest false l =
     let r = not_return c (high_code c l) in
     rw (as_is, r, b.is) (normal-begun behind b.first b.rest rest b.high b.rest_high)
 
-pub normalized_from-char : (behind : Bool) (c : ℕ) (rest : List ℕ) → normalized_from behind (encode c ++ rest) ≡ normal_char behind c ++ normalized_from (eqb c 13) rest
+pub normalized_from-char : (behind : Bool) (c : ℕ) (rest : List ℕ)
+    → normalized_from behind (encode c ++ rest) ≡ normal_char behind c ++ normalized_from (eqb c 13) rest
 normalized_from-char behind c rest = normal-at behind c rest (ltb c 128) refl
 
 -- white space that is collapsed
@@ -118,7 +125,8 @@ collapsed-high [] rest h = refl
 collapsed-high (b ∷ bytes) rest h =
     let w = not_white b h.0 in rw w (ap (λ more. b ∷ more) (collapsed-high bytes rest h.1))
 
-collapsed-begun : (begun apart : Bool) (b : ℕ) (bytes rest : List ℕ) → 128 ≤ b → High bytes → collapsed_from begun apart ((b ∷ bytes) ++ rest) ≡ cond (begun && apart) (32 ∷ b ∷ bytes) (b ∷ bytes) ++ collapsed_from (begun || true) false rest
+collapsed-begun : (begun apart : Bool) (b : ℕ) (bytes rest : List ℕ) → 128 ≤ b → High bytes
+    → collapsed_from begun apart ((b ∷ bytes) ++ rest) ≡ cond (begun && apart) (32 ∷ b ∷ bytes) (b ∷ bytes) ++ collapsed_from (begun || true) false rest
 collapsed-begun true true b bytes rest l h =
     let w = not_white b l in rw w (ap (λ more. 32 ∷ b ∷ more) (collapsed-high bytes rest h))
 collapsed-begun true false b bytes rest l h =
@@ -126,7 +134,9 @@ collapsed-begun true false b bytes rest l h =
 collapsed-begun false apart b bytes rest l h =
     let w = not_white b l in rw w (ap (λ more. b ∷ more) (collapsed-high bytes rest h))
 
-collapsed-at : (begun apart : Bool) (c : ℕ) (rest : List ℕ) (low : Bool) → ltb c 128 ≡ low → collapsed_from begun apart (encode c ++ rest) ≡ collapsed_char (begun && apart) c ++ collapsed_from (begun || not (is_ascii_whitespace c)) (is_ascii_whitespace c) rest
+collapsed-at : (begun apart : Bool) (c : ℕ) (rest : List ℕ) (low : Bool) → ltb c 128 ≡ low
+    → collapsed_from begun apart (encode c ++ rest)
+    ≡ collapsed_char (begun && apart) c ++ collapsed_from (begun || not (is_ascii_whitespace c)) (is_ascii_whitespace c) rest
 collapsed-at begun apart c rest true l =
     let e = encode_ascii c (low_code c l) in rw e refl
 collapsed-at begun apart c rest false l =
@@ -134,7 +144,8 @@ collapsed-at begun apart c rest false l =
     let w = not_white c (high_code c l) in
     rw (w, b.is) (collapsed-begun begun apart b.first b.rest rest b.high b.rest_high)
 
-pub collapsed_from-char : (begun apart white : Bool) (c : ℕ) (rest : List ℕ) → white ≡ is_ascii_whitespace c → collapsed_from begun apart (encode c ++ rest) ≡ collapsed_char (begun && apart) c ++ collapsed_from (begun || not white) white rest
+pub collapsed_from-char : (begun apart white : Bool) (c : ℕ) (rest : List ℕ) → white ≡ is_ascii_whitespace c
+    → collapsed_from begun apart (encode c ++ rest) ≡ collapsed_char (begun && apart) c ++ collapsed_from (begun || not white) white rest
 collapsed_from-char begun apart white c rest w = rw w (collapsed-at begun apart c rest (ltb c 128) refl)
 
 -- a turn of a loop that puts what each character adds: with what the rest adds, what is put stays the whole

@@ -7,10 +7,12 @@ use Rattle.form_controls.specs.Texts.{normal_byte, normalized, normalized_from, 
 use Rattle.control_texts.specs.Reading.{behind_after, collapsed_byte, collapsed_from, begun_after, apart_after}
 use Rattle.control_texts.proofs.Words.{collapsed-reads}
 
-pub normalized_from-append : (behind : Bool) (xs ys : List ℕ) → normalized_from behind (xs ++ ys) ≡ normalized_from behind xs ++ normalized_from (behind_after behind xs) ys
+pub normalized_from-append : (behind : Bool) (xs ys : List ℕ)
+    → normalized_from behind (xs ++ ys) ≡ normalized_from behind xs ++ normalized_from (behind_after behind xs) ys
 normalized_from-append behind [] ys = refl
 normalized_from-append behind (b ∷ xs) ys =
-    ap (λ rest. normal_byte behind b ++ rest) (normalized_from-append (eqb b 13) xs ys) ∙ sym (append_assoc (normal_byte behind b) (normalized_from (eqb b 13) xs) (normalized_from (behind_after (eqb b 13) xs) ys))
+    ap (λ rest. normal_byte behind b ++ rest) (normalized_from-append (eqb b 13) xs ys)
+    ∙ sym (append_assoc (normal_byte behind b) (normalized_from (eqb b 13) xs) (normalized_from (behind_after (eqb b 13) xs) ys))
 
 pub behind_after-push : (behind : Bool) (text : List ℕ) (b : ℕ) → behind_after behind (text ++ b ∷ []) ≡ eqb b 13
 behind_after-push behind [] b = refl
@@ -33,12 +35,16 @@ begun_after-nil : (begun : Bool) → begun_after begun [] ≡ begun
 begun_after-nil true = refl
 begun_after-nil false = refl
 
-pub collapsed_from-append : (begun apart : Bool) (xs ys : List ℕ) → collapsed_from begun apart (xs ++ ys) ≡ collapsed_from begun apart xs ++ collapsed_from (begun_after begun xs) (apart_after apart xs) ys
+pub collapsed_from-append : (begun apart : Bool) (xs ys : List ℕ)
+    → collapsed_from begun apart (xs ++ ys) ≡ collapsed_from begun apart xs ++ collapsed_from (begun_after begun xs) (apart_after apart xs) ys
 collapsed_from-append begun apart [] ys = ap (λ v. collapsed_from v apart ys) (sym (begun_after-nil begun))
 collapsed_from-append begun apart (b ∷ xs) ys =
     let white = is_ascii_whitespace b in
     let now = begun || not white in
-    ap (λ rest. collapsed_byte begun apart b ++ rest) (collapsed_from-append now white xs ys) ∙ sym (append_assoc (collapsed_byte begun apart b) (collapsed_from now white xs) (collapsed_from (begun_after now xs) (apart_after white xs) ys)) ∙ ap (λ v. (collapsed_byte begun apart b ++ collapsed_from now white xs) ++ collapsed_from v (apart_after white xs) ys) (sym (begun_after-cons begun b xs))
+    ap (λ rest. collapsed_byte begun apart b ++ rest) (collapsed_from-append now white xs ys)
+    ∙ sym (append_assoc (collapsed_byte begun apart b) (collapsed_from now white xs) (collapsed_from (begun_after now xs) (apart_after white xs) ys))
+    ∙ ap (λ v. (collapsed_byte begun apart b ++ collapsed_from now white xs) ++ collapsed_from v (apart_after white xs) ys)
+    (sym (begun_after-cons begun b xs))
 
 pub apart_after-push : (apart : Bool) (text : List ℕ) (b : ℕ) → apart_after apart (text ++ b ∷ []) ≡ is_ascii_whitespace b
 apart_after-push apart [] b = refl
@@ -52,8 +58,11 @@ begun-push false false white = refl
 
 pub begun_after-push : (begun : Bool) (text : List ℕ) (b : ℕ) → begun_after begun (text ++ b ∷ []) ≡ (begun_after begun text || not (is_ascii_whitespace b))
 begun_after-push begun text b =
-    ap (λ all. begun || not all) (list_all-append is_ascii_whitespace text (b ∷ [])) ∙ begun-push begun (list_all is_ascii_whitespace text) (is_ascii_whitespace b)
+    ap (λ all. begun || not all) (list_all-append is_ascii_whitespace text (b ∷ []))
+    ∙ begun-push begun (list_all is_ascii_whitespace text) (is_ascii_whitespace b)
 
 pub collapsed_push : (text : List ℕ) (b : ℕ) → collapsed (text ++ b ∷ []) ≡ collapsed text ++ collapsed_byte (begun_after false text) (apart_after false text) b
 collapsed_push text b =
-    sym (collapsed-reads (text ++ b ∷ [])) ∙ collapsed_from-append false false text (b ∷ []) ∙ ap (λ front. front ++ collapsed_from (begun_after false text) (apart_after false text) (b ∷ [])) (collapsed-reads text) ∙ ap (λ added. collapsed text ++ added) (append-nil (collapsed_byte (begun_after false text) (apart_after false text) b))
+    sym (collapsed-reads (text ++ b ∷ [])) ∙ collapsed_from-append false false text (b ∷ [])
+    ∙ ap (λ front. front ++ collapsed_from (begun_after false text) (apart_after false text) (b ∷ [])) (collapsed-reads text)
+    ∙ ap (λ added. collapsed text ++ added) (append-nil (collapsed_byte (begun_after false text) (apart_after false text) b))

@@ -52,15 +52,19 @@ record Reads (text : List ℕ) : Type 0 where
   goes_apart : collapsed_from true true text ≡ spaced (words (cut text))
   goes_on : collapsed_from true false text ≡ within (cut text)
 
-begins-at : (white apart : Bool) (b : ℕ) (text : List ℕ) → Reads text → cond white [] (cond (false && apart) (32 ∷ b ∷ []) (b ∷ [])) ++ collapsed_from (false || not white) white text ≡ join_with_byte 32 (words (cond white ([] ∷ cut text) (onto_first b (cut text))))
+begins-at : (white apart : Bool) (b : ℕ) (text : List ℕ) → Reads text
+    → cond white [] (cond (false && apart) (32 ∷ b ∷ []) (b ∷ [])) ++ collapsed_from (false || not white) white text
+    ≡ join_with_byte 32 (words (cond white ([] ∷ cut text) (onto_first b (cut text))))
 begins-at true apart b text h = h.begins true
 begins-at false apart b text h = ap (λ rest. b ∷ rest) h.goes_on ∙ sym (joined-onto b (cut text))
 
-apart-at : (white : Bool) (b : ℕ) (text : List ℕ) → Reads text → cond white [] (32 ∷ b ∷ []) ++ collapsed_from true white text ≡ spaced (words (cond white ([] ∷ cut text) (onto_first b (cut text))))
+apart-at : (white : Bool) (b : ℕ) (text : List ℕ) → Reads text
+    → cond white [] (32 ∷ b ∷ []) ++ collapsed_from true white text ≡ spaced (words (cond white ([] ∷ cut text) (onto_first b (cut text))))
 apart-at true b text h = h.goes_apart
 apart-at false b text h = ap (λ rest. 32 ∷ b ∷ rest) h.goes_on ∙ sym (spaced-onto b (cut text))
 
-on-at : (white : Bool) (b : ℕ) (text : List ℕ) → Reads text → cond white [] (b ∷ []) ++ collapsed_from true white text ≡ within (cond white ([] ∷ cut text) (onto_first b (cut text)))
+on-at : (white : Bool) (b : ℕ) (text : List ℕ) → Reads text
+    → cond white [] (b ∷ []) ++ collapsed_from true white text ≡ within (cond white ([] ∷ cut text) (onto_first b (cut text)))
 on-at true b text h = h.goes_apart
 on-at false b text h = ap (λ rest. b ∷ rest) h.goes_on ∙ sym (within-onto b (cut text))
 
@@ -77,7 +81,8 @@ reads (b ∷ text) =
 pub collapsed-reads : (text : List ℕ) → collapsed_from false false text ≡ collapsed text
 collapsed-reads text = (reads text).begins false
 
-none-at : (white : Bool) (b : ℕ) (text : List ℕ) → is_empty (collapsed_from false white text) ≡ list_all is_ascii_whitespace text → is_empty (cond white [] (b ∷ []) ++ collapsed_from (not white) white text) ≡ (white && list_all is_ascii_whitespace text)
+none-at : (white : Bool) (b : ℕ) (text : List ℕ) → is_empty (collapsed_from false white text) ≡ list_all is_ascii_whitespace text
+    → is_empty (cond white [] (b ∷ []) ++ collapsed_from (not white) white text) ≡ (white && list_all is_ascii_whitespace text)
 none-at true b text h = h
 none-at false b text h = is_empty-cons b (collapsed_from true false text)
 

@@ -1,5 +1,6 @@
 -- The way up from a node: the node and its ancestors.
-use Rattle.std.proofs.Common.{◌≡◌, ℕ, Bool, true, false, not, ◌<◌, ◌&&◌, ◌==◌, List, [], ◌∷◌, Option, Some, None, inl, inr, refl, ap, sym, subst, ◌∙◌, arith, length}
+use Rattle.std.proofs.Common.{◌≡◌, ℕ, Bool, true, false, not, ◌<◌, ◌&&◌, ◌==◌, List, [], ◌∷◌, Option, Some, None, inl, inr, refl, ap, sym, subst, ◌∙◌, arith}
+use Rattle.std.proofs.Common.{length}
 use Rattle.std.proofs.lemmas.Bool.{cases_eq, false_from_ne_true}
 use Rattle.std.proofs.lemmas.Bool.Decides.{nat_tests}
 use Rattle.node_trees.specs.Trees.{Trees}
@@ -71,7 +72,8 @@ module _ (f : Trees) (n : ℕ) (tidy : IsTidy f) (node : IsNode f n) where
   pub child-on-way : (child other : ℕ) → is_among child (n ∷ ancestors f n) ≡ true → ancestors f other ≡ ancestors f child →
       is_among other (ancestors f n) ≡ (not (child == n) && other == child)
   child-on-way child other among same =
-      let both : is_among other (ancestors f n) ≡ true → other ≡ child = λ h. way-one f (n ∷ ancestors f n) other child way (grind (arith, nat_tests)) among same in
+      let both : is_among other (ancestors f n) ≡ true → other ≡ child =
+      λ h. way-one f (n ∷ ancestors f n) other child way (grind (arith, nat_tests)) among same in
       grind (arith, nat_tests, both, ap length same, way-less f (ancestors f n) other way.1)
 
   -- what is above n are nodes, and n is not among them

@@ -19,7 +19,8 @@ use Rattle.event_reader.specs.Answers.{answer_named, answer_of}
 use Rattle.event_reader.specs.IsEvent.{IsAnswer}
 use Rattle.event_reader.specs.Parts.{begins_node, texts_of}
 use Rattle.event_reader.specs.Replies.{answered_of, is_reply_word, reply_of}
-use Rattle.event_reader.proofs.TokenLaws.{bare, quoted, is_word_text, word_clean, node_clean, node_back, text_tokens, texts_written, texts_clean, texts_back, node_tokens, nodes_written, nodes_clean, nodes_back}
+use Rattle.event_reader.proofs.TokenLaws.{bare, quoted, is_word_text, word_clean, node_clean, node_back, text_tokens, texts_written, texts_clean, texts_back}
+use Rattle.event_reader.proofs.TokenLaws.{node_tokens, nodes_written, nodes_clean, nodes_back}
 use Rattle.rule_tokens.proofs.FlagsLaws.{all_raised}
 
 -- ---- the names of flags
@@ -88,23 +89,73 @@ pub record IsToldAnswer (a : Answer) : Type 0 where
   pub same : answer other ≡ answer a
 
 told_node : (n : ℕ) → n < 2 ^ 64 → IsToldAnswer (NodeAnswer n)
-told_node n fits = record { line = sym (append-nil (node n)); clean = (node_clean n fits, tt); other = NodeAnswer n; read = rw (node_back n fits) refl; replied = λ l. refl; same = refl }
+told_node n fits = record {
+  line = sym (append-nil (node n));
+  clean = (node_clean n fits, tt);
+  other = NodeAnswer n;
+  read = rw (node_back n fits) refl;
+  replied = λ l. refl;
+  same = refl;
+}
 
 told_nodes : (ns : List ℕ) → IsAnswer (Nodes ns) → IsToldAnswer (Nodes ns)
 told_nodes [] are = record { line = refl; clean = (word_clean (codes "empty") refl, tt); other = Nodes []; read = refl; replied = λ l. refl; same = refl }
-told_nodes (n ∷ []) are = record { line = refl; clean = (node_clean n are.0, tt); other = NodeAnswer n; read = rw (node_back n are.0) refl; replied = λ l. refl; same = sym (append-nil (node n)) }
-told_nodes (n ∷ m ∷ ns) are = record { line = rw (nodes_written ns) refl; clean = nodes_clean (n ∷ m ∷ ns) are; other = Nodes (n ∷ m ∷ ns); read = rw (nodes_back ns are.1.1, node_back n are.0, node_back m are.1.0) refl; replied = λ l. refl; same = refl }
+told_nodes (n ∷ []) are = record {
+  line = refl;
+  clean = (node_clean n are.0, tt);
+  other = NodeAnswer n;
+  read = rw (node_back n are.0) refl;
+  replied = λ l. refl;
+  same = sym (append-nil (node n));
+}
+told_nodes (n ∷ m ∷ ns) are = record {
+  line = rw (nodes_written ns) refl;
+  clean = nodes_clean (n ∷ m ∷ ns) are;
+  other = Nodes (n ∷ m ∷ ns);
+  read = rw (nodes_back ns are.1.1, node_back n are.0, node_back m are.1.0) refl;
+  replied = λ l. refl;
+  same = refl;
+}
 
 told_texts : (texts : List (List ℕ)) → IsAnswer (Texts texts) → IsToldAnswer (Texts texts)
 told_texts [] are = record { line = refl; clean = (word_clean (codes "empty") refl, tt); other = Nodes []; read = refl; replied = λ l. refl; same = refl }
 told_texts (text ∷ []) are = record { line = refl; clean = (are.0, tt); other = One text; read = refl; replied = λ l. refl; same = sym (append-nil _) }
-told_texts (text ∷ more ∷ texts) are = record { line = rw (texts_written texts) refl; clean = texts_clean (text ∷ more ∷ texts) are; other = Texts (text ∷ more ∷ texts); read = rw (texts_back texts) refl; replied = λ l. refl; same = refl }
+told_texts (text ∷ more ∷ texts) are =
+    record {
+      line = rw (texts_written texts) refl;
+      clean = texts_clean (text ∷ more ∷ texts) are;
+      other = Texts (text ∷ more ∷ texts);
+      read = rw (texts_back texts) refl;
+      replied = λ l. refl;
+      same = refl;
+    }
 
 told_state : (s : CustomState) → IsToldAnswer (State s)
-told_state Undefined = record { line = refl; clean = (word_clean (codes "undefined") refl, tt); other = State Undefined; read = refl; replied = λ l. refl; same = refl }
+told_state Undefined = record {
+  line = refl;
+  clean = (word_clean (codes "undefined") refl, tt);
+  other = State Undefined;
+  read = refl;
+  replied = λ l. refl;
+  same = refl;
+}
 told_state Failed = record { line = refl; clean = (word_clean (codes "failed") refl, tt); other = State Failed; read = refl; replied = λ l. refl; same = refl }
-told_state Uncustomized = record { line = refl; clean = (word_clean (codes "uncustomized") refl, tt); other = State Uncustomized; read = refl; replied = λ l. refl; same = refl }
-told_state Precustomized = record { line = refl; clean = (word_clean (codes "precustomized") refl, tt); other = State Precustomized; read = refl; replied = λ l. refl; same = refl }
+told_state Uncustomized = record {
+  line = refl;
+  clean = (word_clean (codes "uncustomized") refl, tt);
+  other = State Uncustomized;
+  read = refl;
+  replied = λ l. refl;
+  same = refl;
+}
+told_state Precustomized = record {
+  line = refl;
+  clean = (word_clean (codes "precustomized") refl, tt);
+  other = State Precustomized;
+  read = refl;
+  replied = λ l. refl;
+  same = refl;
+}
 told_state Custom = record { line = refl; clean = (word_clean (codes "custom") refl, tt); other = State Custom; read = refl; replied = λ l. refl; same = refl }
 
 told_truth : (b : Bool) → IsToldAnswer (Truth b)
@@ -127,7 +178,8 @@ flag_word name is =
     let c = and_parts (is_none (answer_named name)) _ b.1 in
     (not-true _ b.0, none_is _ c.0, not-true _ c.1)
 
-flags_back : (fs : List Bool) (names : List (List ℕ)) → raised names ≡ fs → raised_names flag_names fs ≡ names → list_all is_flag_word names ≡ true → IsToldFlags fs names
+flags_back : (fs : List Bool) (names : List (List ℕ)) → raised names ≡ fs → raised_names flag_names fs ≡ names → list_all is_flag_word names ≡ true
+    → IsToldFlags fs names
 flags_back fs [] back is are = record { other = Raised (record { 0 = raised (codes "valid" ∷ []) }); read = refl; replied = λ l. refl; same = refl }
 flags_back fs (name ∷ names) back is are =
     let word = flag_word name (and_parts (is_flag_word name) (list_all is_flag_word names) are).0 in

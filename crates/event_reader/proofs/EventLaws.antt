@@ -11,19 +11,25 @@ use Rattle.rule_tokens.specs.Spaced.{WrittenIsRead, WrittenIsText, as_line, spac
 use Rattle.rule_tokens.specs.Tokens.{tokens_of}
 use Rattle.ce_events.specs.declared.event.Answer.{Answer}
 use Rattle.ce_events.specs.declared.event.Event.{Event}
-use Rattle.ce_events.specs.declared.event.Event.TheVariants.{Construct, Connected, Disconnected, Adopted, Attribute, FormAssociated, FormDisabled, FormReset, FormStateRestore, Logged, Caught, Reported, Asked, SubmitGet, SubmitPost, SubmitBlocked, Fine, Gave, Answered, Ignored, Threw, WasBad, FuelLine, QueueOpened, Enqueued, DrainBegun, Started, Finished, Dropped, QueueClosed, UpgradeBegun, UpgradeDone, UpgradeThrew}
+use Rattle.ce_events.specs.declared.event.Event.TheVariants.{Construct, Connected, Disconnected, Adopted, Attribute, FormAssociated, FormDisabled, FormReset}
+use Rattle.ce_events.specs.declared.event.Event.TheVariants.{FormStateRestore, Logged, Caught, Reported, Asked, SubmitGet, SubmitPost, SubmitBlocked, Fine}
+use Rattle.ce_events.specs.declared.event.Event.TheVariants.{Gave, Answered, Ignored, Threw, WasBad, FuelLine, QueueOpened, Enqueued, DrainBegun, Started}
+use Rattle.ce_events.specs.declared.event.Event.TheVariants.{Finished, Dropped, QueueClosed, UpgradeBegun, UpgradeDone, UpgradeThrew}
 use Rattle.ce_events.specs.Text.{event_text}
 use Rattle.event_reader.specs.Answers.{answer_of}
 use Rattle.event_reader.specs.Guessed.{IsTextGuessed, TextsAreGuessed}
 use Rattle.event_reader.specs.IsEvent.{AreTexts, IsAnswer, IsFault}
 use Rattle.event_reader.specs.Reading.{class_in, construct_or, event_in, guess}
 use Rattle.event_reader.proofs.AnswerLaws.{answer_tokens, told_answer}
-use Rattle.event_reader.proofs.CallLaws.{told_connected, told_disconnected, told_form_reset, told_adopted, told_attribute, told_form_associated, told_form_disabled, told_form_state_restore}
-use Rattle.event_reader.proofs.ReplyLaws.{fault_tokens, fault_written, fault_clean, fault_back, told_fine, told_ignored, told_gave, told_threw, told_was_bad, told_answered}
+use Rattle.event_reader.proofs.CallLaws.{told_connected, told_disconnected, told_form_reset, told_adopted, told_attribute, told_form_associated}
+use Rattle.event_reader.proofs.CallLaws.{told_form_disabled, told_form_state_restore}
+use Rattle.event_reader.proofs.ReplyLaws.{fault_tokens, fault_written, fault_clean, fault_back, told_fine, told_ignored, told_gave, told_threw, told_was_bad}
+use Rattle.event_reader.proofs.ReplyLaws.{told_answered}
 use Rattle.event_reader.proofs.SubmissionLaws.{told_get, told_post, told_blocked}
 use Rattle.event_reader.proofs.Told.{IsTold}
 use Rattle.event_reader.proofs.TokenLaws.{bare, word_clean, text_tokens, texts_written, texts_clean, texts_back}
-use Rattle.event_reader.proofs.TraceLaws.{told_opened, told_drain, told_started, told_finished, told_dropped, told_closed, told_up, told_done, told_upgrade_threw, told_enqueued}
+use Rattle.event_reader.proofs.TraceLaws.{told_opened, told_drain, told_started, told_finished, told_dropped, told_closed, told_up, told_done}
+use Rattle.event_reader.proofs.TraceLaws.{told_upgrade_threw, told_enqueued}
 
 -- the laws of the tokens
 pub record Below : Type 0 where
@@ -38,7 +44,13 @@ class_read class utf8 = rw (is_utf8-from_IsUtf8 class utf8) refl
 
 guessed_class : (class : List ℕ) → IsUtf8 class → IsTextGuessed (Construct class)
 unfolding guess
-guessed_class class utf8 = record { other = Construct class; read = ap (λ (o : Option (List ℕ)). construct_or o (event_in (tokens_of (length (codes "construct " ++ class)) (codes "construct " ++ class)))) (class_read class utf8); same = refl; step = refl }
+guessed_class class utf8 = record {
+  other = Construct class;
+  read = ap (λ (o : Option (List ℕ)). construct_or o (event_in (tokens_of (length (codes "construct " ++ class)) (codes "construct " ++ class))))
+      (class_read class utf8);
+  same = refl;
+  step = refl;
+}
 
 -- ---- a line of tokens
 
@@ -115,7 +127,17 @@ told_asked named a is =
     }
 
 told_fuel : IsTold FuelLine
-told_fuel = record { tokens = bare (codes "fuel") ∷ []; line = refl; clean = (word_clean (codes "fuel") refl, tt); begins = (refl, refl); no_class = refl; other = FuelLine; read = refl; same = refl; step = refl }
+told_fuel = record {
+  tokens = bare (codes "fuel") ∷ [];
+  line = refl;
+  clean = (word_clean (codes "fuel") refl, tt);
+  begins = (refl, refl);
+  no_class = refl;
+  other = FuelLine;
+  read = refl;
+  same = refl;
+  step = refl;
+}
 
 -- ---- each event
 

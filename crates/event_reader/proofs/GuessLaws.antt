@@ -12,12 +12,14 @@ use Rattle.event_reader.specs.Reading.{guess}
 some_same : (x y : Event) → Some x ≡ Some y → x ≡ y
 some_same x y e = cc
 
-by_result : (bytes : List ℕ) (other : Event) (r : Result Event EventRefused) → Reads r (guess bytes) → event_text other ≡ bytes → guess bytes ≡ Some other → IsGuessed bytes r
+by_result : (bytes : List ℕ) (other : Event) (r : Result Event EventRefused) → Reads r (guess bytes) → event_text other ≡ bytes → guess bytes ≡ Some other
+    → IsGuessed bytes r
 by_result bytes other (Ok x) found same read = ap event_text (some_same x other (sym found ∙ read)) ∙ same
 by_result bytes other (Err NotAnEvent) found same read = let clash : None ≡ Some other = sym found ∙ read in absurd cc
 by_result bytes other (Err NoMemory) found same read = refl
 
-pub guessed : TextsAreGuessed → (bytes : List ℕ) (r : Result Event EventRefused) → Reads r (guess bytes) → (e : Event) → IsEvent e → event_text e ≡ bytes → IsGuessed bytes r
+pub guessed : TextsAreGuessed → (bytes : List ℕ) (r : Result Event EventRefused) → Reads r (guess bytes) → (e : Event) → IsEvent e → event_text e ≡ bytes
+    → IsGuessed bytes r
 guessed are bytes r reads e is text =
     let told = are e is in
     by_result bytes told.other r reads (told.same ∙ text) (subst (λ (bs : List ℕ). guess bs ≡ Some told.other) text told.read)

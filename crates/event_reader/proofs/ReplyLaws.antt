@@ -7,7 +7,8 @@ use Rattle.std.specs.Option.{option_map}
 use Rattle.std.proofs.lemmas.Bool.Decides.{nat_tests}
 use Rattle.std.proofs.lemmas.List.{append-nil}
 use Rattle.ce_base.specs.declared.fault.Fault.{Fault}
-use Rattle.ce_base.specs.declared.fault.Fault.TheVariants.{TypeError, ReferenceError, SyntaxError, NotSupportedError, HierarchyRequestError, NotFoundError, InvalidCharacterError, UserThrow}
+use Rattle.ce_base.specs.declared.fault.Fault.TheVariants.{TypeError, ReferenceError, SyntaxError, NotSupportedError, HierarchyRequestError, NotFoundError}
+use Rattle.ce_base.specs.declared.fault.Fault.TheVariants.{InvalidCharacterError, UserThrow}
 use Rattle.rule_tokens.specs.declared.refused.Bad.{Bad}
 use Rattle.rule_tokens.specs.declared.refused.Bad.TheVariants.{Long, Utf8, Quote, Escape, Word, Arity, Place}
 use Rattle.rule_tokens.specs.declared.token.Token.{Token}
@@ -88,7 +89,8 @@ no_class_by bytes line rest fits text =
     let begins : begins_number (decimal line ++ (codes ": " ++ rest)) ≡ true = (number_begins line fits (codes ": " ++ rest)).0 in
     ap class_in (text ∙ append_assoc (decimal line) (codes ": ") rest) ∙ class_of_number (decimal line ++ (codes ": " ++ rest)) begins
 
-told_reply : (e other : Event) (line : ℕ) (ts : List Token) (rest : List ℕ) → IsNumber line → event_text e ≡ reply line rest → 32 ∷ rest ≡ spaced_tokens ts → AreClean ts → reply_of line ts ≡ Some other → event_text other ≡ event_text e → step_of other ≡ step_of e → IsTold e
+told_reply : (e other : Event) (line : ℕ) (ts : List Token) (rest : List ℕ) → IsNumber line → event_text e ≡ reply line rest → 32 ∷ rest ≡ spaced_tokens ts
+    → AreClean ts → reply_of line ts ≡ Some other → event_text other ≡ event_text e → step_of other ≡ step_of e → IsTold e
 told_reply e other line ts rest fits text is clean read same step = record {
   tokens = reply_tokens line ts;
   line = text ∙ (reply_line line rest ∙ ap (λ (l : List ℕ). (decimal line ++ 58 ∷ []) ++ l) is);
@@ -102,13 +104,17 @@ told_reply e other line ts rest fits text is clean read same step = record {
 }
 
 pub told_fine : (line : ℕ) → IsNumber line → IsTold (Fine line)
-told_fine line fits = told_reply (Fine line) (Fine line) line (bare (codes "ok") ∷ []) (codes "ok") fits refl refl (word_clean (codes "ok") refl, tt) refl refl refl
+told_fine line fits = told_reply (Fine line) (Fine line) line (bare (codes "ok") ∷ []) (codes "ok") fits refl refl
+    (word_clean (codes "ok") refl, tt) refl refl refl
 
 pub told_ignored : (line : ℕ) → IsNumber line → IsTold (Ignored line)
-told_ignored line fits = told_reply (Ignored line) (Ignored line) line (bare (codes "ignored") ∷ []) (codes "ignored") fits refl refl (word_clean (codes "ignored") refl, tt) refl refl refl
+told_ignored line fits = told_reply (Ignored line) (Ignored line) line (bare (codes "ignored") ∷ []) (codes "ignored") fits refl refl
+    (word_clean (codes "ignored") refl, tt) refl refl refl
 
 pub told_gave : (line n : ℕ) → IsNumber line → IsNumber n → IsTold (Gave line n)
-told_gave line n fits n_fits = told_reply (Gave line n) (Gave line n) line (bare (node n) ∷ []) (node n) fits refl (simp append-nil) (node_clean n n_fits, tt) (rw (node_back n n_fits) refl) refl refl
+told_gave line n fits n_fits =
+    told_reply (Gave line n) (Gave line n) line (bare (node n) ∷ []) (node n) fits refl (simp append-nil) (node_clean n n_fits, tt)
+    (rw (node_back n n_fits) refl) refl refl
 
 pub told_threw : (line : ℕ) (f : Fault) → IsNumber line → IsFault f → IsTold (Threw line f)
 told_threw line f fits is = told_reply (Threw line f) (Threw line f) line (bare (codes "throw") ∷ fault_tokens f) (codes "throw " ++ fault f) fits refl

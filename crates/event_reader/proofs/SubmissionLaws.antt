@@ -21,12 +21,14 @@ abbrev submit_tokens : ℕ → List ℕ → List Token → List Token
 submit_tokens n word ts = bare (codes "submit") ∷ bare (node n) ∷ bare word ∷ ts
 
 submit_line : (n : ℕ) (word : List ℕ) (ts : List Token) (rest : List ℕ) → rest ≡ word ++ spaced_tokens ts → submit n rest ≡ as_line (submit_tokens n word ts)
-submit_line n word ts rest is = ap (λ (l : List ℕ). codes "submit #" ++ l) (append_assoc (decimal n) (codes " ") rest) ∙ ap (λ (l : List ℕ). codes "submit #" ++ (decimal n ++ 32 ∷ l)) is
+submit_line n word ts rest is =
+    ap (λ (l : List ℕ). codes "submit #" ++ l) (append_assoc (decimal n) (codes " ") rest) ∙ ap (λ (l : List ℕ). codes "submit #" ++ (decimal n ++ 32 ∷ l)) is
 
 submit_read : (n : ℕ) (word : List ℕ) (ts : List Token) → IsNumber n → event_of (submit_tokens n word ts) ≡ submit_by n word ts
 submit_read n word ts fits = rw (node_back n fits) refl
 
-told_submit : (e : Event) (n : ℕ) (word : List ℕ) (ts : List Token) (rest : List ℕ) → IsNumber n → event_text e ≡ submit n rest → rest ≡ word ++ spaced_tokens ts → IsClean (bare word) → AreClean ts → submit_by n word ts ≡ Some e → IsTold e
+told_submit : (e : Event) (n : ℕ) (word : List ℕ) (ts : List Token) (rest : List ℕ) → IsNumber n → event_text e ≡ submit n rest
+    → rest ≡ word ++ spaced_tokens ts → IsClean (bare word) → AreClean ts → submit_by n word ts ≡ Some e → IsTold e
 told_submit e n word ts rest fits text is word_is clean read = record {
   tokens = submit_tokens n word ts;
   line = text ∙ submit_line n word ts rest is;
@@ -44,7 +46,8 @@ told_get n url fits url_is = told_submit (SubmitGet n url) n (codes "get") (quot
     (simp (append_assoc, append-nil)) (word_clean (codes "get") refl) (url_is, tt) refl
 
 pub told_post : (n : ℕ) (url media body : List ℕ) → IsNumber n → IsUtf8 url → IsUtf8 media → IsUtf8 body → IsTold (SubmitPost n url media body)
-told_post n url media body fits url_is media_is body_is = told_submit (SubmitPost n url media body) n (codes "post") (quoted url ∷ quoted media ∷ quoted body ∷ []) _ fits refl
+told_post n url media body fits url_is media_is body_is =
+    told_submit (SubmitPost n url media body) n (codes "post") (quoted url ∷ quoted media ∷ quoted body ∷ []) _ fits refl
     (simp (append_assoc, append-nil)) (word_clean (codes "post") refl) (url_is, (media_is, (body_is, tt))) refl
 
 -- ---- what blocks

@@ -125,10 +125,12 @@ changes_are_differences old new c h = subst (IsDifference old new) w.3 (record {
     bounds : w.0 < 1 + size new.forest
     bounds = (in_range 1 (size new.forest) w.0 w.1).1
 
-pub differences_are_changes : (old new : Forms) (n : ℕ) → IsNode new.forest n → Differs old new n → (c : Change) × Contains (form_changes old new) c × (c.node ≡ n)
+pub differences_are_changes : (old new : Forms) (n : ℕ) → IsNode new.forest n → Differs old new n
+    → (c : Change) × Contains (form_changes old new) c × (c.node ≡ n)
 differences_are_changes old new n is d = (
   form_change old new n,
-  made_contains (form_change old new) (differs old new) (numbers new.forest) n (contains_range 1 (size new.forest) n is.low (omega (arith, is.high))) (if_differs old new n d),
+  made_contains (form_change old new) (differs old new) (numbers new.forest) n (contains_range 1 (size new.forest) n is.low (omega (arith, is.high)))
+      (if_differs old new n d),
   refl,
 )
 

@@ -40,7 +40,8 @@ module _ {A : Type 0} (blank : A) where
 
   -- the same, where the table and the place have other names
   pub changed-at : (i place : ℕ) (old was rows slice written new : List A) (change : A → A) → place ≡ i → was ≡ old → slice ≡ rows → new ≡ written →
-      IsFilled blank place was rows → place < length rows → written ≡ slice_set slice i (change (row_at blank slice i)) → new ≡ with_row blank old i (change (row_at blank old i))
+      IsFilled blank place was rows → place < length rows → written ≡ slice_set slice i (change (row_at blank slice i))
+      → new ≡ with_row blank old i (change (row_at blank old i))
   changed-at i place old was rows slice written new change at table lent back filled within e =
       let here : IsFilled blank i was rows = subst (λ p. IsFilled blank p was rows) at filled in
       let before : IsFilled blank i old rows = subst (λ v. IsFilled blank i v rows) table here in

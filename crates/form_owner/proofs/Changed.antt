@@ -86,10 +86,12 @@ module _ (f : Trees) (old : List OwnerRow) where
       moving t =
           let high = node.high in
           let said : is_change (change_read f old m) ≡ true = ap (λ b. b || is_some (change_read f old m).disabled) t in
-          let has = made_contains (change_read f old) (λ n. is_change (change_read f old n)) (numbers f) m (contains_range 1 (size f) m node.low (omega (arith, high))) said in
+          let has = made_contains (change_read f old) (λ n. is_change (change_read f old n)) (numbers f) m
+          (contains_range 1 (size f) m node.low (omega (arith, high))) said in
           list_any_at (is_moving m) read has.0 (change_read f old m) has.1 (ap (is_moving m) has.2 ∙ moves t)
 
-      by_test : (b : Bool) → option_eq nat_eq (row_of old m).owner (owner_with f m (row_of old m).associated) ≡ b → (row_of old m).owner ≡ owner_with f m (row_of old m).associated
+      by_test : (b : Bool) → option_eq nat_eq (row_of old m).owner (owner_with f m (row_of old m).associated) ≡ b
+          → (row_of old m).owner ≡ owner_with f m (row_of old m).associated
       by_test true e = alike (row_of old m).owner (owner_with f m (row_of old m).associated) e
       by_test false e = absurd (
           let new : is_some (change_read f old m).owner ≡ true = ap (λ b. is_some (cond b None (Some (owner_with f m (row_of old m).associated)))) e in

@@ -1,5 +1,6 @@
 -- Nodes that are put into a set.
-use Rattle.std.proofs.Common.{◌≡◌, ℕ, ◌+◌, ◌≤◌, ◌==◌, length, Bool, true, false, List, [], ◌∷◌, ◌++◌, take, get_or, Some, refl, sym, ap, ◌∙◌, subst, arith, inl, inr}
+use Rattle.std.proofs.Common.{◌≡◌, ℕ, ◌+◌, ◌≤◌, ◌==◌, length, Bool, true, false, List, [], ◌∷◌, ◌++◌, take, get_or, Some, refl, sym, ap, ◌∙◌, subst, arith, inl}
+use Rattle.std.proofs.Common.{inr}
 use Rattle.std.specs.Prelude.{not, ◌&&◌, ◌||◌, nat_le, nat_lt, slice_get}
 use Rattle.std.specs.List.{list_any}
 use Rattle.std.proofs.lemmas.Bool.{cases_eq}
@@ -45,7 +46,8 @@ module _ {forest : Trees} {about : ℕ → Bool} where
   }
 
   -- one is
-  pub one : (n : ℕ) (old new : List ℕ) → IsNode forest n → ((m : ℕ) → is_among m new ≡ (is_among m old || n == m)) → Considers forest about (λ m. n == m) old new
+  pub one : (n : ℕ) (old new : List ℕ) → IsNode forest n → ((m : ℕ) → is_among m new ≡ (is_among m old || n == m))
+      → Considers forest about (λ m. n == m) old new
   one n old new node put = record {
     nodes = λ all. all-members (IsNode forest) new (λ m among. elim (cases_eq n m) [
       | inl same ↦ subst (IsNode forest) same node
@@ -69,7 +71,8 @@ module _ {forest : Trees} {about : ℕ → Bool} where
         by_test n node is false e passes = second.found n node is passes
 
   -- those of a test that says less
-  pub less : {test other : ℕ → Bool} {old new : List ℕ} → ((n : ℕ) → other n ≡ true → test n ≡ true) → Considers forest about test old new → Considers forest about other old new
+  pub less : {test other : ℕ → Bool} {old new : List ℕ} → ((n : ℕ) → other n ≡ true → test n ≡ true) → Considers forest about test old new
+      → Considers forest about other old new
   less fewer all = record {
     nodes = all.nodes;
     kept = all.kept;
@@ -81,25 +84,31 @@ module _ {forest : Trees} {about : ℕ → Bool} where
   from_none {test} {old} {new} empty all = subst (λ ns. Considers forest about test ns new) empty all
 
   -- along a list
-  pub next : {X : Type 0} (by : X → ℕ → Bool) (xs : List X) (i : ℕ) (x : X) {old mid new : List ℕ} → slice_get xs i ≡ Some x → Considers forest about (λ n. list_any (λ j. by j n) (take i xs)) old mid → Considers forest about (by x) mid new →
+  pub next : {X : Type 0} (by : X → ℕ → Bool) (xs : List X) (i : ℕ) (x : X) {old mid new : List ℕ} → slice_get xs i ≡ Some x
+      → Considers forest about (λ n. list_any (λ j. by j n) (take i xs)) old mid → Considers forest about (by x) mid new →
       Considers forest about (λ n. list_any (λ j. by j n) (take (i + 1) xs)) old new
   next by xs i x at so_far more = less (λ n passes. sym (any-more (λ j. by j n) xs i x at) ∙ passes) (both so_far more)
 
-  pub next-among : (xs : List ℕ) (i x : ℕ) {old mid new : List ℕ} → slice_get xs i ≡ Some x → Considers forest about (λ n. is_among n (take i xs)) old mid → Considers forest about (λ n. x == n) mid new →
+  pub next-among : (xs : List ℕ) (i x : ℕ) {old mid new : List ℕ} → slice_get xs i ≡ Some x → Considers forest about (λ n. is_among n (take i xs)) old mid
+      → Considers forest about (λ n. x == n) mid new →
       Considers forest about (λ n. is_among n (take (i + 1) xs)) old new
   next-among xs i x at so_far more =
       less (λ n passes. sym (among-any n (take (i + 1) xs)) ∙ passes)
       (next (λ j n. j == n) xs i x at (less (λ n passes. among-any n (take i xs) ∙ passes) so_far) more)
 
   -- behind a list
-  pub one-more : {X : Type 0} (by : X → ℕ → Bool) (xs : List X) (x : X) {old mid new : List ℕ} → Considers forest about (λ n. list_any (λ j. by j n) xs) old mid → Considers forest about (by x) mid new → Considers forest about (λ n. list_any (λ j. by j n) (xs ++ x ∷ [])) old new
+  pub one-more : {X : Type 0} (by : X → ℕ → Bool) (xs : List X) (x : X) {old mid new : List ℕ}
+      → Considers forest about (λ n. list_any (λ j. by j n) xs) old mid → Considers forest about (by x) mid new
+      → Considers forest about (λ n. list_any (λ j. by j n) (xs ++ x ∷ [])) old new
   one-more by xs x so_far more = less (λ n passes. sym (any-last (λ j. by j n) xs x) ∙ passes) (both so_far more)
 
   -- to its end
-  pub whole : {X : Type 0} (by : X → ℕ → Bool) (xs : List X) (i : ℕ) {old new : List ℕ} → length xs ≤ i → Considers forest about (λ n. list_any (λ j. by j n) (take i xs)) old new → Considers forest about (λ n. list_any (λ j. by j n) xs) old new
+  pub whole : {X : Type 0} (by : X → ℕ → Bool) (xs : List X) (i : ℕ) {old new : List ℕ} → length xs ≤ i
+      → Considers forest about (λ n. list_any (λ j. by j n) (take i xs)) old new → Considers forest about (λ n. list_any (λ j. by j n) xs) old new
   whole by xs i long all = less (λ n passes. ap (list_any (λ j. by j n)) (take_all i xs long) ∙ passes) all
 
-  pub whole-among : (xs : List ℕ) (i : ℕ) {old new : List ℕ} → length xs ≤ i → Considers forest about (λ n. is_among n (take i xs)) old new → Considers forest about (λ n. is_among n xs) old new
+  pub whole-among : (xs : List ℕ) (i : ℕ) {old new : List ℕ} → length xs ≤ i → Considers forest about (λ n. is_among n (take i xs)) old new
+      → Considers forest about (λ n. is_among n xs) old new
   whole-among xs i long all = less (λ n passes. ap (is_among n) (take_all i xs long) ∙ passes) all
 
   -- along what is left of a set
@@ -112,11 +121,15 @@ module _ {forest : Trees} {about : ℕ → Bool} where
         apart true = refl
         apart false = refl
 
-    pub one-passed : (left later : List ℕ) (x : ℕ) {old mid new : List ℕ} → left ≡ x ∷ later → Considers forest about (is_passed xs left) old mid → Considers forest about (λ n. x == n) mid new → Considers forest about (is_passed xs later) old new
-    one-passed left later x is so_far more = less (λ n passes. let it : is_among n left ≡ (x == n || is_among n later) = ap (is_among n) is in grind (arith, it, passes)) (both so_far more)
+    pub one-passed : (left later : List ℕ) (x : ℕ) {old mid new : List ℕ} → left ≡ x ∷ later → Considers forest about (is_passed xs left) old mid
+        → Considers forest about (λ n. x == n) mid new → Considers forest about (is_passed xs later) old new
+    one-passed left later x is so_far more =
+        less (λ n passes. let it : is_among n left ≡ (x == n || is_among n later) = ap (is_among n) is in grind (arith, it, passes)) (both so_far more)
 
-    pub all-passed : (test : ℕ → Bool) (left : List ℕ) {old new : List ℕ} → left ≡ [] → ((n : ℕ) → test n ≡ true → is_among n xs ≡ true) → Considers forest about (is_passed xs left) old new → Considers forest about test old new
-    all-passed test left none within all = less (λ n passes. let in_xs = within n passes in let out : is_among n left ≡ false = ap (is_among n) none in grind (arith, in_xs, out)) all
+    pub all-passed : (test : ℕ → Bool) (left : List ℕ) {old new : List ℕ} → left ≡ [] → ((n : ℕ) → test n ≡ true → is_among n xs ≡ true)
+        → Considers forest about (is_passed xs left) old new → Considers forest about test old new
+    all-passed test left none within all =
+        less (λ n passes. let in_xs = within n passes in let out : is_among n left ≡ false = ap (is_among n) none in grind (arith, in_xs, out)) all
 
 -- by number, as far as n
 
@@ -127,7 +140,8 @@ module _ {forest : Trees} {about : ℕ → Bool} where
   pub far-start : (set : List ℕ) → Considers forest about (is_up_to 0) set set
   far-start set = nothing (is_up_to 0) set (λ m is. grind (arith, nat_tests))
 
-  pub far-on : (n : ℕ) {old mid new : List ℕ} → Considers forest about (is_up_to n) old mid → Considers forest about (λ m. n + 1 == m) mid new → Considers forest about (is_up_to (n + 1)) old new
+  pub far-on : (n : ℕ) {old mid new : List ℕ} → Considers forest about (is_up_to n) old mid → Considers forest about (λ m. n + 1 == m) mid new
+      → Considers forest about (is_up_to (n + 1)) old new
   far-on n so_far more = less (λ m passes. grind (arith, nat_tests, passes)) (both so_far more)
 
   pub far-all : (n : ℕ) {old new : List ℕ} → n ≡ size forest → Considers forest about (is_up_to n) old new → Considers forest about (λ m. true) old new

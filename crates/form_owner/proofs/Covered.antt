@@ -1,5 +1,6 @@
 -- What is read of those nodes alone that may have changed is what is read of all.
-use Rattle.std.proofs.Common.{◌≡◌, ◌≢◌, All, ℕ, zero, suc, ◌+◌, ◌<◌, ◌≤◌, Bool, true, false, cond, List, [], ◌∷◌, get_or, refl, sym, ap, ◌∙◌, subst, arith, inl, inr}
+use Rattle.std.proofs.Common.{◌≡◌, ◌≢◌, All, ℕ, zero, suc, ◌+◌, ◌<◌, ◌≤◌, Bool, true, false, cond, List, [], ◌∷◌, get_or, refl, sym, ap, ◌∙◌, subst, arith, inl}
+use Rattle.std.proofs.Common.{inr}
 use Rattle.std.specs.Prelude.{filter, map}
 use Rattle.std.specs.List.{range_with_len}
 use Rattle.std.specs.List.Sorted.{IsStrictlyIncreasing}
@@ -40,7 +41,8 @@ module _ (test : ℕ → Bool) where
   fails-first a xs fails = rw fails refl
 
   -- those of a range that a test may be true of
-  within : (a n : ℕ) (cs : List ℕ) → IsStrictlyIncreasing cs → ((m : ℕ) → is_among m cs ≡ true → a ≤ m) → ((m : ℕ) → is_among m cs ≡ true → m < a + n) → ((m : ℕ) → a ≤ m → m < a + n → is_among m cs ≡ false → test m ≡ false) →
+  within : (a n : ℕ) (cs : List ℕ) → IsStrictlyIncreasing cs → ((m : ℕ) → is_among m cs ≡ true → a ≤ m) → ((m : ℕ) → is_among m cs ≡ true → m < a + n)
+      → ((m : ℕ) → a ≤ m → m < a + n → is_among m cs ≡ false → test m ≡ false) →
       filter test cs ≡ filter test (range_with_len a n)
   within a zero [] rising low high outside = refl
   within a zero (x ∷ xs) rising low high outside =
@@ -57,7 +59,8 @@ module _ (test : ℕ → Bool) where
         (within (a + 1) n xs (behind x xs rising)
         (λ m among. let more = above x xs rising m among in omega (arith, more, e))
         (λ m among. let less = high m (later m among) in omega (arith, less))
-        (λ m le lt out. outside m (omega (arith, le)) (omega (arith, lt)) (let other : x ≢ m = λ same. absurd (omega (arith, le, same, e)) in grind (arith, nat_tests, out, other))))
+        (λ m le lt out. outside m (omega (arith, le)) (omega (arith, lt))
+        (let other : x ≢ m = λ same. absurd (omega (arith, le, same, e)) in grind (arith, nat_tests, out, other))))
         ∙ ap (λ v. filter test (v ∷ range_with_len (a + 1) n)) e
     | inr ne ↦
         let here : is_among x (x ∷ xs) ≡ true = grind (arith, nat_tests) in
@@ -86,7 +89,8 @@ module _ (test : ℕ → Bool) where
       not-here least ne true among = absurd (let more = from-first least ne a among in omega (arith, more))
       not-here least ne false among = refl
 
-pub changes-covered : (f : Trees) (rows : List OwnerRow) (cs : List ℕ) → IsStrictlyIncreasing cs → All (IsNode f) cs → ((n : ℕ) → IsNode f n → is_among n cs ≡ false → is_change (change_read f rows n) ≡ false) →
+pub changes-covered : (f : Trees) (rows : List OwnerRow) (cs : List ℕ) → IsStrictlyIncreasing cs → All (IsNode f) cs
+    → ((n : ℕ) → IsNode f n → is_among n cs ≡ false → is_change (change_read f rows n) ≡ false) →
     changes_read f rows cs ≡ changes_read f rows (numbers f)
 changes-covered f rows cs rising nodes covers =
     ap (map (change_read f rows))

@@ -29,7 +29,8 @@ use Rattle.form_owner.proofs.Touching.{inserted-shift, removed-shift}
 use Rattle.form_owner.proofs.Unchanged.{no-change, unconcerned}
 
 -- who was not put into a set is one that forms are not about, or that the test is false of
-pub left-out : {forest : Trees} {about test : ℕ → Bool} {set : List ℕ} → Considers forest about test [] set → (m : ℕ) → IsNode forest m → is_among m set ≡ false → about m ≡ true → test m ≡ false
+pub left-out : {forest : Trees} {about test : ℕ → Bool} {set : List ℕ} → Considers forest about test [] set → (m : ℕ) → IsNode forest m
+    → is_among m set ≡ false → about m ≡ true → test m ≡ false
 left-out {forest} {about} {test} {set} all m node out is = by_test (test m) refl
   where
     by_test : (b : Bool) → test m ≡ b → b ≡ false
@@ -43,7 +44,8 @@ third false b c e is_a is_b = absurd cc
 
 -- a move
 
-module _ (table : OwnerRows) (before : Forms) (stands : Stands table before) (now : Trees) (n p : ℕ) (facts : (m : ℕ) → facts_at now m ≡ facts_at before.forest m) where
+module _ (table : OwnerRows) (before : Forms) (stands : Stands table before) (now : Trees) (n p : ℕ) (facts : (m : ℕ)
+    → facts_at now m ≡ facts_at before.forest m) where
   abbrev moved : Forms
   moved = record { forest = now; associated = before.associated }
 
@@ -53,7 +55,8 @@ module _ (table : OwnerRows) (before : Forms) (stands : Stands table before) (no
   aside : (m : ℕ) → is_of_move now (is_held table.named) n p m ≡ false → IsAsideOfMove now n p m
   aside m fails = record {
     outside = parts.0;
-    unnamed = λ id j is among. none-named before.forest (is_held table.named) stands.named now m (ap (λ (x : Facts). value_in x.attributes (codes "form")) (facts m)) (order_of now n) rest.0 id j is (order-has j _ (order-inside j _ among));
+    unnamed = λ id j is among. none-named before.forest (is_held table.named) stands.named now m
+        (ap (λ (x : Facts). value_in x.attributes (codes "form")) (facts m)) (order_of now n) rest.0 id j is (order-has j _ (order-inside j _ among));
     legend = third (is_a Legend now n) (is_a Fieldset now p) (is_among m (tree_order_of now p)) rest.1;
   }
     where
@@ -63,27 +66,33 @@ module _ (table : OwnerRows) (before : Forms) (stands : Stands table before) (no
       rest : (is_named_among now (is_held table.named) (order_of now n) m ≡ false) × (is_of_legend now n p m ≡ false)
       rest = or_parts (is_named_among now (is_held table.named) (order_of now n) m) (is_of_legend now n p m) parts.1
 
-  pub covers-move : (set : List ℕ) → Considers now (is_concerned now table.rows) (is_of_move now (is_held table.named) n p) [] set → ((m : ℕ) → IsNode now m → IsAsideOfMove now n p m → IsUnchanged before moved m) → Covers set before moved
+  pub covers-move : (set : List ℕ) → Considers now (is_concerned now table.rows) (is_of_move now (is_held table.named) n p) [] set
+      → ((m : ℕ) → IsNode now m → IsAsideOfMove now n p m → IsUnchanged before moved m) → Covers set before moved
   covers-move set all unchanged m node out = by_test (is_concerned now table.rows m) refl
     where
       by_test : (b : Bool) → is_concerned now table.rows m ≡ b → differs before moved m ≡ false
       by_test true is = no-change before moved m (unchanged m node (aside m (left-out all m node out is)))
-      by_test false is = no-change before moved m (unconcerned before moved m (row_of table.rows m).associated (ap (λ (x : Facts). x.local) (facts m)) (flag m node) (flag m node) is)
+      by_test false is = no-change before moved m
+          (unconcerned before moved m (row_of table.rows m).associated (ap (λ (x : Facts). x.local) (facts m)) (flag m node) (flag m node) is)
 
-pub covers-inserted : (table : OwnerRows) (before : Forms) → Stands table before → (now : Trees) (n : ℕ) (t : IsInserted n before.forest now) (p : ℕ) → parent_at now n ≡ Some p → (set : List ℕ) → Considers now (is_concerned now table.rows) (is_of_move now (is_held table.named) n p) [] set →
+pub covers-inserted : (table : OwnerRows) (before : Forms) → Stands table before → (now : Trees) (n : ℕ) (t : IsInserted n before.forest now) (p : ℕ)
+    → parent_at now n ≡ Some p → (set : List ℕ) → Considers now (is_concerned now table.rows) (is_of_move now (is_held table.named) n p) [] set →
     Covers set before (record { forest = now; associated = before.associated })
 covers-inserted table before stands now n t p up set all =
     covers-move table before stands now n p (inserted-shift n before.forest now t).facts set all
     (λ m node aside. subst (λ f. IsAsideOfMove f n p m → IsUnchanged before (record { forest = f; associated = before.associated }) m) (sym t.is)
-    (λ beside. covers-graft before t.parent n t.before t.tidy t.parent_node t.node t.before_node t.may t.free m (node-before m node) (subst (λ q. IsAsideOfMove (graft before.forest t.parent n t.before) n q m) same_parent beside)) aside)
+    (λ beside. covers-graft before t.parent n t.before t.tidy t.parent_node t.node t.before_node t.may t.free m (node-before m node)
+    (subst (λ q. IsAsideOfMove (graft before.forest t.parent n t.before) n q m) same_parent beside)) aside)
   where
     same_parent : p ≡ t.parent
-    same_parent = let it : Some p ≡ Some t.parent = sym up ∙ ap (λ f. parent_at f n) t.is ∙ graft-up before.forest t.parent n t.before t.tidy t.parent_node t.node t.may t.free in cc
+    same_parent = let it : Some p ≡ Some t.parent =
+        sym up ∙ ap (λ f. parent_at f n) t.is ∙ graft-up before.forest t.parent n t.before t.tidy t.parent_node t.node t.may t.free in cc
 
     node-before : (m : ℕ) → IsNode now m → IsNode before.forest m
     node-before m node = let low = node.low in let high = node.high in record { low = low; high = omega (arith, high, t.size_is) }
 
-pub covers-removed : (table : OwnerRows) (before : Forms) → Stands table before → (now : Trees) (n p : ℕ) (t : IsRemoved n p before.forest now) (set : List ℕ) → Considers now (is_concerned now table.rows) (is_of_move now (is_held table.named) n p) [] set →
+pub covers-removed : (table : OwnerRows) (before : Forms) → Stands table before → (now : Trees) (n p : ℕ) (t : IsRemoved n p before.forest now) (set : List ℕ)
+    → Considers now (is_concerned now table.rows) (is_of_move now (is_held table.named) n p) [] set →
     Covers set before (record { forest = now; associated = before.associated })
 covers-removed table before stands now n p t set all =
     covers-move table before stands now n p (removed-shift n p before.forest now t).facts set all
@@ -94,7 +103,10 @@ covers-removed table before stands now n p t set all =
     node-before m node = let low = node.low in let high = node.high in record { low = low; high = omega (arith, high, t.size_is) }
 
 -- the rows and the index of a table
-pub of-table : {forest : Trees} {set : List ℕ} (test : List OwnerRow → (List ℕ → ℕ → Bool) → ℕ → Bool) (table : OwnerRows) (rows : List OwnerRow) (named : IdIndex) → rows ≡ table.rows → named ≡ table.named →
-    Considers forest (is_concerned forest rows) (test rows (is_held named)) [] set → Considers forest (is_concerned forest table.rows) (test table.rows (is_held table.named)) [] set
+pub of-table : {forest : Trees} {set : List ℕ} (test : List OwnerRow → (List ℕ → ℕ → Bool) → ℕ → Bool) (table : OwnerRows) (rows : List OwnerRow)
+    (named : IdIndex) → rows ≡ table.rows → named ≡ table.named →
+    Considers forest (is_concerned forest rows) (test rows (is_held named)) [] set
+    → Considers forest (is_concerned forest table.rows) (test table.rows (is_held table.named)) [] set
 of-table {forest} {set} test table rows named same_rows same_named all =
-    subst (λ r. Considers forest (is_concerned forest r) (test r (is_held table.named)) [] set) same_rows (subst (λ i. Considers forest (is_concerned forest rows) (test rows (is_held i)) [] set) same_named all)
+    subst (λ r. Considers forest (is_concerned forest r) (test r (is_held table.named)) [] set) same_rows
+    (subst (λ i. Considers forest (is_concerned forest rows) (test rows (is_held i)) [] set) same_named all)

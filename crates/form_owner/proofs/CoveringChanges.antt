@@ -7,7 +7,8 @@ use Rattle.std.proofs.lemmas.Bool.{or_parts}
 use Rattle.std.proofs.lemmas.Bool.Decides.{nat_tests}
 use Rattle.std.proofs.lemmas.Slice.Eq.{bytes_eq-Decides}
 use Rattle.element_names.specs.declared.natives.Native.{Native}
-use Rattle.element_names.specs.declared.natives.Native.TheVariants.{Form, Fieldset, Legend, Button, Input, Select, Optgroup, OptionItem, Textarea, Datalist, Other}
+use Rattle.element_names.specs.declared.natives.Native.TheVariants.{Form, Fieldset, Legend, Button, Input, Select, Optgroup, OptionItem, Textarea, Datalist}
+use Rattle.element_names.specs.declared.natives.Native.TheVariants.{Other}
 use Rattle.element_names.specs.Natives.{same_native}
 use Rattle.node_trees.specs.Facts.{Facts, is_element, value_in, with_value, without_value}
 use Rattle.node_trees.specs.Ids.{has_id, is_id}
@@ -80,7 +81,8 @@ keeps-kind n old new t = elim t.is [
   })
 ]
 
-unchanged-beside : (before : Forms) (now : Trees) (n : ℕ) (t : IsChanged n before.forest now) (m : ℕ) → IsNode before.forest m → IsAsideOfAttribute before.forest now n m → IsUnchanged before (record { forest = now; associated = before.associated }) m
+unchanged-beside : (before : Forms) (now : Trees) (n : ℕ) (t : IsChanged n before.forest now) (m : ℕ) → IsNode before.forest m
+    → IsAsideOfAttribute before.forest now n m → IsUnchanged before (record { forest = now; associated = before.associated }) m
 unchanged-beside before now n t m node aside = elim t.is [
   | inl set ↦ subst (λ f. IsAsideOfAttribute before.forest f n m → IsUnchanged before (record { forest = f; associated = before.associated }) m) (sym set.1)
       (covers-with before n (λ x. record x { attributes = with_value t.name set.0 x.attributes }) (λ x. refl) (λ x. refl) t.tidy t.element m node) aside
@@ -99,11 +101,15 @@ module _ (table : OwnerRows) (before : Forms) (stands : Stands table before) (no
   flag m node = let low = node.low in let same : (m - 1) + 1 ≡ m = omega arith in sym (stands.associated.flags (m - 1) ∙ ap (is_associated before) same)
 
   module _ (m : ℕ) (node : IsNode now m) (fails : is_of_change now table.rows (is_held table.named) n m ≡ false) where
-    parts : ((n == m) ≡ false) × ((is_of_ids (is_held table.named) (row_of table.rows n).seen.id (attribute_at now n (codes "id")) m || (not (beq (row_of table.rows n).seen.disabled (has_disabled now n)) && is_of_group now n m)) ≡ false)
-    parts = or_parts (n == m) (is_of_ids (is_held table.named) (row_of table.rows n).seen.id (attribute_at now n (codes "id")) m || (not (beq (row_of table.rows n).seen.disabled (has_disabled now n)) && is_of_group now n m)) fails
+    parts : ((n == m) ≡ false) × ((is_of_ids (is_held table.named) (row_of table.rows n).seen.id (attribute_at now n (codes "id")) m
+        || (not (beq (row_of table.rows n).seen.disabled (has_disabled now n)) && is_of_group now n m)) ≡ false)
+    parts = or_parts (n == m) (is_of_ids (is_held table.named) (row_of table.rows n).seen.id (attribute_at now n (codes "id")) m
+        || (not (beq (row_of table.rows n).seen.disabled (has_disabled now n)) && is_of_group now n m)) fails
 
-    rest : (is_of_ids (is_held table.named) (row_of table.rows n).seen.id (attribute_at now n (codes "id")) m ≡ false) × ((not (beq (row_of table.rows n).seen.disabled (has_disabled now n)) && is_of_group now n m) ≡ false)
-    rest = or_parts (is_of_ids (is_held table.named) (row_of table.rows n).seen.id (attribute_at now n (codes "id")) m) (not (beq (row_of table.rows n).seen.disabled (has_disabled now n)) && is_of_group now n m) parts.1
+    rest : (is_of_ids (is_held table.named) (row_of table.rows n).seen.id (attribute_at now n (codes "id")) m ≡ false)
+        × ((not (beq (row_of table.rows n).seen.disabled (has_disabled now n)) && is_of_group now n m) ≡ false)
+    rest = or_parts (is_of_ids (is_held table.named) (row_of table.rows n).seen.id (attribute_at now n (codes "id")) m)
+        (not (beq (row_of table.rows n).seen.disabled (has_disabled now n)) && is_of_group now n m) parts.1
 
     form_stays : attribute_at now m (codes "form") ≡ attribute_at before.forest m (codes "form")
     form_stays = ap (λ (x : Facts). value_in x.attributes (codes "form")) (facts-changed n before.forest now t m parts.0)
@@ -115,19 +121,26 @@ module _ (table : OwnerRows) (before : Forms) (stands : Stands table before) (no
         was : (row_of table.rows n).seen.id ≡ attribute_at before.forest n (codes "id")
         was = ap (λ (s : Seen). s.id) seen
 
-        by_test : (b : Bool) → option_eq bytes_eq (row_of table.rows n).seen.id (attribute_at now n (codes "id")) ≡ b → has_id id (facts_at now n) ≡ has_id id (facts_at before.forest n)
+        by_test : (b : Bool) → option_eq bytes_eq (row_of table.rows n).seen.id (attribute_at now n (codes "id")) ≡ b
+            → has_id id (facts_at now n) ≡ has_id id (facts_at before.forest n)
         by_test true e =
             ap (λ k. is_element k && is_id id (attribute_at now n (codes "id"))) ((keeps-kind n before.forest now t).kind n)
-            ∙ ap (λ o. is_element (kind_at before.forest n) && is_id id o) (sym (same-option (row_of table.rows n).seen.id (attribute_at now n (codes "id")) e) ∙ was)
+            ∙ ap (λ o. is_element (kind_at before.forest n) && is_id id o) (sym (same-option (row_of table.rows n).seen.id (attribute_at now n (codes "id")) e)
+            ∙ was)
         by_test false e =
-            let none = or_parts (is_named_by (is_held table.named) (row_of table.rows n).seen.id m) (is_named_by (is_held table.named) (attribute_at now n (codes "id")) m) (sym (ap (λ b. not b && (is_named_by (is_held table.named) (row_of table.rows n).seen.id m || is_named_by (is_held table.named) (attribute_at now n (codes "id")) m)) e) ∙ rest.0) in
+            let none = or_parts (is_named_by (is_held table.named) (row_of table.rows n).seen.id m)
+            (is_named_by (is_held table.named) (attribute_at now n (codes "id")) m)
+            (sym (ap (λ b. not b && (is_named_by (is_held table.named) (row_of table.rows n).seen.id m || is_named_by (is_held table.named)
+            (attribute_at now n (codes "id")) m)) e) ∙ rest.0) in
             has-other before.forest (is_held table.named) stands.named now m form_stays (attribute_at now n (codes "id")) none.1 id is (facts_at now n) refl
-            ∙ sym (has-other before.forest (is_held table.named) stands.named now m form_stays (row_of table.rows n).seen.id none.0 id is (facts_at before.forest n) (sym was))
+            ∙ sym (has-other before.forest (is_held table.named) stands.named now m form_stays (row_of table.rows n).seen.id none.0 id is
+            (facts_at before.forest n) (sym was))
 
     -- a group that m is in has `disabled` as before
     same_state : is_of_group now n m ≡ true → has_disabled now n ≡ has_disabled before.forest n
     same_state within =
-        sym (same-flag (row_of table.rows n).seen.disabled (has_disabled now n) (not-false (beq (row_of table.rows n).seen.disabled (has_disabled now n)) (is_of_group now n m) within rest.1))
+        sym (same-flag (row_of table.rows n).seen.disabled (has_disabled now n)
+        (not-false (beq (row_of table.rows n).seen.disabled (has_disabled now n)) (is_of_group now n m) within rest.1))
         ∙ ap (λ (s : Seen). s.disabled) seen
       where
         not-false : (a b : Bool) → b ≡ true → (not a && b) ≡ false → a ≡ true
@@ -145,23 +158,30 @@ module _ (table : OwnerRows) (before : Forms) (stands : Stands table before) (no
     aside = record {
       other = λ same. absurd (let it = parts.0 in let e : n ≡ m = sym same in grind (arith, nat_tests, it, e));
       unnamed = unnamed;
-      fieldset = λ fieldset among. same_state (ap (λ b. cond b (is_among m (tree_order_of now n)) (is_a Optgroup now n && is_among m (children_at now n))) fieldset ∙ among);
+      fieldset = λ fieldset among. same_state
+          (ap (λ b. cond b (is_among m (tree_order_of now n)) (is_a Optgroup now n && is_among m (children_at now n))) fieldset ∙ among);
       optgroup = λ optgroup up. same_state (in-group optgroup up);
     }
 
-  pub covers-changed : (set : List ℕ) → Considers now (is_concerned now table.rows) (is_of_change now table.rows (is_held table.named) n) [] set → Covers set before changed
+  pub covers-changed : (set : List ℕ) → Considers now (is_concerned now table.rows) (is_of_change now table.rows (is_held table.named) n) [] set
+      → Covers set before changed
   covers-changed set all m node out = by_test (is_concerned now table.rows m) refl
     where
       by_test : (b : Bool) → is_concerned now table.rows m ≡ b → differs before changed m ≡ false
-      by_test true is = no-change before changed m (unchanged-beside before now n t m (let low = node.low in let high = node.high in record { low = low; high = omega (arith, high, t.size_is) }) (aside m node (left-out all m node out is)))
-      by_test false is = no-change before changed m (unconcerned before changed m (row_of table.rows m).associated ((keeps-kind n before.forest now t).local m) (flag m node) (flag m node) is)
+      by_test true is = no-change before changed m
+          (unchanged-beside before now n t m (let low = node.low in let high = node.high in record { low = low; high = omega (arith, high, t.size_is) })
+          (aside m node (left-out all m node out is)))
+      by_test false is = no-change before changed m
+          (unconcerned before changed m (row_of table.rows m).associated ((keeps-kind n before.forest now t).local m) (flag m node) (flag m node) is)
 
 -- the definition of an element
 
-pub covers-marked : (before : Forms) (now : Trees) (n : ℕ) (on : Bool) → IsDefined n before.forest now → (set : List ℕ) → Considers now (λ m. true) (λ m. n == m) [] set → Covers set before (record { forest = now; associated = with_associated n on before.associated })
+pub covers-marked : (before : Forms) (now : Trees) (n : ℕ) (on : Bool) → IsDefined n before.forest now → (set : List ℕ)
+    → Considers now (λ m. true) (λ m. n == m) [] set → Covers set before (record { forest = now; associated = with_associated n on before.associated })
 covers-marked before now n on t set all m node out =
     no-change before (record { forest = now; associated = with_associated n on before.associated }) m
-    (subst (λ f. IsUnchanged before (record { forest = f; associated = with_associated n on before.associated }) m) (sym t.is) (unchanged-marked before (with_associated n on before.associated) m same))
+    (subst (λ f. IsUnchanged before (record { forest = f; associated = with_associated n on before.associated }) m) (sym t.is)
+    (unchanged-marked before (with_associated n on before.associated) m same))
   where
     apart : (n == m) ≡ false
     apart = left-out all m node out refl

@@ -1,5 +1,6 @@
 -- Lists that nodes are put into, a change at a time from the last one on.
-use Rattle.std.proofs.Common.{◌≡◌, ◌≢◌, ℕ, zero, suc, ◌+◌, ◌-◌, ◌<◌, ◌==◌, Bool, true, false, cond, List, [], ◌∷◌, take, get_or, Option, Some, None, refl, sym, ap, ◌∙◌, subst, arith, inl, inr}
+use Rattle.std.proofs.Common.{◌≡◌, ◌≢◌, ℕ, zero, suc, ◌+◌, ◌-◌, ◌<◌, ◌==◌, Bool, true, false, cond, List, [], ◌∷◌, take, get_or, Option, Some, None, refl, sym}
+use Rattle.std.proofs.Common.{ap, ◌∙◌, subst, arith, inl, inr}
 use Rattle.std.specs.Prelude.{filter, find, length, slice_get, unwrap_or, not, is_some, IfSome, ◌||◌, ◌&&◌}
 use Rattle.std.proofs.lemmas.Bool.{cases_eq}
 use Rattle.std.proofs.lemmas.Bool.Decides.{nat_tests}
@@ -35,7 +36,8 @@ among-filter p m [] = by_test (p m)
     by_test false = refl
 among-filter p m (x ∷ xs) = by_test (among-filter p m xs) (p x) refl
   where
-    by_test : is_among m (filter p xs) ≡ (p m && is_among m xs) → (b : Bool) → p x ≡ b → is_among m (cond b (x ∷ filter p xs) (filter p xs)) ≡ (p m && (x == m || is_among m xs))
+    by_test : is_among m (filter p xs) ≡ (p m && is_among m xs) → (b : Bool) → p x ≡ b
+        → is_among m (cond b (x ∷ filter p xs) (filter p xs)) ≡ (p m && (x == m || is_among m xs))
     by_test more true e = elim (cases_eq x m) [
       | inl same ↦ let passes : p m ≡ true = ap p (sym same) ∙ e in grind (arith, nat_tests, more)
       | inr other ↦ grind (arith, nat_tests, more)
@@ -70,10 +72,12 @@ earlier (d ∷ cs) (suc k) c rising at =
 
 module _ (old : List OwnerRow) (cs : List Change) (k : ℕ) (c : Change) (at : slice_get cs k ≡ Some c) where
   -- for a form that does not own its node nothing differs
-  settled-same : (form : ℕ) → (is_some c.owner && is_owned_in old form c.node) ≡ false → (m : ℕ) → is_settled old (take (k + 1) cs) form m ≡ is_settled old (take k cs) form m
+  settled-same : (form : ℕ) → (is_some c.owner && is_owned_in old form c.node) ≡ false → (m : ℕ)
+      → is_settled old (take (k + 1) cs) form m ≡ is_settled old (take k cs) form m
   settled-same form out m =
       ap (λ b. is_owned_in old form m && not b) (moved-more cs k c m at)
-      ∙ by_test (is_owned_in old form m) (is_moved_by (take k cs) m) (is_some c.owner) (c.node == m) (λ e. let same : c.node ≡ m = grind (arith, nat_tests) in ap (λ v. is_some c.owner && is_owned_in old form v) (sym same) ∙ out)
+      ∙ by_test (is_owned_in old form m) (is_moved_by (take k cs) m) (is_some c.owner) (c.node == m)
+      (λ e. let same : c.node ≡ m = grind (arith, nat_tests) in ap (λ v. is_some c.owner && is_owned_in old form v) (sym same) ∙ out)
     where
       by_test : (o m s e : Bool) → (e ≡ true → (s && o) ≡ false) → (o && not (m || (s && e))) ≡ (o && not m)
       by_test false m s e h = refl
@@ -83,7 +87,8 @@ module _ (old : List OwnerRow) (cs : List Change) (k : ℕ) (c : Change) (at : s
       by_test true false true true h = absurd (let it = h refl in cc)
 
   -- its form owns its node, which no other change is of
-  settled-more : (g : ℕ) → c.owner ≡ Some (Some g) → is_owned_in old g c.node ≡ true → is_moved_by (take k cs) c.node ≡ false → (m : ℕ) → or_one (is_settled old (take (k + 1) cs) g) c.node m ≡ is_settled old (take k cs) g m
+  settled-more : (g : ℕ) → c.owner ≡ Some (Some g) → is_owned_in old g c.node ≡ true → is_moved_by (take k cs) c.node ≡ false → (m : ℕ)
+      → or_one (is_settled old (take (k + 1) cs) g) c.node m ≡ is_settled old (take k cs) g m
   settled-more g is owned once m =
       ap (λ b. (is_owned_in old g m && not b) || m == c.node) (moved-more cs k c m at ∙ ap (λ o. is_moved_by (take k cs) m || (is_some o && c.node == m)) is)
       ∙ elim (cases_eq m c.node) [
@@ -111,7 +116,8 @@ module _ (old : List OwnerRow) (cs : List Change) (k : ℕ) (c : Change) (at : s
   unsettled : (g : ℕ) → c.owner ≡ Some (Some g) → is_settled old (take (k + 1) cs) g c.node ≡ false
   unsettled g is =
       let itself : (c.node == c.node) ≡ true = grind (arith, nat_tests) in
-      ap (λ b. is_owned_in old g c.node && not b) (moved-more cs k c c.node at ∙ ap (λ o. is_moved_by (take k cs) c.node || (is_some o && c.node == c.node)) is ∙ ap (λ b. is_moved_by (take k cs) c.node || b) itself)
+      ap (λ b. is_owned_in old g c.node && not b) (moved-more cs k c c.node at ∙ ap (λ o. is_moved_by (take k cs) c.node || (is_some o && c.node == c.node)) is
+      ∙ ap (λ b. is_moved_by (take k cs) c.node || b) itself)
       ∙ by_test (is_owned_in old g c.node) (is_moved_by (take k cs) c.node)
     where
       by_test : (o m : Bool) → (o && not (m || true)) ≡ false
@@ -123,7 +129,9 @@ module _ (old : List OwnerRow) (cs : List Change) (k : ℕ) (c : Change) (at : s
     pub entered-none : unwrap_or c.owner None ≡ None → AreEntered forest (take k cs) old mid
     entered-none e = record {
       same = before.same;
-      lists = λ i lt. before.lists i lt ∙ filter_agree (is_settled old (take (k + 1) cs) (i + 1)) (is_settled old (take k cs) (i + 1)) (settled-same (i + 1) (out i c.owner refl e)) (tree_order_of forest (root_at forest (i + 1)));
+      lists = λ i lt. before.lists i lt
+          ∙ filter_agree (is_settled old (take (k + 1) cs) (i + 1)) (is_settled old (take k cs) (i + 1)) (settled-same (i + 1) (out i c.owner refl e))
+          (tree_order_of forest (root_at forest (i + 1)));
     }
       where
         out : (i : ℕ) (o : Option (Option ℕ)) → c.owner ≡ o → unwrap_or o None ≡ None → (is_some o && is_owned_in old (i + 1) c.node) ≡ false
@@ -144,7 +152,8 @@ module _ (old : List OwnerRow) (cs : List Change) (k : ℕ) (c : Change) (at : s
           let low = node.low in
           let high = node.high in
           let same : (g - 1) + 1 ≡ g = omega arith in
-          subst (λ n. (row_of mid g).controls ≡ filter (is_settled old (take (k + 1) cs) n) (tree_order_of forest (root_at forest n))) same (before.lists (g - 1) (omega arith))
+          subst (λ n. (row_of mid g).controls ≡ filter (is_settled old (take (k + 1) cs) n) (tree_order_of forest (root_at forest n))) same
+          (before.lists (g - 1) (omega arith))
 
       pub entered-apart : AreApart (row_of mid g).controls
       entered-apart = subst AreApart (sym listed) (λ i. omega (arith, count-filter test i order, tree_order-apart forest (root_at forest g) tidy i))
@@ -179,14 +188,19 @@ module _ (old : List OwnerRow) (cs : List Change) (k : ℕ) (c : Change) (at : s
         own : is_owned_in old g c.node ≡ true
         own = ap (λ o. is_number o g) (told.owner (Some g) is) ∙ grind (arith, nat_tests)
 
-        put-list : insert_number (find (is_listed_in mid g) (all_after c.node order)) c.node (row_of mid g).controls ≡ filter (is_settled old (take k cs) g) order
+        put-list : insert_number (find (is_listed_in mid g) (all_after c.node order)) c.node (row_of mid g).controls
+            ≡ filter (is_settled old (take k cs) g) order
         put-list =
             ap (λ v. insert_number (find (is_listed_in mid g) (all_after c.node order)) c.node v) listed
-            ∙ ap (λ o. insert_number o c.node (filter test order)) (find-members (is_listed_in mid g) test (all_after c.node order) (λ m h. in-list m (after-in c.node m order h)))
+            ∙ ap (λ o. insert_number o c.node (filter test order))
+            (find-members (is_listed_in mid g) test (all_after c.node order) (λ m h. in-list m (after-in c.node m order h)))
             ∙ at_its_place test c.node order (tree_order-apart forest (root_at forest g) tidy) (told.inside g is) (unsettled g is)
             ∙ filter_agree (or_one test c.node) (is_settled old (take k cs) g) (settled-more g is own once) order
 
-        pub entered-some : (new : List OwnerRow) → Written mid new (g - 1) (record (row_of mid g) { controls = insert_number (find (is_listed_in mid g) (all_after c.node order)) c.node (row_of mid g).controls }) → AreEntered forest (take k cs) old new
+        pub entered-some : (new : List OwnerRow)
+            → Written mid new (g - 1) (record
+            (row_of mid g) { controls = insert_number (find (is_listed_in mid g) (all_after c.node order)) c.node (row_of mid g).controls })
+            → AreEntered forest (take k cs) old new
         entered-some new w = record { same = same; lists = lists }
           where
             same : (i : ℕ) → unlisted (row_in new i) ≡ unlisted (row_in old i)
@@ -195,19 +209,23 @@ module _ (old : List OwnerRow) (cs : List Change) (k : ℕ) (c : Change) (at : s
               | inr ne ↦ ap unlisted (w.others i ne) ∙ before.same i
             ]
 
-            lists : (i : ℕ) → i < size forest → (row_in new i).controls ≡ filter (is_settled old (take k cs) (i + 1)) (tree_order_of forest (root_at forest (i + 1)))
+            lists : (i : ℕ) → i < size forest
+                → (row_in new i).controls ≡ filter (is_settled old (take k cs) (i + 1)) (tree_order_of forest (root_at forest (i + 1)))
             lists i lt = elim (cases_eq i (g - 1)) [
               | inl e ↦
                   let node = told.form g is in
                   let low = node.low in
                   let here : g ≡ i + 1 = omega arith in
-                  subst (λ j. (row_in new j).controls ≡ filter (is_settled old (take k cs) g) order) (sym e) (ap (λ (r : OwnerRow). r.controls) w.here ∙ put-list)
+                  subst (λ j. (row_in new j).controls ≡ filter (is_settled old (take k cs) g) order) (sym e)
+                  (ap (λ (r : OwnerRow). r.controls) w.here ∙ put-list)
                   ∙ ap (λ n. filter (is_settled old (take k cs) n) (tree_order_of forest (root_at forest n))) here
               | inr ne ↦
                   let other : g ≢ i + 1 = λ here. ne (omega arith) in
                   let out : is_number (Some g) (i + 1) ≡ false = grind (arith, nat_tests) in
-                  let not_owned : (is_some c.owner && is_owned_in old (i + 1) c.node) ≡ false = ap (λ o. is_some o && is_owned_in old (i + 1) c.node) is ∙ ap (λ o. is_number o (i + 1)) (told.owner (Some g) is) ∙ out in
+                  let not_owned : (is_some c.owner && is_owned_in old (i + 1) c.node) ≡ false =
+                  ap (λ o. is_some o && is_owned_in old (i + 1) c.node) is ∙ ap (λ o. is_number o (i + 1)) (told.owner (Some g) is) ∙ out in
                   ap (λ (r : OwnerRow). r.controls) (w.others i ne)
                   ∙ before.lists i lt
-                  ∙ filter_agree (is_settled old (take (k + 1) cs) (i + 1)) (is_settled old (take k cs) (i + 1)) (settled-same (i + 1) not_owned) (tree_order_of forest (root_at forest (i + 1)))
+                  ∙ filter_agree (is_settled old (take (k + 1) cs) (i + 1)) (is_settled old (take k cs) (i + 1)) (settled-same (i + 1) not_owned)
+                  (tree_order_of forest (root_at forest (i + 1)))
             ]

@@ -20,7 +20,8 @@ given : (o : Option (Option ℕ)) (g : ℕ) → unwrap_or o None ≡ Some g → 
 given None g e = absurd cc
 given (Some o) g e = ap Some e
 
-module _ (forest : Trees) (tidy : IsTidy forest) (old mid : List OwnerRow) (cs : List Change) (left : ℕ) (low : 0 < left) (c : Change) (at : slice_get cs (left - 1) ≡ Some c) (told : All (IsTold forest old) cs) (entered : AreEntered forest (take left cs) old mid) where
+module _ (forest : Trees) (tidy : IsTidy forest) (old mid : List OwnerRow) (cs : List Change) (left : ℕ) (low : 0 < left) (c : Change)
+    (at : slice_get cs (left - 1) ≡ Some c) (told : All (IsTold forest old) cs) (entered : AreEntered forest (take left cs) old mid) where
   it : IsTold forest old c
   it = subst (IsTold forest old) (get_or_from_slice_get cs (left - 1) c c at) (told (left - 1) c (slice_get_within cs (left - 1) c at))
 
@@ -43,6 +44,11 @@ module _ (forest : Trees) (tidy : IsTidy forest) (old mid : List OwnerRow) (cs :
     pub enters-last : IfSome (last_listed mid g) (HasNoneBehind (is_listed_in mid g) (tree_order_of forest (root_at forest g)))
     enters-last = entered-last old cs (left - 1) c at forest mid before it tidy g (given c.owner g e)
 
-    pub enters-some : AreRising cs → (new : List OwnerRow) → Written mid new (g - 1) (record (row_of mid g) { controls = insert_number (find (is_listed_in mid g) (all_after c.node (tree_order_of forest (root_at forest g)))) c.node (row_of mid g).controls }) →
+    pub enters-some : AreRising cs → (new : List OwnerRow)
+        → Written mid new (g - 1) (record
+        (row_of mid g) {
+          controls = insert_number (find (is_listed_in mid g) (all_after c.node (tree_order_of forest (root_at forest g)))) c.node
+              (row_of mid g).controls;
+        }) →
         AreEntered forest (take (left - 1) cs) old new
     enters-some rising new w = entered-some old cs (left - 1) c at forest mid before it tidy g (given c.owner g e) (earlier cs (left - 1) c rising at) new w

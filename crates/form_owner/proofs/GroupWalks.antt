@@ -53,7 +53,8 @@ pub group-apart : (f : Forms) (radio : ℕ) → IsTidy f.forest → AreApart (gr
 group-apart f radio tidy = apart (is_grouped_with f radio) f.forest radio (is_empty (name_of f.forest radio)) tidy
 
 -- by the rows of a table, fewer are left behind the next
-pub left-less : (table : OwnerRows) (rows : List OwnerRow) (now : Trees) (radio : ℕ) (behind result : Option ℕ) → rows ≡ table.rows → IsTidy now → result ≡ next_after (group_in rows now radio) behind →
+pub left-less : (table : OwnerRows) (rows : List OwnerRow) (now : Trees) (radio : ℕ) (behind result : Option ℕ) → rows ≡ table.rows → IsTidy now
+    → result ≡ next_after (group_in rows now radio) behind →
     IfSome result (λ n. left_behind table now radio (Some n) < left_behind table now radio behind)
 left-less table rows now radio behind None lent tidy e = tt
 left-less table rows now radio behind (Some n) lent tidy e =
@@ -71,7 +72,8 @@ module _ (f : Forms) (radio : ℕ) where
     members-step at m e = behind-step (group_of f radio) at m (group-apart f radio tidy) e
 
     -- so fewer are left
-    pub members-less : (at : Option ℕ) (m : ℕ) → Some m ≡ next_in_group f radio at → length (members_behind f radio (Some m)) < length (members_behind f radio at)
+    pub members-less : (at : Option ℕ) (m : ℕ) → Some m ≡ next_in_group f radio at
+        → length (members_behind f radio (Some m)) < length (members_behind f radio at)
     members-less at m e = omega (arith, ap length (members-step at m e))
 
     -- behind a member comes the one that stands behind it in the group
@@ -80,10 +82,12 @@ module _ (f : Forms) (radio : ℕ) where
 
     module _ (p : ℕ → Bool) (at : Option ℕ) (m : ℕ) (e : Some m ≡ next_in_group f radio at) where
       -- the last that passes, where `found` was the last so far
-      pub last-step : (found : Option ℕ) → last_or found (filter p (members_behind f radio at)) ≡ last_or (cond (p m) (Some m) found) (filter p (members_behind f radio (Some m)))
+      pub last-step : (found : Option ℕ)
+          → last_or found (filter p (members_behind f radio at)) ≡ last_or (cond (p m) (Some m) found) (filter p (members_behind f radio (Some m)))
       last-step found = ap (λ ms. last_or found (filter p ms)) (members-step at m e) ∙ by_test (p m)
         where
-          by_test : (b : Bool) → last_or found (cond b (m ∷ filter p (members_behind f radio (Some m))) (filter p (members_behind f radio (Some m)))) ≡ last_or (cond b (Some m) found) (filter p (members_behind f radio (Some m)))
+          by_test : (b : Bool) → last_or found (cond b (m ∷ filter p (members_behind f radio (Some m))) (filter p (members_behind f radio (Some m))))
+              ≡ last_or (cond b (Some m) found) (filter p (members_behind f radio (Some m)))
           by_test true = refl
           by_test false = refl
 

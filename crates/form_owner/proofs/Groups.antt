@@ -39,7 +39,8 @@ module _ (p : ℕ → Bool) where
   after-filter n [] t = refl
   after-filter n (m ∷ ms) t = by_test (first-filter ms) (after-filter n ms t) (p m) refl
     where
-      by_test : first_of (filter p ms) ≡ find p ms → after n (filter p ms) ≡ find p (all_after n ms) → (b : Bool) → p m ≡ b → after n (cond b (m ∷ filter p ms) (filter p ms)) ≡ find p (all_after n (m ∷ ms))
+      by_test : first_of (filter p ms) ≡ find p ms → after n (filter p ms) ≡ find p (all_after n ms) → (b : Bool) → p m ≡ b
+          → after n (cond b (m ∷ filter p ms) (filter p ms)) ≡ find p (all_after n (m ∷ ms))
       by_test first more true e = grind (arith, nat_tests, first, more)
       by_test first more false e =
           let other : m ≢ n = λ same. let passes : p m ≡ true = subst (λ v. p v ≡ true) (sym same) t in absurd cc in
@@ -50,7 +51,8 @@ module _ (p : ℕ → Bool) where
   found-among k [] h = absurd cc
   found-among k (m ∷ ms) h = by_test (found-among k ms) (p m) refl (m == k) refl h
     where
-      by_test : (is_among k (filter p ms) ≡ true → (p k ≡ true) × (is_among k ms ≡ true)) → (b : Bool) → p m ≡ b → (same : Bool) → (m == k) ≡ same → is_among k (cond b (m ∷ filter p ms) (filter p ms)) ≡ true → (p k ≡ true) × (is_among k (m ∷ ms) ≡ true)
+      by_test : (is_among k (filter p ms) ≡ true → (p k ≡ true) × (is_among k ms ≡ true)) → (b : Bool) → p m ≡ b → (same : Bool) → (m == k) ≡ same
+          → is_among k (cond b (m ∷ filter p ms) (filter p ms)) ≡ true → (p k ≡ true) × (is_among k (m ∷ ms) ≡ true)
       by_test more b e true z i = let same : m ≡ k = grind (arith, nat_tests) in by_kept b e same i
         where
           by_kept : (b : Bool) → p m ≡ b → m ≡ k → is_among k (cond b (m ∷ filter p ms) (filter p ms)) ≡ true → (p k ≡ true) × (is_among k (m ∷ ms) ≡ true)
@@ -100,7 +102,8 @@ module _ (p : ℕ → Bool) (order : List ℕ) (apart : AreApart order) (start a
   look-last e = sym (l.is ∙ ap (find p) (all_after-last at order (sym e)))
 
 -- a tree order whose first is looked at, and then all that follows
-pub find-first : (p : ℕ → Bool) (root : ℕ) (order rest : List ℕ) → order ≡ root ∷ rest → find p order ≡ cond (p root) (Some root) (find p (all_after root order))
+pub find-first : (p : ℕ → Bool) (root : ℕ) (order rest : List ℕ) → order ≡ root ∷ rest
+    → find p order ≡ cond (p root) (Some root) (find p (all_after root order))
 find-first p root order rest is = rw is (grind (arith, nat_tests))
 
 -- who is in a group
@@ -115,11 +118,13 @@ module _ (rows : List OwnerRow) (f : Trees) (radio : ℕ) where
   pub group-named : is_empty (name_of f radio) ≡ false → group_in rows f radio ≡ filter (is_grouped_in rows f radio) order
   group-named e = ap (λ b. cond b (radio ∷ []) (filter (is_grouped_in rows f radio) order)) e
 
-  pub member-grouped : (n : ℕ) → is_empty (name_of f radio) ≡ false → is_among n (group_in rows f radio) ≡ true → (is_grouped_in rows f radio n ≡ true) × (is_among n order ≡ true)
+  pub member-grouped : (n : ℕ) → is_empty (name_of f radio) ≡ false → is_among n (group_in rows f radio) ≡ true
+      → (is_grouped_in rows f radio n ≡ true) × (is_among n order ≡ true)
   member-grouped n e among = found-among (is_grouped_in rows f radio) n order (ap (is_among n) (sym (group-named e)) ∙ among)
 
   -- a member is a node, and a radio button
-  pub member-is : (n : ℕ) → IsTidy f → IsNode f radio → has_kind Radio f radio ≡ true → is_among n (group_in rows f radio) ≡ true → IsNode f n × (has_kind Radio f n ≡ true)
+  pub member-is : (n : ℕ) → IsTidy f → IsNode f radio → has_kind Radio f radio ≡ true → is_among n (group_in rows f radio) ≡ true
+      → IsNode f n × (has_kind Radio f n ≡ true)
   member-is n tidy node kind among = by_name (is_empty (name_of f radio)) refl
     where
       first : (a b c : Bool) → (a && b && c) ≡ true → a ≡ true
@@ -131,7 +136,10 @@ module _ (rows : List OwnerRow) (f : Trees) (radio : ℕ) where
           let at : is_among n (radio ∷ []) ≡ true = ap (is_among n) (sym (group-alone e)) ∙ among in
           let same : radio ≡ n = grind (arith, nat_tests) in
           (subst (IsNode f) same node, subst (λ v. has_kind Radio f v ≡ true) same kind)
-      by_name false e = let both = member-grouped n e among in (member_is_node f (root_at f radio) n tidy both.1, first (has_kind Radio f n) (option_eq nat_eq (row_of rows n).owner (row_of rows radio).owner) (bytes_eq (name_of f n) (name_of f radio)) both.0)
+      by_name false e = let both = member-grouped n e among in (
+        member_is_node f (root_at f radio) n tidy both.1,
+        first (has_kind Radio f n) (option_eq nat_eq (row_of rows n).owner (row_of rows radio).owner) (bytes_eq (name_of f n) (name_of f radio)) both.0,
+      )
 
 -- of a group by a name, the first member is the first that is grouped; behind a member it is the first behind that
 module _ (rows : List OwnerRow) (f : Trees) (radio root : ℕ) (at : root ≡ root_at f radio) (named : is_empty (name_of f radio) ≡ false) where
@@ -139,7 +147,8 @@ module _ (rows : List OwnerRow) (f : Trees) (radio root : ℕ) (at : root ≡ ro
   group-root = group-named rows f radio named ∙ ap (λ r. filter (is_grouped_in rows f radio) (tree_order_of f r)) (sym at)
 
   pub next-none : (behind : Option ℕ) → behind ≡ None → find (is_grouped_in rows f radio) (tree_order_of f root) ≡ next_after (group_in rows f radio) behind
-  next-none behind e = sym (ap (next_after (group_in rows f radio)) e ∙ ap first_of group-root ∙ first-filter (is_grouped_in rows f radio) (tree_order_of f root))
+  next-none behind e = sym (ap (next_after (group_in rows f radio)) e ∙ ap first_of group-root
+      ∙ first-filter (is_grouped_in rows f radio) (tree_order_of f root))
 
   module _ (behind : Option ℕ) (n : ℕ) (e : behind ≡ Some n) (member : IfSome behind (λ m. is_among m (group_in rows f radio) ≡ true)) where
     passes : (is_grouped_in rows f radio n ≡ true) × (is_among n (tree_order_of f root) ≡ true)
@@ -151,7 +160,8 @@ module _ (rows : List OwnerRow) (f : Trees) (radio root : ℕ) (at : root ≡ ro
     among-some = passes.1
 
     pub next-some : find (is_grouped_in rows f radio) (all_after n (tree_order_of f root)) ≡ next_after (group_in rows f radio) behind
-    next-some = sym (ap (next_after (group_in rows f radio)) e ∙ ap (after n) group-root ∙ after-filter (is_grouped_in rows f radio) n (tree_order_of f root) passes.0)
+    next-some = sym (ap (next_after (group_in rows f radio)) e ∙ ap (after n) group-root
+        ∙ after-filter (is_grouped_in rows f radio) n (tree_order_of f root) passes.0)
 
 -- what comes next in a list is of the list
 pub next-among : (ms : List ℕ) (behind : Option ℕ) (d : ℕ) → Some d ≡ next_after ms behind → is_among d ms ≡ true
@@ -173,7 +183,8 @@ module _ (table : OwnerRows) (f : Forms) (stands : Stands table f) where
       ap (λ ms. cond (is_empty (name_of f.forest radio)) (radio ∷ []) ms)
       (filter-members (is_grouped_in table.rows f.forest radio) (is_grouped_with f radio) (tree_order_of f.forest (root_at f.forest radio)) same)
     where
-      same : (m : ℕ) → is_among m (tree_order_of f.forest (root_at f.forest radio)) ≡ true → is_grouped_in table.rows f.forest radio m ≡ is_grouped_with f radio m
+      same : (m : ℕ) → is_among m (tree_order_of f.forest (root_at f.forest radio)) ≡ true
+          → is_grouped_in table.rows f.forest radio m ≡ is_grouped_with f radio m
       same m h = rw (owner-is m (member_is_node f.forest (root_at f.forest radio) m tidy h), owner-is radio node) refl
 
 module _ (table : OwnerRows) (rows : List OwnerRow) (lent : rows ≡ table.rows) (now : Trees) (radio : ℕ) (tidy : IsTidy now) (node : IsNode now radio) where

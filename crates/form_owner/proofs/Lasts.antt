@@ -28,16 +28,19 @@ module _ (p : ℕ → Bool) where
   none-last l [] apart e = absurd cc
   none-last l (m ∷ ms) apart e = by_test (none-last l ms (λ i. omega (arith, apart i))) (p m) e
     where
-      by_rest : (slice_get (filter p ms) (length (filter p ms) - 1) ≡ Some l → HasNoneBehind p ms l) → (xs : List ℕ) → filter p ms ≡ xs → slice_get (m ∷ xs) (length (m ∷ xs) - 1) ≡ Some l → HasNoneBehind p (m ∷ ms) l
+      by_rest : (slice_get (filter p ms) (length (filter p ms) - 1) ≡ Some l → HasNoneBehind p ms l) → (xs : List ℕ) → filter p ms ≡ xs
+          → slice_get (m ∷ xs) (length (m ∷ xs) - 1) ≡ Some l → HasNoneBehind p (m ∷ ms) l
       by_rest more [] is e =
           let same : m ≡ l = cc in
           subst (HasNoneBehind p (m ∷ ms)) same (none-first m ms (sym (first-filter p ms) ∙ ap first_of is))
       by_rest more (x ∷ xs) is e =
           let last : length (x ∷ xs) - 1 ≡ length xs = omega arith in
           let more_last : length (m ∷ x ∷ xs) - 1 ≡ suc (length xs) = omega arith in
-          none-more m l ms apart (more (ap (λ v. slice_get v (length v - 1)) is ∙ ap (slice_get (x ∷ xs)) last ∙ sym (ap (slice_get (m ∷ x ∷ xs)) more_last) ∙ e))
+          none-more m l ms apart (more (ap (λ v. slice_get v (length v - 1)) is ∙ ap (slice_get (x ∷ xs)) last ∙ sym (ap (slice_get (m ∷ x ∷ xs)) more_last)
+          ∙ e))
 
-      by_test : (slice_get (filter p ms) (length (filter p ms) - 1) ≡ Some l → HasNoneBehind p ms l) → (b : Bool) → slice_get (cond b (m ∷ filter p ms) (filter p ms)) (length (cond b (m ∷ filter p ms) (filter p ms)) - 1) ≡ Some l → HasNoneBehind p (m ∷ ms) l
+      by_test : (slice_get (filter p ms) (length (filter p ms) - 1) ≡ Some l → HasNoneBehind p ms l) → (b : Bool)
+          → slice_get (cond b (m ∷ filter p ms) (filter p ms)) (length (cond b (m ∷ filter p ms) (filter p ms)) - 1) ≡ Some l → HasNoneBehind p (m ∷ ms) l
       by_test more true e = by_rest more (filter p ms) refl e
       by_test more false e = none-more m l ms apart (more e)
 
@@ -61,6 +64,7 @@ module _ (p : ℕ → Bool) (order : List ℕ) (apart : AreApart order) where
   none-among None here = tt
   none-among (Some n) here = here.among
 
-pub none-here : (p : ℕ → Bool) (order : List ℕ) (o : Option ℕ) (n : ℕ) → IfSome o (HasNoneBehind p order) → option_eq nat_eq o (Some n) ≡ true → None ≡ find p (all_after n order)
+pub none-here : (p : ℕ → Bool) (order : List ℕ) (o : Option ℕ) (n : ℕ) → IfSome o (HasNoneBehind p order) → option_eq nat_eq o (Some n) ≡ true
+    → None ≡ find p (all_after n order)
 none-here p order None n here e = absurd cc
 none-here p order (Some m) n here e = let same : m ≡ n = grind (arith, nat_tests, e) in subst (λ v. None ≡ find p (all_after v order)) same (sym here.none)

@@ -1,5 +1,6 @@
 -- Lists that nodes are taken out of.
-use Rattle.std.proofs.Common.{◌≡◌, ◌≢◌, ℕ, zero, suc, ◌+◌, ◌-◌, ◌<◌, ◌==◌, Bool, true, false, cond, List, [], ◌∷◌, take, length, get_or, Some, None, refl, sym, ap, ◌∙◌, subst, arith, inl, inr}
+use Rattle.std.proofs.Common.{◌≡◌, ◌≢◌, ℕ, zero, suc, ◌+◌, ◌-◌, ◌<◌, ◌==◌, Bool, true, false, cond, List, [], ◌∷◌, take, length, get_or, Some, None, refl, sym}
+use Rattle.std.proofs.Common.{ap, ◌∙◌, subst, arith, inl, inr}
 use Rattle.std.specs.Prelude.{filter, slice_get, not, is_some, ◌||◌, ◌&&◌}
 use Rattle.std.proofs.lemmas.Bool.{cases_eq}
 use Rattle.std.proofs.lemmas.Bool.Decides.{nat_tests}
@@ -19,7 +20,8 @@ pub filter-filter : (p q : ℕ → Bool) (xs : List ℕ) → filter p (filter q 
 filter-filter p q [] = refl
 filter-filter p q (x ∷ xs) = by_test (filter-filter p q xs) (p x) refl (q x)
   where
-    by_test : filter p (filter q xs) ≡ filter (λ m. p m && q m) xs → (b : Bool) → p x ≡ b → (c : Bool) → filter p (cond c (x ∷ filter q xs) (filter q xs)) ≡ cond (b && c) (x ∷ filter (λ m. p m && q m) xs) (filter (λ m. p m && q m) xs)
+    by_test : filter p (filter q xs) ≡ filter (λ m. p m && q m) xs → (b : Bool) → p x ≡ b → (c : Bool)
+        → filter p (cond c (x ∷ filter q xs) (filter q xs)) ≡ cond (b && c) (x ∷ filter (λ m. p m && q m) xs) (filter (λ m. p m && q m) xs)
     by_test more true e true = ap (λ b. cond b (x ∷ filter p (filter q xs)) (filter p (filter q xs))) e ∙ ap (λ v. x ∷ v) more
     by_test more false e true = ap (λ b. cond b (x ∷ filter p (filter q xs)) (filter p (filter q xs))) e ∙ more
     by_test more true e false = more
@@ -73,7 +75,8 @@ module _ (rows : List OwnerRow) (owned : (i : ℕ) → filter (is_owned_in rows 
   pub left-none : (row_of rows n).owner ≡ None → (i : ℕ) → row_in rows i ≡ record (row_in rows i) { controls = filter (is_other n) (row_in rows i).controls }
   left-none e i = elsewhere i (ap (λ o. is_number o (i + 1)) e)
 
-  pub left-form : (form : ℕ) (new : List OwnerRow) → (row_of rows n).owner ≡ Some form → Written rows new (form - 1) (record (row_of rows form) { controls = filter (is_other n) (row_of rows form).controls }) →
+  pub left-form : (form : ℕ) (new : List OwnerRow) → (row_of rows n).owner ≡ Some form
+      → Written rows new (form - 1) (record (row_of rows form) { controls = filter (is_other n) (row_of rows form).controls }) →
       (i : ℕ) → row_in new i ≡ record (row_in rows i) { controls = filter (is_other n) (row_in rows i).controls }
   left-form form new e w i = elim (cases_eq i (form - 1)) [
     | inl same ↦ subst (λ j. row_in new j ≡ record (row_in rows j) { controls = filter (is_other n) (row_in rows j).controls }) (sym same) w.here
@@ -84,18 +87,25 @@ module _ (rows : List OwnerRow) (owned : (i : ℕ) → filter (is_owned_in rows 
   ]
 
 -- where it does not move, it stays
-pub left-not : (moves : Bool) (n : ℕ) (old : List OwnerRow) → moves ≡ false → (i : ℕ) → row_in old i ≡ record (row_in old i) { controls = filter (λ m. not (moves && n == m)) (row_in old i).controls }
-left-not moves n old t i = ap (λ v. record (row_in old i) { controls = v }) (sym (filter-all (λ m. not (moves && n == m)) (row_in old i).controls (λ m. ap (λ b. not (b && n == m)) t)))
+pub left-not : (moves : Bool) (n : ℕ) (old : List OwnerRow) → moves ≡ false → (i : ℕ)
+    → row_in old i ≡ record (row_in old i) { controls = filter (λ m. not (moves && n == m)) (row_in old i).controls }
+left-not moves n old t i = ap (λ v. record (row_in old i) { controls = v })
+    (sym (filter-all (λ m. not (moves && n == m)) (row_in old i).controls (λ m. ap (λ b. not (b && n == m)) t)))
 
 -- one change after another
 
-pub moved-more : (cs : List Change) (k : ℕ) (c : Change) (m : ℕ) → slice_get cs k ≡ Some c → is_moved_by (take (k + 1) cs) m ≡ (is_moved_by (take k cs) m || is_moving m c)
-moved-more cs k c m at = list_any_more (is_moving m) cs k c (slice_get_within cs k c at) ∙ ap (λ d. is_moved_by (take k cs) m || is_moving m d) (get_or_from_slice_get cs k c c at)
+pub moved-more : (cs : List Change) (k : ℕ) (c : Change) (m : ℕ) → slice_get cs k ≡ Some c
+    → is_moved_by (take (k + 1) cs) m ≡ (is_moved_by (take k cs) m || is_moving m c)
+moved-more cs k c m at = list_any_more (is_moving m) cs k c (slice_get_within cs k c at)
+    ∙ ap (λ d. is_moved_by (take k cs) m || is_moving m d) (get_or_from_slice_get cs k c c at)
 
-module _ (start mid : List OwnerRow) (cs : List Change) (k : ℕ) (so_far : (i : ℕ) → row_in mid i ≡ record (row_in start i) { controls = filter (stays (take k cs)) (row_in start i).controls }) where
-  pub left-owned : ((i : ℕ) → filter (is_owned_in start (i + 1)) (row_in start i).controls ≡ (row_in start i).controls) → (i : ℕ) → filter (is_owned_in mid (i + 1)) (row_in mid i).controls ≡ (row_in mid i).controls
+module _ (start mid : List OwnerRow) (cs : List Change) (k : ℕ) (so_far : (i : ℕ)
+    → row_in mid i ≡ record (row_in start i) { controls = filter (stays (take k cs)) (row_in start i).controls }) where
+  pub left-owned : ((i : ℕ) → filter (is_owned_in start (i + 1)) (row_in start i).controls ≡ (row_in start i).controls) → (i : ℕ)
+      → filter (is_owned_in mid (i + 1)) (row_in mid i).controls ≡ (row_in mid i).controls
   left-owned owned i =
-      filter_agree (is_owned_in mid (i + 1)) (is_owned_in start (i + 1)) (λ m. ap (λ (r : OwnerRow). is_number r.owner (i + 1)) (so_far (m - 1))) (row_in mid i).controls
+      filter_agree (is_owned_in mid (i + 1)) (is_owned_in start (i + 1)) (λ m. ap (λ (r : OwnerRow). is_number r.owner (i + 1)) (so_far (m - 1)))
+      (row_in mid i).controls
       ∙ ap (λ (r : OwnerRow). filter (is_owned_in start (i + 1)) r.controls) (so_far i)
       ∙ filter-swap (is_owned_in start (i + 1)) (stays (take k cs)) (row_in start i).controls
       ∙ ap (filter (stays (take k cs))) (owned i)

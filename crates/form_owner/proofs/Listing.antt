@@ -25,10 +25,13 @@ among-more n xs i x at =
 
 module _ (forest : Trees) where
   -- rows that have the same owners list the same
-  pub owned-same : (old new : List OwnerRow) → ((i : ℕ) → unlisted (row_in new i) ≡ unlisted (row_in old i)) → (n : ℕ) → owned_in new forest n ≡ owned_in old forest n
-  owned-same old new same n = filter-members (is_owned_in new n) (is_owned_in old n) (tree_order_of forest (root_at forest n)) (λ m among. ap (λ (r : OwnerRow). is_number r.owner n) (same (m - 1)))
+  pub owned-same : (old new : List OwnerRow) → ((i : ℕ) → unlisted (row_in new i) ≡ unlisted (row_in old i)) → (n : ℕ)
+      → owned_in new forest n ≡ owned_in old forest n
+  owned-same old new same n = filter-members (is_owned_in new n) (is_owned_in old n) (tree_order_of forest (root_at forest n))
+      (λ m among. ap (λ (r : OwnerRow). is_number r.owner n) (same (m - 1)))
 
-  pub listed-next : (forms : List ℕ) (k n : ℕ) → slice_get forms k ≡ Some n → IsNode forest n → (old mid new : List OwnerRow) → AreListed forest (take k forms) old mid →
+  pub listed-next : (forms : List ℕ) (k n : ℕ) → slice_get forms k ≡ Some n → IsNode forest n → (old mid new : List OwnerRow)
+      → AreListed forest (take k forms) old mid →
       Written mid new (n - 1) (record (row_of mid n) { controls = owned_in mid forest n }) → AreListed forest (take (k + 1) forms) old new
   listed-next forms k n at node old mid new so_far w = record { same = same; listed = listed; others = others }
     where

@@ -1,5 +1,6 @@
 -- Notes of what a move looks at: how they are made, and what a touch leaves of them.
-use Rattle.std.proofs.Common.{◌≡◌, ◌≢◌, ◌⊎◌, ℕ, zero, suc, ◌+◌, ◌-◌, ◌<◌, ◌==◌, Bool, true, false, List, [], ◌∷◌, ◌++◌, length, Option, Some, None, refl, sym, ap, ◌∙◌, subst, arith, inl, inr}
+use Rattle.std.proofs.Common.{◌≡◌, ◌≢◌, ◌⊎◌, ℕ, zero, suc, ◌+◌, ◌-◌, ◌<◌, ◌==◌, Bool, true, false, List, [], ◌∷◌, ◌++◌, length, Option, Some, None, refl, sym}
+use Rattle.std.proofs.Common.{ap, ◌∙◌, subst, arith, inl, inr}
 use Rattle.std.specs.Prelude.{◌||◌, codes, is_some}
 use Rattle.std.specs.BTreeMap.{get_by_text}
 use Rattle.std.specs.BTreeSet.{BTreeSet, contains}
@@ -26,7 +27,8 @@ use Rattle.form_owner.specs.declared.looks.Look.TheVariants.{Whole, Id, Nothing}
 use Rattle.form_owner.specs.declared.touch.Touch.{Touch}
 use Rattle.form_owner.specs.declared.touch.Touch.TheVariants.{Inserted, Removed, Attr, Associated}
 use Rattle.form_owner.specs.Candidates.{Considers, is_concerned, is_named_by, is_with}
-use Rattle.form_owner.specs.Looks.{AreKept, AreNotedWhole, AreRight, IsRight, IsRightAt, IsTouching, IsUnnamed, KnowsBy, SaysNoMore, known_by, is_touching, look_at}
+use Rattle.form_owner.specs.Looks.{AreKept, AreNotedWhole, AreRight, IsRight, IsRightAt, IsTouching, IsUnnamed, KnowsBy, SaysNoMore, known_by, is_touching}
+use Rattle.form_owner.specs.Looks.{look_at}
 use Rattle.form_owner.specs.OwnerRows.{OwnerRows}
 use Rattle.form_owner.specs.Touches.{IsTouched, after_touch, associated_by}
 use Rattle.form_owner.proofs.Considering.{nothing}
@@ -36,7 +38,8 @@ use Rattle.form_owner.proofs.Touching.{facts-stay, is_changed}
 -- notes are made
 
 -- a note that is behind the others is the last
-noted-more : (looks : List Look) (look : Look) (i : ℕ) → (look_at (looks ++ look ∷ []) i ≡ look_at looks i) ⊎ ((i ≡ length looks) × (look_at (looks ++ look ∷ []) i ≡ look))
+noted-more : (looks : List Look) (look : Look) (i : ℕ)
+    → (look_at (looks ++ look ∷ []) i ≡ look_at looks i) ⊎ ((i ≡ length looks) × (look_at (looks ++ look ∷ []) i ≡ look))
 noted-more [] look zero = inr (refl, refl)
 noted-more [] look (suc i) = inl refl
 noted-more (l ∷ ls) look zero = inl refl
@@ -54,13 +57,16 @@ module _ (forest : Trees) (rows : List OwnerRow) (known : List ℕ → Bool) (n 
   here-or-whole i same Id is = here i same Id (is (λ e. absurd cc))
   here-or-whole i same Nothing is = here i same Nothing (is (λ e. absurd cc))
 
-  pub noted-next : (start old new : List Look) → n ≡ length old + 1 → new ≡ old ++ look ∷ [] → ((i : ℕ) → IsRightAt forest rows known start i → IsRightAt forest rows known old i) → (i : ℕ) → IsRightAt forest rows known start i → IsRightAt forest rows known new i
+  pub noted-next : (start old new : List Look) → n ≡ length old + 1 → new ≡ old ++ look ∷ []
+      → ((i : ℕ) → IsRightAt forest rows known start i → IsRightAt forest rows known old i) → (i : ℕ) → IsRightAt forest rows known start i
+      → IsRightAt forest rows known new i
   noted-next start old new place longer so_far i was = elim (noted-more old look i) [
     | inl same ↦ subst (λ l. IsRight forest rows known l (i + 1)) (sym (ap (λ v. look_at v i) longer ∙ same)) (so_far i was)
     | inr last ↦ let at = last.0 in here i (omega (arith, at, place)) (look_at new i) (ap (λ v. look_at v i) longer ∙ last.1)
   ]
 
-  pub noted-again : 0 < n → (old new : List Look) → (look_at new (n - 1) ≢ Whole → look_at new (n - 1) ≡ look) → ((i : ℕ) → i ≢ n - 1 → look_at new i ≡ look_at old i) → (i : ℕ) → (i ≢ n - 1 → IsRightAt forest rows known old i) → IsRightAt forest rows known new i
+  pub noted-again : 0 < n → (old new : List Look) → (look_at new (n - 1) ≢ Whole → look_at new (n - 1) ≡ look)
+      → ((i : ℕ) → i ≢ n - 1 → look_at new i ≡ look_at old i) → (i : ℕ) → (i ≢ n - 1 → IsRightAt forest rows known old i) → IsRightAt forest rows known new i
   noted-again low old new at others i was = elim (cases_eq i (n - 1)) [
     | inl e ↦ here-or-whole i (omega (arith, low, e)) (look_at new i) (subst (λ k. look_at new k ≢ Whole → look_at new k ≡ look) (sym e) at)
     | inr ne ↦ subst (λ l. IsRight forest rows known l (i + 1)) (sym (others i ne)) (was ne)
@@ -87,13 +93,15 @@ unknown-none (Some s) m e = absurd cc
 pub unknown-unheld : (index : IdIndex) (id : List ℕ) (m : ℕ) → is_known index id ≡ false → is_held index id m ≡ false
 unknown-unheld index id m = unknown-none (get_by_text index.groups id) m
 
-by-nobody : (forest : Trees) (index : IdIndex) (n : ℕ) → IsUnnamed forest (is_known index) n → (o : Option (List ℕ)) → attribute_at forest n (codes "id") ≡ o → (m : ℕ) → is_named_by (is_held index) o m ≡ false
+by-nobody : (forest : Trees) (index : IdIndex) (n : ℕ) → IsUnnamed forest (is_known index) n → (o : Option (List ℕ)) → attribute_at forest n (codes "id") ≡ o
+    → (m : ℕ) → is_named_by (is_held index) o m ≡ false
 by-nobody forest index n unnamed None is m = refl
 by-nobody forest index n unnamed (Some id) is m = unknown-unheld index id m (unnamed id is).unknown
 
 -- forms are not about n
 module _ (forest : Trees) (rows : List OwnerRow) (n : ℕ) (apart : is_concerned forest rows n ≡ false) where
-  pub passed-node : {test : ℕ → Bool} {old new : List ℕ} → Considers forest (is_concerned forest rows) test old new → Considers forest (is_concerned forest rows) (λ m. n == m || test m) old new
+  pub passed-node : {test : ℕ → Bool} {old new : List ℕ} → Considers forest (is_concerned forest rows) test old new
+      → Considers forest (is_concerned forest rows) (λ m. n == m || test m) old new
   passed-node {test} {old} {new} all = record {
     nodes = all.nodes;
     kept = all.kept;
@@ -101,36 +109,51 @@ module _ (forest : Trees) (rows : List OwnerRow) (n : ℕ) (apart : is_concerned
   }
     where
       by_test : (m : ℕ) → IsNode forest m → is_concerned forest rows m ≡ true → (b : Bool) → (n == m) ≡ b → (b || test m) ≡ true → is_among m new ≡ true
-      by_test m node about true e passes = absurd (let it : is_concerned forest rows m ≡ false = subst (λ k. is_concerned forest rows k ≡ false) (eqb-true n m e) apart in cc)
+      by_test m node about true e passes =
+          absurd (let it : is_concerned forest rows m ≡ false = subst (λ k. is_concerned forest rows k ≡ false) (eqb-true n m e) apart in cc)
       by_test m node about false e passes = all.found m node about passes
 
-module _ (forest : Trees) (rows : List OwnerRow) (index : IdIndex) (looks : List Look) (are : AreRight forest rows (is_known index) looks) (n : ℕ) (node : IsNode forest n) where
+module _ (forest : Trees) (rows : List OwnerRow) (index : IdIndex) (looks : List Look) (are : AreRight forest rows (is_known index) looks) (n : ℕ)
+    (node : IsNode forest n) where
   right-of : (look : Look) → look ≡ look_at looks (n - 1) → IsRight forest rows (is_known index) look n
-  right-of look noted = let low = node.low in let same : (n - 1) + 1 ≡ n = omega (arith, low) in subst (λ k. IsRight forest rows (is_known index) look k) same (subst (λ l. IsRight forest rows (is_known index) l ((n - 1) + 1)) (sym noted) (are (n - 1)))
+  right-of look noted = let low = node.low in let same : (n - 1) + 1 ≡ n =
+      omega (arith, low) in subst (λ k. IsRight forest rows (is_known index) look k) same
+      (subst (λ l. IsRight forest rows (is_known index) l ((n - 1) + 1)) (sym noted) (are (n - 1)))
 
   pub passed-by : Nothing ≡ look_at looks (n - 1) → (set : List ℕ) → Considers forest (is_concerned forest rows) (is_with forest (is_held index) n) set set
   passed-by noted set =
       passed-node forest rows n (right-of Nothing noted).0.apart
-      (nothing (is_named_by (is_held index) (attribute_at forest n (codes "id"))) set (λ m about. by-nobody forest index n (right-of Nothing noted).1 (attribute_at forest n (codes "id")) refl m))
+      (nothing (is_named_by (is_held index) (attribute_at forest n (codes "id"))) set
+      (λ m about. by-nobody forest index n (right-of Nothing noted).1 (attribute_at forest n (codes "id")) refl m))
 
 -- the notes of a table, lent
-pub looks-lent : (forest : Trees) (table : OwnerRows) (rows : List OwnerRow) (index : IdIndex) (looks : List Look) → rows ≡ table.rows → index ≡ table.named → looks ≡ table.looks → AreRight forest table.rows (is_known table.named) table.looks → AreRight forest rows (is_known index) looks
+pub looks-lent : (forest : Trees) (table : OwnerRows) (rows : List OwnerRow) (index : IdIndex) (looks : List Look) → rows ≡ table.rows → index ≡ table.named
+    → looks ≡ table.looks → AreRight forest table.rows (is_known table.named) table.looks → AreRight forest rows (is_known index) looks
 looks-lent forest table rows index looks same_rows same_index same_looks are =
-    subst (λ r. AreRight forest r (is_known index) looks) (sym same_rows) (subst (λ x. AreRight forest table.rows (is_known x) looks) (sym same_index) (subst (AreRight forest table.rows (is_known table.named)) (sym same_looks) are))
+    subst (λ r. AreRight forest r (is_known index) looks) (sym same_rows)
+    (subst (λ x. AreRight forest table.rows (is_known x) looks) (sym same_index)
+    (subst (AreRight forest table.rows (is_known table.named)) (sym same_looks) are))
 
 -- what is right stays so
 
 -- the same facts, and the same texts
-pub unnamed-still : (old new : Trees) (was is : List ℕ → Bool) (m : ℕ) → ((id : List ℕ) → has_id id (facts_at new m) ≡ has_id id (facts_at old m)) → attribute_at new m (codes "id") ≡ attribute_at old m (codes "id") → ((id : List ℕ) → was id ≡ false → is id ≡ false) → IsUnnamed old was m → IsUnnamed new is m
+pub unnamed-still : (old new : Trees) (was is : List ℕ → Bool) (m : ℕ) → ((id : List ℕ) → has_id id (facts_at new m) ≡ has_id id (facts_at old m))
+    → attribute_at new m (codes "id") ≡ attribute_at old m (codes "id") → ((id : List ℕ) → was id ≡ false → is id ≡ false) → IsUnnamed old was m
+    → IsUnnamed new is m
 unnamed-still old new was is m has same texts unnamed id at =
     let it = unnamed id (sym same ∙ at) in
     record { has = has id ∙ it.has; unknown = texts id it.unknown }
 
-pub right-still : (old new : Trees) (was is : List OwnerRow) (known : List ℕ → Bool) (m : ℕ) → (IsNode old m → IsNode new m) → (IsNode old m → is_concerned new is m ≡ is_concerned old was m) → (IsNode old m → (id : List ℕ) → has_id id (facts_at new m) ≡ has_id id (facts_at old m)) → attribute_at new m (codes "id") ≡ attribute_at old m (codes "id") → (look : Look) → IsRight old was known look m → IsRight new is known look m
+pub right-still : (old new : Trees) (was is : List OwnerRow) (known : List ℕ → Bool) (m : ℕ) → (IsNode old m → IsNode new m)
+    → (IsNode old m → is_concerned new is m ≡ is_concerned old was m)
+    → (IsNode old m → (id : List ℕ) → has_id id (facts_at new m) ≡ has_id id (facts_at old m))
+    → attribute_at new m (codes "id") ≡ attribute_at old m (codes "id") → (look : Look) → IsRight old was known look m → IsRight new is known look m
 right-still old new was is known m node about has same Whole right = tt
 right-still old new was is known m node about has same Id right = record { node = node right.node; apart = about right.node ∙ right.apart }
-right-still old new was is known m node about has same Nothing right =
-    (record { node = node right.0.node; apart = about right.0.node ∙ right.0.apart }, unnamed-still old new known known m (has right.0.node) same (λ id e. e) right.1)
+right-still old new was is known m node about has same Nothing right = (
+  record { node = node right.0.node; apart = about right.0.node ∙ right.0.apart },
+  unnamed-still old new known known m (has right.0.node) same (λ id e. e) right.1,
+)
 
 -- a note says no more than itself
 pub the-same : (a : Look) → SaysNoMore a a
@@ -140,12 +163,14 @@ the-same Nothing = refl
 
 -- what is kept is right by the texts that are seen now
 module _ (forest : Trees) (rows : List OwnerRow) (was now : List ℕ → Bool) (n : ℕ) where
-  pub right-kept : (old new : Look) → SaysNoMore old new → (new ≡ Nothing → IsUnnamed forest was n → IsUnnamed forest now n) → IsRight forest rows was old n → IsRight forest rows now new n
+  pub right-kept : (old new : Look) → SaysNoMore old new → (new ≡ Nothing → IsUnnamed forest was n → IsUnnamed forest now n) → IsRight forest rows was old n
+      → IsRight forest rows now new n
   right-kept old Whole less unnamed right = tt
   right-kept Whole Id less unnamed right = absurd (less refl)
   right-kept Id Id less unnamed right = right
   right-kept Nothing Id less unnamed right = right.0
-  right-kept old Nothing less unnamed right = let it : IsRight forest rows was Nothing n = subst (λ l. IsRight forest rows was l n) less right in (it.0, unnamed refl it.1)
+  right-kept old Nothing less unnamed right = let it : IsRight forest rows was Nothing n =
+      subst (λ l. IsRight forest rows was l n) less right in (it.0, unnamed refl it.1)
 
   pub right-seen : ((id : List ℕ) → was id ≡ false → now id ≡ false) → (look : Look) → IsRight forest rows was look n → IsRight forest rows now look n
   right-seen same Whole right = tt
@@ -184,33 +209,43 @@ module _ (touch : Touch) (before : Forms) (now : Trees) (touched : IsTouched tou
     id-now = ap (λ (x : Facts). value_in x.attributes (codes "id")) facts-now
 
   -- with the rows of before
-  pub looks-still : ((m : ℕ) → is_touching touch m ≡ false) → (rows : List OwnerRow) (known : List ℕ → Bool) (looks : List Look) → AreRight before.forest rows known looks → AreRight now rows known looks
+  pub looks-still : ((m : ℕ) → is_touching touch m ≡ false) → (rows : List OwnerRow) (known : List ℕ → Bool) (looks : List Look)
+      → AreRight before.forest rows known looks → AreRight now rows known looks
   looks-still nowhere rows known looks are i =
       let apart = nowhere (i + 1) in
-      right-still before.forest now rows rows known (i + 1) (node-now (i + 1)) (λ node. about-now (i + 1) apart rows) (λ node. has-now (i + 1) apart) (id-now (i + 1) apart) (look_at looks i) (are i)
+      right-still before.forest now rows rows known (i + 1) (node-now (i + 1)) (λ node. about-now (i + 1) apart rows) (λ node. has-now (i + 1) apart)
+      (id-now (i + 1) apart) (look_at looks i) (are i)
 
   -- with the rows as they are then
-  module _ (old new : List OwnerRow) (was : (i : ℕ) → (row_in old i).associated ≡ is_associated before (i + 1)) (is : (i : ℕ) → (row_in new i).associated ≡ is_associated (after_touch touch before now) (i + 1)) where
+  module _ (old new : List OwnerRow) (was : (i : ℕ) → (row_in old i).associated ≡ is_associated before (i + 1)) (is : (i : ℕ)
+      → (row_in new i).associated ≡ is_associated (after_touch touch before now) (i + 1)) where
     flag : (m : ℕ) → 0 < m → is_touching touch m ≡ false → (row_of new m).associated ≡ (row_of old m).associated
     flag m low apart =
         let same : (m - 1) + 1 ≡ m = omega (arith, low) in
-        is (m - 1) ∙ ap (is_associated (after_touch touch before now)) same ∙ same-members touch before.associated m apart ∙ sym (was (m - 1) ∙ ap (is_associated before) same)
+        is (m - 1) ∙ ap (is_associated (after_touch touch before now)) same ∙ same-members touch before.associated m apart
+        ∙ sym (was (m - 1) ∙ ap (is_associated before) same)
 
-    looks-then : (known : List ℕ → Bool) (looks : List Look) → AreRight before.forest old known looks → (i : ℕ) → is_touching touch (i + 1) ≡ false → IsRightAt now new known looks i
+    looks-then : (known : List ℕ → Bool) (looks : List Look) → AreRight before.forest old known looks → (i : ℕ) → is_touching touch (i + 1) ≡ false
+        → IsRightAt now new known looks i
     looks-then known looks are i apart =
         right-still before.forest now old new known (i + 1) (node-now (i + 1))
         (λ node. ap (λ b. listed_by now (i + 1) b || is_a OptionItem now (i + 1)) (flag (i + 1) (omega arith) apart) ∙ about-now (i + 1) apart old)
         (λ node. has-now (i + 1) apart) (id-now (i + 1) apart) (look_at looks i) (are i)
 
     -- and with the texts
-    pub looks-seen : (known then : List ℕ → Bool) (looks minded : List Look) → AreRight before.forest old known looks → AreKept now known (known_by touch now known) looks minded → KnowsBy touch now known then → (i : ℕ) → is_touching touch (i + 1) ≡ false → IsRightAt now new then minded i
+    pub looks-seen : (known then : List ℕ → Bool) (looks minded : List Look) → AreRight before.forest old known looks
+        → AreKept now known (known_by touch now known) looks minded → KnowsBy touch now known then → (i : ℕ) → is_touching touch (i + 1) ≡ false
+        → IsRightAt now new then minded i
     looks-seen known then looks minded are kept same i apart =
         right-seen now new (known_by touch now known) then (i + 1) same (look_at minded i)
-        (right-kept now new known (known_by touch now known) (i + 1) (look_at looks i) (look_at minded i) (kept.less i) (kept.unnamed i) (looks-then known looks are i apart))
+        (right-kept now new known (known_by touch now known) (i + 1) (look_at looks i) (look_at minded i) (kept.less i) (kept.unnamed i)
+        (looks-then known looks are i apart))
 
 -- whom forms are about is looked at as a whole, where each note is so
-pub noted-whole : (forest : Trees) (rows : List OwnerRow) (known : List ℕ → Bool) (looks : List Look) → AreRight forest rows known looks → AreNotedWhole forest rows looks
-noted-whole forest rows known looks are n node about = by_note (look_at looks (n - 1)) (subst (λ k. IsRight forest rows known (look_at looks (n - 1)) k) (let low = node.low in omega (arith, low)) (are (n - 1)))
+pub noted-whole : (forest : Trees) (rows : List OwnerRow) (known : List ℕ → Bool) (looks : List Look) → AreRight forest rows known looks
+    → AreNotedWhole forest rows looks
+noted-whole forest rows known looks are n node about =
+    by_note (look_at looks (n - 1)) (subst (λ k. IsRight forest rows known (look_at looks (n - 1)) k) (let low = node.low in omega (arith, low)) (are (n - 1)))
   where
     by_note : (look : Look) → IsRight forest rows known look n → look ≡ Whole
     by_note Whole right = refl

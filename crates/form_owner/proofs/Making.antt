@@ -1,5 +1,6 @@
 -- Rows that stand for the trees stand for them still where a node is made, and where a node document is set.
-use Rattle.std.proofs.Common.{◌≡◌, ◌≢◌, ℕ, ◌+◌, ◌⊎◌, Bool, true, false, cond, List, [], ◌∷◌, ◌++◌, Option, Some, None, refl, sym, ap, ◌∙◌, subst, arith, inl, inr, ◌≤◌}
+use Rattle.std.proofs.Common.{◌≡◌, ◌≢◌, ℕ, ◌+◌, ◌⊎◌, Bool, true, false, cond, List, [], ◌∷◌, ◌++◌, Option, Some, None, refl, sym, ap, ◌∙◌, subst, arith, inl}
+use Rattle.std.proofs.Common.{inr, ◌≤◌}
 use Rattle.std.specs.Prelude.{not, ◌&&◌, ◌||◌, ◌==◌, codes, filter, find, is_some}
 use Rattle.std.specs.List.{list_any}
 use Rattle.std.proofs.lemmas.Bool.{cases_eq, cases_lt, eq-eqb}
@@ -25,8 +26,10 @@ use Rattle.tree_laws.proofs.OtherFacts.{alike_facts}
 use Rattle.tree_laws.proofs.Changed.{size-with}
 use Rattle.ordered_tables.specs.Held.{is_known}
 use Rattle.form_controls.specs.Kinds.{native_at, is_a}
-use Rattle.form_controls.specs.Owners.{Forms, is_associated, is_listed_native, owner_by, form_owner, where_form, named_form, nearest_form, ancestors_below, ancestors, is_owned_by, controls_of}
-use Rattle.form_controls.specs.Disabled.{has_disabled, first_legend, is_inside, disables, is_in_disabled_fieldset, is_in_disabled_group, is_option_disabled, is_disabled}
+use Rattle.form_controls.specs.Owners.{Forms, is_associated, is_listed_native, owner_by, form_owner, where_form, named_form, nearest_form, ancestors_below}
+use Rattle.form_controls.specs.Owners.{ancestors, is_owned_by, controls_of}
+use Rattle.form_controls.specs.Disabled.{has_disabled, first_legend, is_inside, disables, is_in_disabled_fieldset, is_in_disabled_group, is_option_disabled}
+use Rattle.form_controls.specs.Disabled.{is_disabled}
 use Rattle.owner_rows.specs.OwnerRow.{Seen, row_of}
 use Rattle.form_owner.specs.OwnerRows.{OwnerRows}
 use Rattle.form_owner.specs.Attributes.{is_text}
@@ -45,14 +48,17 @@ use Rattle.form_owner.proofs.Looking.{right-still}
 above-free : (n : ℕ) (above : List ℕ) (i : ℕ) (f : Trees) → is_among n above ≡ false → times n f ≡ 0 → is_among n (ancestors_below above i f) ≡ false
 above-free n above i none out z = refl
 above-free n above i (tree m x s k r) out z =
-    by_test (m == i) (above-free n [] i s refl (omega arith)) (above-free n (m ∷ above) i k (grind (arith, nat_tests)) (omega arith)) (above-free n above i r out (omega arith))
+    by_test (m == i) (above-free n [] i s refl (omega arith)) (above-free n (m ∷ above) i k (grind (arith, nat_tests)) (omega arith))
+    (above-free n above i r out (omega arith))
   where
-    by_test : (b : Bool) → is_among n (ancestors_below [] i s) ≡ false → is_among n (ancestors_below (m ∷ above) i k) ≡ false → is_among n (ancestors_below above i r) ≡ false →
+    by_test : (b : Bool) → is_among n (ancestors_below [] i s) ≡ false → is_among n (ancestors_below (m ∷ above) i k) ≡ false
+        → is_among n (ancestors_below above i r) ≡ false →
         is_among n (cond b above ((ancestors_below [] i s ++ ancestors_below (m ∷ above) i k) ++ ancestors_below above i r)) ≡ false
     by_test true in_s in_k in_r = out
     by_test false in_s in_k in_r =
         is_among-append n (ancestors_below [] i s ++ ancestors_below (m ∷ above) i k) (ancestors_below above i r)
-        ∙ ap (λ b. b || is_among n (ancestors_below above i r)) (is_among-append n (ancestors_below [] i s) (ancestors_below (m ∷ above) i k) ∙ ap (λ b. b || is_among n (ancestors_below (m ∷ above) i k)) in_s ∙ in_k)
+        ∙ ap (λ b. b || is_among n (ancestors_below above i r)) (is_among-append n (ancestors_below [] i s) (ancestors_below (m ∷ above) i k)
+        ∙ ap (λ b. b || is_among n (ancestors_below (m ∷ above) i k)) in_s ∙ in_k)
         ∙ in_r
 
 roots-free : (n : ℕ) (f : Trees) → times n f ≡ 0 → is_among n (roots f) ≡ false
@@ -142,7 +148,8 @@ module _ (f made : Trees) (tidy : IsTidy f) (n : ℕ) (alike : AreAlike n f made
   -- form owners
 
   nearest-made : (i : ℕ) → nearest_form made i ≡ nearest_form f i
-  nearest-made i = ap (find (is_a Form made)) (above_is i) ∙ find-free n (is_a Form made) (is_a Form f) (is_a-made Form) (ancestors f i) (above-free n [] i f refl alike.free)
+  nearest-made i = ap (find (is_a Form made)) (above_is i)
+      ∙ find-free n (is_a Form made) (is_a Form f) (is_a-made Form) (ancestors f i) (above-free n [] i f refl alike.free)
 
   where-made : (o : Option ℕ) → ((k : ℕ) → o ≡ Some k → k ≢ n) → where_form made o ≡ where_form f o
   where-made None ne = refl
@@ -183,7 +190,8 @@ module _ (f made : Trees) (tidy : IsTidy f) (n : ℕ) (alike : AreAlike n f made
   -- disabled states
 
   legend-made : (i : ℕ) → first_legend made i ≡ first_legend f i
-  legend-made i = ap (find (is_a Legend made)) (alike.children i) ∙ find-free n (is_a Legend made) (is_a Legend f) (is_a-made Legend) (children_at f i) (children-free n i f alike.free)
+  legend-made i = ap (find (is_a Legend made)) (alike.children i)
+      ∙ find-free n (is_a Legend made) (is_a Legend f) (is_a-made Legend) (children_at f i) (children-free n i f alike.free)
 
   inside-made : (i : ℕ) (o : Option ℕ) → is_inside made i o ≡ is_inside f i o
   inside-made i None = refl
@@ -197,7 +205,8 @@ module _ (f made : Trees) (tidy : IsTidy f) (n : ℕ) (alike : AreAlike n f made
       ∙ ap (λ b. is_a Fieldset f a && has_disabled f a && not b) (inside-made i (first_legend f a))
 
   in_fieldset-made : (i : ℕ) → is_in_disabled_fieldset made i ≡ is_in_disabled_fieldset f i
-  in_fieldset-made i = ap (list_any (disables made i)) (above_is i) ∙ any-free n (disables made i) (disables f i) (disables-made i) (ancestors f i) (above-free n [] i f refl alike.free)
+  in_fieldset-made i = ap (list_any (disables made i)) (above_is i)
+      ∙ any-free n (disables made i) (disables f i) (disables-made i) (ancestors f i) (above-free n [] i f refl alike.free)
 
   group-made : (o : Option ℕ) → ((k : ℕ) → o ≡ Some k → k ≢ n) → is_in_disabled_group made o ≡ is_in_disabled_group f o
   group-made None ne = refl
@@ -218,12 +227,18 @@ module _ (f made : Trees) (tidy : IsTidy f) (n : ℕ) (alike : AreAlike n f made
 
   disabled-made : (i : ℕ) (a : Bool) → IsNode f i → i ≢ n → disabled_with made i a ≡ disabled_with f i a
   disabled-made i a node ne =
-      ap (λ b. cond b (is_option_disabled made i) ((listed_by made i a && not (is_a Fieldset made i)) && (has_disabled made i || is_in_disabled_fieldset made i))) (is_a-made OptionItem i ne)
-      ∙ ap (λ b. cond (is_a OptionItem f i) b ((listed_by made i a && not (is_a Fieldset made i)) && (has_disabled made i || is_in_disabled_fieldset made i))) (option-made i node)
-      ∙ ap (λ b. cond (is_a OptionItem f i) (is_option_disabled f i) ((b && not (is_a Fieldset made i)) && (has_disabled made i || is_in_disabled_fieldset made i))) (listed-made i a ne)
-      ∙ ap (λ b. cond (is_a OptionItem f i) (is_option_disabled f i) ((listed_by f i a && not b) && (has_disabled made i || is_in_disabled_fieldset made i))) (is_a-made Fieldset i ne)
-      ∙ ap (λ b. cond (is_a OptionItem f i) (is_option_disabled f i) ((listed_by f i a && not (is_a Fieldset f i)) && (b || is_in_disabled_fieldset made i))) (has_disabled-made i)
-      ∙ ap (λ b. cond (is_a OptionItem f i) (is_option_disabled f i) ((listed_by f i a && not (is_a Fieldset f i)) && (has_disabled f i || b))) (in_fieldset-made i)
+      ap (λ b. cond b (is_option_disabled made i)
+      ((listed_by made i a && not (is_a Fieldset made i)) && (has_disabled made i || is_in_disabled_fieldset made i))) (is_a-made OptionItem i ne)
+      ∙ ap (λ b. cond (is_a OptionItem f i) b ((listed_by made i a && not (is_a Fieldset made i)) && (has_disabled made i || is_in_disabled_fieldset made i)))
+      (option-made i node)
+      ∙ ap (λ b. cond (is_a OptionItem f i) (is_option_disabled f i)
+      ((b && not (is_a Fieldset made i)) && (has_disabled made i || is_in_disabled_fieldset made i))) (listed-made i a ne)
+      ∙ ap (λ b. cond (is_a OptionItem f i) (is_option_disabled f i) ((listed_by f i a && not b) && (has_disabled made i || is_in_disabled_fieldset made i)))
+      (is_a-made Fieldset i ne)
+      ∙ ap (λ b. cond (is_a OptionItem f i) (is_option_disabled f i) ((listed_by f i a && not (is_a Fieldset f i)) && (b || is_in_disabled_fieldset made i)))
+      (has_disabled-made i)
+      ∙ ap (λ b. cond (is_a OptionItem f i) (is_option_disabled f i) ((listed_by f i a && not (is_a Fieldset f i)) && (has_disabled f i || b)))
+      (in_fieldset-made i)
 
   -- the new node
 
@@ -245,8 +260,10 @@ module _ (f made : Trees) (tidy : IsTidy f) (n : ℕ) (alike : AreAlike n f made
   pub disabled-new : (a : Bool) → disabled_with made n a ≡ false
   disabled-new a =
       let top : parent_at made n ≡ None = alike.parent n ∙ ap (λ v. (or_no_spot v).parent) (spot-absent None None n f alike.free) in
-      ap (λ o. cond (is_a OptionItem made n) (is_some o || is_in_disabled_group made (parent_at made n)) ((listed_by made n a && not (is_a Fieldset made n)) && (is_some o || is_in_disabled_fieldset made n))) (no-attribute (codes "disabled"))
-      ∙ ap (λ o. cond (is_a OptionItem made n) (is_in_disabled_group made o) ((listed_by made n a && not (is_a Fieldset made n)) && is_in_disabled_fieldset made n)) top
+      ap (λ o. cond (is_a OptionItem made n) (is_some o || is_in_disabled_group made (parent_at made n))
+      ((listed_by made n a && not (is_a Fieldset made n)) && (is_some o || is_in_disabled_fieldset made n))) (no-attribute (codes "disabled"))
+      ∙ ap (λ o. cond (is_a OptionItem made n) (is_in_disabled_group made o)
+      ((listed_by made n a && not (is_a Fieldset made n)) && is_in_disabled_fieldset made n)) top
       ∙ ap (λ xs. cond (is_a OptionItem made n) false ((listed_by made n a && not (is_a Fieldset made n)) && list_any (disables made n) xs)) nothing-above
       ∙ by_test (is_a OptionItem made n) (listed_by made n a && not (is_a Fieldset made n))
     where
@@ -266,7 +283,8 @@ is_node_or_not f m = elim (cases_lt 0 m) [
   | inr none_low ↦ inr (λ node. let low = node.low in omega arith)
 ]
 
-module _ (f : Forms) (made : Trees) (tidy : IsTidy f.forest) (knows : (m : ℕ) → is_associated f m ≡ true → IsNode f.forest m) (n : ℕ) (alike : AreAlike n f.forest made)
+module _ (f : Forms) (made : Trees) (tidy : IsTidy f.forest) (knows : (m : ℕ) → is_associated f m ≡ true → IsNode f.forest m) (n : ℕ)
+    (alike : AreAlike n f.forest made)
     (above_is : (i : ℕ) → ancestors made i ≡ ancestors f.forest i) where
   abbrev after : Forms
   after = record f { forest = made }
@@ -279,22 +297,29 @@ module _ (f : Forms) (made : Trees) (tidy : IsTidy f.forest) (knows : (m : ℕ) 
 
   owner-after : (m : ℕ) → form_owner after m ≡ form_owner f m
   owner-after m = elim (cases_eq m n) [
-    | inl e ↦ subst (λ v. form_owner after v ≡ form_owner f v) (sym e) (owner-new f.forest made tidy n alike above_is (is_associated f n) ∙ sym (no-owner f tidy knows n no_node))
+    | inl e ↦ subst (λ v. form_owner after v ≡ form_owner f v) (sym e)
+        (owner-new f.forest made tidy n alike above_is (is_associated f n) ∙ sym (no-owner f tidy knows n no_node))
     | inr ne ↦ elim (is_node_or_not f.forest m) [
       | inl node ↦ owner-made f.forest made tidy n alike above_is m (is_associated f m) node ne
-      | inr out ↦ ap (λ b. cond b (owner_by after.forest m (attribute_at after.forest m (codes "form"))) None) (unlisted-after m out ne) ∙ sym (no-owner f tidy knows m out)
+      | inr out ↦ ap (λ b. cond b (owner_by after.forest m (attribute_at after.forest m (codes "form"))) None) (unlisted-after m out ne)
+          ∙ sym (no-owner f tidy knows m out)
     ]
   ]
 
   disabled-after : (m : ℕ) → is_disabled after m ≡ is_disabled f m
   disabled-after m = elim (cases_eq m n) [
-    | inl e ↦ subst (λ v. is_disabled after v ≡ is_disabled f v) (sym e) (disabled-new f.forest made tidy n alike above_is (is_associated f n) ∙ sym (not-disabled f tidy knows n no_node))
+    | inl e ↦ subst (λ v. is_disabled after v ≡ is_disabled f v) (sym e)
+        (disabled-new f.forest made tidy n alike above_is (is_associated f n) ∙ sym (not-disabled f tidy knows n no_node))
     | inr ne ↦ elim (is_node_or_not f.forest m) [
       | inl node ↦ disabled-made f.forest made tidy n alike above_is m (is_associated f m) node ne
       | inr out ↦
-          ap (λ b. cond b (is_option_disabled after.forest m) ((listed_by after.forest m (is_associated f m) && not (is_a Fieldset after.forest m)) && (has_disabled after.forest m || is_in_disabled_fieldset after.forest m)))
-          (is_a-made f.forest made tidy n alike above_is OptionItem m ne ∙ ap (λ (y : Facts). same_native OptionItem (native y.local)) (absent f.forest m tidy out))
-          ∙ ap (λ b. (b && not (is_a Fieldset after.forest m)) && (has_disabled after.forest m || is_in_disabled_fieldset after.forest m)) (unlisted-after m out ne)
+          ap (λ b. cond b (is_option_disabled after.forest m)
+          ((listed_by after.forest m (is_associated f m) && not (is_a Fieldset after.forest m))
+          && (has_disabled after.forest m || is_in_disabled_fieldset after.forest m)))
+          (is_a-made f.forest made tidy n alike above_is OptionItem m ne
+          ∙ ap (λ (y : Facts). same_native OptionItem (native y.local)) (absent f.forest m tidy out))
+          ∙ ap (λ b. (b && not (is_a Fieldset after.forest m)) && (has_disabled after.forest m || is_in_disabled_fieldset after.forest m))
+          (unlisted-after m out ne)
           ∙ sym (not-disabled f tidy knows m out)
     ]
   ]
@@ -308,13 +333,15 @@ module _ (f : Forms) (made : Trees) (tidy : IsTidy f.forest) (knows : (m : ℕ) 
           let other : root_at f.forest m ≢ n = λ e. no_node (subst (IsNode f.forest) e root) in
           ap (λ r. filter (is_owned_by after m) (tree_order_of after.forest r)) (root-alike n f.forest made alike m ne)
           ∙ ap (filter (is_owned_by after m)) (alike.order (root_at f.forest m) other)
-          ∙ filter-members (is_owned_by after m) (is_owned_by f m) (tree_order_of f.forest (root_at f.forest m)) (λ k _. ap (λ o. is_number o m) (owner-after k))
+          ∙ filter-members (is_owned_by after m) (is_owned_by f m) (tree_order_of f.forest (root_at f.forest m))
+          (λ k _. ap (λ o. is_number o m) (owner-after k))
       | inr out ↦ none-outside out ∙ sym (no-controls f m (not-a-form f tidy knows m out))
     ]
   ]
     where
       none-owned : (k : ℕ) → is_a Form f.forest k ≡ false → controls_of after k ≡ []
-      none-owned k not_form = filter-none (is_owned_by after k) (tree_order_of after.forest (root_at after.forest k)) (λ j. by_test j (is_owned_by after k j) refl)
+      none-owned k not_form = filter-none (is_owned_by after k) (tree_order_of after.forest (root_at after.forest k))
+          (λ j. by_test j (is_owned_by after k j) refl)
         where
           by_test : (j : ℕ) (b : Bool) → is_owned_by after k j ≡ b → b ≡ false
           by_test j true e = absurd (let yes = owner-form f j k (sym (owner-after j) ∙ is-number (form_owner after j) k e) in cc)
@@ -326,16 +353,22 @@ module _ (f : Forms) (made : Trees) (tidy : IsTidy f.forest) (knows : (m : ℕ) 
       none-outside : (IsNode f.forest m → ⊥) → controls_of after m ≡ []
       none-outside out = none-owned m (not-a-form f tidy knows m out)
 
-stands_alike : (table : OwnerRows) (f : Forms) (made : Trees) (n : ℕ) → IsTidy f.forest → AreAlike n f.forest made → ((i : ℕ) → ancestors made i ≡ ancestors f.forest i) → size f.forest ≤ size made → Stands table f → Stands table (record f { forest = made })
+stands_alike : (table : OwnerRows) (f : Forms) (made : Trees) (n : ℕ) → IsTidy f.forest → AreAlike n f.forest made
+    → ((i : ℕ) → ancestors made i ≡ ancestors f.forest i) → size f.forest ≤ size made → Stands table f → Stands table (record f { forest = made })
 stands_alike table f made n tidy alike above_is more s = record {
   within = omega (arith, s.within, more);
-  associated = record { flags = s.associated.flags; nodes = λ m h. let node = s.associated.nodes m h in record { low = node.low; high = omega (arith, node.high, more) } };
+  associated = record {
+    flags = s.associated.flags;
+    nodes = λ m h. let node = s.associated.nodes m h in
+        record { low = node.low; high = omega (arith, node.high, more) };
+  };
   owner = λ i. s.owner i ∙ sym (owner-after f made tidy s.associated.nodes n alike above_is (i + 1));
   disabled = λ i. s.disabled i ∙ sym (disabled-after f made tidy s.associated.nodes n alike above_is (i + 1));
   controls = λ i. s.controls i ∙ sym (controls-after f made tidy s.associated.nodes n alike above_is (i + 1));
   seen = λ i. s.seen i ∙ sym (ap seen_in (alike.attributes (i + 1)));
   named = λ id m. s.named id m ∙ sym (ap (λ items. is_text id (value_in items (codes "form"))) (alike.attributes m));
-  looks = λ i. right-still f.forest made table.rows table.rows (is_known table.named) (i + 1) node-made (about-made (i + 1)) (has-made (i + 1)) (attribute-alike n f.forest made alike (i + 1) (codes "id")) (look_at table.looks i) (s.looks i);
+  looks = λ i. right-still f.forest made table.rows table.rows (is_known table.named) (i + 1) node-made (about-made (i + 1)) (has-made (i + 1))
+      (attribute-alike n f.forest made alike (i + 1) (codes "id")) (look_at table.looks i) (s.looks i);
 }
   where
     node-made : {m : ℕ} → IsNode f.forest m → IsNode made m
@@ -367,19 +400,24 @@ next-free f tidy = elim (cases_lt 0 (times (size f + 1) f)) [
   | inr z ↦ omega arith
 ]
 
-pub stands_made : (table : OwnerRows) (f : Forms) (x : Facts) → IsTidy f.forest → x.attributes ≡ [] → Stands table f → Stands table (record f { forest = with_node (size f.forest + 1) x f.forest })
+pub stands_made : (table : OwnerRows) (f : Forms) (x : Facts) → IsTidy f.forest → x.attributes ≡ [] → Stands table f
+    → Stands table (record f { forest = with_node (size f.forest + 1) x f.forest })
 stands_made table f x tidy bare =
-    stands_alike table f (with_node (size f.forest + 1) x f.forest) (size f.forest + 1) tidy (alike_new (size f.forest + 1) x f.forest (next-free f.forest tidy) bare)
+    stands_alike table f (with_node (size f.forest + 1) x f.forest) (size f.forest + 1) tidy
+    (alike_new (size f.forest + 1) x f.forest (next-free f.forest tidy) bare)
     (λ i. ancestors-beside i (size f.forest + 1) x f.forest)
     (omega (arith, weight-join (λ m y. 1) f.forest (single (size f.forest + 1) x)))
 
-pub stands_hung : (table : OwnerRows) (f : Forms) (host : ℕ) (x : Facts) → IsTidy f.forest → x.attributes ≡ [] → Stands table f → Stands table (record f { forest = with_shadow host (single (size f.forest + 1) x) f.forest })
+pub stands_hung : (table : OwnerRows) (f : Forms) (host : ℕ) (x : Facts) → IsTidy f.forest → x.attributes ≡ [] → Stands table f
+    → Stands table (record f { forest = with_shadow host (single (size f.forest + 1) x) f.forest })
 stands_hung table f host x tidy bare =
-    stands_alike table f (with_shadow host (single (size f.forest + 1) x) f.forest) (size f.forest + 1) tidy (alike_hung (size f.forest + 1) x f.forest (next-free f.forest tidy) host bare)
+    stands_alike table f (with_shadow host (single (size f.forest + 1) x) f.forest) (size f.forest + 1) tidy
+    (alike_hung (size f.forest + 1) x f.forest (next-free f.forest tidy) host bare)
     (λ i. ancestors-hung [] i (size f.forest + 1) host x f.forest)
     (omega (arith, weight-shadow (λ m y. 1) host (single (size f.forest + 1) x) f.forest (tidy-apart f.forest tidy host)))
 
-pub stands_adopted : (table : OwnerRows) (f : Forms) (n document : ℕ) → IsTidy f.forest → Stands table f → Stands table (record f { forest = with_document n document f.forest })
+pub stands_adopted : (table : OwnerRows) (f : Forms) (n document : ℕ) → IsTidy f.forest → Stands table f
+    → Stands table (record f { forest = with_document n document f.forest })
 stands_adopted table f n document tidy =
     stands_alike table f (with_document n document f.forest) (size f.forest + 1) tidy
     (alike_facts n (λ x. record x { document = document }) f.forest (size f.forest + 1) (next-free f.forest tidy) (λ x. refl) (λ x. refl) (λ x. refl))

@@ -1,5 +1,6 @@
 -- Nodes whose ID comes to be looked at.
-use Rattle.std.proofs.Common.{Bor, ◌≡◌, ◌≢◌, ℕ, ◌+◌, ◌-◌, ◌<◌, ◌==◌, Bool, true, false, cond, List, [], ◌∷◌, Option, Some, None, refl, sym, ap, ◌∙◌, subst, arith}
+use Rattle.std.proofs.Common.{Bor, ◌≡◌, ◌≢◌, ℕ, ◌+◌, ◌-◌, ◌<◌, ◌==◌, Bool, true, false, cond, List, [], ◌∷◌, Option, Some, None, refl, sym, ap, ◌∙◌, subst}
+use Rattle.std.proofs.Common.{arith}
 use Rattle.std.specs.Prelude.{◌||◌, not, bytes_eq, codes}
 use Rattle.std.specs.BTreeSet.{BTreeSet, contains}
 use Rattle.std.specs.Option.{option_copied, option_eq}
@@ -12,7 +13,7 @@ use Rattle.ordered_tables.specs.Held.{is_held, is_known}
 use Rattle.node_trees.specs.Trees.{Trees}
 use Rattle.node_trees.specs.Paths.{is_among}
 use Rattle.node_trees.specs.Spots.{attribute_at}
-use Rattle.ordered_tables.proofs.Members.{among-any}
+use Rattle.ordered_tables.proofs.NodeSetMembers.{among-any}
 use Rattle.form_owner.specs.declared.looks.Look.{Look}
 use Rattle.form_owner.specs.declared.looks.Look.TheVariants.{Nothing}
 use Rattle.owner_rows.specs.OwnerRow.{OwnerRow, row_of}
@@ -28,7 +29,8 @@ pub record Minding (keys left : List ℕ) (old new : List Look) : Type 0 where
   pub here : (n : ℕ) → is_passed keys left n ≡ true → look_at new (n - 1) ≢ Nothing
   pub less : (i : ℕ) → SaysNoMore (look_at old i) (look_at new i)
 
-pub minding-end : (keys left : List ℕ) (old new : List Look) → left ≡ [] → Minding keys left old new → (n : ℕ) → is_among n keys ≡ true → look_at new (n - 1) ≢ Nothing
+pub minding-end : (keys left : List ℕ) (old new : List Look) → left ≡ [] → Minding keys left old new → (n : ℕ) → is_among n keys ≡ true
+    → look_at new (n - 1) ≢ Nothing
 minding-end keys left old new none all n among = let out : is_among n left ≡ false = ap (is_among n) none in all.here n (grind (arith, among, out))
 
 -- texts
@@ -41,10 +43,12 @@ module _ (forest : Trees) (known : List ℕ → Bool) (i : ℕ) (id : List ℕ) 
       absurd (let no : known text ≡ false = subst (λ t. known t ≡ false) (sym same) un.unknown in cc))
 
 module _ (n : ℕ) (forest : Trees) (known : List ℕ → Bool) (old new : List Look) (less : (i : ℕ) → SaysNoMore (look_at old i) (look_at new i)) where
-  pub kept-with : ((i : ℕ) → look_at new i ≡ Nothing → IsUnnamed forest known (i + 1) → (id : List ℕ) → attribute_at forest (i + 1) (codes "id") ≡ Some id → is_naming forest id n ≡ false) → AreKept forest known (known_with n forest known) old new
+  pub kept-with : ((i : ℕ) → look_at new i ≡ Nothing → IsUnnamed forest known (i + 1) → (id : List ℕ) → attribute_at forest (i + 1) (codes "id") ≡ Some id
+      → is_naming forest id n ≡ false) → AreKept forest known (known_with n forest known) old new
   kept-with other = record {
     less = less;
-    unnamed = λ i nothing un id at. record { has = (un id at).has; unknown = let was = (un id at).unknown in let not_n = other i nothing un id at in grind (arith, was, not_n) };
+    unnamed = λ i nothing un id at.
+        record { has = (un id at).has; unknown = let was = (un id at).unknown in let not_n = other i nothing un id at in grind (arith, was, not_n) };
   }
 
 -- notes that stay are kept with the texts that stay
@@ -52,7 +56,9 @@ pub kept-still : (forest : Trees) (known : List ℕ → Bool) (looks : List Look
 kept-still forest known looks = record { less = λ i. the-same (look_at looks i); unnamed = λ i nothing un. un }
 
 -- a `form` attribute that is the text that was seen is nobody's ID that was nobody's
-pub form-seen : (n : ℕ) (forest : Trees) (rows : List OwnerRow) (index : IdIndex) → 0 < n → AreNoted rows (is_held index) → (row_of rows n).seen.form ≡ attribute_at forest n (codes "form") → (i : ℕ) (id : List ℕ) → IsUnnamedId forest (is_known index) i id → is_naming forest id n ≡ false
+pub form-seen : (n : ℕ) (forest : Trees) (rows : List OwnerRow) (index : IdIndex) → 0 < n → AreNoted rows (is_held index)
+    → (row_of rows n).seen.form ≡ attribute_at forest n (codes "form") → (i : ℕ) (id : List ℕ) → IsUnnamedId forest (is_known index) i id
+    → is_naming forest id n ≡ false
 form-seen n forest rows index low noted same i id un = ap (is_text id) (sym same) ∙ sym (noted id n low) ∙ unknown-unheld index id n un.unknown
 
 -- texts that are lent, and equal

@@ -22,25 +22,30 @@ use Rattle.form_owner.proofs.Rows.{associated-stays, filter-members, reached, re
 
 -- changes leave a list
 
-with-list : (cs : List Change) (i : ℕ) (row : OwnerRow) (ns : List ℕ) → with_changes cs i (record row { controls = ns }) ≡ record (with_changes cs i row) { controls = ns }
+with-list : (cs : List Change) (i : ℕ) (row : OwnerRow) (ns : List ℕ)
+    → with_changes cs i (record row { controls = ns }) ≡ record (with_changes cs i row) { controls = ns }
 with-list [] i row ns = refl
-with-list (c ∷ cs) i row ns = ap (with_changes cs i) (by_test (c.node - 1 == i)) ∙ with-list cs i (cond (c.node - 1 == i) (with_told c.owner c.disabled row) row) ns
+with-list (c ∷ cs) i row ns = ap (with_changes cs i) (by_test (c.node - 1 == i))
+    ∙ with-list cs i (cond (c.node - 1 == i) (with_told c.owner c.disabled row) row) ns
   where
-    by_test : (b : Bool) → cond b (with_told c.owner c.disabled (record row { controls = ns })) (record row { controls = ns }) ≡ record (cond b (with_told c.owner c.disabled row) row) { controls = ns }
+    by_test : (b : Bool) → cond b (with_told c.owner c.disabled (record row { controls = ns })) (record row { controls = ns })
+        ≡ record (cond b (with_told c.owner c.disabled row) row) { controls = ns }
     by_test true = refl
     by_test false = refl
 
 -- the rows whose lists nodes left, with what was read
 
 module _ (f : Trees) (tidy : IsTidy f) (old left written : List OwnerRow) (cs : List Change) (is : cs ≡ changes_read f old (numbers f))
-    (are_left : (i : ℕ) → row_in left i ≡ record (row_in old i) { controls = filter (stays cs) (row_in old i).controls }) (are_written : (i : ℕ) → row_in written i ≡ with_changes cs i (row_in left i)) where
+    (are_left : (i : ℕ) → row_in left i ≡ record (row_in old i) { controls = filter (stays cs) (row_in old i).controls }) (are_written : (i : ℕ)
+    → row_in written i ≡ with_changes cs i (row_in left i)) where
   row-written : (i : ℕ) → row_in written i ≡ record (with_changes cs i (row_in old i)) { controls = filter (stays cs) (row_in old i).controls }
   row-written i = are_written i ∙ ap (with_changes cs i) (are_left i) ∙ with-list cs i (row_in old i) (filter (stays cs) (row_in old i).controls)
 
   row-read : (i : ℕ) → i < size f → row_in written i ≡ record (read_row f old i) { controls = filter (stays cs) (row_in old i).controls }
   row-read i lt =
       row-written i
-      ∙ ap (λ (r : OwnerRow). record r { controls = filter (stays cs) (row_in old i).controls }) (ap (λ v. with_changes v i (row_in old i)) is ∙ reached f old i 1 (size f) (omega arith) (omega arith) (omega arith))
+      ∙ ap (λ (r : OwnerRow). record r { controls = filter (stays cs) (row_in old i).controls })
+      (ap (λ v. with_changes v i (row_in old i)) is ∙ reached f old i 1 (size f) (omega arith) (omega arith) (omega arith))
 
   owner-now : (m : ℕ) → IsNode f m → (row_of written m).owner ≡ owner_with f m (row_of old m).associated
   owner-now m node =
@@ -61,7 +66,8 @@ module _ (f : Trees) (tidy : IsTidy f) (old left written : List OwnerRow) (cs : 
   pub all-told : All (IsTold f written) cs
   all-told = subst (All (IsTold f written)) (sym is)
       (All-map (IsTold f written) (change_read f old) (filter (λ n. is_change (change_read f old n)) (numbers f))
-      (All-filter (λ n. is_change (change_read f old n)) (λ n. IsTold f written (change_read f old n)) (numbers f) (λ i d lt. tells (get_or (numbers f) i d) (numbers-nodes f i d lt))))
+      (All-filter (λ n. is_change (change_read f old n)) (λ n. IsTold f written (change_read f old n)) (numbers f)
+      (λ i d lt. tells (get_or (numbers f) i d) (numbers-nodes f i d lt))))
 
   -- the lists
 
@@ -100,7 +106,8 @@ module _ (f : Trees) (tidy : IsTidy f) (old left written : List OwnerRow) (cs : 
             ∙ ap (filter (stays cs)) (sym (lists.owned i))
             ∙ filter-filter (stays cs) (is_owned_in old (i + 1)) (row_in old i).controls
             ∙ lists.kept i (record { low = omega arith; high = omega arith }) (λ m. stays cs m && is_owned_in old (i + 1) m) (kept i)
-            ∙ filter-members (λ m. stays cs m && is_owned_in old (i + 1) m) (is_settled written cs (i + 1)) (tree_order_of f (root_at f (i + 1))) (λ m among. settled i m (member_is_node f (root_at f (i + 1)) m tidy among))
+            ∙ filter-members (λ m. stays cs m && is_owned_in old (i + 1) m) (is_settled written cs (i + 1)) (tree_order_of f (root_at f (i + 1)))
+            (λ m among. settled i m (member_is_node f (root_at f (i + 1)) m tidy among))
 
   pub all-renewed : (new : List OwnerRow) → AreEntered f [] written new → AreRenewed f old new
   all-renewed new e = record {

@@ -28,7 +28,8 @@ any-false p (y ∷ ys) none x among = by_test (any-false p ys (or_parts (p y) (l
     by_test later true e h = subst (λ v. p v ≡ false) (eqb-true y x e) (or_parts (p y) (list_any p ys) none).0
     by_test later false e h = later h
 
-module _ (old : Trees) (named : List ℕ → ℕ → Bool) (seen : (id : List ℕ) (n : ℕ) → named id n ≡ is_naming old id n) (now : Trees) (m : ℕ) (same : attribute_at now m (codes "form") ≡ attribute_at old m (codes "form")) where
+module _ (old : Trees) (named : List ℕ → ℕ → Bool) (seen : (id : List ℕ) (n : ℕ) → named id n ≡ is_naming old id n) (now : Trees) (m : ℕ)
+    (same : attribute_at now m (codes "form") ≡ attribute_at old m (codes "form")) where
   -- its `form` attribute was seen
   named-by : (id : List ℕ) → attribute_at now m (codes "form") ≡ Some id → named id m ≡ true
   named-by id is = seen id m ∙ ap by_text (sym same ∙ is) ∙ (bytes_eq-Decides id id).1 refl
@@ -38,12 +39,15 @@ module _ (old : Trees) (named : List ℕ → ℕ → Bool) (seen : (id : List �
       by_text (Some text) = bytes_eq text id
 
   -- whom an ID is named by not, it is not that ID
-  pub has-other : (o : Option (List ℕ)) → is_named_by named o m ≡ false → (id : List ℕ) → attribute_at now m (codes "form") ≡ Some id → (x : Facts) → value_in x.attributes (codes "id") ≡ o → has_id id x ≡ false
+  pub has-other : (o : Option (List ℕ)) → is_named_by named o m ≡ false → (id : List ℕ) → attribute_at now m (codes "form") ≡ Some id → (x : Facts)
+      → value_in x.attributes (codes "id") ≡ o → has_id id x ≡ false
   has-other o none id is x is_o = false_from_ne_true (has_id id x) (λ has.
       let same_id : o ≡ Some id = sym is_o ∙ id-of id x has in
       let by : is_named_by named o m ≡ true = ap (λ v. is_named_by named v m) same_id ∙ named-by id is in
       absurd cc)
 
-  pub none-named : (ns : List ℕ) → is_named_among now named ns m ≡ false → (id : List ℕ) (j : ℕ) → attribute_at now m (codes "form") ≡ Some id → is_among j ns ≡ true → has_id id (facts_at now j) ≡ false
+  pub none-named : (ns : List ℕ) → is_named_among now named ns m ≡ false → (id : List ℕ) (j : ℕ) → attribute_at now m (codes "form") ≡ Some id
+      → is_among j ns ≡ true → has_id id (facts_at now j) ≡ false
   none-named ns none id j is among =
-      has-other (attribute_at now j (codes "id")) (any-false (λ k. is_named_by named (attribute_at now k (codes "id")) m) ns none j among) id is (facts_at now j) refl
+      has-other (attribute_at now j (codes "id")) (any-false (λ k. is_named_by named (attribute_at now k (codes "id")) m) ns none j among) id is
+      (facts_at now j) refl

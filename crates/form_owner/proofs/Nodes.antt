@@ -1,5 +1,6 @@
 -- What is a node, and what forms are about where there is none.
-use Rattle.std.proofs.Common.{◌≡◌, All, ℕ, ◌+◌, ◌-◌, ◌<◌, ◌≤◌, Bool, true, false, cond, List, [], ◌∷◌, Option, Some, None, refl, sym, ap, ◌∙◌, subst, arith, inl, inr}
+use Rattle.std.proofs.Common.{◌≡◌, All, ℕ, ◌+◌, ◌-◌, ◌<◌, ◌≤◌, Bool, true, false, cond, List, [], ◌∷◌, Option, Some, None, refl, sym, ap, ◌∙◌, subst, arith}
+use Rattle.std.proofs.Common.{inl, inr}
 use Rattle.std.specs.Prelude.{filter, find, codes}
 use Rattle.std.proofs.lemmas.Bool.{cases_lt, cases_eq}
 use Rattle.std.proofs.lemmas.Bool.Decides.{nat_tests}
@@ -18,7 +19,8 @@ use Rattle.tree_laws.proofs.InOrder.{member_is_node}
 use Rattle.form_controls.specs.declared.change.Change.{Change}
 use Rattle.form_controls.specs.Changes.{is_change, numbers}
 use Rattle.form_controls.specs.Kinds.{is_a}
-use Rattle.form_controls.specs.Owners.{Forms, is_listed, is_associated, owner_by, form_owner, where_form, named_form, nearest_form, ancestors, is_owned_by, controls_of}
+use Rattle.form_controls.specs.Owners.{Forms, is_listed, is_associated, owner_by, form_owner, where_form, named_form, nearest_form, ancestors, is_owned_by}
+use Rattle.form_controls.specs.Owners.{controls_of}
 use Rattle.form_controls.specs.Disabled.{is_disabled}
 use Rattle.owner_rows.specs.OwnerRow.{OwnerRow}
 use Rattle.form_owner.specs.Reading.{change_read, changes_read}
@@ -31,11 +33,13 @@ numbers-nodes f = λ i d lt.
     subst (IsNode f) (sym (get_or-range_with_len 1 (size f) i d less)) (record { low = omega arith; high = omega arith })
 
 -- and so are those of changes
-pub changes-placed : (f : Trees) (rows : List OwnerRow) (count : ℕ) (cs : List Change) → size f ≤ count → cs ≡ changes_read f rows (numbers f) → All (λ (c : Change). c.node - 1 < count) cs
+pub changes-placed : (f : Trees) (rows : List OwnerRow) (count : ℕ) (cs : List Change) → size f ≤ count → cs ≡ changes_read f rows (numbers f)
+    → All (λ (c : Change). c.node - 1 < count) cs
 changes-placed f rows count cs le is =
     subst (All (λ (c : Change). c.node - 1 < count)) (sym is)
     (All-map (λ (c : Change). c.node - 1 < count) (change_read f rows) (filter (λ n. is_change (change_read f rows n)) (numbers f))
-    (λ i d lt. let node = All-filter (λ n. is_change (change_read f rows n)) (IsNode f) (numbers f) (numbers-nodes f) i d lt in let low = node.low in let high = node.high in omega arith))
+    (λ i d lt. let node = All-filter (λ n. is_change (change_read f rows n)) (IsNode f) (numbers f) (numbers-nodes f) i d lt in let low = node.low in
+    let high = node.high in omega arith))
 
 pub past-node : (f : Trees) (i : ℕ) → size f ≤ i → IsNode f (i + 1) → ⊥
 past-node f i past node = let high = node.high in omega arith
@@ -143,7 +147,8 @@ read-nodes f (tree m x s k q) read = All-cons (IsNode f) m (roots q) read.0.node
 pub controls-nodes : (f : Forms) (form : ℕ) → IsTidy f.forest → All (IsNode f.forest) (controls_of f form)
 controls-nodes f form tidy =
     let order = tree_order_of f.forest (root_at f.forest form) in
-    All-filter (is_owned_by f form) (IsNode f.forest) order (all-members (IsNode f.forest) order (λ n among. member_is_node f.forest (root_at f.forest form) n tidy among))
+    All-filter (is_owned_by f form) (IsNode f.forest) order
+    (all-members (IsNode f.forest) order (λ n among. member_is_node f.forest (root_at f.forest form) n tidy among))
 
 -- so what is no form has no controls
 

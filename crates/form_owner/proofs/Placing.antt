@@ -14,7 +14,8 @@ pub after-in : (n k : ℕ) (xs : List ℕ) → is_among k (all_after n xs) ≡ t
 after-in n k [] h = absurd cc
 after-in n k (x ∷ xs) h = by_test (after-in n k xs) (x == n) h
   where
-    by_test : (is_among k (all_after n xs) ≡ true → is_among k xs ≡ true) → (b : Bool) → is_among k (cond b xs (all_after n xs)) ≡ true → (x == k || is_among k xs) ≡ true
+    by_test : (is_among k (all_after n xs) ≡ true → is_among k xs ≡ true) → (b : Bool) → is_among k (cond b xs (all_after n xs)) ≡ true
+        → (x == k || is_among k xs) ≡ true
     by_test more true h = grind (arith, nat_tests)
     by_test more false h = let rest = more h in grind (arith, nat_tests)
 
@@ -29,7 +30,8 @@ module _ (q : ℕ → Bool) (n : ℕ) where
   only [] out = refl
   only (x ∷ xs) out = by_test (only xs (grind (arith, nat_tests))) (q x) (grind (arith, nat_tests))
     where
-      by_test : filter or_one xs ≡ filter q xs → (b : Bool) → (x == n) ≡ false → cond (b || x == n) (x ∷ filter or_one xs) (filter or_one xs) ≡ cond b (x ∷ filter q xs) (filter q xs)
+      by_test : filter or_one xs ≡ filter q xs → (b : Bool) → (x == n) ≡ false
+          → cond (b || x == n) (x ∷ filter or_one xs) (filter or_one xs) ≡ cond b (x ∷ filter q xs) (filter q xs)
       by_test more true other = ap (λ v. x ∷ v) more
       by_test more false other = ap (λ c. cond c (x ∷ filter or_one xs) (filter or_one xs)) other ∙ more
 
@@ -38,8 +40,10 @@ module _ (q : ℕ → Bool) (n : ℕ) where
   at_first [] = refl
   at_first (x ∷ xs) = by_test (at_first xs) (q x)
     where
-      by_test : insert_number (find q xs) n (filter q xs) ≡ n ∷ filter q xs → (b : Bool) → insert_number (cond b (Some x) (find q xs)) n (cond b (x ∷ filter q xs) (filter q xs)) ≡ n ∷ cond b (x ∷ filter q xs) (filter q xs)
-      by_test more true = let same : is_number (Some x) x ≡ true = grind (arith, nat_tests) in ap (λ b. cond b (n ∷ x ∷ filter q xs) (x ∷ insert_number (Some x) n (filter q xs))) same
+      by_test : insert_number (find q xs) n (filter q xs) ≡ n ∷ filter q xs → (b : Bool)
+          → insert_number (cond b (Some x) (find q xs)) n (cond b (x ∷ filter q xs) (filter q xs)) ≡ n ∷ cond b (x ∷ filter q xs) (filter q xs)
+      by_test more true = let same : is_number (Some x) x ≡ true =
+          grind (arith, nat_tests) in ap (λ b. cond b (n ∷ x ∷ filter q xs) (x ∷ insert_number (Some x) n (filter q xs))) same
       by_test more false = more
 
   found-in : (k : ℕ) (xs : List ℕ) → find q xs ≡ Some k → is_among k xs ≡ true
@@ -55,7 +59,8 @@ module _ (q : ℕ → Bool) (n : ℕ) where
   past (Some s) x other = let apart : s ≢ x = λ e. other (ap Some e) in grind (arith, nat_tests)
 
   -- put before the first that passes behind it, it stands in its place
-  pub at_its_place : (xs : List ℕ) → AreApart xs → is_among n xs ≡ true → q n ≡ false → insert_number (find q (all_after n xs)) n (filter q xs) ≡ filter or_one xs
+  pub at_its_place : (xs : List ℕ) → AreApart xs → is_among n xs ≡ true → q n ≡ false
+      → insert_number (find q (all_after n xs)) n (filter q xs) ≡ filter or_one xs
   at_its_place [] apart among fails = absurd cc
   at_its_place (x ∷ xs) apart among fails = elim (cases_eq x n) [
     | inl e ↦ here e
@@ -73,19 +78,25 @@ module _ (q : ℕ → Bool) (n : ℕ) where
           ∙ at_first xs
           ∙ ap (λ v. v ∷ filter q xs) (sym e)
           ∙ ap (λ v. x ∷ v) (sym (only xs out))
-          ∙ sym (ap (λ b. cond (q x || b) (x ∷ filter or_one xs) (filter or_one xs)) is ∙ ap (λ b. cond (b || true) (x ∷ filter or_one xs) (filter or_one xs)) not_x)
+          ∙ sym (ap (λ b. cond (q x || b) (x ∷ filter or_one xs) (filter or_one xs)) is
+          ∙ ap (λ b. cond (b || true) (x ∷ filter or_one xs) (filter or_one xs)) not_x)
 
       by_test : (b : Bool) → is_number (find q (all_after n xs)) x ≡ false → insert_number (find q (all_after n xs)) n (filter q xs) ≡ filter or_one xs →
           insert_number (find q (all_after n xs)) n (cond b (x ∷ filter q xs) (filter q xs)) ≡ cond (b || false) (x ∷ filter or_one xs) (filter or_one xs)
-      by_test true apart_from on = ap (λ c. cond c (n ∷ x ∷ filter q xs) (x ∷ insert_number (find q (all_after n xs)) n (filter q xs))) apart_from ∙ ap (λ v. x ∷ v) on
+      by_test true apart_from on = ap (λ c. cond c (n ∷ x ∷ filter q xs) (x ∷ insert_number (find q (all_after n xs)) n (filter q xs))) apart_from
+          ∙ ap (λ v. x ∷ v) on
       by_test false apart_from on = on
 
-      later : x ≢ n → insert_number (find q (all_after n xs)) n (filter q xs) ≡ filter or_one xs → (b : Bool) → q x ≡ b → insert_number (find q (all_after n (x ∷ xs))) n (cond (q x) (x ∷ filter q xs) (filter q xs)) ≡ cond (q x || x == n) (x ∷ filter or_one xs) (filter or_one xs)
+      later : x ≢ n → insert_number (find q (all_after n xs)) n (filter q xs) ≡ filter or_one xs → (b : Bool) → q x ≡ b
+          → insert_number (find q (all_after n (x ∷ xs))) n (cond (q x) (x ∷ filter q xs) (filter q xs))
+          ≡ cond (q x || x == n) (x ∷ filter or_one xs) (filter or_one xs)
       later ne on b is =
           let other : (x == n) ≡ false = grind (arith, nat_tests) in
           let once = apart x in
-          let away : find q (all_after n xs) ≡ Some x → ⊥ = λ e. let low = count-among x xs (after-in n x xs (found-in x (all_after n xs) e)) in absurd (grind (arith, nat_tests)) in
+          let away : find q (all_after n xs) ≡ Some x → ⊥ = λ e. let low =
+          count-among x xs (after-in n x xs (found-in x (all_after n xs) e)) in absurd (grind (arith, nat_tests)) in
           ap (λ c. insert_number (find q (cond c xs (all_after n xs))) n (cond (q x) (x ∷ filter q xs) (filter q xs))) other
           ∙ ap (λ c. insert_number (find q (all_after n xs)) n (cond c (x ∷ filter q xs) (filter q xs))) is
           ∙ by_test b (past (find q (all_after n xs)) x away) on
-          ∙ sym (ap (λ c. cond (q x || c) (x ∷ filter or_one xs) (filter or_one xs)) other ∙ ap (λ c. cond (c || false) (x ∷ filter or_one xs) (filter or_one xs)) is)
+          ∙ sym (ap (λ c. cond (q x || c) (x ∷ filter or_one xs) (filter or_one xs)) other
+          ∙ ap (λ c. cond (c || false) (x ∷ filter or_one xs) (filter or_one xs)) is)

@@ -9,7 +9,8 @@ use Rattle.node_trees.specs.Paths.{is_among}
 use Rattle.node_trees.specs.Spots.{attribute_at}
 use Rattle.form_controls.specs.Disabled.{has_disabled}
 use Rattle.owner_rows.specs.OwnerRow.{OwnerRow, row_of}
-use Rattle.form_owner.specs.Candidates.{Considers, is_named_among, is_named_by, is_of_change, is_of_group, is_of_ids, is_of_legend, is_of_move, is_with, is_with_among}
+use Rattle.form_owner.specs.Candidates.{Considers, is_named_among, is_named_by, is_of_change, is_of_group, is_of_ids, is_of_legend, is_of_move, is_with}
+use Rattle.form_owner.specs.Candidates.{is_with_among}
 use Rattle.form_owner.proofs.Considering.{both, from_none, less, nothing}
 
 module _ (forest : Trees) (about : ℕ → Bool) (named : List ℕ → ℕ → Bool) (n : ℕ) where
@@ -32,7 +33,8 @@ module _ (forest : Trees) (about : ℕ → Bool) (named : List ℕ → ℕ → B
       ap (λ b. is_with forest named j m || b) (with-parts ns m)
       ∙ regroup (j == m) (is_named_by named (attribute_at forest j (codes "id")) m) (is_among m ns) (is_named_among forest named ns m)
 
-  pub of-move : (p : ℕ) (start first second : List ℕ) → start ≡ [] → Considers forest about (is_with_among forest named (order_of forest n)) start first → Considers forest about (is_of_legend forest n p) first second →
+  pub of-move : (p : ℕ) (start first second : List ℕ) → start ≡ [] → Considers forest about (is_with_among forest named (order_of forest n)) start first
+      → Considers forest about (is_of_legend forest n p) first second →
       Considers forest about (is_of_move forest named n p) [] second
   of-move p start first second empty moved legend = from_none empty (less within (both moved legend))
     where
@@ -50,12 +52,17 @@ module _ (forest : Trees) (about : ℕ → Bool) (named : List ℕ → ℕ → B
     pub grouped : (old new : List ℕ) → Considers forest about (is_of_group forest n) old new → Considers forest about (is_of_disabled rows) old new
     grouped old new all = less (λ m passes. (and_parts (not (beq (row_of rows n).seen.disabled (has_disabled forest n))) (is_of_group forest n m) passes).1) all
 
-    pub ungrouped : (old new : List ℕ) → new ≡ old → not (beq (row_of rows n).seen.disabled (has_disabled forest n)) ≡ false → Considers forest about (is_of_disabled rows) old new
-    ungrouped old new same alike = subst (λ s. Considers forest about (is_of_disabled rows) old s) (sym same) (nothing (is_of_disabled rows) old (λ m is. ap (λ b. b && is_of_group forest n m) alike))
+    pub ungrouped : (old new : List ℕ) → new ≡ old → not (beq (row_of rows n).seen.disabled (has_disabled forest n)) ≡ false
+        → Considers forest about (is_of_disabled rows) old new
+    ungrouped old new same alike =
+        subst (λ s. Considers forest about (is_of_disabled rows) old s) (sym same)
+        (nothing (is_of_disabled rows) old (λ m is. ap (λ b. b && is_of_group forest n m) alike))
 
     -- of an attribute
-    pub of-change : (old : Option (List ℕ)) (now : Option (List ℕ)) (start first second third : List ℕ) → start ≡ [] → old ≡ (row_of rows n).seen.id → now ≡ attribute_at forest n (codes "id") → Considers forest about (λ m. n == m) start first →
-        Considers forest about (is_of_ids named old now) first second → Considers forest about (is_of_disabled rows) second third → Considers forest about (is_of_change forest rows named n) [] third
+    pub of-change : (old : Option (List ℕ)) (now : Option (List ℕ)) (start first second third : List ℕ) → start ≡ [] → old ≡ (row_of rows n).seen.id
+        → now ≡ attribute_at forest n (codes "id") → Considers forest about (λ m. n == m) start first →
+        Considers forest about (is_of_ids named old now) first second → Considers forest about (is_of_disabled rows) second third
+        → Considers forest about (is_of_change forest rows named n) [] third
     of-change old now start first second third empty was is itself ids group = from_none empty (both itself (both all_ids group))
       where
         all_ids : Considers forest about (is_of_ids named (row_of rows n).seen.id (attribute_at forest n (codes "id"))) first second

@@ -1,5 +1,6 @@
 -- Rows that are filled up and written.
-use Rattle.std.proofs.Common.{◌≡◌, ◌≢◌, ◌+◌, ◌-◌, ◌<◌, ◌≤◌, ◌==◌, ℕ, zero, suc, Bool, true, false, cond, List, [], ◌∷◌, ◌++◌, take, Option, Some, None, refl, sym, ap, ◌∙◌, subst, arith, inl, inr}
+use Rattle.std.proofs.Common.{◌≡◌, ◌≢◌, ◌+◌, ◌-◌, ◌<◌, ◌≤◌, ◌==◌, ℕ, zero, suc, Bool, true, false, cond, List, [], ◌∷◌, ◌++◌, take, Option, Some, None, refl}
+use Rattle.std.proofs.Common.{sym, ap, ◌∙◌, subst, arith, inl, inr}
 use Rattle.std.specs.Prelude.{filter, map, slice_get, unwrap_or, nat_eq, is_some, ◌||◌}
 use Rattle.std.specs.Bool.{beq}
 use Rattle.std.specs.List.{range_with_len}
@@ -32,7 +33,8 @@ blank-behind (r ∷ rows) (suc i) = blank-behind rows i
 
 -- changes that are written one after another
 
-with_changes-append : (cs : List Change) (c : Change) (i : ℕ) (row : OwnerRow) → with_changes (cs ++ c ∷ []) i row ≡ cond (c.node - 1 == i) (with_told c.owner c.disabled (with_changes cs i row)) (with_changes cs i row)
+with_changes-append : (cs : List Change) (c : Change) (i : ℕ) (row : OwnerRow)
+    → with_changes (cs ++ c ∷ []) i row ≡ cond (c.node - 1 == i) (with_told c.owner c.disabled (with_changes cs i row)) (with_changes cs i row)
 with_changes-append [] c i row = refl
 with_changes-append (d ∷ cs) c i row = with_changes-append cs c i (cond (d.node - 1 == i) (with_told d.owner d.disabled row) row)
 
@@ -45,13 +47,16 @@ written-next cs c k start old new at so_far w i =
     take_more cs k c (slice_get_within cs k c at) ∙ ap (λ d. take k cs ++ d ∷ []) (get_or_from_slice_get cs k c c at) in
     elim (cases_eq (c.node - 1) i) [
       | inl e ↦ by_place e more
-      | inr ne ↦ w.others i (λ e. ne (sym e)) ∙ so_far i ∙ sym (ap (λ v. with_changes v i (row_in start i)) more ∙ with_changes-append (take k cs) c i (row_in start i) ∙ other ne)
+      | inr ne ↦ w.others i (λ e. ne (sym e)) ∙ so_far i
+          ∙ sym (ap (λ v. with_changes v i (row_in start i)) more ∙ with_changes-append (take k cs) c i (row_in start i) ∙ other ne)
     ]
   where
-    other : c.node - 1 ≢ i → cond (c.node - 1 == i) (with_told c.owner c.disabled (with_changes (take k cs) i (row_in start i))) (with_changes (take k cs) i (row_in start i)) ≡ with_changes (take k cs) i (row_in start i)
+    other : c.node - 1 ≢ i → cond (c.node - 1 == i) (with_told c.owner c.disabled (with_changes (take k cs) i (row_in start i)))
+        (with_changes (take k cs) i (row_in start i)) ≡ with_changes (take k cs) i (row_in start i)
     other ne = grind (arith, nat_tests)
 
-    same : c.node - 1 ≡ i → cond (c.node - 1 == i) (with_told c.owner c.disabled (with_changes (take k cs) i (row_in start i))) (with_changes (take k cs) i (row_in start i)) ≡ with_told c.owner c.disabled (with_changes (take k cs) i (row_in start i))
+    same : c.node - 1 ≡ i → cond (c.node - 1 == i) (with_told c.owner c.disabled (with_changes (take k cs) i (row_in start i)))
+        (with_changes (take k cs) i (row_in start i)) ≡ with_told c.owner c.disabled (with_changes (take k cs) i (row_in start i))
     same e = grind (arith, nat_tests)
 
     by_place : c.node - 1 ≡ i → take (k + 1) cs ≡ take k cs ++ c ∷ [] → row_in new i ≡ with_changes (take (k + 1) cs) i (row_in start i)
@@ -116,10 +121,14 @@ module _ (f : Trees) (rows : List OwnerRow) (i : ℕ) where
   abbrev told : ℕ → OwnerRow → OwnerRow
   told n row = with_told (change_read f rows n).owner (change_read f rows n).disabled row
 
-  one-more : (n : ℕ) (ns : List ℕ) (row : OwnerRow) → with_changes (changes_read f rows (n ∷ ns)) i row ≡ with_changes (changes_read f rows ns) i (cond (n - 1 == i) (cond (is_change (change_read f rows n)) (told n row) row) row)
+  one-more : (n : ℕ) (ns : List ℕ) (row : OwnerRow)
+      → with_changes (changes_read f rows (n ∷ ns)) i row
+      ≡ with_changes (changes_read f rows ns) i (cond (n - 1 == i) (cond (is_change (change_read f rows n)) (told n row) row) row)
   one-more n ns row = by_test (is_change (change_read f rows n))
     where
-      by_test : (b : Bool) → with_changes (map (change_read f rows) (cond b (n ∷ filter (λ m. is_change (change_read f rows m)) ns) (filter (λ m. is_change (change_read f rows m)) ns))) i row ≡ with_changes (changes_read f rows ns) i (cond (n - 1 == i) (cond b (told n row) row) row)
+      by_test : (b : Bool) → with_changes
+          (map (change_read f rows) (cond b (n ∷ filter (λ m. is_change (change_read f rows m)) ns) (filter (λ m. is_change (change_read f rows m)) ns))) i row
+          ≡ with_changes (changes_read f rows ns) i (cond (n - 1 == i) (cond b (told n row) row) row)
       by_test true = refl
       by_test false = ap (with_changes (changes_read f rows ns) i) (either (n - 1 == i))
         where
@@ -141,7 +150,11 @@ module _ (f : Trees) (rows : List OwnerRow) (i : ℕ) where
   told-here : told (i + 1) (row_in rows i) ≡ read_row
   told-here =
       let same : (i + 1) - 1 ≡ i = omega arith in
-      rw (same, taken-owner (row_in rows i).owner (owner_with f (i + 1) (row_in rows i).associated), taken-state (row_in rows i).disabled (disabled_with f (i + 1) (row_in rows i).associated)) refl
+      rw (
+        same,
+        taken-owner (row_in rows i).owner (owner_with f (i + 1) (row_in rows i).associated),
+        taken-state (row_in rows i).disabled (disabled_with f (i + 1) (row_in rows i).associated),
+      ) refl
 
   pub reached : (a n : ℕ) → 1 ≤ a → a ≤ i + 1 → i + 1 < a + n → with_changes (changes_read f rows (range_with_len a n)) i (row_in rows i) ≡ read_row
   reached a zero low here lt = absurd (omega arith)
@@ -162,14 +175,16 @@ module _ (f : Trees) (rows : List OwnerRow) (i : ℕ) where
       at : a ≡ i + 1 → cond (a - 1 == i) (cond (is_change (change_read f rows a)) (told a (row_in rows i)) (row_in rows i)) (row_in rows i) ≡ read_row
       at e =
           let same : a - 1 ≡ i = omega arith in
-          let here : cond (a - 1 == i) (cond (is_change (change_read f rows a)) (told a (row_in rows i)) (row_in rows i)) (row_in rows i) ≡ cond (is_change (change_read f rows a)) (told a (row_in rows i)) (row_in rows i) = grind (arith, nat_tests) in
+          let here : cond (a - 1 == i) (cond (is_change (change_read f rows a)) (told a (row_in rows i)) (row_in rows i)) (row_in rows i)
+          ≡ cond (is_change (change_read f rows a)) (told a (row_in rows i)) (row_in rows i) = grind (arith, nat_tests) in
           here ∙ silent (change_read f rows a) (row_in rows i) ∙ ap (λ n. told n (row_in rows i)) e ∙ told-here
 
 -- a test that says the same of each member finds the same
 
 pub filter-members : (p q : ℕ → Bool) (xs : List ℕ) → ((x : ℕ) → is_among x xs ≡ true → p x ≡ q x) → filter p xs ≡ filter q xs
 filter-members p q [] same = refl
-filter-members p q (x ∷ xs) same = by_test (filter-members p q xs (λ y h. same y (or_right (x == y) (is_among y xs) h))) (same x (or_left (x == x) (is_among x xs) (eq-eqb x x refl)))
+filter-members p q (x ∷ xs) same =
+    by_test (filter-members p q xs (λ y h. same y (or_right (x == y) (is_among y xs) h))) (same x (or_left (x == x) (is_among x xs) (eq-eqb x x refl)))
   where
     by_test : filter p xs ≡ filter q xs → p x ≡ q x → cond (p x) (x ∷ filter p xs) (filter p xs) ≡ cond (q x) (x ∷ filter q xs) (filter q xs)
     by_test more e = ap (λ v. cond v (x ∷ filter p xs) (filter p xs)) e ∙ ap (λ v. cond (q x) (x ∷ v) v) more

@@ -20,7 +20,11 @@ seen-same : (old new : Trees) (m : ℕ) → facts_at new m ≡ facts_at old m �
 seen-same old new m same = ap seen_of same
   where
     seen_of : Facts → Seen
-    seen_of x = record { id = value_in x.attributes (codes "id"); form = value_in x.attributes (codes "form"); disabled = is_some (value_in x.attributes (codes "disabled")) }
+    seen_of x = record {
+      id = value_in x.attributes (codes "id");
+      form = value_in x.attributes (codes "form");
+      disabled = is_some (value_in x.attributes (codes "disabled"));
+    }
 
 naming-same : (old new : Trees) (id : List ℕ) (m : ℕ) → facts_at new m ≡ facts_at old m → is_naming new id m ≡ is_naming old id m
 naming-same old new id m same = ap (λ (x : Facts). is_text id (value_in x.attributes (codes "form"))) same
@@ -36,10 +40,13 @@ seen-placed (Attr n) old new count t e =
 seen-placed (Associated n on) old new count t e = tt
 
 -- what was seen is what is noted
-pub noted-before : (old : Trees) (read : List OwnerRow) (was : List ℕ → ℕ → Bool) → ((i : ℕ) → (row_in read i).seen ≡ seen_at old (i + 1)) → ((id : List ℕ) (n : ℕ) → was id n ≡ is_naming old id n) → AreNoted read was
-noted-before old read was read_seen named id n low = let same : (n - 1) + 1 ≡ n = omega arith in named id n ∙ sym (ap (λ (s : Seen). is_text id s.form) (read_seen (n - 1) ∙ ap (seen_at old) same))
+pub noted-before : (old : Trees) (read : List OwnerRow) (was : List ℕ → ℕ → Bool) → ((i : ℕ) → (row_in read i).seen ≡ seen_at old (i + 1))
+    → ((id : List ℕ) (n : ℕ) → was id n ≡ is_naming old id n) → AreNoted read was
+noted-before old read was read_seen named id n low = let same : (n - 1) + 1 ≡ n =
+    omega arith in named id n ∙ sym (ap (λ (s : Seen). is_text id s.form) (read_seen (n - 1) ∙ ap (seen_at old) same))
 
-module _ (old new : Trees) (read final : List OwnerRow) (was now : List ℕ → ℕ → Bool) (read_seen : (i : ℕ) → (row_in read i).seen ≡ seen_at old (i + 1)) (named : (id : List ℕ) (n : ℕ) → was id n ≡ is_naming old id n) where
+module _ (old new : Trees) (read final : List OwnerRow) (was now : List ℕ → ℕ → Bool) (read_seen : (i : ℕ) → (row_in read i).seen ≡ seen_at old (i + 1))
+    (named : (id : List ℕ) (n : ℕ) → was id n ≡ is_naming old id n) where
   -- what is seen is what the trees say
   pub record Sees : Type 0 where
     pub rows : (i : ℕ) → (row_in final i).seen ≡ seen_at new (i + 1)
@@ -73,7 +80,8 @@ module _ (old new : Trees) (read final : List OwnerRow) (was now : List ℕ → 
         index id m = by_test (n == m) refl
           where
             by_test : (b : Bool) → (n == m) ≡ b → now id m ≡ is_naming new id m
-            by_test true e = s.named id m ∙ ap (λ b. cond b (is_naming new id n) (was id m)) e ∙ ap (is_naming new id) (let same : n ≡ m = grind (arith, nat_tests, e) in same)
+            by_test true e = s.named id m ∙ ap (λ b. cond b (is_naming new id n) (was id m)) e
+                ∙ ap (is_naming new id) (let same : n ≡ m = grind (arith, nat_tests, e) in same)
             by_test false e = s.named id m ∙ ap (λ b. cond b (is_naming new id n) (was id m)) e ∙ named id m ∙ sym (naming-same old new id m (facts m e))
 
         rest : (i : ℕ) → unseen (row_in final i) ≡ unseen (row_in read i)

@@ -23,11 +23,13 @@ filter-twice : (p q : ℕ → Bool) (xs : List ℕ) → filter p (filter q xs) �
 filter-twice p q [] = refl
 filter-twice p q (x ∷ xs) = by_test (q x) (filter-twice p q xs)
   where
-    by_test : (b : Bool) → filter p (filter q xs) ≡ filter (λ y. q y && p y) xs → filter p (cond b (x ∷ filter q xs) (filter q xs)) ≡ cond (b && p x) (x ∷ filter (λ y. q y && p y) xs) (filter (λ y. q y && p y) xs)
+    by_test : (b : Bool) → filter p (filter q xs) ≡ filter (λ y. q y && p y) xs
+        → filter p (cond b (x ∷ filter q xs) (filter q xs)) ≡ cond (b && p x) (x ∷ filter (λ y. q y && p y) xs) (filter (λ y. q y && p y) xs)
     by_test true more = ap (λ v. cond (p x) (x ∷ v) v) more
     by_test false more = more
 
-module _ (before after : Forms) (old_tidy : IsTidy before.forest) (tidy : IsTidy after.forest) (long : size after.forest ≡ size before.forest) (rows : List OwnerRow)
+module _ (before after : Forms) (old_tidy : IsTidy before.forest) (tidy : IsTidy after.forest) (long : size after.forest ≡ size before.forest)
+    (rows : List OwnerRow)
     (owners : (i : ℕ) → (row_in rows i).owner ≡ form_owner before (i + 1))
     (controls : (i : ℕ) → (row_in rows i).controls ≡ controls_of before (i + 1))
     (flags : (i : ℕ) → (row_in rows i).associated ≡ is_associated after (i + 1))
@@ -68,7 +70,8 @@ module _ (before after : Forms) (old_tidy : IsTidy before.forest) (tidy : IsTidy
 
   -- those that a form keeps stand in tree order
 
-  module _ (i : ℕ) (node : IsNode after.forest (i + 1)) (test : ℕ → Bool) (kept : (m : ℕ) → IsNode after.forest m → test m ≡ true → IsKept after.forest rows (i + 1) m) where
+  module _ (i : ℕ) (node : IsNode after.forest (i + 1)) (test : ℕ → Bool) (kept : (m : ℕ) → IsNode after.forest m → test m ≡ true
+      → IsKept after.forest rows (i + 1) m) where
     abbrev is_number_of_node : ℕ → Bool
     is_number_of_node m = nat_lt 0 m && nat_lt m (size after.forest + 1)
 
@@ -115,7 +118,8 @@ module _ (before after : Forms) (old_tidy : IsTidy before.forest) (tidy : IsTidy
         ∙ filter-members (λ m. is_owned_by before (i + 1) m && test m) tested (order_before (i + 1))
         (λ m among. let at = node-after m (in-order (i + 1) m among) in owned-if m at (test m) refl ∙ sym (drops m at))
         ∙ sym (stays (i + 1) (node-before (i + 1) node) tested together)
-        ∙ filter-members tested test (tree_order_of after.forest (root_at after.forest (i + 1))) (λ m among. drops m (member_is_node after.forest (root_at after.forest (i + 1)) m tidy among))
+        ∙ filter-members tested test (tree_order_of after.forest (root_at after.forest (i + 1)))
+        (λ m among. drops m (member_is_node after.forest (root_at after.forest (i + 1)) m tidy among))
 
   pub lists-stand : ListsStood after.forest rows
   lists-stand = record { owned = all-owned; kept = kept-order }

@@ -18,7 +18,8 @@ module _ (f : Forms) (other : List ℕ) (same : (n : ℕ) → is_among n other �
   owner-renamed n = ap (owner_with f.forest n) (same n)
 
   controls-renamed : (n : ℕ) → controls_of renamed n ≡ controls_of f n
-  controls-renamed n = filter-members (is_owned_by renamed n) (is_owned_by f n) (tree_order_of f.forest (root_at f.forest n)) (λ m _. ap (λ o. is_number o n) (owner-renamed m))
+  controls-renamed n = filter-members (is_owned_by renamed n) (is_owned_by f n) (tree_order_of f.forest (root_at f.forest n))
+      (λ m _. ap (λ o. is_number o n) (owner-renamed m))
 
   renamed-stands : (table : OwnerRows) → Stands table f → Stands table renamed
   renamed-stands table s = record {
@@ -32,5 +33,6 @@ module _ (f : Forms) (other : List ℕ) (same : (n : ℕ) → is_among n other �
     looks = s.looks;
   }
 
-pub stands_renamed : (table : OwnerRows) (f : Forms) (other : List ℕ) → ((n : ℕ) → is_among n other ≡ is_among n f.associated) → Stands table f → Stands table (record f { associated = other })
+pub stands_renamed : (table : OwnerRows) (f : Forms) (other : List ℕ) → ((n : ℕ) → is_among n other ≡ is_among n f.associated) → Stands table f
+    → Stands table (record f { associated = other })
 stands_renamed table f other same stands = renamed-stands f other same table stands

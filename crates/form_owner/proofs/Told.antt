@@ -1,5 +1,6 @@
 -- What is said of which node.
-use Rattle.std.proofs.Common.{◌≡◌, ◌≢◌, ℕ, ltb, zero, suc, ◌+◌, ◌<◌, ◌≤◌, ◌==◌, true, false, cond, List, [], ◌∷◌, map, get_or, length, refl, ap, subst, ◌∙◌, arith}
+use Rattle.std.proofs.Common.{◌≡◌, ◌≢◌, ℕ, ltb, zero, suc, ◌+◌, ◌<◌, ◌≤◌, ◌==◌, true, false, cond, List, [], ◌∷◌, map, get_or, length, refl, ap, subst, ◌∙◌}
+use Rattle.std.proofs.Common.{arith}
 use Rattle.std.specs.Prelude.{filter, slice_get}
 use Rattle.std.specs.List.Sorted.{IsNonDecreasingBy, IsPartitionedBy, IsPartitionPoint}
 use Rattle.std.proofs.lemmas.List.Sorted.{IsPartitionedBy-ltb}
@@ -16,7 +17,8 @@ use Rattle.form_owner.proofs.Nodes.{numbers-nodes}
 pub changes-of_nodes : (before now : Forms) → AreOfNodes now.forest (form_changes before now)
 changes-of_nodes before now = record {
   rising = changes_increase before now;
-  nodes = All-map (λ (c : Change). IsNode now.forest c.node) (form_change before now) (filter (differs before now) (numbers now.forest)) (All-filter (differs before now) (IsNode now.forest) (numbers now.forest) (numbers-nodes now.forest));
+  nodes = All-map (λ (c : Change). IsNode now.forest c.node) (form_change before now) (filter (differs before now) (numbers now.forest))
+      (All-filter (differs before now) (IsNode now.forest) (numbers now.forest) (numbers-nodes now.forest));
 }
 
 -- a node's change
@@ -43,7 +45,8 @@ rises c (e ∷ cs) rising (suc k) d lt =
     omega (arith, first, later)
 
 -- it stands where those of nodes below n end
-pub found : (n i : ℕ) (cs : List Change) → AreRising cs → ((k : ℕ) (d : Change) → k < i → k < length cs → (get_or cs k d).node < n) → ((k : ℕ) (d : Change) → i ≤ k → k < length cs → n ≤ (get_or cs k d).node)
+pub found : (n i : ℕ) (cs : List Change) → AreRising cs → ((k : ℕ) (d : Change) → k < i → k < length cs → (get_or cs k d).node < n)
+    → ((k : ℕ) (d : Change) → i ≤ k → k < length cs → n ≤ (get_or cs k d).node)
     → filter (is_of n) cs ≡ if_of n (slice_get cs i)
 found n i [] rising low high = refl
 found n zero (c ∷ cs) rising low high =
@@ -53,7 +56,8 @@ found n (suc i) (c ∷ cs) rising low high =
     let less : c.node < n = low 0 c (omega arith) (omega arith) in
     let other : (c.node == n) ≡ false = grind (arith, nat_tests) in
     ap (λ b. cond b (c ∷ filter (is_of n) cs) (filter (is_of n) cs)) other
-    ∙ found n i cs (behind c cs rising) (λ k d lt within. low (suc k) d (omega (arith, lt)) (omega (arith, within))) (λ k d le within. high (suc k) d (omega (arith, le)) (omega (arith, within)))
+    ∙ found n i cs (behind c cs rising) (λ k d lt within. low (suc k) d (omega (arith, lt)) (omega (arith, within)))
+    (λ k d le within. high (suc k) d (omega (arith, le)) (omega (arith, within)))
 
 never_falls : (cs : List Change) → AreRising cs → IsNonDecreasingBy (λ (c : Change). c.node) cs
 never_falls [] rising i j d le lt = absurd (omega (arith, lt))
@@ -65,7 +69,8 @@ never_falls (c ∷ cs) rising (suc i) (suc j) d le lt = never_falls cs (behind c
 pub parted : (n : ℕ) (cs : List Change) → AreRising cs → IsPartitionedBy (λ (c : Change). ltb c.node n) cs
 parted n cs rising = IsPartitionedBy-ltb (λ (c : Change). c.node) cs n (never_falls cs rising)
 
-pub found_at : (n i : ℕ) (cs : List Change) → AreRising cs → IsPartitionPoint (λ (c : Change). ltb c.node n ≡ true) (λ (c : Change). ltb c.node n ≡ false) cs i → filter (is_of n) cs ≡ if_of n (slice_get cs i)
+pub found_at : (n i : ℕ) (cs : List Change) → AreRising cs → IsPartitionPoint (λ (c : Change). ltb c.node n ≡ true) (λ (c : Change). ltb c.node n ≡ false) cs i
+    → filter (is_of n) cs ≡ if_of n (slice_get cs i)
 found_at n i cs rising point =
     found n i cs rising
     (λ k d lt within. let h = point.0 k d (omega arith) lt in grind (arith, nat_tests))

@@ -82,7 +82,8 @@ module _ (before : Forms) (now : Trees) (old new : List OwnerRow) (knows : Knows
       ]
 
 -- what a mark isn't about stays in the rows
-pub noted-keeps : {A : Type 0} (read : OwnerRow → A) → ((row : OwnerRow) (on : Bool) → read (record row { associated = on }) ≡ read row) → (touch : Touch) (old new : List OwnerRow) → Noted touch old new → (i : ℕ) → read (row_in new i) ≡ read (row_in old i)
+pub noted-keeps : {A : Type 0} (read : OwnerRow → A) → ((row : OwnerRow) (on : Bool) → read (record row { associated = on }) ≡ read row)
+    → (touch : Touch) (old new : List OwnerRow) → Noted touch old new → (i : ℕ) → read (row_in new i) ≡ read (row_in old i)
 noted-keeps read keeps (Inserted n) old new noted i = ap (λ rows. read (row_in rows i)) noted
 noted-keeps read keeps (Removed n parent) old new noted i = ap (λ rows. read (row_in rows i)) noted
 noted-keeps read keeps (Attr n) old new noted i = ap (λ rows. read (row_in rows i)) noted

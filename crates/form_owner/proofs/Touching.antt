@@ -73,15 +73,19 @@ KeepsOrder old new g q = filter q (tree_order_of new (root_at new g)) ≡ filter
 
 changed-order : (n : ℕ) (old new : Trees) → IsChanged n old new → (g : ℕ) (q : ℕ → Bool) → KeepsOrder old new g q
 changed-order n old new t g q = elim t.is [
-  | inl set ↦ subst (λ f. KeepsOrder old f g q) (sym set.1) (ap (filter q) (order-set old n t.name set.0 _ ∙ ap (tree_order_of old) (root-set old n t.name set.0 g)))
+  | inl set ↦ subst (λ f. KeepsOrder old f g q) (sym set.1)
+      (ap (filter q) (order-set old n t.name set.0 _ ∙ ap (tree_order_of old) (root-set old n t.name set.0 g)))
   | inr gone ↦ subst (λ f. KeepsOrder old f g q) (sym gone) (ap (filter q) (order-gone old n t.name _ ∙ ap (tree_order_of old) (root-gone old n t.name g)))
 ]
 
-pub order-stays : (touch : Touch) (old new : Trees) → IsTouched touch old new → (g : ℕ) → IsNode old g → (q : ℕ → Bool) → StaysTogether q old new g → KeepsOrder old new g q
+pub order-stays : (touch : Touch) (old new : Trees) → IsTouched touch old new → (g : ℕ) → IsNode old g → (q : ℕ → Bool) → StaysTogether q old new g
+    → KeepsOrder old new g q
 order-stays (Inserted n) old new t g node q together =
-    subst (λ f. KeepsOrder old f g q) (sym t.is) (together-graft old t.parent n t.before t.tidy t.parent_node t.node t.may t.free g node q (subst (λ f. StaysTogether q old f g) t.is together))
+    subst (λ f. KeepsOrder old f g q) (sym t.is)
+    (together-graft old t.parent n t.before t.tidy t.parent_node t.node t.may t.free g node q (subst (λ f. StaysTogether q old f g) t.is together))
 order-stays (Removed n parent) old new t g node q together =
-    subst (λ f. KeepsOrder old f g q) (sym t.is) (together-cut old n parent t.tidy t.node t.placed g node q (subst (λ f. StaysTogether q old f g) t.is together))
+    subst (λ f. KeepsOrder old f g q) (sym t.is)
+    (together-cut old n parent t.tidy t.node t.placed g node q (subst (λ f. StaysTogether q old f g) t.is together))
 order-stays (Attr n) old new t g node q together = changed-order n old new t g q
 order-stays (Associated n on) old new t g node q together = ap (λ f. filter q (tree_order_of f (root_at f g))) t.is
 
@@ -89,7 +93,8 @@ order-stays (Associated n on) old new t g node q together = ap (λ f. filter q (
 
 -- what was inserted has a parent
 pub no-root : (n : ℕ) (old new : Trees) → IsInserted n old new → parent_at new n ≡ None → ⊥
-no-root n old new t none = absurd (let up : parent_at new n ≡ Some t.parent = ap (λ f. parent_at f n) t.is ∙ graft-up old t.parent n t.before t.tidy t.parent_node t.node t.may t.free in cc)
+no-root n old new t none = absurd
+    (let up : parent_at new n ≡ Some t.parent = ap (λ f. parent_at f n) t.is ∙ graft-up old t.parent n t.before t.tidy t.parent_node t.node t.may t.free in cc)
 
 -- what a node was taken from is still a node
 pub parent-still : (n p : ℕ) (old new : Trees) → IsRemoved n p old new → IsNode new p

@@ -35,7 +35,9 @@ unlisted-owner f m out = rw out refl
 unlisted-state : (f : Forms) (m : ℕ) → listed_by f.forest m (is_associated f m) ≡ false → is_a OptionItem f.forest m ≡ false → is_disabled f m ≡ false
 unlisted-state f m out no_option = rw (no_option, out) refl
 
-module _ (before now : Forms) (m : ℕ) (associated : Bool) (local : (facts_at now.forest m).local ≡ (facts_at before.forest m).local) (was : is_associated before m ≡ associated) (is : is_associated now m ≡ associated) (none : (listed_by now.forest m associated || is_a OptionItem now.forest m) ≡ false) where
+module _ (before now : Forms) (m : ℕ) (associated : Bool) (local : (facts_at now.forest m).local ≡ (facts_at before.forest m).local)
+    (was : is_associated before m ≡ associated) (is : is_associated now m ≡ associated)
+    (none : (listed_by now.forest m associated || is_a OptionItem now.forest m) ≡ false) where
   out : listed_by now.forest m (is_associated now m) ≡ false
   out = ap (listed_by now.forest m) is ∙ (or_parts (listed_by now.forest m associated) (is_a OptionItem now.forest m) none).0
 
@@ -48,5 +50,6 @@ module _ (before now : Forms) (m : ℕ) (associated : Bool) (local : (facts_at n
   pub unconcerned : IsUnchanged before now m
   unconcerned = record {
     owner = unlisted-owner now m out ∙ sym (unlisted-owner before m out_before);
-    disabled = unlisted-state now m out no_option ∙ sym (unlisted-state before m out_before (sym (ap (λ l. same_native OptionItem (native l)) local) ∙ no_option));
+    disabled = unlisted-state now m out no_option
+        ∙ sym (unlisted-state before m out_before (sym (ap (λ l. same_native OptionItem (native l)) local) ∙ no_option));
   }

@@ -12,12 +12,15 @@ module _ (p : ℕ → Bool) (xs : List ℕ) (i x : ℕ) (at : slice_get xs i ≡
       let read : get_or xs i x ≡ x = get_or_from_slice_get xs i x x at in
       filter_more p xs i x (slice_get_within xs i x at) ∙ ap (λ y. filter p (take i xs) ++ cond (p y) (y ∷ []) []) read
 
-  pub filter-next : (found new : List ℕ) (passes : Bool) → found ≡ filter p (take i xs) → passes ≡ p x → new ≡ found ++ cond passes (x ∷ []) [] → new ≡ filter p (take (i + 1) xs)
+  pub filter-next : (found new : List ℕ) (passes : Bool) → found ≡ filter p (take i xs) → passes ≡ p x → new ≡ found ++ cond passes (x ∷ []) []
+      → new ≡ filter p (take (i + 1) xs)
   filter-next found new passes so_far is longer =
       longer ∙ ap (λ b. found ++ cond b (x ∷ []) []) is ∙ ap (λ ys. ys ++ cond (p x) (x ∷ []) []) so_far ∙ sym kept-more
 
 -- one more that is made, where it says something
-pub made-next : {Y : Type 0} (f : ℕ → Y) (says : Y → Bool) (xs : List ℕ) (i x : ℕ) (made new : List Y) (y : Y) → slice_get xs i ≡ Some x → made ≡ map f (filter (λ n. says (f n)) (take i xs)) → y ≡ f x → new ≡ made ++ cond (says y) (y ∷ []) [] → new ≡ map f (filter (λ n. says (f n)) (take (i + 1) xs))
+pub made-next : {Y : Type 0} (f : ℕ → Y) (says : Y → Bool) (xs : List ℕ) (i x : ℕ) (made new : List Y) (y : Y) → slice_get xs i ≡ Some x
+    → made ≡ map f (filter (λ n. says (f n)) (take i xs)) → y ≡ f x → new ≡ made ++ cond (says y) (y ∷ []) []
+    → new ≡ map f (filter (λ n. says (f n)) (take (i + 1) xs))
 made-next f says xs i x made new y at so_far is longer =
     longer
     ∙ ap (λ v. made ++ cond (says v) (v ∷ []) []) is

@@ -79,17 +79,20 @@ pub record GoesByCharacter (made : Bool → List ℕ → List ℕ) : Type 0 wher
   pub high : (p : Bool) (b : ℕ) (rest : List ℕ) → 128 ≤ b → made p (b ∷ rest) ≡ b ∷ made false rest
   pub low : (p : Bool) (b : ℕ) (rest : List ℕ) → b < 128 → (given : List ℕ) × (q : Bool) × IsUtf8 given × (made p (b ∷ rest) ≡ given ++ made q rest)
 
-high_rest : (made : Bool → List ℕ → List ℕ) → GoesByCharacter made → (bytes rest : List ℕ) → AllByRecursion IsHigh bytes → made false (bytes ++ rest) ≡ bytes ++ made false rest
+high_rest : (made : Bool → List ℕ → List ℕ) → GoesByCharacter made → (bytes rest : List ℕ) → AllByRecursion IsHigh bytes
+    → made false (bytes ++ rest) ≡ bytes ++ made false rest
 high_rest made goes [] rest are = refl
 high_rest made goes (b ∷ bytes) rest are =
     goes.high false b (bytes ++ rest) are.0.0 ∙ ap (λ more. b ∷ more) (high_rest made goes bytes rest are.1)
 
-high_first : (made : Bool → List ℕ → List ℕ) → GoesByCharacter made → (p : Bool) (bytes rest : List ℕ) → AreHigh bytes → made p (bytes ++ rest) ≡ bytes ++ made false rest
+high_first : (made : Bool → List ℕ → List ℕ) → GoesByCharacter made → (p : Bool) (bytes rest : List ℕ) → AreHigh bytes
+    → made p (bytes ++ rest) ≡ bytes ++ made false rest
 high_first made goes p [] rest are = absurd are
 high_first made goes p (b ∷ bytes) rest are =
     goes.high p b (bytes ++ rest) are.0.0 ∙ ap (λ more. b ∷ more) (high_rest made goes bytes rest are.1)
 
-made_character : (made : Bool → List ℕ → List ℕ) → GoesByCharacter made → (p : Bool) (c : ℕ) (cs : List ℕ) → scalar c ≡ true → ((q : Bool) → IsUtf8 (made q (encodes cs))) → ((c < 128) × (encode c ≡ c ∷ [])) ⊎ AreHigh (encode c) → IsUtf8 (made p (encode c ++ encodes cs))
+made_character : (made : Bool → List ℕ → List ℕ) → GoesByCharacter made → (p : Bool) (c : ℕ) (cs : List ℕ) → scalar c ≡ true
+    → ((q : Bool) → IsUtf8 (made q (encodes cs))) → ((c < 128) × (encode c ≡ c ∷ [])) ⊎ AreHigh (encode c) → IsUtf8 (made p (encode c ++ encodes cs))
 made_character made goes p c cs is others (inl low) =
     let first = goes.low p c (encodes cs) low.0 in
     rw low.1 (subst IsUtf8 (sym first.3) (IsUtf8-append first.0 (made first.1 (encodes cs)) first.2 (others first.1)))

@@ -26,12 +26,14 @@ use Rattle.frame_stack.proofs.Tops.{AtTop, stacked}
 
 -- a body begins
 
-pub record Begins (homes : Homes) (chains : List (List ℕ)) (kept : List Held) (old : Stacked) (k : ℕ) (call : CallName) (args : Args) (this : Option ℕ) : Type 0 where
+pub record Begins (homes : Homes) (chains : List (List ℕ)) (kept : List Held) (old : Stacked) (k : ℕ) (call : CallName) (args : Args)
+    (this : Option ℕ) : Type 0 where
   pub order : AreInOrder homes chains kept
   pub frames : frames_of (stacked homes kept) ≡ frames_of old ++ InBody k args this false (actions_at call k (behaviours_of old)) ∷ []
   pub behaviours : behaviours_of (stacked homes kept) ≡ behaviours_of old
 
-module _ (homes : Homes) (chains : List (List ℕ)) (frames : List Held) (k : ℕ) (call : CallName) (args : Args) (this : Option ℕ) (o : AreInOrder homes chains frames) (pushed : List Held) (is : pushed ≡ frames ++ Body k (first_place call args this) None ∷ []) where
+module _ (homes : Homes) (chains : List (List ℕ)) (frames : List Held) (k : ℕ) (call : CallName) (args : Args) (this : Option ℕ)
+    (o : AreInOrder homes chains frames) (pushed : List Held) (is : pushed ≡ frames ++ Body k (first_place call args this) None ∷ []) where
   abbrev first : Held
   first = Body k (first_place call args this) None
 
@@ -45,31 +47,45 @@ module _ (homes : Homes) (chains : List (List ℕ)) (frames : List Held) (k : �
     behaviours = unknown_behaviours homes chains frames k (first_place call args this) o past;
   })
 
-  pub known_there : (below : Option ℕ) (n : ℕ) → k < length homes → below ≡ topmost k chains → n ≡ length pushed → MatchOption below (is_some (home_of homes k) ≡ true) (λ i. i < n)
+  pub known_there : (below : Option ℕ) (n : ℕ) → k < length homes → below ≡ topmost k chains → n ≡ length pushed
+      → MatchOption below (is_some (home_of homes k) ≡ true) (λ i. i < n)
   known_there below n within same many =
       subst (λ (t : Option ℕ). MatchOption t (is_some (home_of homes k) ≡ true) (λ i. i < n)) (sym same)
-      (subst (λ (m : ℕ). MatchOption (topmost k chains) (is_some (home_of homes k) ≡ true) (λ i. i < m)) (sym (many ∙ ap length is)) (below_there homes chains frames first k o within))
+      (subst (λ (m : ℕ). MatchOption (topmost k chains) (is_some (home_of homes k) ≡ true) (λ i. i < m)) (sym (many ∙ ap length is))
+      (below_there homes chains frames first k o within))
 
   abbrev BeginsAt : Homes → List (List ℕ) → List Held → Type 0
   BeginsAt h c l = Begins h c l old k call args this
 
-  pub known_begun : (below : Option ℕ) (index : ℕ) (homes1 : Homes) (chains1 : List (List ℕ)) (frames1 : List Held) → k < length homes → below ≡ topmost k chains → index ≡ length frames
-      → homes1 ≡ homes_left below k homes → chains1 ≡ linked k index chains → frames1 ≡ holding_at index (taken below k homes pushed) (frames_left below pushed) → BeginsAt homes1 chains1 frames1
+  pub known_begun : (below : Option ℕ) (index : ℕ) (homes1 : Homes) (chains1 : List (List ℕ)) (frames1 : List Held) → k < length homes
+      → below ≡ topmost k chains → index ≡ length frames
+      → homes1 ≡ homes_left below k homes → chains1 ≡ linked k index chains
+      → frames1 ≡ holding_at index (taken below k homes pushed) (frames_left below pushed) → BeginsAt homes1 chains1 frames1
   known_begun below index homes1 chains1 frames1 within same at hs cs fs =
       let p = first_place call args this in
       let first_of : List Held = frames ++ first ∷ [] in
-      let b0 : BeginsAt (homes_left (topmost k chains) k homes) (linked k (length frames) chains) (holding_at (length frames) (taken (topmost k chains) k homes first_of) (frames_left (topmost k chains) first_of)) =
-      record { order = begin_order homes chains frames k p o within; frames = begin_frames homes chains frames k p o within; behaviours = begin_behaviours homes chains frames k p o within } in
-      let b1 = subst (λ (t : Option ℕ). BeginsAt (homes_left t k homes) (linked k (length frames) chains) (holding_at (length frames) (taken t k homes first_of) (frames_left t first_of))) (sym same) b0 in
-      let b2 = subst (λ (n : ℕ). BeginsAt (homes_left below k homes) (linked k n chains) (holding_at n (taken below k homes first_of) (frames_left below first_of))) (sym at) b1 in
-      let b3 = subst (λ (l : List Held). BeginsAt (homes_left below k homes) (linked k index chains) (holding_at index (taken below k homes l) (frames_left below l))) (sym is) b2 in
-      let b4 = subst (λ (h : Homes). BeginsAt h (linked k index chains) (holding_at index (taken below k homes pushed) (frames_left below pushed))) (sym hs) b3 in
+      let b0 : BeginsAt (homes_left (topmost k chains) k homes) (linked k (length frames) chains)
+      (holding_at (length frames) (taken (topmost k chains) k homes first_of) (frames_left (topmost k chains) first_of)) =
+      record {
+        order = begin_order homes chains frames k p o within;
+        frames = begin_frames homes chains frames k p o within;
+        behaviours = begin_behaviours homes chains frames k p o within;
+      } in
+      let b1 = subst (λ (t : Option ℕ). BeginsAt (homes_left t k homes) (linked k (length frames) chains)
+      (holding_at (length frames) (taken t k homes first_of) (frames_left t first_of))) (sym same) b0 in
+      let b2 = subst (λ (n : ℕ). BeginsAt (homes_left below k homes) (linked k n chains)
+      (holding_at n (taken below k homes first_of) (frames_left below first_of))) (sym at) b1 in
+      let b3 = subst (λ (l : List Held). BeginsAt (homes_left below k homes) (linked k index chains)
+      (holding_at index (taken below k homes l) (frames_left below l))) (sym is) b2 in
+      let b4 = subst (λ (h : Homes). BeginsAt h (linked k index chains) (holding_at index (taken below k homes pushed) (frames_left below pushed)))
+      (sym hs) b3 in
       let b5 = subst (λ (c : List (List ℕ)). BeginsAt homes1 c (holding_at index (taken below k homes pushed) (frames_left below pushed))) (sym cs) b4 in
       subst (λ (l : List Held). BeginsAt homes1 chains1 l) (sym fs) b5
 
 -- a body goes on
 
-module _ (homes : Homes) (chains : List (List ℕ)) (frames : List Held) (i : ℕ) (f g : Held) (before after : ℕ) (now : Stacked) (view : stacked homes frames ≡ now) (o : AreInOrder homes chains frames) (top : AtTop frames i f) where
+module _ (homes : Homes) (chains : List (List ℕ)) (frames : List Held) (i : ℕ) (f g : Held) (before after : ℕ) (now : Stacked)
+    (view : stacked homes frames ≡ now) (o : AreInOrder homes chains frames) (top : AtTop frames i f) where
   front_order : AreInOrder homes chains (top.front ++ f ∷ [])
   front_order = subst (AreInOrder homes chains) top.is o
 
@@ -80,9 +96,11 @@ module _ (homes : Homes) (chains : List (List ℕ)) (frames : List Held) (i : �
   resumes next h =
       subst (λ (s : Stacked). Resumes s (stacked homes (slice_set frames i g)) before after next) view
       (subst (λ (l : List Held). Resumes (stacked homes frames) (stacked homes l) before after next) (sym (top.set g))
-      (subst (λ (l : List Held). Resumes (stacked homes l) (stacked homes (top.front ++ g ∷ [])) before after next) (sym top.is) (resume_resumes homes chains top.front f g before after next front_order h)))
+      (subst (λ (l : List Held). Resumes (stacked homes l) (stacked homes (top.front ++ g ∷ [])) before after next) (sym top.is)
+      (resume_resumes homes chains top.front f g before after next front_order h)))
 
-  pub has_resumed : (r : Result Next NoMemory) → IfOk r (FrameResumes f g before after) → IfOk r (Resumes now (stacked homes (slice_set frames i g)) before after)
+  pub has_resumed : (r : Result Next NoMemory) → IfOk r (FrameResumes f g before after)
+      → IfOk r (Resumes now (stacked homes (slice_set frames i g)) before after)
   has_resumed r h = IfOk-weaker r (FrameResumes f g before after) (Resumes now (stacked homes (slice_set frames i g)) before after) resumes h
 
   pub has_stopped : (r : Result Next NoMemory) → IfOk r (FrameResumes f g before after) → IfOk r (λ (next : Next). IsForSession (stop_of next))
@@ -100,7 +118,8 @@ pub record Leaves (homes : Homes) (chains : List (List ℕ)) (kept : List Held) 
   pub frames : frames_of (stacked homes kept) ≡ below_top (frames_of old)
   pub behaviours : behaviours_of (stacked homes kept) ≡ behaviours_of old
 
-pub gone : (homes : Homes) (chains : List (List ℕ)) (frames left : List Held) (f : Held) (h : Option Behaviour) → AreInOrder homes chains frames → frames ≡ left ++ f ∷ [] → is_body f ≡ true → h ≡ held_in f → h ≡ None
+pub gone : (homes : Homes) (chains : List (List ℕ)) (frames left : List Held) (f : Held) (h : Option Behaviour) → AreInOrder homes chains frames
+    → frames ≡ left ++ f ∷ [] → is_body f ≡ true → h ≡ held_in f → h ≡ None
     → Leaves homes chains left (stacked homes frames)
 gone homes chains frames left (Wait f) h o is body held none = absurd (let e : false ≡ true = body in cc)
 gone homes chains frames left (Body k p (Some b)) h o is body held none = absurd (let e : Some b ≡ None = sym held ∙ none in cc)
@@ -124,7 +143,8 @@ pub record Falls (homes : Homes) (chains : List (List ℕ)) (left : List Held) (
   pub room : MatchOption (topmost k (unlinked k chains)) ((k < length homes) × (home_of homes k ≡ None)) (λ i. i < length left)
   pub leaves : Leaves (filled k b homes chains) (unlinked k chains) (filling k b chains left) old
 
-pub falls : (homes : Homes) (chains : List (List ℕ)) (frames left : List Held) (f : Held) (k : ℕ) (h : Option Behaviour) (b : Behaviour) → AreInOrder homes chains frames → frames ≡ left ++ f ∷ [] → is_body f ≡ true → k ≡ class_in f → h ≡ held_in f → h ≡ Some b
+pub falls : (homes : Homes) (chains : List (List ℕ)) (frames left : List Held) (f : Held) (k : ℕ) (h : Option Behaviour) (b : Behaviour)
+    → AreInOrder homes chains frames → frames ≡ left ++ f ∷ [] → is_body f ≡ true → k ≡ class_in f → h ≡ held_in f → h ≡ Some b
     → Falls homes chains left (stacked homes frames) k b
 falls homes chains frames left (Wait f) k h b o is body class held some = absurd (let e : false ≡ true = body in cc)
 falls homes chains frames left (Body j p None) k h b o is body class held some = absurd (let e : None ≡ Some b = sym held ∙ some in cc)
@@ -132,7 +152,8 @@ falls homes chains frames left (Body j p (Some a)) k h b o is body class held so
     let e : Some a ≡ Some b = sym held ∙ some in
     let same : a ≡ b = cc in
     let all : AreInOrder homes chains (left ++ Body j p (Some a) ∷ []) = subst (AreInOrder homes chains) is o in
-    subst (λ (n : ℕ). Falls homes chains left (stacked homes frames) n b) (sym class) (subst (λ (x : Behaviour). Falls homes chains left (stacked homes frames) j x) same (record {
+    subst (λ (n : ℕ). Falls homes chains left (stacked homes frames) n b) (sym class)
+    (subst (λ (x : Behaviour). Falls homes chains left (stacked homes frames) j x) same (record {
       within = has_home homes chains left j p a all;
       room = room_below homes chains left j p a all;
       leaves = record {
@@ -142,7 +163,8 @@ falls homes chains frames left (Body j p (Some a)) k h b o is body class held so
       };
     }))
 
-module _ (homes : Homes) (chains : List (List ℕ)) (left : List Held) (old : Stacked) (k : ℕ) (b : Behaviour) (h : Falls homes chains left old k b) (chains1 : List (List ℕ)) (below : Option ℕ) (cs : chains1 ≡ unlinked k chains) (bs : below ≡ topmost k chains1) where
+module _ (homes : Homes) (chains : List (List ℕ)) (left : List Held) (old : Stacked) (k : ℕ) (b : Behaviour) (h : Falls homes chains left old k b)
+    (chains1 : List (List ℕ)) (below : Option ℕ) (cs : chains1 ≡ unlinked k chains) (bs : below ≡ topmost k chains1) where
   same_below : below ≡ topmost k (unlinked k chains)
   same_below = bs ∙ ap (topmost k) cs
 
@@ -151,7 +173,8 @@ module _ (homes : Homes) (chains : List (List ℕ)) (left : List Held) (old : St
       subst (λ (t : Option ℕ). MatchOption t ((k < length homes) × (home_of homes k ≡ None)) (λ i. i < n)) (sym same_below)
       (subst (λ (m : ℕ). MatchOption (topmost k (unlinked k chains)) ((k < length homes) × (home_of homes k ≡ None)) (λ i. i < m)) (sym many) h.room)
 
-  pub falls_leaves : (homes1 : Homes) (frames1 : List Held) → homes1 ≡ homes_filled below k b homes → frames1 ≡ frames_filled below b left → Leaves homes1 chains1 frames1 old
+  pub falls_leaves : (homes1 : Homes) (frames1 : List Held) → homes1 ≡ homes_filled below k b homes → frames1 ≡ frames_filled below b left
+      → Leaves homes1 chains1 frames1 old
   falls_leaves homes1 frames1 hs fs =
       let l1 = subst (λ (t : Option ℕ). Leaves (homes_filled t k b homes) (unlinked k chains) (frames_filled t b left) old) (sym same_below) h.leaves in
       let l2 = subst (λ (c : List (List ℕ)). Leaves (homes_filled below k b homes) c (frames_filled below b left) old) (sym cs) l1 in

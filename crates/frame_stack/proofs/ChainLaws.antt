@@ -1,5 +1,6 @@
 -- The chains of classes, as frames come and go.
-use Rattle.std.proofs.Common.{◌≡◌, ℕ, zero, suc, ◌+◌, ◌-◌, ◌<◌, ◌≤◌, Bool, true, false, List, [], ◌∷◌, ◌++◌, length, drop, take, Option, Some, None, refl, ap, sym, ◌∙◌, subst, arith, length-append}
+use Rattle.std.proofs.Common.{◌≡◌, ℕ, zero, suc, ◌+◌, ◌-◌, ◌<◌, ◌≤◌, Bool, true, false, List, [], ◌∷◌, ◌++◌, length, drop, take, Option, Some, None, refl, ap}
+use Rattle.std.proofs.Common.{sym, ◌∙◌, subst, arith, length-append}
 use Rattle.std.specs.Prelude.{slice_get, slice_set, ◌==◌}
 use Rattle.std.proofs.lemmas.Bool.{eqb-true, eqb-false, eq-eqb}
 use Rattle.std.proofs.lemmas.List.{take_at, length-set}
@@ -13,14 +14,16 @@ use Rattle.ce_frames.proofs.Moves.{of_holding}
 
 -- one frame more
 
-indices_push : (k i : ℕ) (frames : List Held) (f : Held) → indices_from k i (frames ++ f ∷ []) ≡ indices_from k i frames ++ index_if (is_of k f) (i + length frames) []
+indices_push : (k i : ℕ) (frames : List Held) (f : Held)
+    → indices_from k i (frames ++ f ∷ []) ≡ indices_from k i frames ++ index_if (is_of k f) (i + length frames) []
 indices_push k i [] f = let same : i ≡ i + 0 = omega arith in ap (λ n. index_if (is_of k f) n []) same
 indices_push k i (x ∷ frames) f =
     let same : suc i + length frames ≡ i + length (x ∷ frames) = omega arith in
     go (is_of k x) (indices_push k (suc i) frames f ∙ ap (λ n. indices_from k (suc i) frames ++ index_if (is_of k f) n []) same)
   where
     go : (b : Bool) → indices_from k (suc i) (frames ++ f ∷ []) ≡ indices_from k (suc i) frames ++ index_if (is_of k f) (i + length (x ∷ frames)) []
-        → index_if b i (indices_from k (suc i) (frames ++ f ∷ [])) ≡ index_if b i (indices_from k (suc i) frames) ++ index_if (is_of k f) (i + length (x ∷ frames)) []
+        → index_if b i (indices_from k (suc i) (frames ++ f ∷ []))
+        ≡ index_if b i (indices_from k (suc i) frames) ++ index_if (is_of k f) (i + length (x ∷ frames)) []
     go true h = ap (λ l. i ∷ l) h
     go false h = h
 
@@ -36,7 +39,8 @@ else_push k frames f is = indices_push k 0 frames f ∙ ap (λ b. indices_of k f
     nil (x ∷ l) = ap (λ m. x ∷ m) (nil l)
 
 -- another frame of the same class in its place
-indices_set : (k i j : ℕ) (frames : List Held) (f g : Held) → slice_get frames j ≡ Some f → is_of k g ≡ is_of k f → indices_from k i (slice_set frames j g) ≡ indices_from k i frames
+indices_set : (k i j : ℕ) (frames : List Held) (f g : Held) → slice_get frames j ≡ Some f → is_of k g ≡ is_of k f
+    → indices_from k i (slice_set frames j g) ≡ indices_from k i frames
 indices_set k i j [] f g at same = refl
 indices_set k i zero (x ∷ frames) f g at same = let is : f ≡ x = cc in ap (λ b. index_if b i (indices_from k (suc i) frames)) (same ∙ ap (is_of k) is)
 indices_set k i (suc j) (x ∷ frames) f g at same = ap (index_if (is_of k x) i) (indices_set k (suc i) j frames f g at same)
@@ -47,7 +51,8 @@ none_from : (k i : ℕ) (frames : List Held) → indices_from k i frames ≡ [] 
 none_from k i [] h = tt
 none_from k i (f ∷ frames) h = go (is_of k f) refl h (none_from k (suc i) frames)
   where
-    go : (b : Bool) → is_of k f ≡ b → index_if b i (indices_from k (suc i) frames) ≡ [] → (indices_from k (suc i) frames ≡ [] → NoneOf k frames) → (is_of k f ≡ false) × NoneOf k frames
+    go : (b : Bool) → is_of k f ≡ b → index_if b i (indices_from k (suc i) frames) ≡ [] → (indices_from k (suc i) frames ≡ [] → NoneOf k frames)
+        → (is_of k f ≡ false) × NoneOf k frames
     go true is e others = absurd (let x : ◌≡◌ {A = List ℕ} (i ∷ indices_from k (suc i) frames) [] = e in cc)
     go false is e others = (is, others e)
 
@@ -105,7 +110,8 @@ last_none is h = go (ends is)
 
 -- the chain of a class that is there
 
-chain_is : (classes k : ℕ) (chains : List (List ℕ)) (frames : List Held) → AreChained classes chains frames → k < classes → or_empty (slice_get chains k) ≡ indices_of k frames
+chain_is : (classes k : ℕ) (chains : List (List ℕ)) (frames : List Held) → AreChained classes chains frames → k < classes
+    → or_empty (slice_get chains k) ≡ indices_of k frames
 chain_is classes k chains frames c within = ap or_empty (c.known k within)
 
 pub topmost_at : (classes k i : ℕ) (chains : List (List ℕ)) (frames : List Held) → AreChained classes chains frames → k < classes → topmost k chains ≡ Some i
@@ -116,21 +122,24 @@ topmost_at classes k i chains frames c within h =
     let sum : t.index ≡ i = let s = t.sum in omega (arith, s) in
     (t.frame, record { at = subst (λ n. slice_get frames n ≡ Some t.frame) sum t.at; is = t.is; last = subst (λ n. NoneOf k (drop (suc n) frames)) sum t.last })
 
-pub topmost_none : (classes k : ℕ) (chains : List (List ℕ)) (frames : List Held) → AreChained classes chains frames → k < classes → topmost k chains ≡ None → NoneOf k frames
+pub topmost_none : (classes k : ℕ) (chains : List (List ℕ)) (frames : List Held) → AreChained classes chains frames → k < classes → topmost k chains ≡ None
+    → NoneOf k frames
 topmost_none classes k chains frames c within h =
     none_from k 0 frames (last_none (indices_of k frames) (sym (ap last (chain_is classes k chains frames c within)) ∙ h))
 
 -- changes
 
 -- frames of which each class has as many, and at the same places
-pub chained_as : (classes : ℕ) (chains : List (List ℕ)) (old new : List Held) → ((k : ℕ) → indices_of k new ≡ indices_of k old) → AreChained classes chains old → AreChained classes chains new
+pub chained_as : (classes : ℕ) (chains : List (List ℕ)) (old new : List Held) → ((k : ℕ) → indices_of k new ≡ indices_of k old) → AreChained classes chains old
+    → AreChained classes chains new
 chained_as classes chains old new same c = record { each = c.each; known = λ k within. c.known k within ∙ ap Some (sym (same k)) }
 
 pub wait_indices : (k : ℕ) (frames : List Held) (f : Frame) → indices_of k (frames ++ Wait f ∷ []) ≡ indices_of k frames
 wait_indices k frames f = else_push k frames (Wait f) refl
 
 -- a body of a class that is there, on top
-pub chained_push : (classes k : ℕ) (chains : List (List ℕ)) (frames : List Held) (p : Place) (h : Option Behaviour) → AreChained classes chains frames → k < classes
+pub chained_push : (classes k : ℕ) (chains : List (List ℕ)) (frames : List Held) (p : Place) (h : Option Behaviour) → AreChained classes chains frames
+    → k < classes
     → AreChained classes (linked k (length frames) chains) (frames ++ Body k p h ∷ [])
 chained_push classes k chains frames p h c within =
     let many = c.each in
@@ -139,16 +148,19 @@ chained_push classes k chains frames p h c within =
     record {
       each = length-set chains k chain ∙ c.each;
       known = each_number (λ j. j < classes → slice_get (linked k (length frames) chains) j ≡ Some (indices_of j (frames ++ Body k p h ∷ []))) k
-          (λ w. set_within chains k chain inside ∙ ap (λ l. Some (l ++ length frames ∷ [])) (chain_is classes k chains frames c within) ∙ ap Some (sym (own_push k frames (Body k p h) (eq-eqb k k refl))))
+          (λ w. set_within chains k chain inside ∙ ap (λ l. Some (l ++ length frames ∷ [])) (chain_is classes k chains frames c within)
+          ∙ ap Some (sym (own_push k frames (Body k p h) (eq-eqb k k refl))))
           (λ j other w. set_other chains k j chain (eqb-false k j other) ∙ c.known j w ∙ ap Some (sym (else_push j frames (Body k p h) other)));
     }
 
-pub chained_pop : (classes k : ℕ) (chains : List (List ℕ)) (frames : List Held) (p : Place) (h : Option Behaviour) → AreChained classes chains (frames ++ Body k p h ∷ []) → k < classes
+pub chained_pop : (classes k : ℕ) (chains : List (List ℕ)) (frames : List Held) (p : Place) (h : Option Behaviour)
+    → AreChained classes chains (frames ++ Body k p h ∷ []) → k < classes
     → AreChained classes (unlinked k chains) frames
 chained_pop classes k chains frames p h c within =
     let many = c.each in
     let inside : k < length chains = omega (arith, within, many) in
-    let old : or_empty (slice_get chains k) ≡ indices_of k frames ++ length frames ∷ [] = chain_is classes k chains (frames ++ Body k p h ∷ []) c within ∙ own_push k frames (Body k p h) (eq-eqb k k refl) in
+    let old : or_empty (slice_get chains k) ≡ indices_of k frames ++ length frames ∷ [] =
+    chain_is classes k chains (frames ++ Body k p h ∷ []) c within ∙ own_push k frames (Body k p h) (eq-eqb k k refl) in
     let chain : List ℕ = take (length (or_empty (slice_get chains k)) - 1) (or_empty (slice_get chains k)) in
     record {
       each = length-set chains k chain ∙ c.each;
@@ -158,20 +170,24 @@ chained_pop classes k chains frames p h c within =
     }
 
 -- a body of a class that is not there
-pub unknown_indices : (classes k j : ℕ) (frames : List Held) (p : Place) (h : Option Behaviour) → classes ≤ k → j < classes → indices_of j (frames ++ Body k p h ∷ []) ≡ indices_of j frames
+pub unknown_indices : (classes k j : ℕ) (frames : List Held) (p : Place) (h : Option Behaviour) → classes ≤ k → j < classes
+    → indices_of j (frames ++ Body k p h ∷ []) ≡ indices_of j frames
 unknown_indices classes k j frames p h past within = else_push j frames (Body k p h) (go (k == j) refl)
   where
     go : (t : Bool) → k == j ≡ t → t ≡ false
     go true is = let same = eqb-true k j is in absurd (omega (arith, past, within, same))
     go false is = refl
 
-pub chained_known : (classes : ℕ) (chains : List (List ℕ)) (old new : List Held) → ((k : ℕ) → k < classes → indices_of k new ≡ indices_of k old) → AreChained classes chains old → AreChained classes chains new
+pub chained_known : (classes : ℕ) (chains : List (List ℕ)) (old new : List Held) → ((k : ℕ) → k < classes → indices_of k new ≡ indices_of k old)
+    → AreChained classes chains old → AreChained classes chains new
 chained_known classes chains old new same c = record { each = c.each; known = λ k within. c.known k within ∙ ap Some (sym (same k within)) }
 
 -- what a frame holds is changed
-pub holding_indices : (k j : ℕ) (frames : List Held) (f : Held) (b : Option Behaviour) → slice_get frames j ≡ Some f → indices_of k (slice_set frames j (holding b f)) ≡ indices_of k frames
+pub holding_indices : (k j : ℕ) (frames : List Held) (f : Held) (b : Option Behaviour) → slice_get frames j ≡ Some f
+    → indices_of k (slice_set frames j (holding b f)) ≡ indices_of k frames
 holding_indices k j frames f b at = indices_set k 0 j frames f (holding b f) at (of_holding k b f)
 
 -- a body of the same class in the place of the topmost frame
-pub top_indices : (k j : ℕ) (frames : List Held) (p q : Place) (h b : Option Behaviour) → indices_of k (frames ++ Body j q b ∷ []) ≡ indices_of k (frames ++ Body j p h ∷ [])
+pub top_indices : (k j : ℕ) (frames : List Held) (p q : Place) (h b : Option Behaviour)
+    → indices_of k (frames ++ Body j q b ∷ []) ≡ indices_of k (frames ++ Body j p h ∷ [])
 top_indices k j frames p q h b = indices_push k 0 frames (Body j q b) ∙ sym (indices_push k 0 frames (Body j p h))

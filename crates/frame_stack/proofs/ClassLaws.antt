@@ -1,5 +1,6 @@
 -- The classes, while no frame lies on the stack.
-use Rattle.std.proofs.Common.{◌≡◌, ℕ, zero, suc, ◌<◌, ◌≤◌, ◌+◌, true, List, [], ◌∷◌, ◌++◌, map, length, Option, Some, refl, ap, sym, ◌∙◌, subst, arith, length-append}
+use Rattle.std.proofs.Common.{◌≡◌, ℕ, zero, suc, ◌<◌, ◌≤◌, ◌+◌, true, List, [], ◌∷◌, ◌++◌, map, length, Option, Some, refl, ap, sym, ◌∙◌, subst, arith}
+use Rattle.std.proofs.Common.{length-append}
 use Rattle.std.specs.Prelude.{slice_get, slice_set, is_some, ◌⊎◌, OnOk, OnErr, Result, Ok, Err}
 use Rattle.std.proofs.Common.{inl, inr}
 use Rattle.std.proofs.lemmas.Bool.{cases_lt}
@@ -17,19 +18,22 @@ use Rattle.frame_stack.specs.Stacked.{Stacked, behaviour_at, behaviours_of, plac
 use Rattle.frame_stack.proofs.Settled.{behaviours_are, in_order}
 
 -- all behaviours are at home
-pub homes_are : (homes : Homes) (chains : List (List ℕ)) (frames : List Held) → AreInOrder homes chains frames → frames ≡ [] → homes ≡ map Some (placed_from 0 frames homes)
+pub homes_are : (homes : Homes) (chains : List (List ℕ)) (frames : List Held) → AreInOrder homes chains frames → frames ≡ []
+    → homes ≡ map Some (placed_from 0 frames homes)
 homes_are homes chains frames o none =
     all_home homes (placed_from 0 frames homes) (subst (λ (l : List Held). Stands homes l (placed_from 0 frames homes)) none o.placed)
 
 -- chains of no frames
 
-get_push : {X : Type 0} (xs : List X) (x : X) (k : ℕ) → k < length xs + 1 → (slice_get (xs ++ x ∷ []) k ≡ slice_get xs k) ⊎ ((k ≡ length xs) × (slice_get (xs ++ x ∷ []) k ≡ Some x))
+get_push : {X : Type 0} (xs : List X) (x : X) (k : ℕ) → k < length xs + 1
+    → (slice_get (xs ++ x ∷ []) k ≡ slice_get xs k) ⊎ ((k ≡ length xs) × (slice_get (xs ++ x ∷ []) k ≡ Some x))
 get_push [] x zero h = inr (refl, refl)
 get_push [] x (suc k) h = absurd (omega (arith, h))
 get_push (y ∷ xs) x zero h = inl refl
 get_push (y ∷ xs) x (suc k) h = go (get_push xs x k (omega (arith, h)))
   where
-    go : (slice_get (xs ++ x ∷ []) k ≡ slice_get xs k) ⊎ ((k ≡ length xs) × (slice_get (xs ++ x ∷ []) k ≡ Some x)) → (slice_get (xs ++ x ∷ []) k ≡ slice_get xs k) ⊎ ((suc k ≡ suc (length xs)) × (slice_get (xs ++ x ∷ []) k ≡ Some x))
+    go : (slice_get (xs ++ x ∷ []) k ≡ slice_get xs k) ⊎ ((k ≡ length xs) × (slice_get (xs ++ x ∷ []) k ≡ Some x))
+        → (slice_get (xs ++ x ∷ []) k ≡ slice_get xs k) ⊎ ((suc k ≡ suc (length xs)) × (slice_get (xs ++ x ∷ []) k ≡ Some x))
     go (inl e) = inl e
     go (inr e) = inr (ap suc e.0, e.1)
 
@@ -39,13 +43,15 @@ more_chains n chains c = record {
   known = λ k h. go k h (get_push chains [] k (let each = c.each in omega (arith, h, each)));
 }
   where
-    go : (k : ℕ) → k < n + 1 → (slice_get (chains ++ [] ∷ []) k ≡ slice_get chains k) ⊎ ((k ≡ length chains) × (slice_get (chains ++ [] ∷ []) k ≡ Some [])) → slice_get (chains ++ [] ∷ []) k ≡ Some []
+    go : (k : ℕ) → k < n + 1 → (slice_get (chains ++ [] ∷ []) k ≡ slice_get chains k) ⊎ ((k ≡ length chains) × (slice_get (chains ++ [] ∷ []) k ≡ Some []))
+        → slice_get (chains ++ [] ∷ []) k ≡ Some []
     go k h (inr e) = e.1
     go k h (inl e) = within k h e (cases_lt k n)
       where
         within : (k : ℕ) → k < n + 1 → slice_get (chains ++ [] ∷ []) k ≡ slice_get chains k → (k < n) ⊎ (n ≤ k) → slice_get (chains ++ [] ∷ []) k ≡ Some []
         within k h e (inl less) = e ∙ c.known k less
-        within k h e (inr past) = let each = c.each in let is : length chains ≡ k = omega (arith, h, past, each) in ap (slice_get (chains ++ [] ∷ [])) (sym is) ∙ end chains
+        within k h e (inr past) = let each = c.each in let is : length chains ≡ k =
+            omega (arith, h, past, each) in ap (slice_get (chains ++ [] ∷ [])) (sym is) ∙ end chains
           where
             end : (xs : List (List ℕ)) → slice_get (xs ++ [] ∷ []) (length xs) ≡ Some []
             end [] = refl
@@ -68,12 +74,14 @@ module _ (homes : Homes) (chains : List (List ℕ)) (frames : List Held) (o : Ar
   more_chained =
       let many : length (homes ++ Some new_behaviour ∷ []) ≡ length homes + 1 = length-append homes (Some new_behaviour ∷ []) in
       subst (λ (l : List Held). AreChained (length (homes ++ Some new_behaviour ∷ [])) (chains ++ [] ∷ []) l) (sym none)
-      (subst (λ n. AreChained n (chains ++ [] ∷ []) []) (sym many) (more_chains (length homes) chains (subst (AreChained (length homes) chains) none o.chained)))
+      (subst (λ n. AreChained n (chains ++ [] ∷ []) []) (sym many)
+      (more_chains (length homes) chains (subst (AreChained (length homes) chains) none o.chained)))
 
   pub add_order : AreInOrder (homes ++ Some new_behaviour ∷ []) (chains ++ [] ∷ []) frames
   add_order = in_order (homes ++ Some new_behaviour ∷ []) (chains ++ [] ∷ []) frames (bs ++ new_behaviour ∷ []) more_stands more_chained
 
-  pub add_behaviours : behaviours_of (record { homes = homes ++ Some new_behaviour ∷ []; frames = frames }) ≡ behaviours_of (record { homes = homes; frames = frames }) ++ new_behaviour ∷ []
+  pub add_behaviours : behaviours_of (record { homes = homes ++ Some new_behaviour ∷ []; frames = frames })
+      ≡ behaviours_of (record { homes = homes; frames = frames }) ++ new_behaviour ∷ []
   add_behaviours =
       behaviours_are (homes ++ Some new_behaviour ∷ []) frames (bs ++ new_behaviour ∷ []) more_stands
       ∙ ap (λ l. l ++ new_behaviour ∷ []) (sym (behaviours_are homes frames bs o.placed))
@@ -90,12 +98,15 @@ behaviour_there [] k h = absurd (omega (arith, h))
 behaviour_there (b ∷ bs) zero h = refl
 behaviour_there (b ∷ bs) (suc k) h = behaviour_there bs k (omega (arith, h))
 
-pub extend_home : (homes : Homes) (chains : List (List ℕ)) (frames : List Held) (k : ℕ) → AreInOrder homes chains frames → frames ≡ [] → k < length (behaviours_of (record { homes = homes; frames = frames })) → is_some (home_of homes k) ≡ true
+pub extend_home : (homes : Homes) (chains : List (List ℕ)) (frames : List Held) (k : ℕ) → AreInOrder homes chains frames → frames ≡ []
+    → k < length (behaviours_of (record { homes = homes; frames = frames })) → is_some (home_of homes k) ≡ true
 unfolding behaviours_of
 extend_home homes chains frames k o none within =
-    ap (λ (h : Homes). is_some (home_of h k)) (homes_are homes chains frames o none) ∙ ap is_some (home_there (placed_from 0 frames homes) k ∙ behaviour_there (placed_from 0 frames homes) k within)
+    ap (λ (h : Homes). is_some (home_of h k)) (homes_are homes chains frames o none)
+    ∙ ap is_some (home_there (placed_from 0 frames homes) k ∙ behaviour_there (placed_from 0 frames homes) k within)
 
-module _ (homes : Homes) (chains : List (List ℕ)) (frames : List Held) (k : ℕ) (call : CallName) (action : Act) (o : AreInOrder homes chains frames) (none : frames ≡ []) (within : k < length (placed_from 0 frames homes)) where
+module _ (homes : Homes) (chains : List (List ℕ)) (frames : List Held) (k : ℕ) (call : CallName) (action : Act) (o : AreInOrder homes chains frames)
+    (none : frames ≡ []) (within : k < length (placed_from 0 frames homes)) where
   abbrev all : List Behaviour
   all = placed_from 0 frames homes
 
@@ -110,7 +121,8 @@ module _ (homes : Homes) (chains : List (List ℕ)) (frames : List Held) (k : �
 
   longer_stands : Stands (extended_at k call action homes) frames longer
   longer_stands =
-      subst (λ (l : List Held). Stands (extended_at k call action homes) l longer) (sym none) (subst (λ (h : Homes). Stands h [] longer) (sym longer_homes) (at_home longer))
+      subst (λ (l : List Held). Stands (extended_at k call action homes) l longer) (sym none)
+      (subst (λ (h : Homes). Stands h [] longer) (sym longer_homes) (at_home longer))
 
   same_length : length (extended_at k call action homes) ≡ length homes
   same_length = go homes k (extended call action (home_of homes k))
@@ -125,28 +137,36 @@ module _ (homes : Homes) (chains : List (List ℕ)) (frames : List Held) (k : �
       in_order (extended_at k call action homes) chains frames longer longer_stands
       (subst (λ n. AreChained n chains frames) (sym same_length) o.chained)
 
-  pub extend_behaviours : behaviours_of (record { homes = extended_at k call action homes; frames = frames }) ≡ extended_in k call action (behaviours_of (record { homes = homes; frames = frames }))
+  pub extend_behaviours : behaviours_of (record { homes = extended_at k call action homes; frames = frames })
+      ≡ extended_in k call action (behaviours_of (record { homes = homes; frames = frames }))
   extend_behaviours =
       behaviours_are (extended_at k call action homes) frames longer longer_stands
       ∙ ap (extended_in k call action) (sym (behaviours_are homes frames all o.placed))
 
 -- an action comes to a class's body, unless memory is refused
 
-module _ (homes : Homes) (chains : List (List ℕ)) (frames : List Held) (k : ℕ) (call : CallName) (action : Act) (now : Stacked) (view : record { homes = homes; frames = frames } ≡ now) (o : AreInOrder homes chains frames) (empty : now.frames ≡ []) (within : k < length (behaviours_of now)) where
+module _ (homes : Homes) (chains : List (List ℕ)) (frames : List Held) (k : ℕ) (call : CallName) (action : Act) (now : Stacked)
+    (view : record { homes = homes; frames = frames } ≡ now) (o : AreInOrder homes chains frames) (empty : now.frames ≡ [])
+    (within : k < length (behaviours_of now)) where
   none_there : frames ≡ []
   none_there = ap (λ (s : Stacked). s.frames) view ∙ empty
 
   class_in : k < length (placed_from 0 frames homes)
-  class_in = subst (λ (l : List Behaviour). k < length l) (behaviours_are homes frames (placed_from 0 frames homes) o.placed) (subst (λ (s : Stacked). k < length (behaviours_of s)) (sym view) within)
+  class_in = subst (λ (l : List Behaviour). k < length l) (behaviours_are homes frames (placed_from 0 frames homes) o.placed)
+      (subst (λ (s : Stacked). k < length (behaviours_of s)) (sym view) within)
 
   pub has_home_there : is_some (home_of homes k) ≡ true
   has_home_there = extend_home homes chains frames k o none_there (subst (λ (s : Stacked). k < length (behaviours_of s)) (sym view) within)
 
-  pub extended_order : (r : Result (Unit {0}) NoMemory) (homes1 : Homes) → OnOk r (homes1 ≡ extended_at k call action homes) → OnErr r (homes1 ≡ homes) → AreInOrder homes1 chains frames
-  extended_order (Ok u) homes1 on off = subst (λ (h : Homes). AreInOrder h chains frames) (sym on) (extend_order homes chains frames k call action o none_there class_in)
+  pub extended_order : (r : Result (Unit {0}) NoMemory) (homes1 : Homes) → OnOk r (homes1 ≡ extended_at k call action homes) → OnErr r (homes1 ≡ homes)
+      → AreInOrder homes1 chains frames
+  extended_order (Ok u) homes1 on off =
+      subst (λ (h : Homes). AreInOrder h chains frames) (sym on) (extend_order homes chains frames k call action o none_there class_in)
   extended_order (Err e) homes1 on off = subst (λ (h : Homes). AreInOrder h chains frames) (sym off) o
 
-  pub extended_behaviours : (r : Result (Unit {0}) NoMemory) (homes1 : Homes) → OnOk r (homes1 ≡ extended_at k call action homes) → OnOk r (behaviours_of (record { homes = homes1; frames = frames }) ≡ extended_in k call action (behaviours_of now))
+  pub extended_behaviours : (r : Result (Unit {0}) NoMemory) (homes1 : Homes) → OnOk r (homes1 ≡ extended_at k call action homes)
+      → OnOk r (behaviours_of (record { homes = homes1; frames = frames }) ≡ extended_in k call action (behaviours_of now))
   extended_behaviours (Ok u) homes1 on =
-      ap (λ (h : Homes). behaviours_of (record { homes = h; frames = frames })) on ∙ extend_behaviours homes chains frames k call action o none_there class_in ∙ ap (λ (s : Stacked). extended_in k call action (behaviours_of s)) view
+      ap (λ (h : Homes). behaviours_of (record { homes = h; frames = frames })) on ∙ extend_behaviours homes chains frames k call action o none_there class_in
+      ∙ ap (λ (s : Stacked). extended_in k call action (behaviours_of s)) view
   extended_behaviours (Err e) homes1 on = tt

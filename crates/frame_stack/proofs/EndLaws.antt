@@ -25,31 +25,40 @@ places_one k (Wait f ∷ frames) p h none = places_one k frames p h none.1
 places_one k (Body c q b ∷ frames) p h none = ap (λ t. place_if t b (places_of k (frames ++ Body k p h ∷ []))) none.0 ∙ places_one k frames p h none.1
 
 -- the home of a class whose only frame is the topmost is empty
-home_away : (homes : Homes) (frames : List Held) (bs : List Behaviour) (k : ℕ) (p : Place) (h : Option Behaviour) → NoneOf k frames → Stands homes (frames ++ Body k p h ∷ []) bs → home_of homes k ≡ None
+home_away : (homes : Homes) (frames : List Held) (bs : List Behaviour) (k : ℕ) (p : Place) (h : Option Behaviour) → NoneOf k frames
+    → Stands homes (frames ++ Body k p h ∷ []) bs → home_of homes k ≡ None
 home_away homes frames bs k p h none s = (subst (λ l. OnlyLast (slice_get bs k) (home_of homes k ∷ l)) (places_one k frames p h none) (s.one k)).0
 
-ended_stands : (homes : Homes) (frames : List Held) (bs : List Behaviour) (k : ℕ) (p : Place) (b : Behaviour) (below : Option ℕ) → Found k frames below → Stands homes (frames ++ Body k p (Some b) ∷ []) bs
+ended_stands : (homes : Homes) (frames : List Held) (bs : List Behaviour) (k : ℕ) (p : Place) (b : Behaviour) (below : Option ℕ) → Found k frames below
+    → Stands homes (frames ++ Body k p (Some b) ∷ []) bs
     → Stands (homes_filled below k b homes) (frames_filled below b frames) bs
 ended_stands homes frames bs k p b None none s = to_home homes frames bs k p b none s
 ended_stands homes frames bs k p b (Some i) found s =
-    subst (λ (g : Held). Stands homes (slice_set frames i (holding (Some b) g)) bs) (sym (ap or_waiting found.1.at)) (handed_back homes frames bs k i p found.0 (Some b) found.1 s)
+    subst (λ (g : Held). Stands homes (slice_set frames i (holding (Some b) g)) bs) (sym (ap or_waiting found.1.at))
+    (handed_back homes frames bs k i p found.0 (Some b) found.1 s)
 
-ended_indices : (frames : List Held) (k j : ℕ) (b : Behaviour) (below : Option ℕ) → Found k frames below → indices_of j (frames_filled below b frames) ≡ indices_of j frames
+ended_indices : (frames : List Held) (k j : ℕ) (b : Behaviour) (below : Option ℕ) → Found k frames below
+    → indices_of j (frames_filled below b frames) ≡ indices_of j frames
 ended_indices frames k j b None none = refl
 ended_indices frames k j b (Some i) found =
-    ap (λ (g : Held). indices_of j (slice_set frames i (holding (Some b) g))) (ap or_waiting found.1.at) ∙ holding_indices j i frames found.0 (Some b) found.1.at
+    ap (λ (g : Held). indices_of j (slice_set frames i (holding (Some b) g))) (ap or_waiting found.1.at)
+    ∙ holding_indices j i frames found.0 (Some b) found.1.at
 
-filled_homes : (homes : Homes) (frames : List Held) (k : ℕ) (b : Behaviour) (below : Option ℕ) → Found k frames below → length (homes_filled below k b homes) ≡ length homes
+filled_homes : (homes : Homes) (frames : List Held) (k : ℕ) (b : Behaviour) (below : Option ℕ) → Found k frames below
+    → length (homes_filled below k b homes) ≡ length homes
 filled_homes homes frames k b None none = length-set homes k (Some b)
 filled_homes homes frames k b (Some i) found = refl
 
-filled_seen : (bodies : List (List (CallName × Act))) (frames : List Held) (k : ℕ) (b : Behaviour) (below : Option ℕ) → Found k frames below → map (seen bodies) (frames_filled below b frames) ≡ map (seen bodies) frames
+filled_seen : (bodies : List (List (CallName × Act))) (frames : List Held) (k : ℕ) (b : Behaviour) (below : Option ℕ) → Found k frames below
+    → map (seen bodies) (frames_filled below b frames) ≡ map (seen bodies) frames
 filled_seen bodies frames k b None none = refl
 filled_seen bodies frames k b (Some i) found =
-    ap (λ (g : Held). map (seen bodies) (slice_set frames i (holding (Some b) g))) (ap or_waiting found.1.at) ∙ seen_set bodies frames i found.0 (Some b) found.1.at
+    ap (λ (g : Held). map (seen bodies) (slice_set frames i (holding (Some b) g))) (ap or_waiting found.1.at)
+    ∙ seen_set bodies frames i found.0 (Some b) found.1.at
 
 -- the topmost frame has its behaviour where its class is there
-pub has_behaviour : (homes : Homes) (chains : List (List ℕ)) (frames : List Held) (k : ℕ) (p : Place) (h : Option Behaviour) → AreInOrder homes chains (frames ++ Body k p h ∷ []) → h ≡ None → length homes ≤ k
+pub has_behaviour : (homes : Homes) (chains : List (List ℕ)) (frames : List Held) (k : ℕ) (p : Place) (h : Option Behaviour)
+    → AreInOrder homes chains (frames ++ Body k p h ∷ []) → h ≡ None → length homes ≤ k
 has_behaviour homes chains frames k p h o none = go (cases_lt k (length homes))
   where
     go : (k < length homes) ⊎ (length homes ≤ k) → length homes ≤ k
@@ -59,15 +68,18 @@ has_behaviour homes chains frames k p h o none = go (cases_lt k (length homes))
         let e : None ≡ Some b.0 = sym none ∙ top_has homes frames (placed_from 0 (frames ++ Body k p h ∷ []) homes) k p h o.placed ∙ b.1 in
         absurd cc
 
-pub has_home : (homes : Homes) (chains : List (List ℕ)) (frames : List Held) (k : ℕ) (p : Place) (b : Behaviour) → AreInOrder homes chains (frames ++ Body k p (Some b) ∷ []) → k < length homes
+pub has_home : (homes : Homes) (chains : List (List ℕ)) (frames : List Held) (k : ℕ) (p : Place) (b : Behaviour)
+    → AreInOrder homes chains (frames ++ Body k p (Some b) ∷ []) → k < length homes
 has_home homes chains frames k p b o =
-    let has : Some b ≡ slice_get (placed_from 0 (frames ++ Body k p (Some b) ∷ []) homes) k = top_has homes frames (placed_from 0 (frames ++ Body k p (Some b) ∷ []) homes) k p (Some b) o.placed in
+    let has : Some b ≡ slice_get (placed_from 0 (frames ++ Body k p (Some b) ∷ []) homes) k =
+    top_has homes frames (placed_from 0 (frames ++ Body k p (Some b) ∷ []) homes) k p (Some b) o.placed in
     let within = slice_get_within (placed_from 0 (frames ++ Body k p (Some b) ∷ []) homes) k b (sym has) in
     let each = o.placed.each in
     omega (arith, within, each)
 
 -- a class that is there
-module _ (homes : Homes) (chains : List (List ℕ)) (frames : List Held) (k : ℕ) (p : Place) (b : Behaviour) (o : AreInOrder homes chains (frames ++ Body k p (Some b) ∷ [])) where
+module _ (homes : Homes) (chains : List (List ℕ)) (frames : List Held) (k : ℕ) (p : Place) (b : Behaviour)
+    (o : AreInOrder homes chains (frames ++ Body k p (Some b) ∷ [])) where
   abbrev all : List Behaviour
   all = placed_from 0 (frames ++ Body k p (Some b) ∷ []) homes
 
@@ -95,14 +107,18 @@ module _ (homes : Homes) (chains : List (List ℕ)) (frames : List Held) (k : �
       (subst (λ n. AreChained n (unlinked k chains) (frames_filled below b frames)) (sym (filled_homes homes frames k b below where_it_goes))
       (chained_as (length homes) (unlinked k chains) frames (frames_filled below b frames) (λ j. ended_indices frames k j b below where_it_goes) left_chained))
 
-  pub end_behaviours : behaviours_of (record { homes = homes_filled below k b homes; frames = frames_filled below b frames }) ≡ behaviours_of (record { homes = homes; frames = frames ++ Body k p (Some b) ∷ [] })
-  end_behaviours = behaviours_are (homes_filled below k b homes) (frames_filled below b frames) all stands ∙ sym (behaviours_are homes (frames ++ Body k p (Some b) ∷ []) all o.placed)
+  pub end_behaviours : behaviours_of (record { homes = homes_filled below k b homes; frames = frames_filled below b frames })
+      ≡ behaviours_of (record { homes = homes; frames = frames ++ Body k p (Some b) ∷ [] })
+  end_behaviours = behaviours_are (homes_filled below k b homes) (frames_filled below b frames) all stands
+      ∙ sym (behaviours_are homes (frames ++ Body k p (Some b) ∷ []) all o.placed)
 
-  pub end_frames : frames_of (record { homes = homes_filled below k b homes; frames = frames_filled below b frames }) ≡ below_top (frames_of (record { homes = homes; frames = frames ++ Body k p (Some b) ∷ [] }))
+  pub end_frames : frames_of (record { homes = homes_filled below k b homes; frames = frames_filled below b frames })
+      ≡ below_top (frames_of (record { homes = homes; frames = frames ++ Body k p (Some b) ∷ [] }))
   end_frames =
       frames_are (homes_filled below k b homes) (frames_filled below b frames) all stands
       ∙ filled_seen (bodies_in all) frames k b below where_it_goes
-      ∙ sym (ap below_top (frames_are homes (frames ++ Body k p (Some b) ∷ []) all o.placed ∙ map-append (seen (bodies_in all)) frames (Body k p (Some b) ∷ [])) ∙ below_push (map (seen (bodies_in all)) frames) (seen (bodies_in all) (Body k p (Some b))))
+      ∙ sym (ap below_top (frames_are homes (frames ++ Body k p (Some b) ∷ []) all o.placed ∙ map-append (seen (bodies_in all)) frames (Body k p (Some b) ∷ []))
+      ∙ below_push (map (seen (bodies_in all)) frames) (seen (bodies_in all) (Body k p (Some b))))
 
 -- a class that is not there
 module _ (homes : Homes) (chains : List (List ℕ)) (frames : List Held) (k : ℕ) (p : Place) (o : AreInOrder homes chains (frames ++ Body k p None ∷ [])) where
@@ -117,12 +133,16 @@ module _ (homes : Homes) (chains : List (List ℕ)) (frames : List Held) (k : �
 
   pub gone_order : AreInOrder homes chains frames
   gone_order = in_order homes chains frames rest stays
-      (chained_known (length homes) chains (frames ++ Body k p None ∷ []) frames (λ j w. sym (unknown_indices (length homes) k j frames p None past w)) o.chained)
+      (chained_known (length homes) chains (frames ++ Body k p None ∷ []) frames
+      (λ j w. sym (unknown_indices (length homes) k j frames p None past w)) o.chained)
 
-  pub gone_behaviours : behaviours_of (record { homes = homes; frames = frames }) ≡ behaviours_of (record { homes = homes; frames = frames ++ Body k p None ∷ [] })
+  pub gone_behaviours : behaviours_of (record { homes = homes; frames = frames })
+      ≡ behaviours_of (record { homes = homes; frames = frames ++ Body k p None ∷ [] })
   gone_behaviours = behaviours_are homes frames rest stays ∙ sym (behaviours_are homes (frames ++ Body k p None ∷ []) rest o.placed)
 
-  pub gone_frames : frames_of (record { homes = homes; frames = frames }) ≡ below_top (frames_of (record { homes = homes; frames = frames ++ Body k p None ∷ [] }))
+  pub gone_frames : frames_of (record { homes = homes; frames = frames })
+      ≡ below_top (frames_of (record { homes = homes; frames = frames ++ Body k p None ∷ [] }))
   gone_frames =
       frames_are homes frames rest stays
-      ∙ sym (ap below_top (frames_are homes (frames ++ Body k p None ∷ []) rest o.placed ∙ map-append (seen (bodies_in rest)) frames (Body k p None ∷ [])) ∙ below_push (map (seen (bodies_in rest)) frames) (seen (bodies_in rest) (Body k p None)))
+      ∙ sym (ap below_top (frames_are homes (frames ++ Body k p None ∷ []) rest o.placed ∙ map-append (seen (bodies_in rest)) frames (Body k p None ∷ []))
+      ∙ below_push (map (seen (bodies_in rest)) frames) (seen (bodies_in rest) (Body k p None)))

@@ -17,7 +17,8 @@ use Rattle.frame_stack.proofs.Settled.{behaviours_are, in_order}
 use Rattle.frame_stack.proofs.TopLaws.{Ends, AtNone, AtLast, ends, last_push, top_push}
 
 -- the frames of the definitions, where the behaviours are known
-pub frames_are : (homes : Homes) (frames : List Held) (bs : List Behaviour) → Stands homes frames bs → frames_of (record { homes = homes; frames = frames }) ≡ map (seen (bodies_in bs)) frames
+pub frames_are : (homes : Homes) (frames : List Held) (bs : List Behaviour) → Stands homes frames bs
+    → frames_of (record { homes = homes; frames = frames }) ≡ map (seen (bodies_in bs)) frames
 unfolding frames_of
 frames_are homes frames bs s = ap (λ (l : List Behaviour). map (seen (bodies_in l)) frames) (behaviours_are homes frames bs s)
 
@@ -32,7 +33,8 @@ module _ (homes : Homes) (chains : List (List ℕ)) (frames : List Held) (f : Fr
         (chained_as (length homes) chains frames (frames ++ Wait f ∷ []) (λ k. wait_indices k frames f) o.chained)
 
     pub push_behaviours : behaviours_of (record { homes = homes; frames = frames ++ Wait f ∷ [] }) ≡ behaviours_of (record { homes = homes; frames = frames })
-    push_behaviours = behaviours_are homes (frames ++ Wait f ∷ []) (placed_from 0 frames homes) pushed_stands ∙ sym (behaviours_are homes frames (placed_from 0 frames homes) o.placed)
+    push_behaviours = behaviours_are homes (frames ++ Wait f ∷ []) (placed_from 0 frames homes) pushed_stands
+        ∙ sym (behaviours_are homes frames (placed_from 0 frames homes) o.placed)
 
     pub push_frames : frames_of (record { homes = homes; frames = frames ++ Wait f ∷ [] }) ≡ frames_of (record { homes = homes; frames = frames }) ++ f ∷ []
     push_frames =
@@ -52,7 +54,8 @@ module _ (homes : Homes) (chains : List (List ℕ)) (frames : List Held) (f : Fr
 -- what is on top
 
 -- a body, where frames lie and no other frame is on top
-pub body_on_top : (homes : Homes) (chains : List (List ℕ)) (frames : List Held) → AreInOrder homes chains frames → is_waiting (slice_get frames (length frames - 1)) ≡ false
+pub body_on_top : (homes : Homes) (chains : List (List ℕ)) (frames : List Held) → AreInOrder homes chains frames
+    → is_waiting (slice_get frames (length frames - 1)) ≡ false
     → 0 < length (frames_of (record { homes = homes; frames = frames })) → HasBody (frames_of (record { homes = homes; frames = frames }))
 body_on_top homes chains frames o h some =
     let bodies : List (List (CallName × Act)) = bodies_in (placed_from 0 frames homes) in
@@ -62,13 +65,21 @@ body_on_top homes chains frames o h some =
     last : (bodies : List (List (CallName × Act))) (front : List Held) (x : Held) → is_waiting (Some x) ≡ false → HasBody (map (seen bodies) (front ++ x ∷ []))
     last bodies front (Wait f) waits = absurd (let e : true ≡ false = waits in cc)
     last bodies front (Body k p held) waits =
-        let r : Running = record { class = k; args = p.args; this = p.this; guarded = p.guarded; actions = drop p.index (actions_of p.call (or_empty (slice_get bodies k))) } in
+        let r : Running = record {
+          class = k;
+          args = p.args;
+          this = p.this;
+          guarded = p.guarded;
+          actions = drop p.index (actions_of p.call (or_empty (slice_get bodies k)));
+        } in
         record { body = r; top = ap top_of (map-append (seen bodies) front (Body k p held ∷ [])) ∙ top_push (map (seen bodies) front) (in_body r) }
 
-    go : (bodies : List (List (CallName × Act))) (frames : List Held) → Ends frames → is_waiting (slice_get frames (length frames - 1)) ≡ false → 0 < length (map (seen bodies) frames) → HasBody (map (seen bodies) frames)
+    go : (bodies : List (List (CallName × Act))) (frames : List Held) → Ends frames → is_waiting (slice_get frames (length frames - 1)) ≡ false
+        → 0 < length (map (seen bodies) frames) → HasBody (map (seen bodies) frames)
     go bodies frames (AtNone e) waits some = let l = length-map frames (seen bodies) in let z = ap length e in absurd (omega (arith, some, l, z))
     go bodies frames (AtLast front x e) waits some =
-        subst (λ l. HasBody (map (seen bodies) l)) (sym e) (last bodies front x (sym (ap is_waiting (ap (λ l. slice_get l (length l - 1)) e ∙ last_push front x)) ∙ waits))
+        subst (λ l. HasBody (map (seen bodies) l)) (sym e)
+        (last bodies front x (sym (ap is_waiting (ap (λ l. slice_get l (length l - 1)) e ∙ last_push front x)) ∙ waits))
 
 -- no frames
 pub no_frames : (s : Stacked) → frames_of s ≡ [] → s.frames ≡ []

@@ -40,7 +40,8 @@ set_gone (x ∷ bs) zero b at = absurd (let e : Some x ≡ None = at in cc)
 set_gone (x ∷ bs) (suc k) b at = ap (λ l. x ∷ l) (set_gone bs k b at)
 
 -- with its behaviour
-module _ (homes : Homes) (chains : List (List ℕ)) (frames : List Held) (k : ℕ) (p : Place) (b : Behaviour) (o : AreInOrder homes chains (frames ++ Body k p (Some b) ∷ [])) where
+module _ (homes : Homes) (chains : List (List ℕ)) (frames : List Held) (k : ℕ) (p : Place) (b : Behaviour)
+    (o : AreInOrder homes chains (frames ++ Body k p (Some b) ∷ [])) where
   abbrev bs : List Behaviour
   bs = placed_from 0 (frames ++ Body k p (Some b) ∷ []) homes
 
@@ -56,10 +57,17 @@ module _ (homes : Homes) (chains : List (List ℕ)) (frames : List Held) (k : �
 
     own_order : AreInOrder homes chains (frames ++ Body k q (Some (record b { memory = m })) ∷ [])
     own_order = in_order homes chains (frames ++ Body k q (Some (record b { memory = m })) ∷ []) next_bs stands
-        (chained_as (length homes) chains (frames ++ Body k p (Some b) ∷ []) (frames ++ Body k q (Some (record b { memory = m })) ∷ []) (λ j. top_indices j k frames p q (Some b) (Some (record b { memory = m }))) o.chained)
+        (chained_as (length homes) chains (frames ++ Body k p (Some b) ∷ []) (frames ++ Body k q (Some (record b { memory = m })) ∷ [])
+        (λ j. top_indices j k frames p q (Some b) (Some (record b { memory = m }))) o.chained)
 
   abbrev running : Running
-  running = record { class = k; args = p.args; this = p.this; guarded = p.guarded; actions = drop p.index (actions_of p.call (or_empty (slice_get (bodies_in bs) k))) }
+  running = record {
+    class = k;
+    args = p.args;
+    this = p.this;
+    guarded = p.guarded;
+    actions = drop p.index (actions_of p.call (or_empty (slice_get (bodies_in bs) k)));
+  }
 
   old_frames : frames_of (record { homes = homes; frames = frames ++ Body k p (Some b) ∷ [] }) ≡ map (seen (bodies_in bs)) frames ++ in_body running ∷ []
   old_frames = frames_are homes (frames ++ Body k p (Some b) ∷ []) bs o.placed ∙ map-append (seen (bodies_in bs)) frames (Body k p (Some b) ∷ [])
@@ -80,29 +88,47 @@ module _ (homes : Homes) (chains : List (List ℕ)) (frames : List Held) (k : �
     -- what the definition says at the running body
     same_came : resumed running.args running.actions (behaviour_at k (behaviours_of old)).memory before ≡ came
     same_came =
-        ap (λ (l : List Behaviour). resumed p.args running.actions (behaviour_at k l).memory before) (behaviours_are homes (frames ++ Body k p (Some b) ∷ []) bs o.placed)
+        ap (λ (l : List Behaviour). resumed p.args running.actions (behaviour_at k l).memory before)
+        (behaviours_are homes (frames ++ Body k p (Some b) ∷ []) bs o.placed)
         ∙ ap (λ (x : Option Behaviour). resumed p.args running.actions (or_new x).memory before) has
         ∙ ap (λ (l : List (CallName × Act)). resumed p.args (drop p.index (actions_of p.call l)) b.memory before) (bodies_at bs k b has)
 
     new_stands : Stands homes (frames ++ new ∷ []) (next_bs q r.memory)
     new_stands = subst (λ (f : Held). Stands homes (frames ++ f ∷ []) (next_bs q r.memory)) (sym r.frame) (stands q r.memory)
 
-    new_behaviours : behaviours_of now ≡ slice_set (behaviours_of old) k (record (behaviour_at k (behaviours_of old)) { memory = (resumed running.args running.actions (behaviour_at k (behaviours_of old)).memory before).memory })
+    new_behaviours : behaviours_of now
+        ≡ slice_set (behaviours_of old) k
+        (record (behaviour_at k (behaviours_of old))
+        { memory = (resumed running.args running.actions (behaviour_at k (behaviours_of old)).memory before).memory })
     new_behaviours =
         behaviours_are homes (frames ++ new ∷ []) (next_bs q r.memory) new_stands
         ∙ ap (λ (m : Memory). slice_set bs k (record b { memory = m })) (ap (λ (x : Resumed). x.memory) (r.ran ∙ sym same_came))
-        ∙ ap (λ (x : Option Behaviour). slice_set bs k (record (or_new x) { memory = (resumed running.args running.actions (behaviour_at k (behaviours_of old)).memory before).memory })) (sym has)
-        ∙ ap (λ (l : List Behaviour). slice_set l k (record (behaviour_at k l) { memory = (resumed running.args running.actions (behaviour_at k (behaviours_of old)).memory before).memory })) (sym (behaviours_are homes (frames ++ Body k p (Some b) ∷ []) bs o.placed))
+        ∙ ap (λ (x : Option Behaviour).
+        slice_set bs k (record (or_new x) { memory = (resumed running.args running.actions (behaviour_at k (behaviours_of old)).memory before).memory }))
+        (sym has)
+        ∙ ap (λ (l : List Behaviour). slice_set l k
+        (record (behaviour_at k l) { memory = (resumed running.args running.actions (behaviour_at k (behaviours_of old)).memory before).memory }))
+        (sym (behaviours_are homes (frames ++ Body k p (Some b) ∷ []) bs o.placed))
 
-    new_frames : frames_of now ≡ below_top (frames_of old) ++ in_body (record running { guarded = is_guarded (stop_of next); actions = (resumed running.args running.actions (behaviour_at k (behaviours_of old)).memory before).left }) ∷ []
+    new_frames : frames_of now ≡ below_top (frames_of old)
+        ++ in_body (record running {
+          guarded = is_guarded (stop_of next);
+          actions = (resumed running.args running.actions (behaviour_at k (behaviours_of old)).memory before).left;
+        }) ∷ []
     new_frames =
         frames_are homes (frames ++ new ∷ []) (next_bs q r.memory) new_stands
         ∙ ap (λ (l : List (List (CallName × Act))). map (seen l) (frames ++ new ∷ [])) (bodies_stay bs k b r.memory has)
         ∙ map-append (seen (bodies_in bs)) frames (new ∷ [])
         ∙ ap (λ (f : Held). map (seen (bodies_in bs)) frames ++ seen (bodies_in bs) f ∷ []) r.frame
-        ∙ ap (λ (l : List (CallName × Act)). map (seen (bodies_in bs)) frames ++ in_body (record running { guarded = is_guarded (stop_of next); actions = drop r.index (actions_of p.call l) }) ∷ []) (bodies_at bs k b has)
-        ∙ ap (λ (x : Resumed). map (seen (bodies_in bs)) frames ++ in_body (record running { guarded = is_guarded (stop_of next); actions = x.left }) ∷ []) (r.ran ∙ sym same_came)
-        ∙ ap (λ (l : List Frame). l ++ in_body (record running { guarded = is_guarded (stop_of next); actions = (resumed running.args running.actions (behaviour_at k (behaviours_of old)).memory before).left }) ∷ [])
+        ∙ ap (λ (l : List (CallName × Act)). map (seen (bodies_in bs)) frames
+        ++ in_body (record running { guarded = is_guarded (stop_of next); actions = drop r.index (actions_of p.call l) }) ∷ []) (bodies_at bs k b has)
+        ∙ ap (λ (x : Resumed). map (seen (bodies_in bs)) frames ++ in_body (record running { guarded = is_guarded (stop_of next); actions = x.left }) ∷ [])
+        (r.ran ∙ sym same_came)
+        ∙ ap (λ (l : List Frame). l ++ in_body
+        (record running {
+          guarded = is_guarded (stop_of next);
+          actions = (resumed running.args running.actions (behaviour_at k (behaviours_of old)).memory before).left;
+        }) ∷ [])
         (sym (ap below_top old_frames ∙ below_push (map (seen (bodies_in bs)) frames) (in_body running)))
 
     within_all : length (behaviours_of old) ≤ k → ⊥
@@ -139,7 +165,13 @@ module _ (homes : Homes) (chains : List (List ℕ)) (frames : List Held) (k : �
       (chained_as (length homes) chains (frames ++ Body k p None ∷ []) (frames ++ Body k q None ∷ []) (λ j. top_indices j k frames p q None None) o.chained)
 
   abbrev idle : Running
-  idle = record { class = k; args = p.args; this = p.this; guarded = p.guarded; actions = drop p.index (actions_of p.call (or_empty (slice_get (bodies_in cs) k))) }
+  idle = record {
+    class = k;
+    args = p.args;
+    this = p.this;
+    guarded = p.guarded;
+    actions = drop p.index (actions_of p.call (or_empty (slice_get (bodies_in cs) k)));
+  }
 
   abbrev before_it : Stacked
   before_it = record { homes = homes; frames = frames ++ Body k p None ∷ [] }
@@ -162,7 +194,8 @@ module _ (homes : Homes) (chains : List (List ℕ)) (frames : List Held) (k : �
     memory = (behaviour_at k (behaviours_of before_it)).memory
 
     idle_came : (l : List Act) → l ≡ [] → resumed p.args l memory before ≡ record { stop = stop_of next; memory = memory; fuel = after; left = l }
-    idle_came [] e = ap (λ s. record { stop = s; memory = memory; fuel = before; left = [] }) (sym r.stop) ∙ ap (λ (n : ℕ). record { stop = stop_of next; memory = memory; fuel = n; left = [] }) (sym r.fuel)
+    idle_came [] e = ap (λ s. record { stop = s; memory = memory; fuel = before; left = [] }) (sym r.stop)
+        ∙ ap (λ (n : ℕ). record { stop = stop_of next; memory = memory; fuel = n; left = [] }) (sym r.fuel)
     idle_came (a ∷ l) e = absurd (let f : ◌≡◌ {A = List Act} (a ∷ l) [] = e in cc)
 
     come : resumed p.args idle.actions memory before ≡ record { stop = stop_of next; memory = memory; fuel = after; left = idle.actions }
@@ -177,14 +210,18 @@ module _ (homes : Homes) (chains : List (List ℕ)) (frames : List Held) (k : �
     gone_set : (c : Behaviour) → slice_set (behaviours_of before_it) k c ≡ cs
     gone_set c = ap (λ (l : List Behaviour). slice_set l k c) (behaviours_are homes (frames ++ Body k p None ∷ []) cs o.placed) ∙ set_gone cs k c gone
 
-    gone_frames : frames_of after_it ≡ below_top (frames_of before_it) ++ in_body (record idle { guarded = is_guarded (stop_of next); actions = (resumed p.args idle.actions memory before).left }) ∷ []
+    gone_frames : frames_of after_it
+        ≡ below_top (frames_of before_it)
+        ++ in_body (record idle { guarded = is_guarded (stop_of next); actions = (resumed p.args idle.actions memory before).left }) ∷ []
     gone_frames =
         frames_are homes (frames ++ new ∷ []) cs gone_stands
         ∙ map-append (seen (bodies_in cs)) frames (new ∷ [])
         ∙ ap (λ (f : Held). map (seen (bodies_in cs)) frames ++ seen (bodies_in cs) f ∷ []) r.frame
         ∙ ap (λ (t : Bool). map (seen (bodies_in cs)) frames ++ in_body (record idle { guarded = t }) ∷ []) (sym no_guard)
-        ∙ ap (λ (x : Resumed). map (seen (bodies_in cs)) frames ++ in_body (record idle { guarded = is_guarded (stop_of next); actions = x.left }) ∷ []) (sym come)
-        ∙ ap (λ (l : List Frame). l ++ in_body (record idle { guarded = is_guarded (stop_of next); actions = (resumed p.args idle.actions memory before).left }) ∷ [])
+        ∙ ap (λ (x : Resumed). map (seen (bodies_in cs)) frames ++ in_body (record idle { guarded = is_guarded (stop_of next); actions = x.left }) ∷ [])
+        (sym come)
+        ∙ ap (λ (l : List Frame). l ++ in_body
+        (record idle { guarded = is_guarded (stop_of next); actions = (resumed p.args idle.actions memory before).left }) ∷ [])
         (sym (ap below_top idle_frames ∙ below_push (map (seen (bodies_in cs)) frames) (in_body idle)))
 
     gone_resumes : Resumes before_it after_it before after next
@@ -195,17 +232,22 @@ module _ (homes : Homes) (chains : List (List ℕ)) (frames : List Held) (k : �
       stop = sym (ap (λ (x : Resumed). x.stop) come);
       fuel = sym (ap (λ (x : Resumed). x.fuel) come);
       frames = gone_frames;
-      behaviours = behaviours_are homes (frames ++ new ∷ []) cs gone_stands ∙ sym (gone_set (record (behaviour_at k (behaviours_of before_it)) { memory = (resumed p.args idle.actions memory before).memory }));
+      behaviours = behaviours_are homes (frames ++ new ∷ []) cs gone_stands
+          ∙ sym (gone_set (record (behaviour_at k (behaviours_of before_it)) { memory = (resumed p.args idle.actions memory before).memory }));
     }
 
 -- whichever it is
 
-pub resume_order : (homes : Homes) (chains : List (List ℕ)) (frames : List Held) (f g : Held) → AreInOrder homes chains (frames ++ f ∷ []) → IsSameBody f g → AreInOrder homes chains (frames ++ g ∷ [])
+pub resume_order : (homes : Homes) (chains : List (List ℕ)) (frames : List Held) (f g : Held) → AreInOrder homes chains (frames ++ f ∷ []) → IsSameBody f g
+    → AreInOrder homes chains (frames ++ g ∷ [])
 resume_order homes chains frames (Wait f) g o h = subst (λ (x : Held). AreInOrder homes chains (frames ++ x ∷ [])) (sym h) o
-resume_order homes chains frames (Body k p None) g o h = subst (λ (x : Held). AreInOrder homes chains (frames ++ x ∷ [])) (sym h.1) (gone_order homes chains frames k p o h.0)
-resume_order homes chains frames (Body k p (Some b)) g o h = subst (λ (x : Held). AreInOrder homes chains (frames ++ x ∷ [])) (sym h.2) (own_order homes chains frames k p b o h.0 h.1)
+resume_order homes chains frames (Body k p None) g o h =
+    subst (λ (x : Held). AreInOrder homes chains (frames ++ x ∷ [])) (sym h.1) (gone_order homes chains frames k p o h.0)
+resume_order homes chains frames (Body k p (Some b)) g o h =
+    subst (λ (x : Held). AreInOrder homes chains (frames ++ x ∷ [])) (sym h.2) (own_order homes chains frames k p b o h.0 h.1)
 
-pub resume_resumes : (homes : Homes) (chains : List (List ℕ)) (frames : List Held) (f g : Held) (before after : ℕ) (next : Next) → AreInOrder homes chains (frames ++ f ∷ []) → FrameResumes f g before after next
+pub resume_resumes : (homes : Homes) (chains : List (List ℕ)) (frames : List Held) (f g : Held) (before after : ℕ) (next : Next)
+    → AreInOrder homes chains (frames ++ f ∷ []) → FrameResumes f g before after next
     → Resumes (record { homes = homes; frames = frames ++ f ∷ [] }) (record { homes = homes; frames = frames ++ g ∷ [] }) before after next
 resume_resumes homes chains frames (Wait f) g before after next o h = absurd h
 resume_resumes homes chains frames (Body k p None) g before after next o h = gone_resumes homes chains frames k p o g before after next h

@@ -18,7 +18,8 @@ settled_from k frames (h ∷ homes) [] each one = absurd (omega (arith, each))
 settled_from k frames (h ∷ homes) (b ∷ bs) each one =
     let here : OnlyLast (Some b) (h ∷ places_of k frames) = subst (λ n. OnlyLast (Some b) (h ∷ places_of n frames)) (add-zero k) (one 0) in
     let next : (j : ℕ) → k + suc j ≡ suc k + j = λ j. omega arith in
-    let others = settled_from (suc k) frames homes bs (omega (arith, each)) (λ j. subst (λ n. OnlyLast (slice_get bs j) (home_of homes j ∷ places_of n frames)) (next j) (one (suc j))) in
+    let others = settled_from (suc k) frames homes bs (omega (arith, each))
+    (λ j. subst (λ n. OnlyLast (slice_get bs j) (home_of homes j ∷ places_of n frames)) (next j) (one (suc j))) in
     ap (λ x. or_new x ∷ placed_from (suc k) frames homes) (last_is (Some b) h (places_of k frames) here) ∙ ap (λ l. b ∷ l) others
 
 -- behaviours that stand in one place each are those
@@ -28,12 +29,14 @@ settled homes frames bs s =
     settled_from 0 frames homes bs s.each (λ j. subst (λ n. OnlyLast (slice_get bs j) (home_of homes j ∷ places_of n frames)) (from j) (s.one j))
 
 -- a stack is in order, by the behaviours that stand there
-pub in_order : (homes : Homes) (chains : List (List ℕ)) (frames : List Held) (bs : List Behaviour) → Stands homes frames bs → AreChained (length homes) chains frames → AreInOrder homes chains frames
+pub in_order : (homes : Homes) (chains : List (List ℕ)) (frames : List Held) (bs : List Behaviour) → Stands homes frames bs
+    → AreChained (length homes) chains frames → AreInOrder homes chains frames
 in_order homes chains frames bs s c =
     let same = settled homes frames bs s in
     record { placed = subst (Stands homes frames) (sym same) s; chained = c }
 
-pub behaviours_are : (homes : Homes) (frames : List Held) (bs : List Behaviour) → Stands homes frames bs → behaviours_of (record { homes = homes; frames = frames }) ≡ bs
+pub behaviours_are : (homes : Homes) (frames : List Held) (bs : List Behaviour) → Stands homes frames bs
+    → behaviours_of (record { homes = homes; frames = frames }) ≡ bs
 unfolding behaviours_of
 behaviours_are homes frames bs s = settled homes frames bs s
 

@@ -24,20 +24,25 @@ acted_falls args guarded Bump memory fuel = same fuel
 acted_falls args guarded (Keep val) memory fuel = same fuel
 acted_falls args guarded (Try a) memory zero = same 0
 acted_falls args guarded (Try a) memory (suc n) = let h = acted_falls args true a memory n in omega (arith, h)
-acted_falls args guarded (If equal l r a) memory fuel = go (holds equal (text_of memory args l) (text_of memory args r)) fuel (acted_falls args guarded a memory)
+acted_falls args guarded (If equal l r a) memory fuel =
+    go (holds equal (text_of memory args l) (text_of memory args r)) fuel (acted_falls args guarded a memory)
   where
-    go : (b : Bool) (fuel : ℕ) → ((n : ℕ) → (acted args guarded a memory n).fuel ≤ n) → (if b then spending memory fuel (acted args guarded a memory) else goes_on memory fuel).fuel ≤ fuel
+    go : (b : Bool) (fuel : ℕ) → ((n : ℕ) → (acted args guarded a memory n).fuel ≤ n)
+        → (if b then spending memory fuel (acted args guarded a memory) else goes_on memory fuel).fuel ≤ fuel
     go true zero on = same 0
     go true (suc n) on = let h = on n in omega (arith, h)
     go false fuel on = same fuel
 
-spends : (args : Args) (actions : List Act) (memory : Memory) (fuel : ℕ) → Proceeds (resumed args actions memory fuel).stop → (resumed args actions memory fuel).fuel < fuel
+spends : (args : Args) (actions : List Act) (memory : Memory) (fuel : ℕ) → Proceeds (resumed args actions memory fuel).stop
+    → (resumed args actions memory fuel).fuel < fuel
 spends args [] memory fuel h = absurd (let e : false ≡ true = h in cc)
 spends args (a ∷ actions) memory zero h = absurd h
 spends args (a ∷ actions) memory (suc n) h =
-    go (acted args false a memory n).stop (acted args false a memory n).memory (acted args false a memory n).fuel (acted_falls args false a memory n) (spends args actions) h
+    go (acted args false a memory n).stop (acted args false a memory n).memory (acted args false a memory n).fuel (acted_falls args false a memory n)
+    (spends args actions) h
   where
-    go : (o : Option Stop) (m : Memory) (f : ℕ) → f ≤ n → ((m : Memory) (f : ℕ) → Proceeds (resumed args actions m f).stop → (resumed args actions m f).fuel < f)
+    go : (o : Option Stop) (m : Memory) (f : ℕ) → f ≤ n
+        → ((m : Memory) (f : ℕ) → Proceeds (resumed args actions m f).stop → (resumed args actions m f).fuel < f)
         → Proceeds (stop_or o m f actions (resumed args actions)).stop → (stop_or o m f actions (resumed args actions)).fuel < suc n
     go None m f le rest h = let r = rest m f h in omega (arith, le, r)
     go (Some stop) m f le rest h = omega (arith, le)

@@ -25,9 +25,11 @@ acted_stops args guarded Bump memory fuel = tt
 acted_stops args guarded (Keep val) memory fuel = tt
 acted_stops args guarded (Try a) memory zero = tt
 acted_stops args guarded (Try a) memory (suc n) = acted_stops args true a memory n
-acted_stops args guarded (If equal l r a) memory fuel = go (holds equal (text_of memory args l) (text_of memory args r)) fuel (acted_stops args guarded a memory)
+acted_stops args guarded (If equal l r a) memory fuel =
+    go (holds equal (text_of memory args l) (text_of memory args r)) fuel (acted_stops args guarded a memory)
   where
-    go : (b : Bool) (fuel : ℕ) → ((n : ℕ) → StopsFor (acted args guarded a memory n).stop) → StopsFor (if b then spending memory fuel (acted args guarded a memory) else goes_on memory fuel).stop
+    go : (b : Bool) (fuel : ℕ) → ((n : ℕ) → StopsFor (acted args guarded a memory n).stop)
+        → StopsFor (if b then spending memory fuel (acted args guarded a memory) else goes_on memory fuel).stop
     go true zero on = tt
     go true (suc n) on = on n
     go false fuel on = tt
@@ -36,9 +38,11 @@ resumed_stops : (args : Args) (actions : List Act) (memory : Memory) (fuel : ℕ
 resumed_stops args [] memory fuel = tt
 resumed_stops args (a ∷ actions) memory zero = tt
 resumed_stops args (a ∷ actions) memory (suc n) =
-    go (acted args false a memory n).stop (acted args false a memory n).memory (acted args false a memory n).fuel (acted_stops args false a memory n) (resumed_stops args actions)
+    go (acted args false a memory n).stop (acted args false a memory n).memory (acted args false a memory n).fuel (acted_stops args false a memory n)
+    (resumed_stops args actions)
   where
-    go : (o : Option Stop) (m : Memory) (f : ℕ) → StopsFor o → ((m : Memory) (f : ℕ) → IsForSession (resumed args actions m f).stop) → IsForSession (stop_or o m f actions (resumed args actions)).stop
+    go : (o : Option Stop) (m : Memory) (f : ℕ) → StopsFor o → ((m : Memory) (f : ℕ) → IsForSession (resumed args actions m f).stop)
+        → IsForSession (stop_or o m f actions (resumed args actions)).stop
     go None m f here rest = rest m f
     go (Some stop) m f here rest = here
 

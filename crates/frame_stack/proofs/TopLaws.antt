@@ -3,7 +3,8 @@ use Rattle.std.proofs.Common.{◌≡◌, ◌-◌, ◌<◌, List, [], ◌∷◌, 
 use Rattle.std.specs.Prelude.{slice_get}
 use Rattle.ce_frames.specs.Frames.{Frame}
 use Rattle.frame_stack.specs.declared.waiting.Waiting.{Waiting}
-use Rattle.frame_stack.specs.declared.waiting.Waiting.TheVariants.{Replying, Checking, DrainingBackup, Naming, Stepping, Draining, InReaction, CreatingFit, CreatingExtended, Upgrading, Constructing}
+use Rattle.frame_stack.specs.declared.waiting.Waiting.TheVariants.{Replying, Checking, DrainingBackup, Naming, Stepping, Draining, InReaction, CreatingFit}
+use Rattle.frame_stack.specs.declared.waiting.Waiting.TheVariants.{CreatingExtended, Upgrading, Constructing}
 use Rattle.frame_stack.specs.Frames.{waiting_of}
 use Rattle.frame_stack.specs.Stacked.{Running, below_top, in_body, top_of}
 

@@ -1,5 +1,6 @@
 -- The topmost frame as it is kept: where it is read, changed and taken.
-use Rattle.std.proofs.Common.{◌≡◌, ℕ, ◌-◌, ◌<◌, true, false, List, [], ◌∷◌, ◌++◌, map, length, Option, Some, None, refl, ap, sym, ◌∙◌, subst, arith, length-append, append-nil}
+use Rattle.std.proofs.Common.{◌≡◌, ℕ, ◌-◌, ◌<◌, true, false, List, [], ◌∷◌, ◌++◌, map, length, Option, Some, None, refl, ap, sym, ◌∙◌, subst, arith}
+use Rattle.std.proofs.Common.{length-append, append-nil}
 use Rattle.std.specs.Prelude.{slice_get, slice_set, slice_index_or, option_map, option_to_list}
 use Rattle.std.specs.Bool.{◌==◌}
 use Rattle.std.proofs.Math.Dec.{eqb-suc-zero}
@@ -10,7 +11,8 @@ use Rattle.reaction_queue.specs.ElementQueues.{is_empty}
 use Rattle.ce_frames.specs.Frames.{Frame}
 use Rattle.ce_frames.specs.Places.{Held, Homes, Stands, Wait, Body, seen}
 use Rattle.frame_stack.specs.declared.waiting.Waiting.{Waiting}
-use Rattle.frame_stack.specs.declared.waiting.Waiting.TheVariants.{Replying, Checking, DrainingBackup, Naming, Stepping, Draining, InReaction, CreatingFit, CreatingExtended, Upgrading, Constructing}
+use Rattle.frame_stack.specs.declared.waiting.Waiting.TheVariants.{Replying, Checking, DrainingBackup, Naming, Stepping, Draining, InReaction, CreatingFit}
+use Rattle.frame_stack.specs.declared.waiting.Waiting.TheVariants.{CreatingExtended, Upgrading, Constructing}
 use Rattle.frame_stack.specs.Frames.{IsPlain, guarded_in, is_body, is_waiting, owner_in, this_in, waiting_of}
 use Rattle.frame_stack.specs.Order.{AreInOrder}
 use Rattle.frame_stack.specs.Stacked.{Stacked, HasBody, behaviours_of, bodies_in, frames_of, guarded_of, in_body, owner_of, placed_from, this_of, top_of}
@@ -39,14 +41,16 @@ empty_seen s = go s.frames
 
 -- what is read off the topmost frame
 
-top_seen : (bodies : List (List (CallName × Act))) (frames : List Held) (f : Held) → slice_get frames (length frames - 1) ≡ Some f → top_of (map (seen bodies) frames) ≡ Some (seen bodies f)
+top_seen : (bodies : List (List (CallName × Act))) (frames : List Held) (f : Held) → slice_get frames (length frames - 1) ≡ Some f
+    → top_of (map (seen bodies) frames) ≡ Some (seen bodies f)
 top_seen bodies frames f h = go (ends frames)
   where
     go : Ends frames → top_of (map (seen bodies) frames) ≡ Some (seen bodies f)
     go (AtNone e) = let k : None ≡ Some f = sym (ap (λ (l : List Held). slice_get l (length l - 1)) e) ∙ h in absurd cc
     go (AtLast front x e) =
         let is : Some x ≡ Some f = sym (last_push front x) ∙ sym (ap (λ (l : List Held). slice_get l (length l - 1)) e) ∙ h in
-        ap (λ (l : List Held). top_of (map (seen bodies) l)) e ∙ ap top_of (map-append (seen bodies) front (x ∷ [])) ∙ top_push (map (seen bodies) front) (seen bodies x) ∙ ap (option_map (seen bodies)) is
+        ap (λ (l : List Held). top_of (map (seen bodies) l)) e ∙ ap top_of (map-append (seen bodies) front (x ∷ []))
+        ∙ top_push (map (seen bodies) front) (seen bodies x) ∙ ap (option_map (seen bodies)) is
 
 no_top : (bodies : List (List (CallName × Act))) (frames : List Held) → slice_get frames (length frames - 1) ≡ None → top_of (map (seen bodies) frames) ≡ None
 no_top bodies frames h = go (ends frames)
@@ -59,12 +63,15 @@ pub none_read : {A : Type 0} (s : Stacked) (read : Option Frame → A) → slice
 unfolding frames_of
 none_read s read h = sym (ap read (no_top (bodies_in (behaviours_of s)) s.frames h))
 
-pub top_read : {A : Type 0} (s : Stacked) (f : Held) (read : Option Frame → A) (x : A) → slice_get s.frames (length s.frames - 1) ≡ Some f → ((bodies : List (List (CallName × Act))) → x ≡ read (Some (seen bodies f))) → x ≡ read (top_of (frames_of s))
+pub top_read : {A : Type 0} (s : Stacked) (f : Held) (read : Option Frame → A) (x : A) → slice_get s.frames (length s.frames - 1) ≡ Some f
+    → ((bodies : List (List (CallName × Act))) → x ≡ read (Some (seen bodies f))) → x ≡ read (top_of (frames_of s))
 unfolding frames_of
 top_read s f read x h same = same (bodies_in (behaviours_of s)) ∙ sym (ap read (top_seen (bodies_in (behaviours_of s)) s.frames f h))
 
-waiting_read : {A : Type 0} (read : Option Frame → A) (x : A) → ((w : Waiting) → x ≡ read (Some (waiting_of w))) → (f : Frame) → ((w : Waiting) × (Wait f ≡ Wait (waiting_of w))) → x ≡ read (Some f)
-waiting_read read x each f plain = let w : Wait f ≡ Wait (waiting_of plain.0) = plain.1 in let e : waiting_of plain.0 ≡ f = cc in each plain.0 ∙ ap (λ (g : Frame). read (Some g)) e
+waiting_read : {A : Type 0} (read : Option Frame → A) (x : A) → ((w : Waiting) → x ≡ read (Some (waiting_of w))) → (f : Frame)
+    → ((w : Waiting) × (Wait f ≡ Wait (waiting_of w))) → x ≡ read (Some f)
+waiting_read read x each f plain = let w : Wait f ≡ Wait (waiting_of plain.0) = plain.1 in let e : waiting_of plain.0 ≡ f =
+    cc in each plain.0 ∙ ap (λ (g : Frame). read (Some g)) e
 
 pub this_seen : (f : Held) → IsPlain f → (bodies : List (List (CallName × Act))) → this_in f ≡ this_of (Some (seen bodies f))
 this_seen (Wait f) plain bodies = waiting_read this_of None each f plain
@@ -139,9 +146,11 @@ seen_body s (Wait g) b at plain other =
     plain_body plain.0 b.body (j ∙ i)
 seen_body s (Body k p held) b at plain other = let e : true ≡ false = other in absurd cc
 
-pub no_other : (homes : Homes) (frames front : List Held) (f : Held) (now : Stacked) → stacked homes frames ≡ now → HasBody (frames_of now) → frames ≡ front ++ f ∷ [] → IsPlain f → is_body f ≡ false → ⊥
+pub no_other : (homes : Homes) (frames front : List Held) (f : Held) (now : Stacked) → stacked homes frames ≡ now → HasBody (frames_of now)
+    → frames ≡ front ++ f ∷ [] → IsPlain f → is_body f ≡ false → ⊥
 no_other homes frames front f now is b split plain other =
-    seen_body (stacked homes frames) f (subst (λ (s : Stacked). HasBody (frames_of s)) (sym is) b) (ap (λ (l : List Held). slice_get l (length l - 1)) split ∙ last_push front f) plain other
+    seen_body (stacked homes frames) f (subst (λ (s : Stacked). HasBody (frames_of s)) (sym is) b)
+    (ap (λ (l : List Held). slice_get l (length l - 1)) split ∙ last_push front f) plain other
 
 -- it is at its place, and may be changed there
 pub record AtTop (frames : List Held) (i : ℕ) (f : Held) : Type 0 where
@@ -162,36 +171,46 @@ at_top frames n f some many here = go (ends frames)
         let z = ap length e in
         let l = length-append front (x ∷ []) in
         let i : n - 1 ≡ length front = omega (arith, z, l, many) in
-        let same : f ≡ x = here ∙ ap (λ (l : List Held). slice_index_or l (n - 1) f) e ∙ ap (λ (k : ℕ). slice_index_or (front ++ x ∷ []) k f) i ∙ or_push front x f in
+        let same : f ≡ x = here ∙ ap (λ (l : List Held). slice_index_or l (n - 1) f) e ∙ ap (λ (k : ℕ). slice_index_or (front ++ x ∷ []) k f) i
+        ∙ or_push front x f in
         record {
           front = front;
           is = e ∙ ap (λ (y : Held). front ++ y ∷ []) (sym same);
-          set = λ g. ap (λ (l : List Held). slice_set l (n - 1) g) e ∙ ap (λ (k : ℕ). slice_set (front ++ x ∷ []) k g) i ∙ set_at front x [] g (length front) refl;
+          set = λ g. ap (λ (l : List Held). slice_set l (n - 1) g) e ∙ ap (λ (k : ℕ). slice_set (front ++ x ∷ []) k g) i
+              ∙ set_at front x [] g (length front) refl;
         }
 
 -- it is taken, where it is of no body
 
-waits_at : (homes : Homes) (frames left : List Held) (f : Held) → frames ≡ left ++ f ∷ [] → is_waiting (slice_get frames (length frames - 1)) ≡ true → is_waiting (Some f) ≡ true
+waits_at : (homes : Homes) (frames left : List Held) (f : Held) → frames ≡ left ++ f ∷ [] → is_waiting (slice_get frames (length frames - 1)) ≡ true
+    → is_waiting (Some f) ≡ true
 waits_at homes frames left f is waits = sym (ap is_waiting (ap (λ (l : List Held). slice_get l (length l - 1)) is ∙ last_push left f)) ∙ waits
 
-pub no_body_taken : (homes : Homes) (frames left : List Held) (f : Held) → frames ≡ left ++ f ∷ [] → is_waiting (slice_get frames (length frames - 1)) ≡ true → is_body f ≡ false
+pub no_body_taken : (homes : Homes) (frames left : List Held) (f : Held) → frames ≡ left ++ f ∷ [] → is_waiting (slice_get frames (length frames - 1)) ≡ true
+    → is_body f ≡ false
 no_body_taken homes frames left (Wait f) is waits = refl
 no_body_taken homes frames left (Body k p held) is waits = let e : false ≡ true = waits_at homes frames left (Body k p held) is waits in absurd cc
 
-pub taken_order : (homes : Homes) (chains : List (List ℕ)) (frames left : List Held) (o : Option Held) → AreInOrder homes chains frames → frames ≡ left ++ option_to_list o → is_waiting (slice_get frames (length frames - 1)) ≡ true → AreInOrder homes chains left
+pub taken_order : (homes : Homes) (chains : List (List ℕ)) (frames left : List Held) (o : Option Held) → AreInOrder homes chains frames
+    → frames ≡ left ++ option_to_list o → is_waiting (slice_get frames (length frames - 1)) ≡ true → AreInOrder homes chains left
 taken_order homes chains frames left None o is waits = subst (AreInOrder homes chains) (is ∙ append-nil left) o
 taken_order homes chains frames left (Some (Wait f)) o is waits = pop_order homes chains left f (subst (AreInOrder homes chains) is o)
 taken_order homes chains frames left (Some (Body k p held)) o is waits = let e : false ≡ true = waits_at homes frames left (Body k p held) is waits in absurd cc
 
-pub taken_behaviours : (homes : Homes) (chains : List (List ℕ)) (frames left : List Held) (o : Option Held) → AreInOrder homes chains frames → frames ≡ left ++ option_to_list o → is_waiting (slice_get frames (length frames - 1)) ≡ true
+pub taken_behaviours : (homes : Homes) (chains : List (List ℕ)) (frames left : List Held) (o : Option Held) → AreInOrder homes chains frames
+    → frames ≡ left ++ option_to_list o → is_waiting (slice_get frames (length frames - 1)) ≡ true
     → behaviours_of (stacked homes left) ≡ behaviours_of (stacked homes frames)
 taken_behaviours homes chains frames left None o is waits = ap (λ (l : List Held). behaviours_of (stacked homes l)) (sym (is ∙ append-nil left))
 taken_behaviours homes chains frames left (Some (Wait f)) o is waits =
-    sym (push_behaviours homes chains left f (pop_order homes chains left f (subst (AreInOrder homes chains) is o))) ∙ ap (λ (l : List Held). behaviours_of (stacked homes l)) (sym is)
-taken_behaviours homes chains frames left (Some (Body k p held)) o is waits = let e : false ≡ true = waits_at homes frames left (Body k p held) is waits in absurd cc
+    sym (push_behaviours homes chains left f (pop_order homes chains left f (subst (AreInOrder homes chains) is o)))
+    ∙ ap (λ (l : List Held). behaviours_of (stacked homes l)) (sym is)
+taken_behaviours homes chains frames left (Some (Body k p held)) o is waits = let e : false ≡ true =
+    waits_at homes frames left (Body k p held) is waits in absurd cc
 
-pub taken_frames : (homes : Homes) (chains : List (List ℕ)) (frames left : List Held) (f : Held) (w : Frame) → AreInOrder homes chains frames → frames ≡ left ++ f ∷ [] → f ≡ Wait w
+pub taken_frames : (homes : Homes) (chains : List (List ℕ)) (frames left : List Held) (f : Held) (w : Frame) → AreInOrder homes chains frames
+    → frames ≡ left ++ f ∷ [] → f ≡ Wait w
     → frames_of (stacked homes frames) ≡ frames_of (stacked homes left) ++ w ∷ []
 taken_frames homes chains frames left f w o is waits =
     let all : frames ≡ left ++ Wait w ∷ [] = is ∙ ap (λ (x : Held). left ++ x ∷ []) waits in
-    ap (λ (l : List Held). frames_of (stacked homes l)) all ∙ push_frames homes chains left w (pop_order homes chains left w (subst (AreInOrder homes chains) all o))
+    ap (λ (l : List Held). frames_of (stacked homes l)) all
+    ∙ push_frames homes chains left w (pop_order homes chains left w (subst (AreInOrder homes chains) all o))

@@ -16,7 +16,8 @@ not_feed b h = grind (arith, common_steps)
 whole_from-append : (p a b : List ℕ) → whole_from p (a ++ b) ≡ whole_from p a ++ whole_from (part_from p a) b
 whole_from-append p [] b = refl
 whole_from-append p (x ∷ a) b =
-    elim (x == 10) as (λ t. cond t (p ∷ whole_from [] (a ++ b)) (whole_from (p ++ x ∷ []) (a ++ b)) ≡ cond t (p ∷ whole_from [] a) (whole_from (p ++ x ∷ []) a) ++ whole_from (cond t (part_from [] a) (part_from (p ++ x ∷ []) a)) b) [
+    elim (x == 10) as (λ t. cond t (p ∷ whole_from [] (a ++ b)) (whole_from (p ++ x ∷ []) (a ++ b))
+    ≡ cond t (p ∷ whole_from [] a) (whole_from (p ++ x ∷ []) a) ++ whole_from (cond t (part_from [] a) (part_from (p ++ x ∷ []) a)) b) [
       | true ↦ ap (λ l. p ∷ l) (whole_from-append [] a b)
       | false ↦ whole_from-append (p ++ x ∷ []) a b
     ]
@@ -24,7 +25,8 @@ whole_from-append p (x ∷ a) b =
 part_from-append : (p a b : List ℕ) → part_from p (a ++ b) ≡ part_from (part_from p a) b
 part_from-append p [] b = refl
 part_from-append p (x ∷ a) b =
-    elim (x == 10) as (λ t. cond t (part_from [] (a ++ b)) (part_from (p ++ x ∷ []) (a ++ b)) ≡ part_from (cond t (part_from [] a) (part_from (p ++ x ∷ []) a)) b) [
+    elim (x == 10) as (λ t. cond t (part_from [] (a ++ b)) (part_from (p ++ x ∷ []) (a ++ b))
+    ≡ part_from (cond t (part_from [] a) (part_from (p ++ x ∷ []) a)) b) [
       | true ↦ part_from-append [] a b
       | false ↦ part_from-append (p ++ x ∷ []) a b
     ]
@@ -54,9 +56,11 @@ pub last_part-no_feed : (bytes : List ℕ) → All (λ b. b ≢ 10) bytes → la
 last_part-no_feed bytes h = ap last_part (sym (append-nil bytes)) ∙ part_from-no_feed [] bytes [] (recursion_from_All _ bytes h)
 
 -- the next piece, where the part before has no line feed
-pub whole_lines-piece : (taken part piece : List ℕ) → part ≡ last_part taken → All (λ b. b ≢ 10) part → whole_lines (taken ++ piece) ≡ whole_lines taken ++ whole_lines (part ++ piece)
+pub whole_lines-piece : (taken part piece : List ℕ) → part ≡ last_part taken → All (λ b. b ≢ 10) part
+    → whole_lines (taken ++ piece) ≡ whole_lines taken ++ whole_lines (part ++ piece)
 whole_lines-piece taken part piece is h =
-    whole_from-append [] taken piece ∙ ap (λ l. whole_lines taken ++ l) (ap (λ l. whole_from l piece) (sym is) ∙ sym (whole_from-no_feed [] part piece (recursion_from_All _ part h)))
+    whole_from-append [] taken piece
+    ∙ ap (λ l. whole_lines taken ++ l) (ap (λ l. whole_from l piece) (sym is) ∙ sym (whole_from-no_feed [] part piece (recursion_from_All _ part h)))
 
 pub last_part-piece : (taken part piece : List ℕ) → part ≡ last_part taken → All (λ b. b ≢ 10) part → last_part (taken ++ piece) ≡ last_part (part ++ piece)
 last_part-piece taken part piece is h =

@@ -1,5 +1,6 @@
 -- That the lines of a made script are lines, and that lines are cut back out of their text.
-use Rattle.std.proofs.Common.{◌≡◌, ◌≢◌, ◌≤◌, ◌<◌, ℕ, zero, suc, ◌+◌, ◌%◌, ◌^◌, Bool, true, not, ◌&&◌, ◌==◌, List, [], ◌∷◌, ◌++◌, length, refl, sym, ap, ◌∙◌, append_assoc, arith, All}
+use Rattle.std.proofs.Common.{◌≡◌, ◌≢◌, ◌≤◌, ◌<◌, ℕ, zero, suc, ◌+◌, ◌%◌, ◌^◌, Bool, true, not, ◌&&◌, ◌==◌, List, [], ◌∷◌, ◌++◌, length, refl, sym, ap, ◌∙◌}
+use Rattle.std.proofs.Common.{append_assoc, arith, All}
 use Rattle.std.specs.Prelude.{codes, nat_le}
 use Rattle.std.specs.Fmt.{decimal}
 use Rattle.std.specs.List.{list_all, AllByRecursion}
@@ -46,7 +47,8 @@ digit_clean : (n : ℕ) → IsClean ((48 + n) ∷ [])
 digit_clean n = All-cons (λ b. b ≢ 10) (48 + n) [] (λ is. omega (arith, is)) (All-nil (λ b. b ≢ 10))
 
 decimal_clean : (n : ℕ) → n < 2 ^ 64 → IsClean (decimal n)
-decimal_clean n small = decimal_by_steps (λ _ ds. IsClean ds) (λ m few. digit_clean m) (λ m ds many clean. All-append (λ b. b ≢ 10) ds _ clean (digit_clean (m % 10))) n small
+decimal_clean n small = decimal_by_steps (λ _ ds. IsClean ds) (λ m few. digit_clean m)
+    (λ m ds many clean. All-append (λ b. b ≢ 10) ds _ clean (digit_clean (m % 10))) n small
 
 first_fit : All IsLine first_lines
 unfolding first_lines
@@ -72,7 +74,8 @@ element_fit n small = All-from_recursion IsLine (element_lines n) (
 elements_fit : (number count : ℕ) → number + count ≤ 2 ^ 32 → All IsLine (elements_from number count)
 elements_fit number zero small = All-nil IsLine
 elements_fit number (suc count) small =
-    All-append IsLine (element_lines number) (elements_from (number + 1) count) (element_fit number (omega (arith, small))) (elements_fit (number + 1) count (omega (arith, small)))
+    All-append IsLine (element_lines number) (elements_from (number + 1) count) (element_fit number (omega (arith, small)))
+    (elements_fit (number + 1) count (omega (arith, small)))
 
 made_fit : (n : ℕ) → n < 2 ^ 32 → All IsLine (made_lines n)
 unfolding made_lines

@@ -1,5 +1,6 @@
 -- Where the lines of a made script stand.
-use Rattle.std.proofs.Common.{◌≡◌, ◌≤◌, ◌<◌, ℕ, zero, suc, ◌+◌, ◌-◌, ◌*◌, ◌/◌, ◌%◌, List, [], ◌∷◌, ◌++◌, length, get_or, drop, Some, None, refl, ap, ◌∙◌, add-zero, arith}
+use Rattle.std.proofs.Common.{◌≡◌, ◌≤◌, ◌<◌, ℕ, zero, suc, ◌+◌, ◌-◌, ◌*◌, ◌/◌, ◌%◌, List, [], ◌∷◌, ◌++◌, length, get_or, drop, Some, None, refl, ap, ◌∙◌}
+use Rattle.std.proofs.Common.{add-zero, arith}
 use Rattle.std.specs.Prelude.{slice_get}
 use Rattle.std.proofs.Math.Seq.{get_or-append_seam}
 use Rattle.std.proofs.lemmas.List.{length-append, get_or_append_left, get_or-append-add}
@@ -35,7 +36,8 @@ element_at number (suc count) zero r within small =
 element_at number (suc count) (suc q) r within small =
     let at : 4 * suc q + r ≡ length (element_lines number) + (4 * q + r) = omega (arith, length-element_lines number) in
     let next : number + suc q ≡ number + 1 + q = omega arith in
-    rw (at, next) (get_or-append-add (element_lines number) (elements_from (number + 1) count) (4 * q + r) [] ∙ element_at (number + 1) count q r (omega (arith, within)) small)
+    rw (at, next) (get_or-append-add (element_lines number) (elements_from (number + 1) count) (4 * q + r) []
+    ∙ element_at (number + 1) count q r (omega (arith, within)) small)
 
 pub made_first : (n place : ℕ) → place < 12 → slice_get (made_lines n) place ≡ Some (get_or first_lines place [])
 unfolding made_lines
@@ -45,7 +47,8 @@ made_first n place within =
     ∙ ap Some (get_or_append_left (first_lines ++ elements_from 1 n) (submit_line ∷ []) [] place (omega (arith, within, length-elements n))
     ∙ get_or_append_left first_lines (elements_from 1 n) [] place (omega (arith, within, length-first_lines)))
 
-pub made_element : (n place : ℕ) → 12 ≤ place → place < 12 + 4 * n → slice_get (made_lines n) place ≡ Some (get_or (element_lines ((place - 12) / 4 + 1)) ((place - 12) % 4) [])
+pub made_element : (n place : ℕ) → 12 ≤ place → place < 12 + 4 * n
+    → slice_get (made_lines n) place ≡ Some (get_or (element_lines ((place - 12) / 4 + 1)) ((place - 12) % 4) [])
 unfolding made_lines
 made_element n place from within =
     let inside : place < length (made_lines n) = omega (arith, within, length-made_lines n) in

@@ -1,5 +1,6 @@
 -- A list of attributes at the place of a name, and its names.
-use Rattle.std.proofs.Common.{◌≡◌, ℕ, zero, suc, ◌<◌, ◌≤◌, ◌+◌, List, [], ◌∷◌, ◌++◌, Option, Some, None, true, false, cond, refl, ap, sym, ◌∙◌, arith, length, take, drop, add-one, get_or}
+use Rattle.std.proofs.Common.{◌≡◌, ℕ, zero, suc, ◌<◌, ◌≤◌, ◌+◌, List, [], ◌∷◌, ◌++◌, Option, Some, None, true, false, cond, refl, ap, sym, ◌∙◌, arith, length}
+use Rattle.std.proofs.Common.{take, drop, add-one, get_or}
 use Rattle.std.specs.Prelude.{Result, Ok, Err, OnOk, OnErr, bytes_eq, is_none}
 use Rattle.ce_base.specs.declared.memory.NoMemory.{NoMemory}
 use Rattle.std.proofs.Math.ListN.{set}
@@ -24,7 +25,8 @@ is_nothing (Some v) e = absurd cc
 
 -- ---- at the place of a name
 
-value_in-place : (name : List ℕ) (xs : List (List ℕ × List ℕ)) (d : List ℕ × List ℕ) → name_place name xs < length xs → value_in xs name ≡ Some (get_or xs (name_place name xs) d).1
+value_in-place : (name : List ℕ) (xs : List (List ℕ × List ℕ)) (d : List ℕ × List ℕ) → name_place name xs < length xs
+    → value_in xs name ≡ Some (get_or xs (name_place name xs) d).1
 value_in-place name [] d lt = absurd (omega arith)
 value_in-place name (x ∷ xs) d lt = grind (arith, nat_tests, value_in-place name xs d, add-one (name_place name xs))
 
@@ -32,17 +34,20 @@ pub value_in-absent : (name : List ℕ) (xs : List (List ℕ × List ℕ)) → l
 value_in-absent name [] le = refl
 value_in-absent name (x ∷ xs) le = grind (arith, nat_tests, value_in-absent name xs)
 
-with_value-place : (name value : List ℕ) (xs : List (List ℕ × List ℕ)) (d : List ℕ × List ℕ) → name_place name xs < length xs → set xs (name_place name xs) ((get_or xs (name_place name xs) d).0, value) ≡ with_value name value xs
+with_value-place : (name value : List ℕ) (xs : List (List ℕ × List ℕ)) (d : List ℕ × List ℕ) → name_place name xs < length xs
+    → set xs (name_place name xs) ((get_or xs (name_place name xs) d).0, value) ≡ with_value name value xs
 with_value-place name value [] d lt = absurd (omega arith)
 with_value-place name value (x ∷ xs) d lt =
     let same = same_name x.0 name in
     grind (arith, nat_tests, same, with_value-place name value xs d, add-one (name_place name xs))
 
-pub with_value-absent : (name value : List ℕ) (xs : List (List ℕ × List ℕ)) → length xs ≤ name_place name xs → xs ++ (name, value) ∷ [] ≡ with_value name value xs
+pub with_value-absent : (name value : List ℕ) (xs : List (List ℕ × List ℕ)) → length xs ≤ name_place name xs
+    → xs ++ (name, value) ∷ [] ≡ with_value name value xs
 with_value-absent name value [] le = refl
 with_value-absent name value (x ∷ xs) le = grind (arith, nat_tests, with_value-absent name value xs)
 
-without_value-place : (name : List ℕ) (xs : List (List ℕ × List ℕ)) → name_place name xs < length xs → take (name_place name xs) xs ++ drop (suc (name_place name xs)) xs ≡ without_value name xs
+without_value-place : (name : List ℕ) (xs : List (List ℕ × List ℕ)) → name_place name xs < length xs
+    → take (name_place name xs) xs ++ drop (suc (name_place name xs)) xs ≡ without_value name xs
 without_value-place name [] lt = absurd (omega arith)
 without_value-place name (x ∷ xs) lt = grind (arith, nat_tests, without_value-place name xs, add-one (name_place name xs))
 
@@ -69,14 +74,26 @@ module _ (name : List ℕ) (xs : List (List ℕ × List ℕ)) (i : ℕ) (at : i 
 
 -- ---- names that stand once
 
-value_in-with : (name value q : List ℕ) (xs : List (List ℕ × List ℕ)) → value_in (with_value name value xs) q ≡ cond (bytes_eq name q) (Some value) (value_in xs q)
+value_in-with : (name value q : List ℕ) (xs : List (List ℕ × List ℕ))
+    → value_in (with_value name value xs) q ≡ cond (bytes_eq name q) (Some value) (value_in xs q)
 value_in-with name value q [] = refl
 value_in-with name value q (x ∷ xs) = grind (arith, same_name x.0 name, same_name x.0 q, same_name name q, name_same x.0 name, value_in-with name value q xs)
 
-value_in-without : (name q : List ℕ) (xs : List (List ℕ × List ℕ)) → is_once xs ≡ true → value_in (without_value name xs) q ≡ cond (bytes_eq name q) None (value_in xs q)
+value_in-without : (name q : List ℕ) (xs : List (List ℕ × List ℕ)) → is_once xs ≡ true
+    → value_in (without_value name xs) q ≡ cond (bytes_eq name q) None (value_in xs q)
 value_in-without name q [] once = grind arith
 value_in-without name q (x ∷ xs) once =
-    grind (arith, is_nothing (value_in xs x.0), same_name x.0 name, same_name name q, same_name x.0 q, name_same x.0 name, name_same name q, name_same x.0 q, value_in-without name q xs)
+    grind (
+      arith,
+      is_nothing (value_in xs x.0),
+      same_name x.0 name,
+      same_name name q,
+      same_name x.0 q,
+      name_same x.0 name,
+      name_same name q,
+      name_same x.0 q,
+      value_in-without name q xs,
+    )
 
 once_with : (name value : List ℕ) (xs : List (List ℕ × List ℕ)) → is_once xs ≡ true → is_once (with_value name value xs) ≡ true
 once_with name value [] once = refl
@@ -87,7 +104,8 @@ once_without name [] once = refl
 once_without name (x ∷ xs) once = grind (arith, is_nothing (value_in xs x.0), value_in-without name x.0 xs, once_without name xs)
 
 -- so it is where a value was set, unless memory was refused
-pub once_set : (r : Result (Option (List ℕ)) NoMemory) (name value : List ℕ) (old new : List (List ℕ × List ℕ)) → OnOk r (new ≡ with_value name value old) → OnErr r (new ≡ old) → is_once old ≡ true → is_once new ≡ true
+pub once_set : (r : Result (Option (List ℕ)) NoMemory) (name value : List ℕ) (old new : List (List ℕ × List ℕ)) → OnOk r (new ≡ with_value name value old)
+    → OnErr r (new ≡ old) → is_once old ≡ true → is_once new ≡ true
 once_set (Ok was) name value old new ok err once = ap is_once ok ∙ once_with name value old once
 once_set (Err e) name value old new ok err once = ap is_once err ∙ once
 
@@ -97,7 +115,8 @@ value_in-gone name xs once = value_in-without name name xs once ∙ ap (λ b. co
 
 -- what is set behind names that are all others comes last
 
-absent_at : (name : List ℕ) (xs : List (List ℕ × List ℕ)) (i : ℕ) (d : List ℕ × List ℕ) → value_in xs name ≡ None → i < length xs → bytes_eq (get_or xs i d).0 name ≡ false
+absent_at : (name : List ℕ) (xs : List (List ℕ × List ℕ)) (i : ℕ) (d : List ℕ × List ℕ) → value_in xs name ≡ None → i < length xs
+    → bytes_eq (get_or xs i d).0 name ≡ false
 absent_at name [] i d none lt = absurd (omega arith)
 absent_at name (x ∷ xs) zero d none lt = grind arith
 absent_at name (x ∷ xs) (suc i) d none lt = grind (arith, absent_at name xs i d)
@@ -111,7 +130,8 @@ with_value-new : (name value : List ℕ) (xs : List (List ℕ × List ℕ)) → 
 with_value-new name value [] none = refl
 with_value-new name value (x ∷ xs) none = grind (arith, with_value-new name value xs)
 
-pub with_value-next : (xs : List (List ℕ × List ℕ)) (i : ℕ) (d : List ℕ × List ℕ) → is_once xs ≡ true → i < length xs → d ≡ get_or xs i d → with_value d.0 d.1 (take i xs) ≡ take (i + 1) xs
+pub with_value-next : (xs : List (List ℕ × List ℕ)) (i : ℕ) (d : List ℕ × List ℕ) → is_once xs ≡ true → i < length xs → d ≡ get_or xs i d
+    → with_value d.0 d.1 (take i xs) ≡ take (i + 1) xs
 with_value-next xs i d once lt is =
     let none : value_in (take i xs) d.0 ≡ None = ap (λ (a : List ℕ × List ℕ). value_in (take i xs) a.0) is ∙ once_next xs i d once lt in
     with_value-new d.0 d.1 (take i xs) none ∙ ap (λ (a : List ℕ × List ℕ). take i xs ++ a ∷ []) is ∙ sym (take_more xs i d lt)

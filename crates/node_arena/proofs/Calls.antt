@@ -1,5 +1,6 @@
 -- What the calls of the tree owe, from what they require.
-use Rattle.std.proofs.Common.{◌≡◌, ◌≢◌, ℕ, ◌+◌, List, [], ◌∷◌, ◌++◌, Option, Some, None, Result, Ok, Err, Bool, true, false, cond, refl, ap, sym, subst, ◌∙◌, arith, inl, inr, length, take, drop, OnOk, OnErr}
+use Rattle.std.proofs.Common.{◌≡◌, ◌≢◌, ℕ, ◌+◌, List, [], ◌∷◌, ◌++◌, Option, Some, None, Result, Ok, Err, Bool, true, false, cond, refl, ap, sym, subst, ◌∙◌}
+use Rattle.std.proofs.Common.{arith, inl, inr, length, take, drop, OnOk, OnErr}
 use Rattle.std.proofs.lemmas.Bool.{cases_lt}
 use Rattle.std.proofs.lemmas.Grind.{common_steps}
 use Rattle.std.proofs.lemmas.List.{length-map, map-append}
@@ -78,44 +79,53 @@ positive f None at = tt
 positive f (Some n) at = at.low
 
 -- the child before another
-pub child_before_is : (f : Trees) (p c : ℕ) (o : Option ℕ) → is_child_or_none f p o ≡ true → o ≡ Some c → before (Some c) (children_of f (parent_at f c)) ≡ before o (children_at f p)
+pub child_before_is : (f : Trees) (p c : ℕ) (o : Option ℕ) → is_child_or_none f p o ≡ true → o ≡ Some c
+    → before (Some c) (children_of f (parent_at f c)) ≡ before o (children_at f p)
 child_before_is f p c o child is =
     let up : parent_at f c ≡ Some p = number-is (parent_at f c) p (ap (is_child_or_none f p) (sym is) ∙ child) in
     rw (is, up) refl
 
 -- ---- what `insert` leaves
 
-module _ (old : List Node) (f : Trees) (p n : ℕ) (b : Option ℕ) (is : IsLinked (links old) f) (is_p : IsNode f p) (is_n : IsNode f n) (may : may_insert f p n b ≡ None) (free : parent_at f n ≡ None) where
+module _ (old : List Node) (f : Trees) (p n : ℕ) (b : Option ℕ) (is : IsLinked (links old) f) (is_p : IsNode f p) (is_n : IsNode f n)
+    (may : may_insert f p n b ≡ None) (free : parent_at f n ≡ None) where
   other : p ≢ n
   other = apart_of f (links old) p n b is is_p is_n may
 
   module _ (a : Option ℕ) (now new left : List Node) (same : now ≡ old) (back : left ≡ new) (w : links new ≡ joined p n a b (links now)) where
     pub inserted : a ≡ before b (children_at f p) → IsLinked (links left) (graft f p n b)
     inserted front =
-        let all : links left ≡ joined p n (before b (children_at f p)) b (links old) = ap links back ∙ w ∙ ap (λ v. joined p n v b (links now)) front ∙ ap (λ v. joined p n (before b (children_at f p)) b (links v)) same in
+        let all : links left ≡ joined p n (before b (children_at f p)) b (links old) =
+        ap links back ∙ w ∙ ap (λ v. joined p n v b (links now)) front ∙ ap (λ v. joined p n (before b (children_at f p)) b (links v)) same in
         subst (λ ls. IsLinked ls (graft f p n b)) (sym all) (joined_linked (links old) f is p n b is_p is_n other may free)
 
     pub inserted_covers : (ids : IdIndex) → IsNodeOrNone f a → IsNodeOrNone f b → Covers ids (links old) → Covers ids (links left)
-    inserted_covers ids at_a at_b c = rw back (rw w (rw same (covers-joined ids (links old) p n a b is_p.low is_n.low (positive f a at_a) (positive f b at_b) c)))
+    inserted_covers ids at_a at_b c =
+        rw back (rw w (rw same (covers-joined ids (links old) p n a b is_p.low is_n.low (positive f a at_a) (positive f b at_b) c)))
 
   module _ (g : Trees) (e : g ≡ graft f p n b) where
     pub inserted_size : size g ≡ size f
     inserted_size = ap size e ∙ (grafted f is.tidy p n is_p is_n other b may free).long
 
     pub inserted_kinds : KeepsKinds f g
-    inserted_kinds = rw e (kinds-grafted (rows_of f) (graft_rows f is.tidy p n is_p is_n other b may free) f (graft f p n b) p n b (rows_of-forest f is.tidy) (graft_is f is.tidy p n is_p is_n other b may free) (graft_writes f is.tidy p n is_p is_n other b may free))
+    inserted_kinds = rw e (kinds-grafted (rows_of f) (graft_rows f is.tidy p n is_p is_n other b may free) f (graft f p n b) p n b (rows_of-forest f is.tidy)
+        (graft_is f is.tidy p n is_p is_n other b may free) (graft_writes f is.tidy p n is_p is_n other b may free))
 
     pub inserted_spots : KeepsSpots p n f g
-    inserted_spots = rw e (spots-grafted (rows_of f) (graft_rows f is.tidy p n is_p is_n other b may free) f (graft f p n b) p n b (rows_of-forest f is.tidy) (graft_is f is.tidy p n is_p is_n other b may free) (graft_writes f is.tidy p n is_p is_n other b may free))
+    inserted_spots = rw e (spots-grafted (rows_of f) (graft_rows f is.tidy p n is_p is_n other b may free) f (graft f p n b) p n b (rows_of-forest f is.tidy)
+        (graft_is f is.tidy p n is_p is_n other b may free) (graft_writes f is.tidy p n is_p is_n other b may free))
 
     pub inserted_apart : connected f p ≡ false → KeepsApart f g
-    inserted_apart away = rw e (apart-grafted (rows_of f) (graft_rows f is.tidy p n is_p is_n other b may free) f (graft f p n b) p n b (rows_of-forest f is.tidy) (graft_is f is.tidy p n is_p is_n other b may free) (graft_writes f is.tidy p n is_p is_n other b may free) is_p away)
+    inserted_apart away = rw e (apart-grafted (rows_of f) (graft_rows f is.tidy p n is_p is_n other b may free) f (graft f p n b) p n b
+        (rows_of-forest f is.tidy) (graft_is f is.tidy p n is_p is_n other b may free) (graft_writes f is.tidy p n is_p is_n other b may free) is_p away)
 
     pub inserted_moved : IsMoved f g n
-    inserted_moved = rw e (moved-grafted (rows_of f) (graft_rows f is.tidy p n is_p is_n other b may free) f (graft f p n b) p n b (rows_of-forest f is.tidy) (graft_is f is.tidy p n is_p is_n other b may free) (graft_writes f is.tidy p n is_p is_n other b may free))
+    inserted_moved = rw e (moved-grafted (rows_of f) (graft_rows f is.tidy p n is_p is_n other b may free) f (graft f p n b) p n b (rows_of-forest f is.tidy)
+        (graft_is f is.tidy p n is_p is_n other b may free) (graft_writes f is.tidy p n is_p is_n other b may free))
 
     pub inserted_up : parent_at g n ≡ Some p
-    inserted_up = rw e (parent-grafted (rows_of f) (graft_rows f is.tidy p n is_p is_n other b may free) f (graft f p n b) p n b (rows_of-forest f is.tidy) (graft_is f is.tidy p n is_p is_n other b may free) (graft_writes f is.tidy p n is_p is_n other b may free) is_n)
+    inserted_up = rw e (parent-grafted (rows_of f) (graft_rows f is.tidy p n is_p is_n other b may free) f (graft f p n b) p n b (rows_of-forest f is.tidy)
+        (graft_is f is.tidy p n is_p is_n other b may free) (graft_writes f is.tidy p n is_p is_n other b may free) is_n)
 
 -- ---- what `remove` leaves
 
@@ -132,11 +142,13 @@ module _ (old : List Node) (f : Trees) (p n : ℕ) (is : IsLinked (links old) f)
         let of_a : a ≡ before (Some n) (children_at f p) = front ∙ ap (λ o. before (Some n) (children_of f o)) up in
         let of_d : d ≡ after n (children_at f p) = behind ∙ rw up refl in
         let all : links left ≡ parted p n (before (Some n) (children_at f p)) (after n (children_at f p)) (links old) =
-        ap links back ∙ w ∙ ap (λ v. parted p n v d (links now)) of_a ∙ ap (λ v. parted p n (before (Some n) (children_at f p)) v (links now)) of_d ∙ ap (λ v. parted p n (before (Some n) (children_at f p)) (after n (children_at f p)) (links v)) same in
+        ap links back ∙ w ∙ ap (λ v. parted p n v d (links now)) of_a ∙ ap (λ v. parted p n (before (Some n) (children_at f p)) v (links now)) of_d
+        ∙ ap (λ v. parted p n (before (Some n) (children_at f p)) (after n (children_at f p)) (links v)) same in
         subst (λ ls. IsLinked ls (cut f n)) (sym all) (parted_linked (links old) f is p n its_parent is_n apart up)
 
     pub removed_covers : (ids : IdIndex) → IsNodeOrNone f a → IsNodeOrNone f d → Covers ids (links old) → Covers ids (links left)
-    removed_covers ids at_a at_d c = rw back (rw w (rw same (covers-parted ids (links old) p n a d its_parent.low is_n.low (positive f a at_a) (positive f d at_d) c)))
+    removed_covers ids at_a at_d c =
+        rw back (rw w (rw same (covers-parted ids (links old) p n a d its_parent.low is_n.low (positive f a at_a) (positive f d at_d) c)))
 
 module _ (f g : Trees) (n : ℕ) (tidy : IsTidy f) (at : IsNode f n) (e : g ≡ cut f n) where
   pub removed_size : size g ≡ size f
@@ -147,7 +159,8 @@ module _ (f g : Trees) (n : ℕ) (tidy : IsTidy f) (at : IsNode f n) (e : g ≡ 
 
 -- ---- what a change of facts leaves
 
-module _ (old now new left : List Node) (f : Trees) (n : ℕ) (change : Facts → Facts) (is : IsLinked (links old) f) (at : IsNode f n) (keeps : KeepsKind f n change) (same : now ≡ old) (back : left ≡ new) where
+module _ (old now new left : List Node) (f : Trees) (n : ℕ) (change : Facts → Facts) (is : IsLinked (links old) f) (at : IsNode f n)
+    (keeps : KeepsKind f n change) (same : now ≡ old) (back : left ≡ new) where
   pub altered : links new ≡ edit_facts n change (links now) → IsLinked (links left) (with_facts n change f)
   altered w =
       let all : links left ≡ edit_facts n change (links old) = ap links back ∙ w ∙ ap (λ v. edit_facts n change (links v)) same in
@@ -156,12 +169,14 @@ module _ (old now new left : List Node) (f : Trees) (n : ℕ) (change : Facts �
   pub unaltered : links new ≡ links now → IsLinked (links left) f
   unaltered e = rw (back, e, same) is
 
-  pub altered_or_not : {T : Type 0} (r : Result T NoMemory) → OnOk r (links new ≡ edit_facts n change (links now)) → OnErr r (links new ≡ links now) → Forest (links left)
+  pub altered_or_not : {T : Type 0} (r : Result T NoMemory) → OnOk r (links new ≡ edit_facts n change (links now)) → OnErr r (links new ≡ links now)
+      → Forest (links left)
   altered_or_not (Ok u) ok err = (_, altered ok)
   altered_or_not (Err e) ok err = (f, unaltered err)
 
 -- the index over a slice of the nodes
-pub written_covers : (ids after : IdIndex) (old now new left : List Node) → now ≡ old → left ≡ new → (Covers ids (links now) → Covers after (links new)) → Covers ids (links old) → Covers after (links left)
+pub written_covers : (ids after : IdIndex) (old now new left : List Node) → now ≡ old → left ≡ new → (Covers ids (links now) → Covers after (links new))
+    → Covers ids (links old) → Covers after (links left)
 written_covers ids after old now new left same back on c = rw back (on (rw same c))
 
 -- the link of a node, in a slice of the nodes
@@ -173,15 +188,18 @@ own_link old now f n is at same = rw same (is.linked n at)
 loose_link : (f : Trees) (node : Node) → IsLoose node → link_from node ≡ link_of (size f + 1) (spot_of (facts_of node) None None none none) []
 loose_link f node loose = rw (loose.parent, loose.host, loose.shadow, loose.first, loose.last, loose.previous, loose.next) refl
 
-module _ (nodes new : List Node) (f : Trees) (node : Node) (is : IsLinked (links nodes) f) (loose : IsLoose node) (kind : is_shadow_root node.kind ≡ false) (own : surplus_at (facts_of node) ≡ 0) where
+module _ (nodes new : List Node) (f : Trees) (node : Node) (is : IsLinked (links nodes) f) (loose : IsLoose node) (kind : is_shadow_root node.kind ≡ false)
+    (own : surplus_at (facts_of node) ≡ 0) where
   pub pushed : new ≡ nodes ++ node ∷ [] → IsLinked (links new) (with_node (size f + 1) (facts_of node) f)
-  pushed e = rw (e, map-append link_from nodes (node ∷ [])) (pushed_linked (links nodes) f (facts_of node) is kind own (link_from node) (loose_link f node loose))
+  pushed e = rw (e, map-append link_from nodes (node ∷ []))
+      (pushed_linked (links nodes) f (facts_of node) is kind own (link_from node) (loose_link f node loose))
 
   pub pushed_or_not : (b : Bool) → new ≡ cond b (nodes ++ node ∷ []) nodes → Forest (links new)
   pushed_or_not true e = (_, pushed e)
   pushed_or_not false e = (f, rw e is)
 
-pub pushed_covers : (ids : IdIndex) (nodes new : List Node) (node : Node) (b : Bool) → node.attributes ≡ [] → new ≡ cond b (nodes ++ node ∷ []) nodes → Covers ids (links nodes) → Covers ids (links new)
+pub pushed_covers : (ids : IdIndex) (nodes new : List Node) (node : Node) (b : Bool) → node.attributes ≡ [] → new ≡ cond b (nodes ++ node ∷ []) nodes
+    → Covers ids (links nodes) → Covers ids (links new)
 pushed_covers ids nodes new node true bare e c = rw (e, map-append link_from nodes (node ∷ [])) (covers-pushed ids (links nodes) (link_from node) bare c)
 pushed_covers ids nodes new node false bare e c = rw e c
 
@@ -193,10 +211,13 @@ no_tree : IsTidy none
 no_tree = record { once = λ i at. absurd (omega (arith, at.low, at.high)); only = λ i low. absurd (omega (arith, low)); rises = tt; kinds = refl; parts = refl }
 
 -- a document alone
-pub one_document : (nodes new : List Node) (node : Node) → nodes ≡ [] → facts_of node ≡ blank Document 1 → IsLoose node → new ≡ nodes ++ node ∷ [] → IsLinked (links new) (single 1 (blank Document 1))
+pub one_document : (nodes new : List Node) (node : Node) → nodes ≡ [] → facts_of node ≡ blank Document 1 → IsLoose node → new ≡ nodes ++ node ∷ []
+    → IsLinked (links new) (single 1 (blank Document 1))
 one_document nodes new node empty facts loose e =
     let none_yet : IsLinked [] none = record { tidy = no_tree; counted = refl; linked = λ n at. absurd (omega (arith, at.low, at.high)) } in
-    rw (e, empty) (subst (λ x. IsLinked (link_from node ∷ []) (with_node 1 x none)) facts (pushed_linked [] none (facts_of node) none_yet (ap (λ (x : Facts). is_shadow_root x.kind) facts) (ap surplus_at facts) (link_from node) (loose_link none node loose)))
+    rw (e, empty) (subst (λ x. IsLinked (link_from node ∷ []) (with_node 1 x none)) facts
+    (pushed_linked [] none (facts_of node) none_yet (ap (λ (x : Facts). is_shadow_root x.kind) facts) (ap surplus_at facts) (link_from node)
+    (loose_link none node loose)))
 
 pub one_covers : (ids : IdIndex) (nodes new : List Node) (node : Node) → nodes ≡ [] → node.attributes ≡ [] → new ≡ nodes ++ node ∷ [] → Covers ids (links new)
 one_covers ids nodes new node empty bare e = rw (e, empty) (covers-pushed ids [] (link_from node) bare (covers-empty ids))
@@ -207,7 +228,8 @@ no_first : (ns : List ℕ) → first_of ns ≡ None → ns ≡ []
 no_first [] e = refl
 no_first (n ∷ ns) e = cc
 
-module _ (old new : List Node) (f : Trees) (h : ℕ) (root : Node) (x : Facts) (is : IsLinked (links old) f) (at : IsNode f h) (element : kind_at f h ≡ Element) (bare : shadow_at f h ≡ None) (fit : is_shadow_root x.kind ≡ true) (own : surplus_at x ≡ 0)
+module _ (old new : List Node) (f : Trees) (h : ℕ) (root : Node) (x : Facts) (is : IsLinked (links old) f) (at : IsNode f h) (element : kind_at f h ≡ Element)
+    (bare : shadow_at f h ≡ None) (fit : is_shadow_root x.kind ≡ true) (own : surplus_at x ≡ 0)
     (made : link_from root ≡ link_of (size f + 1) (spot_of x None (Some h) none none) []) where
   abbrev Attaches : Type 0
   Attaches = links new ≡ edit h (λ l. record l { shadow = (length old + 1) ∷ [] }) (links old ++ link_from root ∷ [])
@@ -215,7 +237,8 @@ module _ (old new : List Node) (f : Trees) (h : ℕ) (root : Node) (x : Facts) (
   pub attached_forest : Attaches → IsLinked (links new) (with_shadow h (single (size f + 1) x) f)
   attached_forest w =
       let count : length old + 1 ≡ size f + 1 = omega (arith, is.counted, length-map old link_from) in
-      let all : links new ≡ edit h (λ l. record l { shadow = (size f + 1) ∷ [] }) (links old ++ link_from root ∷ []) = w ∙ ap (λ v. edit h (λ l. record l { shadow = v ∷ [] }) (links old ++ link_from root ∷ [])) count in
+      let all : links new ≡ edit h (λ l. record l { shadow = (size f + 1) ∷ [] }) (links old ++ link_from root ∷ []) =
+      w ∙ ap (λ v. edit h (λ l. record l { shadow = v ∷ [] }) (links old ++ link_from root ∷ [])) count in
       subst (λ ls. IsLinked ls (with_shadow h (single (size f + 1) x) f)) (sym all)
       (attached_linked (links old) f is h at x (ap is_element element) (no_first (spot_at f h).shadow bare) fit own (link_from root) made)
 
@@ -223,7 +246,8 @@ module _ (old new : List Node) (f : Trees) (h : ℕ) (root : Node) (x : Facts) (
   attached_or_not (Ok n) ok err = (_, attached_forest ok)
   attached_or_not (Err e) ok err = (f, rw err is)
 
-  pub attached_covers : (ids : IdIndex) (r : Result ℕ NoMemory) → (facts_of root).attributes ≡ [] → OnOk r Attaches → OnErr r (new ≡ old) → Covers ids (links old) → Covers ids (links new)
+  pub attached_covers : (ids : IdIndex) (r : Result ℕ NoMemory) → (facts_of root).attributes ≡ [] → OnOk r Attaches → OnErr r (new ≡ old)
+      → Covers ids (links old) → Covers ids (links new)
   attached_covers ids (Ok n) empty ok err c = rw ok (covers-attached ids (links old) (link_from root) h (length old + 1) at.low empty c)
   attached_covers ids (Err e) empty ok err c = rw err c
 
@@ -231,15 +255,20 @@ module _ (old new : List Node) (f : Trees) (h : ℕ) (root : Node) (x : Facts) (
   attached_connected g e =
       let none_there = no_first (spot_at f h).shadow bare in
       let is_el = ap is_element element in
-      rw e (connected-attached (rows_of f) (attached_rows f is.tidy h at x is_el none_there fit own) f (with_shadow h (single (size f + 1) x) f) h (size f + 1) x (rows_of-forest f is.tidy) (attach_is f is.tidy h at x is_el none_there fit own) (ap (λ v. v + 1) (sym (rows_of-length f))) (attach_writes f is.tidy h at x is_el none_there fit own))
+      rw e (connected-attached (rows_of f) (attached_rows f is.tidy h at x is_el none_there fit own) f (with_shadow h (single (size f + 1) x) f) h
+      (size f + 1) x (rows_of-forest f is.tidy) (attach_is f is.tidy h at x is_el none_there fit own) (ap (λ v. v + 1) (sym (rows_of-length f)))
+      (attach_writes f is.tidy h at x is_el none_there fit own))
 
   pub attached_kinds : (g : Trees) → g ≡ with_shadow h (single (size f + 1) x) f → KeepsKinds f g
   attached_kinds g e =
       let none_there = no_first (spot_at f h).shadow bare in
       let is_el = ap is_element element in
-      rw e (kinds-attached (rows_of f) (attached_rows f is.tidy h at x is_el none_there fit own) f (with_shadow h (single (size f + 1) x) f) h (size f + 1) x (rows_of-forest f is.tidy) (attach_is f is.tidy h at x is_el none_there fit own) (ap (λ v. v + 1) (sym (rows_of-length f))) (attach_writes f is.tidy h at x is_el none_there fit own))
+      rw e (kinds-attached (rows_of f) (attached_rows f is.tidy h at x is_el none_there fit own) f (with_shadow h (single (size f + 1) x) f) h (size f + 1) x
+      (rows_of-forest f is.tidy) (attach_is f is.tidy h at x is_el none_there fit own) (ap (λ v. v + 1) (sym (rows_of-length f)))
+      (attach_writes f is.tidy h at x is_el none_there fit own))
 
-pub root_link : (f : Trees) (h : ℕ) (plain root : Node) (x : Facts) → IsLoose plain → root ≡ record plain { host = Some h } → facts_of plain ≡ x → link_from root ≡ link_of (size f + 1) (spot_of x None (Some h) none none) []
+pub root_link : (f : Trees) (h : ℕ) (plain root : Node) (x : Facts) → IsLoose plain → root ≡ record plain { host = Some h } → facts_of plain ≡ x
+    → link_from root ≡ link_of (size f + 1) (spot_of x None (Some h) none none) []
 root_link f h plain root x loose e facts = rw (e, loose.parent, loose.shadow, loose.first, loose.last, loose.previous, loose.next, facts) refl
 
 -- ---- what is no node has no id
@@ -250,7 +279,8 @@ not_made f n tidy unmade id =
     ap (λ o. has_id id (or_no_spot o).facts) (spot-absent None None n f gone)
 
 -- what the index covers, by the reads of the forest
-pub covers_all : (ids : IdIndex) (nodes : List Node) (f : Trees) (id : List ℕ) → IsLinked (links nodes) f → Covers ids (links nodes) → (m : ℕ) → has_id id (facts_at f m) ≡ true → is_held ids id m ≡ true
+pub covers_all : (ids : IdIndex) (nodes : List Node) (f : Trees) (id : List ℕ) → IsLinked (links nodes) f → Covers ids (links nodes) → (m : ℕ)
+    → has_id id (facts_at f m) ≡ true → is_held ids id m ≡ true
 covers_all ids nodes f id is c m has = elim (cases_lt 0 (times m f)) [
   | inl low ↦ let at = is.tidy.only m low in c.held id m (link_in f m) at.low (is.linked m at) has
   | inr out ↦ absurd (let gone : times m f ≡ 0 = omega arith in let no = ap (λ o. has_id id (or_no_spot o).facts) (spot-absent None None m f gone) in cc)

@@ -1,5 +1,6 @@
 -- The index of ids after each write.
-use Rattle.std.proofs.Common.{◌≡◌, ◌≢◌, ℕ, zero, suc, true, false, ◌-◌, ◌<◌, List, [], ◌∷◌, ◌++◌, Option, Some, None, refl, ap, sym, ◌∙◌, subst, arith, inl, inr, length, slice_get}
+use Rattle.std.proofs.Common.{◌≡◌, ◌≢◌, ℕ, zero, suc, true, false, ◌-◌, ◌<◌, List, [], ◌∷◌, ◌++◌, Option, Some, None, refl, ap, sym, ◌∙◌, subst, arith, inl}
+use Rattle.std.proofs.Common.{inr, length, slice_get}
 use Rattle.std.specs.Option.{option_map}
 use Rattle.std.specs.Prelude.{codes}
 use Rattle.std.proofs.lemmas.Bool.{cases_eq, and_parts}
@@ -66,7 +67,8 @@ module _ (ids : IdIndex) (ls : List Link) (p n : ℕ) (a d : Option ℕ) (low_p 
       let stood = stand n (Some p) a d ls in
       covers-same ids ls (joined p n a d ls)
       (facts-on ls (follow p a (Some n) stood) (joined p n a d ls)
-      (facts-on ls stood (follow p a (Some n) stood) (facts-edit n (λ l. record l { parent = Some p; previous = a; next = d }) ls low_n (λ l. refl)) (facts-follow p a (Some n) stood low_p low_a))
+      (facts-on ls stood (follow p a (Some n) stood) (facts-edit n (λ l. record l { parent = Some p; previous = a; next = d }) ls low_n (λ l. refl))
+      (facts-follow p a (Some n) stood low_p low_a))
       (facts-precede p d (Some n) (follow p a (Some n) stood) low_p low_d))
 
   pub covers-parted : Covers ids ls → Covers ids (parted p n a d ls)
@@ -97,9 +99,11 @@ covers-pushed ids ls l bare c = record {
   ];
 }
 
-pub covers-attached : (ids : IdIndex) (ls : List Link) (l : Link) (h n : ℕ) → 0 < h → l.facts.attributes ≡ [] → Covers ids ls → Covers ids (edit h (λ l. record l { shadow = n ∷ [] }) (ls ++ l ∷ []))
+pub covers-attached : (ids : IdIndex) (ls : List Link) (l : Link) (h n : ℕ) → 0 < h → l.facts.attributes ≡ [] → Covers ids ls
+    → Covers ids (edit h (λ l. record l { shadow = n ∷ [] }) (ls ++ l ∷ []))
 covers-attached ids ls l h n low bare c =
-    covers-same ids (ls ++ l ∷ []) (edit h (λ l. record l { shadow = n ∷ [] }) (ls ++ l ∷ [])) (facts-edit h (λ l. record l { shadow = n ∷ [] }) (ls ++ l ∷ []) low (λ l. refl)) (covers-pushed ids ls l bare c)
+    covers-same ids (ls ++ l ∷ []) (edit h (λ l. record l { shadow = n ∷ [] }) (ls ++ l ∷ []))
+    (facts-edit h (λ l. record l { shadow = n ∷ [] }) (ls ++ l ∷ []) low (λ l. refl)) (covers-pushed ids ls l bare c)
 
 pub covers-empty : (ids : IdIndex) → Covers ids []
 covers-empty ids = record { held = λ id n l low e has. absurd cc }
@@ -125,7 +129,8 @@ module _ (ids new : IdIndex) (ls : List Link) (n : ℕ) (change : List (List ℕ
   covers-changed others own = record {
     held = λ id m l low_m e has. elim (cases_eq n m) [
       | inl same ↦
-          let it = edited-from n (λ (l : Link). let r : Link = record l { facts = into l.facts } in r) ls l (subst (λ v. link_at (edit_facts n into ls) v ≡ Some l) (sym same) e) in
+          let it = edited-from n (λ (l : Link). let r : Link = record l { facts = into l.facts } in r) ls l
+          (subst (λ v. link_at (edit_facts n into ls) v ≡ Some l) (sym same) e) in
           subst (λ v. is_held new id v ≡ true) same (own it.0 id it.1.0 (ap (λ (k : Link). has_id id k.facts) it.1.1 ∙ has))
       | inr ne ↦ others id m ne (c.held id m l low_m (sym (edit-other n m (λ (l : Link). record l { facts = into l.facts }) ls low low_m ne) ∙ e) has)
     ];
@@ -133,11 +138,13 @@ module _ (ids new : IdIndex) (ls : List Link) (n : ℕ) (change : List (List ℕ
 
 -- ---- facts beside the kind and the attributes
 
-pub covers-kept : (ids : IdIndex) (ls : List Link) (n : ℕ) (change : Facts → Facts) → 0 < n → ((x : Facts) (id : List ℕ) → has_id id (change x) ≡ has_id id x) → Covers ids ls → Covers ids (edit_facts n change ls)
+pub covers-kept : (ids : IdIndex) (ls : List Link) (n : ℕ) (change : Facts → Facts) → 0 < n → ((x : Facts) (id : List ℕ) → has_id id (change x) ≡ has_id id x)
+    → Covers ids ls → Covers ids (edit_facts n change ls)
 covers-kept ids ls n change low same c = record {
   held = λ id m l low_m e has. elim (cases_eq n m) [
     | inl eq ↦
-        let it = edited-from n (λ (l : Link). let r : Link = record l { facts = change l.facts } in r) ls l (subst (λ v. link_at (edit_facts n change ls) v ≡ Some l) (sym eq) e) in
+        let it = edited-from n (λ (l : Link). let r : Link = record l { facts = change l.facts } in r) ls l
+        (subst (λ v. link_at (edit_facts n change ls) v ≡ Some l) (sym eq) e) in
         let had : has_id id it.0.facts ≡ true = sym (same it.0.facts id) ∙ ap (λ (k : Link). has_id id k.facts) it.1.1 ∙ has in
         subst (λ v. is_held ids id v ≡ true) eq (c.held id n it.0 low it.1.0 had)
     | inr ne ↦ c.held id m l low_m (sym (edit-other n m (λ (l : Link). record l { facts = change l.facts }) ls low low_m ne) ∙ e) has

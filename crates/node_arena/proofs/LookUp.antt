@@ -32,7 +32,8 @@ record IsFirst (p : ℕ → Bool) (xs : List ℕ) (k : ℕ) : Type 0 where
 find-some : (p : ℕ → Bool) (xs : List ℕ) (k : ℕ) → find p xs ≡ Some k → IsFirst p xs k
 find-some p [] k e = absurd cc
 find-some p (x ∷ xs) k e = elim (p x) as (λ b. p x ≡ b → IsFirst p (x ∷ xs) k) [
-  | true ↦ λ t. let same : x ≡ k = let it = e in grind (arith, t, it) in record { passes = subst (λ v. p v ≡ true) same t; among = grind (arith, nat_tests, same) }
+  | true ↦ λ t. let same : x ≡ k = let it =
+      e in grind (arith, t, it) in record { passes = subst (λ v. p v ≡ true) same t; among = grind (arith, nat_tests, same) }
   | false ↦ λ t.
       let rest : find p xs ≡ Some k = let it = e in grind (arith, t, it) in
       let on = find-some p xs k rest in
@@ -53,7 +54,8 @@ find-none p (x ∷ xs) e m among = elim (p x) as (λ b. p x ≡ b → p m ≡ fa
 ] refl
 
 -- where no other passes, the one that was found is the first
-find-only : (p : ℕ → Bool) (xs : List ℕ) (o : Option ℕ) → ((m : ℕ) → p m ≡ true → is_among m xs ≡ true → o ≡ Some m) → ((m : ℕ) → o ≡ Some m → (p m && is_among m xs) ≡ true) → o ≡ find p xs
+find-only : (p : ℕ → Bool) (xs : List ℕ) (o : Option ℕ) → ((m : ℕ) → p m ≡ true → is_among m xs ≡ true → o ≡ Some m)
+    → ((m : ℕ) → o ≡ Some m → (p m && is_among m xs) ≡ true) → o ≡ find p xs
 find-only p xs o only passes = go (find p xs) refl o refl
   where
     go : (r : Option ℕ) → find p xs ≡ r → (s : Option ℕ) → o ≡ s → o ≡ r
@@ -75,7 +77,8 @@ module _ (f : Trees) (root : ℕ) (id : List ℕ) where
   -- the index has who has the id
   pub look-start : (keys left : List ℕ) → left ≡ keys → ((m : ℕ) → has_id id (facts_at f m) ≡ true → is_among m keys ≡ true) → Looking f root id None left
   look-start keys left e covers = record {
-    only = λ m holder out. absurd (let in_keys = covers m (and_parts (has_id id (facts_at f m)) (is_among m (tree_order_of f root)) holder).0 in let it = ap (is_among m) e in cc);
+    only = λ m holder out. absurd (let in_keys = covers m (and_parts (has_id id (facts_at f m)) (is_among m (tree_order_of f root)) holder).0 in let it =
+        ap (is_among m) e in cc);
     holds = λ m none_is. absurd cc;
     node = tt;
   }

@@ -37,7 +37,8 @@ pub record AreMarked (out : List ℕ) (is : Bool) (old new : List Mark) : Type 0
 pub none_marked : (is : Bool) (marks : List Mark) → AreMarked [] is marks marks
 none_marked is marks = record { below = λ m e pos. absurd cc; others = λ m e pos it says. says }
 
-pub one_marked : (out : List ℕ) (at : ℕ) (is : Bool) (old mid new : List Mark) → AreMarked out is old mid → Allows (mark_at new at) is → ((m : ℕ) → 0 < m → m ≢ at → SaysLess mid new m) → AreMarked (out ++ at ∷ []) is old new
+pub one_marked : (out : List ℕ) (at : ℕ) (is : Bool) (old mid new : List Mark) → AreMarked out is old mid → Allows (mark_at new at) is
+    → ((m : ℕ) → 0 < m → m ≢ at → SaysLess mid new m) → AreMarked (out ++ at ∷ []) is old new
 one_marked out at is old mid new before here others = record {
   below = λ m e pos. elim (cases_eq m at) [
     | inl one ↦ subst (λ v. Allows (mark_at new v) is) (sym one) here
@@ -61,7 +62,8 @@ pub hold_same : (marks : List Mark) (f g : Trees) → g ≡ f → MarksHold mark
 hold_same marks f g e = subst (MarksHold marks) (sym e)
 
 -- facts of a node that are changed, but for its kind
-pub hold_with : (marks : List Mark) (n : ℕ) (c : Facts → Facts) (f g : Trees) → ((x : Facts) → (c x).kind ≡ x.kind) → g ≡ with_facts n c f → MarksHold marks f → MarksHold marks g
+pub hold_with : (marks : List Mark) (n : ℕ) (c : Facts → Facts) (f g : Trees) → ((x : Facts) → (c x).kind ≡ x.kind) → g ≡ with_facts n c f → MarksHold marks f
+    → MarksHold marks g
 hold_with marks n c f g keeps e hold = hold_same marks (with_facts n c f) g e (λ m at.
     let low = at.low in
     let high = at.high in
@@ -87,18 +89,21 @@ module _ (f g : Trees) (n : ℕ) (moved : IsMoved f g n) where
     where
       by_path : (b : Bool) → is_among n (path m g) ≡ b → Allows (mark_at marks m) (connected g m)
       by_path false off = subst (Allows (mark_at marks m)) (connected-outside f g n moved m at off) (hold m (was_node m at))
-      by_path true on = subst (Allows (mark_at marks m)) (connected-inside f g n moved m at on ∙ was ∙ sym is ∙ sym (connected-here node m on)) (hold m (was_node m at))
+      by_path true on = subst (Allows (mark_at marks m)) (connected-inside f g n moved m at on ∙ was ∙ sym is ∙ sym (connected-here node m on))
+          (hold m (was_node m at))
 
   -- and any other, once it is noted with all below it
   pub hold_noted : IsNode g n → (old new : List Mark) → AreNoted g n (connected g n) old new → MarksHold old f → MarksHold new g
   hold_noted node old new noted hold m at = by_path (is_among n (path m g)) refl
     where
       by_path : (b : Bool) → is_among n (path m g) ≡ b → Allows (mark_at new m) (connected g m)
-      by_path false off = subst (Allows (mark_at new m)) (connected-outside f g n moved m at off) (noted.others m (in_order m ∙ off) at.low _ (hold m (was_node m at)))
+      by_path false off = subst (Allows (mark_at new m)) (connected-outside f g n moved m at off)
+          (noted.others m (in_order m ∙ off) at.low _ (hold m (was_node m at)))
       by_path true on = subst (Allows (mark_at new m)) (sym (connected-here node m on)) (noted.below m (in_order m ∙ on) at.low)
 
   -- either way
-  pub hold_moved : IsNode g n → (was is : Bool) (old new : List Mark) → was ≡ connected f n → is ≡ connected g n → ((was || is) ≡ false → new ≡ old) → ((was || is) ≡ true → AreNoted g n is old new) → MarksHold old f → MarksHold new g
+  pub hold_moved : IsNode g n → (was is : Bool) (old new : List Mark) → was ≡ connected f n → is ≡ connected g n → ((was || is) ≡ false → new ≡ old)
+      → ((was || is) ≡ true → AreNoted g n is old new) → MarksHold old f → MarksHold new g
   hold_moved node false false old new a b same noted hold = subst (λ ms. MarksHold ms g) (sym (same refl)) (hold_stays node old (sym a) (sym b) hold)
   hold_moved node true is old new a b same noted hold = hold_noted node old new (subst (λ v. AreNoted g n v old new) b (noted refl)) hold
   hold_moved node false true old new a b same noted hold = hold_noted node old new (subst (λ v. AreNoted g n v old new) b (noted refl)) hold
@@ -109,10 +114,12 @@ hold_none f marks e = rw e (λ n at. tt)
 
 -- the note of node 1
 pub hold_first : (x : Facts) (marks : List Mark) → ((is : Bool) → Allows (mark_at marks 1) is) → MarksHold marks (single 1 x)
-hold_first x marks blank m at = let one : m ≡ 1 = omega (arith, at.low, at.high) in subst (λ v. Allows (mark_at marks v) (connected (single 1 x) v)) (sym one) (blank _)
+hold_first x marks blank m at = let one : m ≡ 1 =
+    omega (arith, at.low, at.high) in subst (λ v. Allows (mark_at marks v) (connected (single 1 x) v)) (sym one) (blank _)
 
 -- trees with one more node, of which nothing is noted
-pub hold_more : (f g : Trees) (old new : List Mark) → size g ≡ size f + 1 → ((m : ℕ) → IsNode f m → connected g m ≡ connected f m) → ((is : Bool) → Allows (mark_at new (size f + 1)) is) → ((m : ℕ) → 0 < m → SaysLess old new m) → MarksHold old f → MarksHold new g
+pub hold_more : (f g : Trees) (old new : List Mark) → size g ≡ size f + 1 → ((m : ℕ) → IsNode f m → connected g m ≡ connected f m)
+    → ((is : Bool) → Allows (mark_at new (size f + 1)) is) → ((m : ℕ) → 0 < m → SaysLess old new m) → MarksHold old f → MarksHold new g
 hold_more f g old new more same blank others hold m at = elim (cases_eq m (size f + 1)) [
   | inl one ↦ subst (λ v. Allows (mark_at new v) (connected g v)) (sym one) (blank _)
   | inr ne ↦
@@ -127,7 +134,8 @@ pub hold_less : (f : Trees) (old new : List Mark) → ((m : ℕ) → 0 < m → S
 hold_less f old new others hold m at = others m at.low _ (hold m at)
 
 -- the note of one node, made anew
-pub hold_one : (f : Trees) (n : ℕ) (mark : Mark) (old new : List Mark) → ((is : Bool) → Allows (Some mark) is → Allows (mark_at new n) is) → ((m : ℕ) → 0 < m → m ≢ n → SaysLess old new m)
+pub hold_one : (f : Trees) (n : ℕ) (mark : Mark) (old new : List Mark) → ((is : Bool) → Allows (Some mark) is → Allows (mark_at new n) is)
+    → ((m : ℕ) → 0 < m → m ≢ n → SaysLess old new m)
     → Allows (Some mark) (connected f n) → MarksHold old f → MarksHold new f
 hold_one f n mark old new here others says hold m at = elim (cases_eq m n) [
   | inl one ↦ subst (λ v. Allows (mark_at new v) (connected f v)) (sym one) (here _ says)

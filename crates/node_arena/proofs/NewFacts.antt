@@ -25,7 +25,8 @@ module _ (links : List Link) (f : Trees) (is : IsLinked links f) (n : ℕ) (at :
   here =
       let st = node_spot f n is.tidy at in
       let old = spot_at-is f n st.row st.is in
-      spot_at-is g n (record st.row { facts = change st.row.facts }) (spot-with-here n change None None f ∙ ap (changed change) st.is) ∙ ap (λ (s : Spot). record s { facts = change s.facts }) (sym old)
+      spot_at-is g n (record st.row { facts = change st.row.facts }) (spot-with-here n change None None f ∙ ap (changed change) st.is)
+      ∙ ap (λ (s : Spot). record s { facts = change s.facts }) (sym old)
 
   siblings : (o : Option ℕ) → children_of g o ≡ children_of f o
   siblings None = refl
@@ -39,11 +40,15 @@ module _ (links : List Link) (f : Trees) (is : IsLinked links f) (n : ℕ) (at :
         let node : IsNode f m = record { low = node_g.low; high = omega (arith, node_g.high, size-with n change f) } in
         elim (cases_eq m n) [
           | inl e ↦
-              let wanted : link_in g n ≡ into (link_in f n) = ap (λ (s : Spot). link_of n s (children_of g s.parent)) here ∙ ap (λ ks. link_of n (record (spot_at f n) { facts = change (spot_at f n).facts }) ks) (siblings (parent_at f n)) in
-              subst (λ v. link_at (edit_facts n change links) v ≡ Some (link_in g v)) (sym e) (edit-here n into links (link_in f n) (is.linked n at) ∙ ap Some (sym wanted))
+              let wanted : link_in g n ≡ into (link_in f n) =
+              ap (λ (s : Spot). link_of n s (children_of g s.parent)) here
+              ∙ ap (λ ks. link_of n (record (spot_at f n) { facts = change (spot_at f n).facts }) ks) (siblings (parent_at f n)) in
+              subst (λ v. link_at (edit_facts n change links) v ≡ Some (link_in g v)) (sym e)
+              (edit-here n into links (link_in f n) (is.linked n at) ∙ ap Some (sym wanted))
           | inr ne ↦
               let same : spot_at g m ≡ spot_at f m = ap or_no_spot (spot-with-other n change None None m f ne) in
-              let wanted : link_in g m ≡ link_in f m = ap (λ (s : Spot). link_of m s (children_of g s.parent)) same ∙ ap (λ ks. link_of m (spot_at f m) ks) (siblings (parent_at f m)) in
+              let wanted : link_in g m ≡ link_in f m =
+              ap (λ (s : Spot). link_of m s (children_of g s.parent)) same ∙ ap (λ ks. link_of m (spot_at f m) ks) (siblings (parent_at f m)) in
               edit-other n m into links at.low node.low (λ e. ne (sym e)) ∙ is.linked m node ∙ ap Some (sym wanted)
         ];
   }

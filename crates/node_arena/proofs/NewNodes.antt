@@ -1,5 +1,6 @@
 -- The links after a node was made, and after a shadow root was attached, are those of the forest after it.
-use Rattle.std.proofs.Common.{◌≡◌, ◌≢◌, ℕ, true, false, ◌+◌, ◌-◌, List, [], ◌∷◌, ◌++◌, Option, Some, None, refl, ap, sym, ◌∙◌, subst, arith, inl, inr, length-append}
+use Rattle.std.proofs.Common.{◌≡◌, ◌≢◌, ℕ, true, false, ◌+◌, ◌-◌, List, [], ◌∷◌, ◌++◌, Option, Some, None, refl, ap, sym, ◌∙◌, subst, arith, inl, inr}
+use Rattle.std.proofs.Common.{length-append}
 use Rattle.std.proofs.lemmas.Bool.{cases_eq}
 use Rattle.node_trees.specs.Facts.{Facts, is_element, is_shadow_root}
 use Rattle.node_trees.specs.Trees.{Trees, none, with_node}
@@ -39,16 +40,20 @@ module _ (links : List Link) (f : Trees) (x : Facts) (is : IsLinked links f) (fi
       | inl last ↦
           let here : spot_at g n ≡ spot_of x None None none none = ap or_no_spot (spot-new-here n x f (new-absent f is.tidy)) in
           let wanted : link_in g n ≡ link_of n (spot_of x None None none none) [] = ap (λ (s : Spot). link_of n s (children_of g s.parent)) here in
-          subst (λ v. link_at (links ++ l ∷ []) v ≡ Some (link_in g v)) (sym last) (slice_get-append_end links l (n - 1) (omega (arith, is.counted)) ∙ ap Some (e ∙ sym wanted))
+          subst (λ v. link_at (links ++ l ∷ []) v ≡ Some (link_in g v)) (sym last)
+          (slice_get-append_end links l (n - 1) (omega (arith, is.counted)) ∙ ap Some (e ∙ sym wanted))
       | inr old ↦
           let at : IsNode f m = record { low = node.low; high = omega (arith, node.high, size-with_node n x f, old) } in
-          let wanted : link_in g m ≡ link_in f m = ap (λ (s : Spot). link_of m s (children_of g s.parent)) (same m at) ∙ ap (λ ks. link_of m (spot_at f m) ks) (siblings m at (parent_at f m) refl) in
+          let wanted : link_in g m ≡ link_in f m =
+          ap (λ (s : Spot). link_of m s (children_of g s.parent)) (same m at)
+          ∙ ap (λ ks. link_of m (spot_at f m) ks) (siblings m at (parent_at f m) refl) in
           slice_get-append_front links (l ∷ []) (m - 1) (omega (arith, is.counted, at.low, at.high)) ∙ is.linked m at ∙ ap Some (sym wanted)
     ];
   }
 
 -- a shadow root of h
-module _ (links : List Link) (f : Trees) (is : IsLinked links f) (h : ℕ) (at : IsNode f h) (x : Facts) (element : is_element (kind_at f h) ≡ true) (bare : (spot_at f h).shadow ≡ []) (fit : is_shadow_root x.kind ≡ true) (own : surplus_at x ≡ 0) where
+module _ (links : List Link) (f : Trees) (is : IsLinked links f) (h : ℕ) (at : IsNode f h) (x : Facts) (element : is_element (kind_at f h) ≡ true)
+    (bare : (spot_at f h).shadow ≡ []) (fit : is_shadow_root x.kind ≡ true) (own : surplus_at x ≡ 0) where
   abbrev r : ℕ
   r = size f + 1
 
@@ -77,8 +82,10 @@ module _ (links : List Link) (f : Trees) (is : IsLinked links f) (h : ℕ) (at :
 
     linked_root : link_at (edit h change both) r ≡ Some (link_in u r)
     linked_root =
-        let wanted : link_in u r ≡ link_of r (spot_of x None (Some h) none none) [] = ap (λ (s : Spot). link_of r s (children_of u s.parent)) (spot-root f is.tidy h at x element bare fit own) in
-        edit-other h r change both at.low (omega arith) (λ j. omega (arith, j, at.high)) ∙ slice_get-append_end links l (r - 1) (omega (arith, is.counted)) ∙ ap Some (made ∙ sym wanted)
+        let wanted : link_in u r ≡ link_of r (spot_of x None (Some h) none none) [] =
+        ap (λ (s : Spot). link_of r s (children_of u s.parent)) (spot-root f is.tidy h at x element bare fit own) in
+        edit-other h r change both at.low (omega arith) (λ j. omega (arith, j, at.high)) ∙ slice_get-append_end links l (r - 1) (omega (arith, is.counted))
+        ∙ ap Some (made ∙ sym wanted)
 
     was : (m : ℕ) → IsNode f m → link_at both m ≡ Some (link_in f m)
     was m old = slice_get-append_front links (l ∷ []) (m - 1) (omega (arith, is.counted, old.low, old.high)) ∙ is.linked m old
@@ -86,13 +93,15 @@ module _ (links : List Link) (f : Trees) (is : IsLinked links f) (h : ℕ) (at :
     linked_host : link_at (edit h change both) h ≡ Some (link_in u h)
     linked_host =
         let wanted : link_in u h ≡ record (link_in f h) { shadow = r ∷ [] } =
-        ap (λ (s : Spot). link_of h s (children_of u s.parent)) (spot-host f is.tidy h at x element bare fit own) ∙ ap (λ ks. link_of h (record (spot_at f h) { shadow = r ∷ [] }) ks) (same_siblings h at (parent_at f h) refl) in
+        ap (λ (s : Spot). link_of h s (children_of u s.parent)) (spot-host f is.tidy h at x element bare fit own)
+        ∙ ap (λ ks. link_of h (record (spot_at f h) { shadow = r ∷ [] }) ks) (same_siblings h at (parent_at f h) refl) in
         edit-here h change both (link_in f h) (was h at) ∙ ap Some (sym wanted)
 
     linked_other : (m : ℕ) → IsNode f m → m ≢ h → link_at (edit h change both) m ≡ Some (link_in u m)
     linked_other m old m_h =
         let wanted : link_in u m ≡ link_in f m =
-        ap (λ (s : Spot). link_of m s (children_of u s.parent)) (spot-others f is.tidy h at x element bare fit own m old m_h) ∙ ap (λ ks. link_of m (spot_at f m) ks) (same_siblings m old (parent_at f m) refl) in
+        ap (λ (s : Spot). link_of m s (children_of u s.parent)) (spot-others f is.tidy h at x element bare fit own m old m_h)
+        ∙ ap (λ ks. link_of m (spot_at f m) ks) (same_siblings m old (parent_at f m) refl) in
         edit-other h m change both at.low old.low (λ j. m_h (sym j)) ∙ was m old ∙ ap Some (sym wanted)
 
     pub attached_linked : IsLinked (edit h change both) u

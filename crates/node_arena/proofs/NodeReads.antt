@@ -73,9 +73,18 @@ pub record Read (f : Trees) (n : ℕ) (node : Node) : Type 0 where
 module _ (f : Trees) (tidy : IsTidy f) (n : ℕ) (at : IsNode f n) where
   up_is : (it : Spot) → spot f n ≡ Some it → IsUp f n (above it) × (IsNodeOrNone f it.parent × IsNodeOrNone f it.host)
   up_is it is = elim (row_above f n it tidy at is) [
-    | nothing e o path ↦ (subst (IsUp f n) (sym (ap (λ v. parent_or v it.host) e ∙ o)) path, (subst (IsNodeOrNone f) (sym e) tt, subst (IsNodeOrNone f) (sym o) tt))
-    | a_parent q e o up ↦ (subst (IsUp f n) (sym (ap (λ v. parent_or v it.host) e)) (up.is_node, up.path_is), (subst (IsNodeOrNone f) (sym e) up.is_node, subst (IsNodeOrNone f) (sym o) tt))
-    | a_host q e o up ↦ (subst (IsUp f n) (sym (ap (λ v. parent_or v it.host) e ∙ o)) (up.is_node, up.path_is), (subst (IsNodeOrNone f) (sym e) tt, subst (IsNodeOrNone f) (sym o) up.is_node))
+    | nothing e o path ↦ (
+      subst (IsUp f n) (sym (ap (λ v. parent_or v it.host) e ∙ o)) path,
+      (subst (IsNodeOrNone f) (sym e) tt, subst (IsNodeOrNone f) (sym o) tt),
+    )
+    | a_parent q e o up ↦ (
+      subst (IsUp f n) (sym (ap (λ v. parent_or v it.host) e)) (up.is_node, up.path_is),
+      (subst (IsNodeOrNone f) (sym e) up.is_node, subst (IsNodeOrNone f) (sym o) tt),
+    )
+    | a_host q e o up ↦ (
+      subst (IsUp f n) (sym (ap (λ v. parent_or v it.host) e ∙ o)) (up.is_node, up.path_is),
+      (subst (IsNodeOrNone f) (sym e) tt, subst (IsNodeOrNone f) (sym o) up.is_node),
+    )
   ]
 
   sibling-node : (o : Option ℕ) → IsNodeOrNone f o → (c : ℕ) → is_among c (children_of f o) ≡ true → IsNode f c
@@ -91,11 +100,17 @@ module _ (f : Trees) (tidy : IsTidy f) (n : ℕ) (at : IsNode f n) where
         let parent : IsNodeOrNone f (parent_at f n) = subst (λ (s : Spot). IsNodeOrNone f s.parent) (sym same) around.1.0 in
         let host : IsNodeOrNone f (host_at f n) = subst (λ (s : Spot). IsNodeOrNone f s.host) (sym same) around.1.1 in
         let shadow_is : node.shadow ≡ shadow_at f n = option-first node.shadow _ (ap (λ (l : Link). l.shadow) is) in
-        let shadow : IsNodeOrNone f (shadow_at f n) = subst (λ (s : Spot). IsNodeOrNone f (first_of s.shadow)) (sym same) (first-node f st.row.shadow st.row.children (links_are f n st.row tidy at st.is)) in
-        let first : IsNodeOrNone f (first_child_at f n) = each-node f (first_child_at f n) (λ c e. child-node f n tidy at c (first-among c (children_at f n) e)) in
-        let last : IsNodeOrNone f (before None (children_at f n)) = each-node f _ (λ c e. child-node f n tidy at c (before-among None None c (children_at f n) refl e)) in
-        let previous : IsNodeOrNone f (before (Some n) (children_of f (parent_at f n))) = each-node f _ (λ c e. sibling-node (parent_at f n) parent c (before-among None (Some n) c (children_of f (parent_at f n)) refl e)) in
-        let next : IsNodeOrNone f (after n (children_of f (parent_at f n))) = each-node f _ (λ c e. sibling-node (parent_at f n) parent c (after-among n c (children_of f (parent_at f n)) e)) in
+        let shadow : IsNodeOrNone f (shadow_at f n) =
+        subst (λ (s : Spot). IsNodeOrNone f (first_of s.shadow)) (sym same)
+        (first-node f st.row.shadow st.row.children (links_are f n st.row tidy at st.is)) in
+        let first : IsNodeOrNone f (first_child_at f n) =
+        each-node f (first_child_at f n) (λ c e. child-node f n tidy at c (first-among c (children_at f n) e)) in
+        let last : IsNodeOrNone f (before None (children_at f n)) =
+        each-node f _ (λ c e. child-node f n tidy at c (before-among None None c (children_at f n) refl e)) in
+        let previous : IsNodeOrNone f (before (Some n) (children_of f (parent_at f n))) =
+        each-node f _ (λ c e. sibling-node (parent_at f n) parent c (before-among None (Some n) c (children_of f (parent_at f n)) refl e)) in
+        let next : IsNodeOrNone f (after n (children_of f (parent_at f n))) =
+        each-node f _ (λ c e. sibling-node (parent_at f n) parent c (after-among n c (children_of f (parent_at f n)) e)) in
         record {
           link = is;
           shadow_is = shadow_is;
@@ -112,7 +127,8 @@ module _ (f : Trees) (tidy : IsTidy f) (n : ℕ) (at : IsNode f n) where
         }
 
 -- what an index gives
-pub read : (nodes : List Node) (f : Trees) (n i : ℕ) (node : Node) → IsLinked (links nodes) f → IsNode f n → i ≡ n - 1 → node ≡ get_or nodes i node → Read f n node
+pub read : (nodes : List Node) (f : Trees) (n i : ℕ) (node : Node) → IsLinked (links nodes) f → IsNode f n → i ≡ n - 1 → node ≡ get_or nodes i node
+    → Read f n node
 read nodes f n i node is at e there =
     let within = in_range nodes f is n at in
     let here : link_at (links nodes) n ≡ Some (link_from node) = link_there nodes n i node e (omega (arith, within, e)) there in

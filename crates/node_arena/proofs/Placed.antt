@@ -11,14 +11,16 @@ use Rattle.tree_laws.specs.Beside.{before}
 use Rattle.tree_laws.specs.Numbers.{insert_number, remove_number}
 use Rattle.tree_laws.proofs.Above.{parent-above}
 use Rattle.tree_laws.proofs.Allowed.{is_sibling}
-use Rattle.tree_laws.proofs.Beside.{is_no_number, is_in, before-absent, before-among, first-insert, last-insert, after-inserted, before-inserted, after-insert, before-insert, first-remove, last-remove, after-remove, before-remove}
+use Rattle.tree_laws.proofs.Beside.{is_no_number, is_in, before-absent, before-among, first-insert, last-insert, after-inserted, before-inserted, after-insert}
+use Rattle.tree_laws.proofs.Beside.{before-insert, first-remove, last-remove, after-remove, before-remove}
 use Rattle.tree_laws.proofs.Children.{child-parent, child-node, children_at-apart, after-among}
 use Rattle.tree_laws.proofs.Counts.{AreApart, absent-count}
 use Rattle.tree_laws.proofs.MovedSpots.{Moved, grafted, removed}
 use Rattle.tree_laws.proofs.Parents.{has_parent-node, parent-child, parent-other, number-is}
 use Rattle.node_arena.specs.Links.{Link, link_at, link_of, link_in, children_of, IsLinked}
 use Rattle.node_arena.specs.Writes.{joined, parted}
-use Rattle.node_arena.proofs.Written.{IsPositive, joined-length, joined-here, joined-parent, joined-other, parted-length, parted-here, parted-parent, parted-other}
+use Rattle.node_arena.proofs.Written.{IsPositive, joined-length, joined-here, joined-parent, joined-other, parted-length, parted-here, parted-parent}
+use Rattle.node_arena.proofs.Written.{parted-other}
 
 each-positive : (o : Option ℕ) → ((a : ℕ) → o ≡ Some a → 0 < a) → IsPositive o
 each-positive None each = tt
@@ -84,7 +86,8 @@ module _ (f : Trees) (tidy : IsTidy f) (p : ℕ) (is_p : IsNode f p) where
     pub link-of_p : link_in g p ≡ link_of p (record (spot_at f p) { children = children }) (children_of f (parent_at f p))
     link-of_p =
         ap (λ (s : Spot). link_of p s (children_of g s.parent)) w.there
-        ∙ ap (λ ks. link_of p (record (spot_at f p) { children = children }) ks) (siblings_kept p is_p (parent_at f p) refl (λ e. parent-other f tidy p p e refl))
+        ∙ ap (λ ks. link_of p (record (spot_at f p) { children = children }) ks)
+        (siblings_kept p is_p (parent_at f p) refl (λ e. parent-other f tidy p p e refl))
 
     pub link-of_n : link_in g n ≡ link_of n (record (spot_at f n) { parent = parent }) (children_of g parent)
     link-of_n = ap (λ (s : Spot). link_of n s (children_of g s.parent)) w.moved
@@ -101,7 +104,8 @@ module _ (f : Trees) (tidy : IsTidy f) (p : ℕ) (is_p : IsNode f p) where
           ∙ ap (λ ks. link_of m (spot_at f m) ks) (siblings_kept m at (parent_at f m) refl ne)
 
 -- ---- an insertion
-module _ (links : List Link) (f : Trees) (is : IsLinked links f) (p n : ℕ) (b : Option ℕ) (is_p : IsNode f p) (is_n : IsNode f n) (ne : p ≢ n) (may : may_insert f p n b ≡ None) (free : parent_at f n ≡ None) where
+module _ (links : List Link) (f : Trees) (is : IsLinked links f) (p n : ℕ) (b : Option ℕ) (is_p : IsNode f p) (is_n : IsNode f n) (ne : p ≢ n)
+    (may : may_insert f p n b ≡ None) (free : parent_at f n ≡ None) where
   abbrev kids : List ℕ
   kids = children_at f p
 
@@ -149,15 +153,18 @@ module _ (links : List Link) (f : Trees) (is : IsLinked links f) (p n : ℕ) (b 
       let none = absent-count n kids n_out in
       let front : a ≡ before (Some n) more = sym (before-inserted None b n kids none) in
       let back : b ≡ after n more = sym (after-inserted b n kids b_in none) in
-      let said : record (link_in f n) { parent = Some p; previous = a; next = b } ≡ link_of n (record (spot_at f n) { parent = Some p }) more = λ i. record (link_in f n) { parent = Some p; previous = front i; next = back i } in
+      let said : record (link_in f n) { parent = Some p; previous = a; next = b } ≡ link_of n (record (spot_at f n) { parent = Some p }) more =
+      λ i. record (link_in f n) { parent = Some p; previous = front i; next = back i } in
       joined-here p n a b links is_p.low is_n.low ne low_a low_b (link_in f n) (not_a n n_out) (not_b n n_out) (is.linked n is_n)
-      ∙ ap Some (said ∙ sym (link-of_n f is.tidy p is_p g n (Some p) more w ∙ ap (λ ks. link_of n (record (spot_at f n) { parent = Some p }) ks) (new_children f is.tidy p is_p g n (Some p) more w)))
+      ∙ ap Some (said ∙ sym (link-of_n f is.tidy p is_p g n (Some p) more w
+      ∙ ap (λ ks. link_of n (record (spot_at f n) { parent = Some p }) ks) (new_children f is.tidy p is_p g n (Some p) more w)))
 
   at_p : link_at (joined p n a b links) p ≡ Some (link_in g p)
   at_p =
       let head : cond (is_no_number a) (Some n) (first_of kids) ≡ first_of more = sym (first-insert b n kids) in
       let tail : cond (is_no_number b) (Some n) (before None kids) ≡ before None more = sym (last-insert None b n kids b_in) in
-      let said : record (link_in f p) { first = cond (is_no_number a) (Some n) (first_of kids); last = cond (is_no_number b) (Some n) (before None kids) } ≡ link_of p (record (spot_at f p) { children = more }) (children_of f (parent_at f p)) =
+      let said : record (link_in f p) { first = cond (is_no_number a) (Some n) (first_of kids); last = cond (is_no_number b) (Some n) (before None kids) }
+      ≡ link_of p (record (spot_at f p) { children = more }) (children_of f (parent_at f p)) =
       λ i. record (link_in f p) { first = head i; last = tail i } in
       joined-parent p n a b links is_p.low is_n.low ne low_a low_b (link_in f p) (not_a p p_out) (not_b p p_out) (is.linked p is_p)
       ∙ ap Some (said ∙ sym (link-of_p f is.tidy p is_p g n (Some p) more w))
@@ -168,15 +175,22 @@ module _ (links : List Link) (f : Trees) (is : IsLinked links f) (p n : ℕ) (b 
         let up = number-is (parent_at f m) p below in
         let was : link_in f m ≡ link_of m (spot_at f m) kids = ap (λ o. link_of m (spot_at f m) (children_of f o)) up in
         let back : cond (is_number a m) (Some n) (after m kids) ≡ after m more = sym (after-insert None b n m kids m_n refl apart b_in) in
-        let front : cond (is_number b m) (Some n) (before (Some m) kids) ≡ before (Some m) more = sym (before-insert None b n m kids m_n (parent-child f is.tidy m p up)) in
-        let said : record (link_of m (spot_at f m) kids) { next = cond (is_number a m) (Some n) (after m kids); previous = cond (is_number b m) (Some n) (before (Some m) kids) } ≡ link_of m (spot_at f m) more =
+        let front : cond (is_number b m) (Some n) (before (Some m) kids) ≡ before (Some m) more =
+        sym (before-insert None b n m kids m_n (parent-child f is.tidy m p up)) in
+        let said : record (link_of m (spot_at f m) kids) {
+          next = cond (is_number a m) (Some n) (after m kids);
+          previous = cond (is_number b m) (Some n) (before (Some m) kids);
+        } ≡ link_of m (spot_at f m) more =
         λ i. record (link_of m (spot_at f m) kids) { next = back i; previous = front i } in
         joined-other p n a b links is_p.low is_n.low ne low_a low_b m (link_of m (spot_at f m) kids) at.low m_n m_p (is.linked m at ∙ ap Some was)
         ∙ ap Some (said ∙ sym (link-of_sibling f is.tidy p is_p g n (Some p) more w m at m_n m_p up))
     | is_false away ↦
         let not_p : parent_at f m ≢ Some p = λ e. absurd (let t = ap (λ o. is_number o p) e in grind (arith, nat_tests, t, away)) in
         let absent = not_child f is.tidy p is_p m not_p in
-        let same : record (link_in f m) { next = cond (is_number a m) (Some n) (link_in f m).next; previous = cond (is_number b m) (Some n) (link_in f m).previous } ≡ link_in f m = rw (not_a m absent, not_b m absent) refl in
+        let same : record (link_in f m) {
+          next = cond (is_number a m) (Some n) (link_in f m).next;
+          previous = cond (is_number b m) (Some n) (link_in f m).previous;
+        } ≡ link_in f m = rw (not_a m absent, not_b m absent) refl in
         joined-other p n a b links is_p.low is_n.low ne low_a low_b m (link_in f m) at.low m_n m_p (is.linked m at)
         ∙ ap Some (same ∙ sym (link-of_other f is.tidy p is_p g n (Some p) more w m at m_n m_p not_p))
   ]
@@ -197,7 +211,8 @@ module _ (links : List Link) (f : Trees) (is : IsLinked links f) (p n : ℕ) (b 
   }
 
 -- ---- a removal
-module _ (links : List Link) (f : Trees) (is : IsLinked links f) (p n : ℕ) (is_p : IsNode f p) (is_n : IsNode f n) (ne : p ≢ n) (up : parent_at f n ≡ Some p) where
+module _ (links : List Link) (f : Trees) (is : IsLinked links f) (p n : ℕ) (is_p : IsNode f p) (is_n : IsNode f n) (ne : p ≢ n)
+    (up : parent_at f n ≡ Some p) where
   abbrev all_kids : List ℕ
   all_kids = children_at f p
 
@@ -238,15 +253,21 @@ module _ (links : List Link) (f : Trees) (is : IsLinked links f) (p n : ℕ) (is
   not_back m absent = no-number back_of m (λ e. absurd (let i = after-among n m all_kids e in cc))
 
   gone_n : link_at (parted p n front_of back_of links) n ≡ Some (link_in h n)
-  gone_n = parted-here p n front_of back_of links is_p.low is_n.low ne low_front low_back (link_in f n) (is.linked n is_n) ∙ ap Some (sym (link-of_n f is.tidy p is_p h n None fewer out))
+  gone_n = parted-here p n front_of back_of links is_p.low is_n.low ne low_front low_back (link_in f n) (is.linked n is_n)
+      ∙ ap Some (sym (link-of_n f is.tidy p is_p h n None fewer out))
 
   gone_p : link_at (parted p n front_of back_of links) p ≡ Some (link_in h p)
   gone_p =
       let head : cond (is_no_number front_of) back_of (first_of all_kids) ≡ first_of fewer = sym (first-remove n all_kids n_in) in
       let tail : cond (is_no_number back_of) front_of (before None all_kids) ≡ before None fewer = sym (last-remove None n all_kids n_in) in
-      let said : record (link_in f p) { first = cond (is_no_number front_of) back_of (first_of all_kids); last = cond (is_no_number back_of) front_of (before None all_kids) } ≡ link_of p (record (spot_at f p) { children = fewer }) (children_of f (parent_at f p)) =
+      let said : record (link_in f p) {
+        first = cond (is_no_number front_of) back_of (first_of all_kids);
+        last = cond (is_no_number back_of) front_of (before None all_kids);
+      }
+      ≡ link_of p (record (spot_at f p) { children = fewer }) (children_of f (parent_at f p)) =
       λ i. record (link_in f p) { first = head i; last = tail i } in
-      parted-parent p n front_of back_of links is_p.low is_n.low ne low_front low_back (link_in f p) (not_front p own_out) (not_back p own_out) (is.linked p is_p)
+      parted-parent p n front_of back_of links is_p.low is_n.low ne low_front low_back (link_in f p) (not_front p own_out) (not_back p own_out)
+      (is.linked p is_p)
       ∙ ap Some (said ∙ sym (link-of_p f is.tidy p is_p h n None fewer out))
 
   gone_other : (m : ℕ) → IsNode f m → m ≢ n → m ≢ p → link_at (parted p n front_of back_of links) m ≡ Some (link_in h m)
@@ -255,15 +276,23 @@ module _ (links : List Link) (f : Trees) (is : IsLinked links f) (p n : ℕ) (is
         let m_up = number-is (parent_at f m) p below in
         let was : link_in f m ≡ link_of m (spot_at f m) all_kids = ap (λ o. link_of m (spot_at f m) (children_of f o)) m_up in
         let behind : cond (is_number front_of m) back_of (after m all_kids) ≡ after m fewer = sym (after-remove None n m all_kids m_n refl were_apart n_in) in
-        let ahead : cond (is_number back_of m) front_of (before (Some m) all_kids) ≡ before (Some m) fewer = sym (before-remove None n m all_kids m_n were_apart n_in (parent-child f is.tidy m p m_up)) in
-        let said : record (link_of m (spot_at f m) all_kids) { next = cond (is_number front_of m) back_of (after m all_kids); previous = cond (is_number back_of m) front_of (before (Some m) all_kids) } ≡ link_of m (spot_at f m) fewer =
+        let ahead : cond (is_number back_of m) front_of (before (Some m) all_kids) ≡ before (Some m) fewer =
+        sym (before-remove None n m all_kids m_n were_apart n_in (parent-child f is.tidy m p m_up)) in
+        let said : record (link_of m (spot_at f m) all_kids) {
+          next = cond (is_number front_of m) back_of (after m all_kids);
+          previous = cond (is_number back_of m) front_of (before (Some m) all_kids);
+        } ≡ link_of m (spot_at f m) fewer =
         λ i. record (link_of m (spot_at f m) all_kids) { next = behind i; previous = ahead i } in
-        parted-other p n front_of back_of links is_p.low is_n.low ne low_front low_back m (link_of m (spot_at f m) all_kids) at.low m_n m_p (is.linked m at ∙ ap Some was)
+        parted-other p n front_of back_of links is_p.low is_n.low ne low_front low_back m (link_of m (spot_at f m) all_kids) at.low m_n m_p
+        (is.linked m at ∙ ap Some was)
         ∙ ap Some (said ∙ sym (link-of_sibling f is.tidy p is_p h n None fewer out m at m_n m_p m_up))
     | is_false away ↦
         let not_p : parent_at f m ≢ Some p = λ e. absurd (let t = ap (λ o. is_number o p) e in grind (arith, nat_tests, t, away)) in
         let absent = not_child f is.tidy p is_p m not_p in
-        let same : record (link_in f m) { next = cond (is_number front_of m) back_of (link_in f m).next; previous = cond (is_number back_of m) front_of (link_in f m).previous } ≡ link_in f m = rw (not_front m absent, not_back m absent) refl in
+        let same : record (link_in f m) {
+          next = cond (is_number front_of m) back_of (link_in f m).next;
+          previous = cond (is_number back_of m) front_of (link_in f m).previous;
+        } ≡ link_in f m = rw (not_front m absent, not_back m absent) refl in
         parted-other p n front_of back_of links is_p.low is_n.low ne low_front low_back m (link_in f m) at.low m_n m_p (is.linked m at)
         ∙ ap Some (same ∙ sym (link-of_other f is.tidy p is_p h n None fewer out m at m_n m_p not_p))
   ]

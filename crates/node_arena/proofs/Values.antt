@@ -18,10 +18,12 @@ pub value_in-set_here : (name value : List ℕ) (xs : List (List ℕ × List ℕ
 value_in-set_here name value [] = let e = text_self name in grind (arith, e)
 value_in-set_here name value (x ∷ xs) = let e = text_self name in grind (arith, e, value_in-set_here name value xs)
 
-pub value_in-set_other : (name value key : List ℕ) (xs : List (List ℕ × List ℕ)) → bytes_eq name key ≡ false → value_in (with_value name value xs) key ≡ value_in xs key
+pub value_in-set_other : (name value key : List ℕ) (xs : List (List ℕ × List ℕ)) → bytes_eq name key ≡ false
+    → value_in (with_value name value xs) key ≡ value_in xs key
 value_in-set_other name value key [] ne = grind (arith, ne)
 value_in-set_other name value key (x ∷ xs) ne = grind (arith, ne, two_texts x.0 name key, value_in-set_other name value key xs)
 
-pub value_in-taken_other : (name key : List ℕ) (xs : List (List ℕ × List ℕ)) → bytes_eq name key ≡ false → value_in (without_value name xs) key ≡ value_in xs key
+pub value_in-taken_other : (name key : List ℕ) (xs : List (List ℕ × List ℕ)) → bytes_eq name key ≡ false
+    → value_in (without_value name xs) key ≡ value_in xs key
 value_in-taken_other name key [] ne = refl
 value_in-taken_other name key (x ∷ xs) ne = grind (arith, ne, two_texts x.0 name key, value_in-taken_other name key xs)

@@ -1,5 +1,6 @@
 -- What the links say after a write.
-use Rattle.std.proofs.Common.{◌≡◌, ◌≢◌, ℕ, zero, suc, true, false, ◌-◌, ◌<◌, ◌==◌, List, [], ◌∷◌, Option, Some, None, refl, sym, ap, ◌∙◌, arith, cond, length, slice_get}
+use Rattle.std.proofs.Common.{◌≡◌, ◌≢◌, ℕ, zero, suc, true, false, ◌-◌, ◌<◌, ◌==◌, List, [], ◌∷◌, Option, Some, None, refl, sym, ap, ◌∙◌, arith, cond, length}
+use Rattle.std.proofs.Common.{slice_get}
 use Rattle.std.proofs.lemmas.Bool.Decides.{nat_tests}
 use Rattle.node_trees.specs.Trees.{is_number}
 use Rattle.tree_laws.proofs.Beside.{is_no_number}
@@ -49,17 +50,20 @@ precede-length p (Some d) v ls = edit-length d _ ls
 
 -- at the parent
 module _ (p : ℕ) (low : 0 < p) where
-  follow-parent : (a v : Option ℕ) (ls : List Link) (l : Link) → IsPositive a → is_number a p ≡ false → link_at ls p ≡ Some l → link_at (follow p a v ls) p ≡ Some (record l { first = cond (is_no_number a) v l.first })
+  follow-parent : (a v : Option ℕ) (ls : List Link) (l : Link) → IsPositive a → is_number a p ≡ false → link_at ls p ≡ Some l
+      → link_at (follow p a v ls) p ≡ Some (record l { first = cond (is_no_number a) v l.first })
   follow-parent None v ls l positive other e = edit-here p (λ l. record l { first = v }) ls l e
   follow-parent (Some a) v ls l positive other e = edit-other a p (λ l. record l { next = v }) ls positive low (grind (arith, nat_tests)) ∙ e
 
-  precede-parent : (d v : Option ℕ) (ls : List Link) (l : Link) → IsPositive d → is_number d p ≡ false → link_at ls p ≡ Some l → link_at (precede p d v ls) p ≡ Some (record l { last = cond (is_no_number d) v l.last })
+  precede-parent : (d v : Option ℕ) (ls : List Link) (l : Link) → IsPositive d → is_number d p ≡ false → link_at ls p ≡ Some l
+      → link_at (precede p d v ls) p ≡ Some (record l { last = cond (is_no_number d) v l.last })
   precede-parent None v ls l positive other e = edit-here p (λ l. record l { last = v }) ls l e
   precede-parent (Some d) v ls l positive other e = edit-other d p (λ l. record l { previous = v }) ls positive low (grind (arith, nat_tests)) ∙ e
 
 -- at another node
 module _ (p m : ℕ) (low_p : 0 < p) (low_m : 0 < m) (ne : p ≢ m) where
-  follow-other : (a v : Option ℕ) (ls : List Link) (l : Link) → IsPositive a → link_at ls m ≡ Some l → link_at (follow p a v ls) m ≡ Some (record l { next = cond (is_number a m) v l.next })
+  follow-other : (a v : Option ℕ) (ls : List Link) (l : Link) → IsPositive a → link_at ls m ≡ Some l
+      → link_at (follow p a v ls) m ≡ Some (record l { next = cond (is_number a m) v l.next })
   follow-other None v ls l positive e = edit-other p m (λ l. record l { first = v }) ls low_p low_m ne ∙ e
   follow-other (Some a) v ls l positive e =
       elim (a == m) as (λ t. (a == m) ≡ t → link_at (edit a (λ l. record l { next = v }) ls) m ≡ Some (record l { next = cond t v l.next })) [
@@ -67,7 +71,8 @@ module _ (p m : ℕ) (low_p : 0 < p) (low_m : 0 < m) (ne : p ≢ m) where
         | false ↦ λ t. edit-other a m (λ l. record l { next = v }) ls positive low_m (grind (arith, nat_tests)) ∙ e
       ] refl
 
-  precede-other : (d v : Option ℕ) (ls : List Link) (l : Link) → IsPositive d → link_at ls m ≡ Some l → link_at (precede p d v ls) m ≡ Some (record l { previous = cond (is_number d m) v l.previous })
+  precede-other : (d v : Option ℕ) (ls : List Link) (l : Link) → IsPositive d → link_at ls m ≡ Some l
+      → link_at (precede p d v ls) m ≡ Some (record l { previous = cond (is_number d m) v l.previous })
   precede-other None v ls l positive e = edit-other p m (λ l. record l { last = v }) ls low_p low_m ne ∙ e
   precede-other (Some d) v ls l positive e =
       elim (d == m) as (λ t. (d == m) ≡ t → link_at (edit d (λ l. record l { previous = v }) ls) m ≡ Some (record l { previous = cond t v l.previous })) [
@@ -83,7 +88,8 @@ module _ (p n : ℕ) (a d : Option ℕ) (ls : List Link) (low_p : 0 < p) (low_n 
   pub joined-length : length (joined p n a d ls) ≡ length ls
   joined-length = precede-length p d (Some n) (follow p a (Some n) stood) ∙ follow-length p a (Some n) stood ∙ edit-length n _ ls
 
-  pub joined-here : (l : Link) → is_number a n ≡ false → is_number d n ≡ false → link_at ls n ≡ Some l → link_at (joined p n a d ls) n ≡ Some (record l { parent = Some p; previous = a; next = d })
+  pub joined-here : (l : Link) → is_number a n ≡ false → is_number d n ≡ false → link_at ls n ≡ Some l
+      → link_at (joined p n a d ls) n ≡ Some (record l { parent = Some p; previous = a; next = d })
   joined-here l not_a not_d e =
       let one = edit-here n (λ l. record l { parent = Some p; previous = a; next = d }) ls l e in
       let two = follow-other p n low_p low_n ne a (Some n) stood _ low_a one in

@@ -44,4 +44,5 @@ module _ (w : ℕ → Facts → ℕ) where
   -- a change of facts that the sum takes no heed of
   pub weight-with : (n : ℕ) (change : Facts → Facts) → ((x : Facts) → w n (change x) ≡ w n x) → (f : Trees) → weight w (with_facts n change f) ≡ weight w f
   weight-with n change same none = refl
-  weight-with n change same (tree m x s k r) = let e = same x in grind (arith, nat_tests, e, weight-with n change same s, weight-with n change same k, weight-with n change same r)
+  weight-with n change same (tree m x s k r) = let e =
+      same x in grind (arith, nat_tests, e, weight-with n change same s, weight-with n change same k, weight-with n change same r)

@@ -49,7 +49,8 @@ pub length_without : (k : ℕ) (ws : List Entry) (w : Entry) → entry_of k ws �
 length_without k [] w found = absurd (cc found)
 length_without k (v ∷ ws) w found = by_test (length_without k ws w) (v.number == k) refl
   where
-    by_test : (entry_of k ws ≡ Some w → length ws ≡ suc (length (without k ws))) → (b : Bool) → (v.number == k) ≡ b → length (v ∷ ws) ≡ suc (length (without k (v ∷ ws)))
+    by_test : (entry_of k ws ≡ Some w → length ws ≡ suc (length (without k ws))) → (b : Bool) → (v.number == k) ≡ b
+        → length (v ∷ ws) ≡ suc (length (without k (v ∷ ws)))
     by_test again true is = ap (λ t. suc (length (if t then ws else v ∷ without k ws))) (sym is)
     by_test again false is =
         let e : entry_of k ws ≡ Some w = ap (λ t. if t then Some v else entry_of k ws) (sym is) ∙ found in
@@ -68,7 +69,8 @@ told_le q ws told count are = omega (arith, are.all, are.queues q, of_queue_le q
 
 -- the counts after an enqueue, and after a take
 
-pub counted_push : (ws : List Entry) (old new : BTreeMap ℕ ℕ) (count k m : ℕ) (w : Entry) → AreCounted ws old count → k ≡ w.queue → m ≡ count_at (get nat_cmp old) w.queue + 1
+pub counted_push : (ws : List Entry) (old new : BTreeMap ℕ ℕ) (count k m : ℕ) (w : Entry) → AreCounted ws old count → k ≡ w.queue
+    → m ≡ count_at (get nat_cmp old) w.queue + 1
     → get nat_cmp new k ≡ Some m → ((q : ℕ) → is_at (nat_cmp k) q ≡ false → get nat_cmp new q ≡ get nat_cmp old q) → AreCounted (ws ++ w ∷ []) new (count + 1)
 counted_push ws old new count k m w are key more here others =
     record {
@@ -87,8 +89,10 @@ counted_push ws old new count k m w are key more here others =
       ];
     }
 
-pub counted_take : (ws : List Entry) (old new : BTreeMap ℕ ℕ) (count number k m : ℕ) (w : Entry) → AreCounted ws old count → entry_of number ws ≡ Some w → k ≡ w.queue → m + 1 ≡ count_at (get nat_cmp old) w.queue
-    → get nat_cmp new k ≡ Some m → ((q : ℕ) → is_at (nat_cmp k) q ≡ false → get nat_cmp new q ≡ get nat_cmp old q) → AreCounted (without number ws) new (count - 1)
+pub counted_take : (ws : List Entry) (old new : BTreeMap ℕ ℕ) (count number k m : ℕ) (w : Entry) → AreCounted ws old count → entry_of number ws ≡ Some w
+    → k ≡ w.queue → m + 1 ≡ count_at (get nat_cmp old) w.queue
+    → get nat_cmp new k ≡ Some m → ((q : ℕ) → is_at (nat_cmp k) q ≡ false → get nat_cmp new q ≡ get nat_cmp old q)
+    → AreCounted (without number ws) new (count - 1)
 counted_take ws old new count number k m w are found key less here others =
     record {
       all = omega (arith, are.all, length_without number ws w found);
@@ -107,7 +111,8 @@ counted_take ws old new count number k m w are found key less here others =
     }
 
 -- a queue with which one that waits was told has a count
-pub told_one : (ws : List Entry) (told : BTreeMap ℕ ℕ) (count number : ℕ) (w : Entry) → AreCounted ws told count → entry_of number ws ≡ Some w → 1 ≤ count_at (get nat_cmp told) w.queue
+pub told_one : (ws : List Entry) (told : BTreeMap ℕ ℕ) (count number : ℕ) (w : Entry) → AreCounted ws told count → entry_of number ws ≡ Some w
+    → 1 ≤ count_at (get nat_cmp told) w.queue
 told_one ws told count number w are found =
     let test : one (w.queue == w.queue) ≡ 1 = ap one (eq_same w.queue) in
     omega (arith, are.queues w.queue, of_queue_without number w.queue ws w found, test)

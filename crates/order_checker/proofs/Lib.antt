@@ -1,3 +1,4 @@
 pub mod CountLemmas
 pub mod OpenLemmas
+pub mod ReadAt
 pub mod SlotLemmas

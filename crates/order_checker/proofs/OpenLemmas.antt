@@ -34,6 +34,7 @@ head_is (y ∷ xs) q read =
 pub zero_is : (xs : List ℕ) → None ≡ slice_get xs (length xs - 1) → 0 ≡ head_or_zero (reverse xs)
 zero_is [] read = refl
 zero_is (y ∷ xs) read =
-    let there : slice_get (y ∷ xs) (length (y ∷ xs) - 1) ≡ Some (get_or (y ∷ xs) (length (y ∷ xs) - 1) y) = slice_get-get_or (y ∷ xs) (length (y ∷ xs) - 1) y (omega arith) in
+    let there : slice_get (y ∷ xs) (length (y ∷ xs) - 1) ≡ Some (get_or (y ∷ xs) (length (y ∷ xs) - 1) y) =
+    slice_get-get_or (y ∷ xs) (length (y ∷ xs) - 1) y (omega arith) in
     let k : None ≡ Some (get_or (y ∷ xs) (length (y ∷ xs) - 1) y) = read ∙ there in
     absurd (cc k)

@@ -1,5 +1,6 @@
 -- Slots.
-use Rattle.std.proofs.Common.{rules, ◌≡◌, ◌≢◌, ◌≤◌, ◌<◌, ◌+◌, ◌-◌, ℕ, zero, suc, Bool, true, false, List, [], ◌∷◌, ◌++◌, length, set, get_or, refl, ap, sym, subst, ◌∙◌, arith, Option, Some, None, ◌⊎◌, inl, inr}
+use Rattle.std.proofs.Common.{rules, ◌≡◌, ◌≢◌, ◌≤◌, ◌<◌, ◌+◌, ◌-◌, ℕ, zero, suc, Bool, true, false, List, [], ◌∷◌, ◌++◌, length, set, get_or, refl, ap, sym}
+use Rattle.std.proofs.Common.{subst, ◌∙◌, arith, Option, Some, None, ◌⊎◌, inl, inr}
 use Rattle.std.specs.Prelude.{not, ◌&&◌, ◌==◌, if◌then◌else◌}
 use Rattle.std.specs.List.{slice_get}
 use Rattle.std.specs.Prelude.{is_some}
@@ -16,6 +17,7 @@ use Rattle.order_checker.specs.declared.waits.Slot.{Slot}
 use Rattle.order_law.specs.Book.{Entry}
 use Rattle.order_law.specs.Reads.{entry_of, without, is_first, none_of_element}
 use Rattle.order_checker.specs.Slots.{Waiting, waits_in, waits_at, AreKnown, entry_of_slot, kept, waiting_from, LastOf, AreLinked}
+use Rattle.order_checker.proofs.ReadAt.{not_within, push_get, get_push, get_last, get_within, get_set_other, get_set_same}
 
 pub eq_same : (n : ℕ) → (n == n) ≡ true
 eq_same n = search rules
@@ -23,22 +25,18 @@ eq_same n = search rules
 pub eq_apart : (n m : ℕ) → n ≢ m → (n == m) ≡ false
 eq_apart n m ne = search rules
 
--- what a slot says, read
-
-not_within : {A : Type 0} → (i : ℕ) (x : A) → slice_get [] i ≡ Some x → ⊥
-not_within zero x e = absurd (cc e)
-not_within (suc i) x e = absurd (cc e)
-
 -- one more at the end waits
 
 kept_push : (b : Bool) (w : Entry) (ws vs : List Entry) → kept b w (ws ++ vs) ≡ kept b w ws ++ vs
 kept_push true w ws vs = refl
 kept_push false w ws vs = refl
 
-pub waiting_push : (r n : ℕ) (ss : List Slot) (s : Slot) → s.waits ≡ true → n ≡ r + length ss → waiting_from r (ss ++ s ∷ []) ≡ waiting_from r ss ++ entry_of_slot n s ∷ []
+pub waiting_push : (r n : ℕ) (ss : List Slot) (s : Slot) → s.waits ≡ true → n ≡ r + length ss
+    → waiting_from r (ss ++ s ∷ []) ≡ waiting_from r ss ++ entry_of_slot n s ∷ []
 waiting_push r n [] s waits at = ap (λ b. kept b (entry_of_slot r s) []) waits ∙ ap (λ k. entry_of_slot k s ∷ []) (omega (arith, at))
 waiting_push r n (t ∷ ss) s waits at =
-    ap (kept t.waits (entry_of_slot r t)) (waiting_push (suc r) n ss s waits (omega (arith, at))) ∙ kept_push t.waits (entry_of_slot r t) (waiting_from (suc r) ss) (entry_of_slot n s ∷ [])
+    ap (kept t.waits (entry_of_slot r t)) (waiting_push (suc r) n ss s waits (omega (arith, at)))
+    ∙ kept_push t.waits (entry_of_slot r t) (waiting_from (suc r) ss) (entry_of_slot n s ∷ [])
 
 -- the one with a number
 
@@ -49,11 +47,13 @@ entry_kept false r w ws ne = refl
 -- numbers below the first are not there
 pub entry_below : (r k : ℕ) (ss : List Slot) → k < r → entry_of k (waiting_from r ss) ≡ None
 entry_below r k [] lt = refl
-entry_below r k (s ∷ ss) lt = entry_kept s.waits k (entry_of_slot r s) (waiting_from (suc r) ss) (omega (arith, lt)) ∙ entry_below (suc r) k ss (omega (arith, lt))
+entry_below r k (s ∷ ss) lt = entry_kept s.waits k (entry_of_slot r s) (waiting_from (suc r) ss) (omega (arith, lt))
+    ∙ entry_below (suc r) k ss (omega (arith, lt))
 
 pub entry_past : (r k : ℕ) (ss : List Slot) → r + length ss ≤ k → entry_of k (waiting_from r ss) ≡ None
 entry_past r k [] le = refl
-entry_past r k (s ∷ ss) le = entry_kept s.waits k (entry_of_slot r s) (waiting_from (suc r) ss) (omega (arith, le)) ∙ entry_past (suc r) k ss (omega (arith, le))
+entry_past r k (s ∷ ss) le = entry_kept s.waits k (entry_of_slot r s) (waiting_from (suc r) ss) (omega (arith, le))
+    ∙ entry_past (suc r) k ss (omega (arith, le))
 
 -- what a slot is found as
 abbrev pub found : Bool → Entry → Option Entry
@@ -64,7 +64,8 @@ entry_here : (b : Bool) (r : ℕ) (s : Slot) (ss : List Slot) → entry_of r (ke
 entry_here true r s ss = ap (λ t. if t then Some (entry_of_slot r s) else entry_of r (waiting_from (suc r) ss)) (eq_same r)
 entry_here false r s ss = entry_below (suc r) r ss (omega arith)
 
-pub entry_at : (r i k : ℕ) (ss : List Slot) (s : Slot) → slice_get ss i ≡ Some s → k ≡ r + i → entry_of k (waiting_from r ss) ≡ found s.waits (entry_of_slot k s)
+pub entry_at : (r i k : ℕ) (ss : List Slot) (s : Slot) → slice_get ss i ≡ Some s → k ≡ r + i
+    → entry_of k (waiting_from r ss) ≡ found s.waits (entry_of_slot k s)
 entry_at r i k [] s read at = absurd (not_within i s read)
 entry_at r zero k (t ∷ ss) s read at =
     let same : t ≡ s = cc read in
@@ -79,7 +80,8 @@ without_kept : (b : Bool) (r : ℕ) (w : Entry) (ws : List Entry) → w.number �
 without_kept true r w ws ne = ap (λ t. if t then ws else w ∷ without r ws) (eq_apart w.number r ne)
 without_kept false r w ws ne = refl
 
-pub without_at : (r i k : ℕ) (ss : List Slot) (s : Slot) → slice_get ss i ≡ Some s → s.waits ≡ true → k ≡ r + i → without k (waiting_from r ss) ≡ waiting_from r (set ss i (record s { waits = false }))
+pub without_at : (r i k : ℕ) (ss : List Slot) (s : Slot) → slice_get ss i ≡ Some s → s.waits ≡ true → k ≡ r + i
+    → without k (waiting_from r ss) ≡ waiting_from r (set ss i (record s { waits = false }))
 without_at r i k [] s read waits at = absurd (not_within i s read)
 without_at r zero k (t ∷ ss) s read waits at =
     let same : t ≡ s = cc read in
@@ -87,13 +89,15 @@ without_at r zero k (t ∷ ss) s read waits at =
     ap (λ b. without k (kept b (entry_of_slot r t) (waiting_from (suc r) ss))) (ap (λ u. u.waits) same ∙ waits)
     ∙ ap (λ b. if b then waiting_from (suc r) ss else entry_of_slot r t ∷ without k (waiting_from (suc r) ss)) (ap (λ n. r == n) (sym here) ∙ eq_same r)
 without_at r (suc i) k (t ∷ ss) s read waits at =
-    without_kept t.waits k (entry_of_slot r t) (waiting_from (suc r) ss) (omega (arith, at)) ∙ ap (kept t.waits (entry_of_slot r t)) (without_at (suc r) i k ss s read waits (omega (arith, at)))
+    without_kept t.waits k (entry_of_slot r t) (waiting_from (suc r) ss) (omega (arith, at))
+    ∙ ap (kept t.waits (entry_of_slot r t)) (without_at (suc r) i k ss s read waits (omega (arith, at)))
 
 -- whether it is the first that waits of an element
 
 first_kept : (b : Bool) (k n : ℕ) (w : Entry) (ws : List Entry) → w.number ≢ k → (b ≡ true → w.element ≢ n) → is_first k n (kept b w ws) ≡ is_first k n ws
 first_kept true k n w ws ne other =
-    ap (λ t. if t then true else not (w.element == n) && is_first k n ws) (eq_apart w.number k ne) ∙ ap (λ t. not t && is_first k n ws) (eq_apart w.element n (other refl))
+    ap (λ t. if t then true else not (w.element == n) && is_first k n ws) (eq_apart w.number k ne)
+    ∙ ap (λ t. not t && is_first k n ws) (eq_apart w.element n (other refl))
 first_kept false k n w ws ne other = refl
 
 first_here : (b : Bool) (r n : ℕ) (s : Slot) (ss : List Slot) → b ≡ true → is_first r n (kept b (entry_of_slot r s) (waiting_from (suc r) ss)) ≡ true
@@ -116,26 +120,31 @@ first_true r (suc i) k n (t ∷ ss) s read waits at none =
 
 first_stops : (b : Bool) (k n : ℕ) (w : Entry) (ws : List Entry) → w.number ≢ k → b ≡ true → w.element ≡ n → is_first k n (kept b w ws) ≡ false
 first_stops true k n w ws ne waits of =
-    ap (λ t. if t then true else not (w.element == n) && is_first k n ws) (eq_apart w.number k ne) ∙ ap (λ t. not t && is_first k n ws) (ap (λ m. w.element == m) (sym of) ∙ eq_same w.element)
+    ap (λ t. if t then true else not (w.element == n) && is_first k n ws) (eq_apart w.number k ne)
+    ∙ ap (λ t. not t && is_first k n ws) (ap (λ m. w.element == m) (sym of) ∙ eq_same w.element)
 first_stops false k n w ws ne waits of = absurd (cc waits)
 
 first_goes_on : (b : Bool) (k n : ℕ) (w : Entry) (ws : List Entry) → w.number ≢ k → is_first k n ws ≡ false → is_first k n (kept b w ws) ≡ false
 first_goes_on true k n w ws ne rest =
-    ap (λ t. if t then true else not (w.element == n) && is_first k n ws) (eq_apart w.number k ne) ∙ ap (λ t. not (w.element == n) && t) rest ∙ and_false (not (w.element == n))
+    ap (λ t. if t then true else not (w.element == n) && is_first k n ws) (eq_apart w.number k ne) ∙ ap (λ t. not (w.element == n) && t) rest
+    ∙ and_false (not (w.element == n))
   where
     and_false : (b : Bool) → (b && false) ≡ false
     and_false true = refl
     and_false false = refl
 first_goes_on false k n w ws ne rest = rest
 
-pub first_false : (r i j k n : ℕ) (ss : List Slot) (t : Slot) → slice_get ss j ≡ Some t → j < i → t.waits ≡ true → t.element ≡ n → k ≡ r + i → is_first k n (waiting_from r ss) ≡ false
+pub first_false : (r i j k n : ℕ) (ss : List Slot) (t : Slot) → slice_get ss j ≡ Some t → j < i → t.waits ≡ true → t.element ≡ n → k ≡ r + i
+    → is_first k n (waiting_from r ss) ≡ false
 first_false r i j k n [] t read lt waits of at = absurd (not_within j t read)
 first_false r i zero k n (u ∷ ss) t read lt waits of at =
     let same : u ≡ t = cc read in
-    first_stops u.waits k n (entry_of_slot r u) (waiting_from (suc r) ss) (omega (arith, at, lt)) (ap (λ x. x.waits) same ∙ waits) (ap (λ x. x.element) same ∙ of)
+    first_stops u.waits k n (entry_of_slot r u) (waiting_from (suc r) ss) (omega (arith, at, lt)) (ap (λ x. x.waits) same ∙ waits)
+    (ap (λ x. x.element) same ∙ of)
 first_false r zero (suc j) k n (u ∷ ss) t read lt waits of at = absurd (omega (arith, lt))
 first_false r (suc i) (suc j) k n (u ∷ ss) t read lt waits of at =
-    first_goes_on u.waits k n (entry_of_slot r u) (waiting_from (suc r) ss) (omega (arith, at)) (first_false (suc r) i j k n ss t read (omega (arith, lt)) waits of (omega (arith, at)))
+    first_goes_on u.waits k n (entry_of_slot r u) (waiting_from (suc r) ss) (omega (arith, at))
+    (first_false (suc r) i j k n ss t read (omega (arith, lt)) waits of (omega (arith, at)))
 
 -- whether none waits of an element
 
@@ -143,9 +152,11 @@ none_kept : (b : Bool) (n : ℕ) (w : Entry) (ws : List Entry) → (b ≡ true �
 none_kept true n w ws other = ap (λ t. not t && none_of_element n ws) (eq_apart w.element n (other refl))
 none_kept false n w ws other = refl
 
-pub none_true : (r n : ℕ) (ss : List Slot) → ((j : ℕ) (t : Slot) → slice_get ss j ≡ Some t → t.waits ≡ true → t.element ≢ n) → none_of_element n (waiting_from r ss) ≡ true
+pub none_true : (r n : ℕ) (ss : List Slot) → ((j : ℕ) (t : Slot) → slice_get ss j ≡ Some t → t.waits ≡ true → t.element ≢ n)
+    → none_of_element n (waiting_from r ss) ≡ true
 none_true r n [] none = refl
-none_true r n (t ∷ ss) none = none_kept t.waits n (entry_of_slot r t) (waiting_from (suc r) ss) (none zero t refl) ∙ none_true (suc r) n ss (λ j u there. none (suc j) u there)
+none_true r n (t ∷ ss) none = none_kept t.waits n (entry_of_slot r t) (waiting_from (suc r) ss) (none zero t refl)
+    ∙ none_true (suc r) n ss (λ j u there. none (suc j) u there)
 
 none_stops : (b : Bool) (n : ℕ) (w : Entry) (ws : List Entry) → b ≡ true → w.element ≡ n → none_of_element n (kept b w ws) ≡ false
 none_stops true n w ws waits of = ap (λ t. not t && none_of_element n ws) (ap (λ m. w.element == m) (sym of) ∙ eq_same w.element)
@@ -159,46 +170,14 @@ none_goes_on true n w ws rest = ap (λ t. not (w.element == n) && t) rest ∙ an
     and_false false = refl
 none_goes_on false n w ws rest = rest
 
-pub none_false : (r j n : ℕ) (ss : List Slot) (t : Slot) → slice_get ss j ≡ Some t → t.waits ≡ true → t.element ≡ n → none_of_element n (waiting_from r ss) ≡ false
+pub none_false : (r j n : ℕ) (ss : List Slot) (t : Slot) → slice_get ss j ≡ Some t → t.waits ≡ true → t.element ≡ n
+    → none_of_element n (waiting_from r ss) ≡ false
 none_false r j n [] t read waits of = absurd (not_within j t read)
 none_false r zero n (u ∷ ss) t read waits of =
     let same : u ≡ t = cc read in
     none_stops u.waits n (entry_of_slot r u) (waiting_from (suc r) ss) (ap (λ x. x.waits) same ∙ waits) (ap (λ x. x.element) same ∙ of)
-none_false r (suc j) n (u ∷ ss) t read waits of = none_goes_on u.waits n (entry_of_slot r u) (waiting_from (suc r) ss) (none_false (suc r) j n ss t read waits of)
-
--- slots read in a longer list, and in one with a slot given anew
-
-pub push_get : {A : Type 0} → (xs : List A) (x : A) (i : ℕ) (s : A) → slice_get (xs ++ x ∷ []) i ≡ Some s → (slice_get xs i ≡ Some s) ⊎ ((i ≡ length xs) × (s ≡ x))
-push_get [] x zero s read = inr (refl, cc read)
-push_get [] x (suc i) s read = absurd (not_within i s read)
-push_get (y ∷ xs) x zero s read = inl read
-push_get (y ∷ xs) x (suc i) s read = elim (push_get xs x i s read) [ inl there ↦ inl there | inr last ↦ inr (ap suc last.0, last.1) ]
-
-pub get_push : {A : Type 0} → (xs : List A) (x : A) (i : ℕ) (s : A) → slice_get xs i ≡ Some s → slice_get (xs ++ x ∷ []) i ≡ Some s
-get_push [] x i s read = absurd (not_within i s read)
-get_push (y ∷ xs) x zero s read = read
-get_push (y ∷ xs) x (suc i) s read = get_push xs x i s read
-
-pub get_last : {A : Type 0} → (xs : List A) (x : A) → slice_get (xs ++ x ∷ []) (length xs) ≡ Some x
-get_last [] x = refl
-get_last (y ∷ xs) x = get_last xs x
-
-pub get_within : {A : Type 0} → (xs : List A) (i : ℕ) (s : A) → slice_get xs i ≡ Some s → i < length xs
-get_within [] i s read = absurd (not_within i s read)
-get_within (y ∷ xs) zero s read = omega arith
-get_within (y ∷ xs) (suc i) s read = omega (arith, get_within xs i s read)
-
-pub get_set_other : {A : Type 0} → (xs : List A) (i j : ℕ) (x : A) → j ≢ i → slice_get (set xs i x) j ≡ slice_get xs j
-get_set_other [] i j x ne = refl
-get_set_other (y ∷ xs) zero zero x ne = absurd (ne refl)
-get_set_other (y ∷ xs) zero (suc j) x ne = refl
-get_set_other (y ∷ xs) (suc i) zero x ne = refl
-get_set_other (y ∷ xs) (suc i) (suc j) x ne = get_set_other xs i j x (λ e. ne (ap suc e))
-
-pub get_set_same : {A : Type 0} → (xs : List A) (i : ℕ) (x y : A) → slice_get xs i ≡ Some y → slice_get (set xs i x) i ≡ Some x
-get_set_same [] i x y read = absurd (not_within i y read)
-get_set_same (z ∷ xs) zero x y read = refl
-get_set_same (z ∷ xs) (suc i) x y read = get_set_same xs i x y read
+none_false r (suc j) n (u ∷ ss) t read waits of =
+    none_goes_on u.waits n (entry_of_slot r u) (waiting_from (suc r) ss) (none_false (suc r) j n ss t read waits of)
 
 -- the number that an element got last
 
@@ -211,7 +190,8 @@ below_or (suc a) zero = inr (omega arith)
 below_or (suc a) (suc b) = elim (below_or a b) [ inl le ↦ inl (omega (arith, le)) | inr lt ↦ inr (omega (arith, lt)) ]
 
 -- one of the first m waits: then the last of its element does
-last_waits : (ss : List Slot) (n m p : ℕ) → AreLinked ss → LastOf n m ss p → (j : ℕ) (t : Slot) → slice_get ss j ≡ Some t → j < m → t.waits ≡ true → t.element ≡ n
+last_waits : (ss : List Slot) (n m p : ℕ) → AreLinked ss → LastOf n m ss p → (j : ℕ) (t : Slot) → slice_get ss j ≡ Some t → j < m → t.waits ≡ true
+    → t.element ≡ n
     → (q : ℕ) × (p ≡ suc q) × (q < m) × ((s : Slot) × (slice_get ss q ≡ Some s) × (s.element ≡ n) × (s.waits ≡ true))
 last_waits ss n m zero are last j t read lt waits of = absurd (last.later j t read (omega arith) lt of)
 last_waits ss n m (suc q) are last j t read lt waits of =
@@ -364,9 +344,11 @@ leads_there ss k d are waits read =
     let back : k - 1 ≡ t.place = omega (arith, t.number) in
     let here : slice_get ss t.place ≡ Some d = ap (slice_get ss) (sym back) ∙ slot_at ss (k - 1) d (within ss k waits).1 read in
     let still : d.waits ≡ true = (let e : Some d ≡ Some t.slot = sym here ∙ t.read in (let g : d ≡ t.slot = cc e in ap (λ u. u.waits) g ∙ t.still)) in
-    let entry : entry_of k (waiting_from 1 ss) ≡ Some (entry_of_slot k d) = entry_at 1 t.place k ss d here (omega (arith, t.number)) ∙ ap (λ b. found b (entry_of_slot k d)) still in
+    let entry : entry_of k (waiting_from 1 ss) ≡ Some (entry_of_slot k d) =
+    entry_at 1 t.place k ss d here (omega (arith, t.number)) ∙ ap (λ b. found b (entry_of_slot k d)) still in
     sym (ap (λ o. leads o (waiting_from 1 ss)) entry ∙ ap (λ n. is_first n d.element (waiting_from 1 ss)) t.number
-    ∙ first_by_previous ss t.place d (waits_at ss d.previous) are here still (λ q u at found. waits_of ss d.previous q u at found) (λ zero_is. ap (waits_at ss) zero_is))
+    ∙ first_by_previous ss t.place d (waits_at ss d.previous) are here still (λ q u at found. waits_of ss d.previous q u at found)
+    (λ zero_is. ap (waits_at ss) zero_is))
 
 pub none_there : (ss : List Slot) (n p : ℕ) → AreLinked ss → LastOf n (length ss) ss p → not (waits_at ss p) ≡ none_of_element n (waiting_from 1 ss)
 none_there ss n p are last = sym (none_by_last ss n p (waits_at ss p) are last (λ q t at read. waits_of ss p q t at read) (λ zero_is. ap (waits_at ss) zero_is))
@@ -377,7 +359,11 @@ changed_get : (ss : List Slot) (i j : ℕ) (s t : Slot) → slice_get ss i ≡ S
     → ((j ≡ i) × (t ≡ record s { waits = false })) ⊎ ((j ≢ i) × (slice_get ss j ≡ Some t))
 changed_get ss i j s t read changed =
     elim (cases_eq j i) [
-      | inl same ↦ inl (same, (let e : Some t ≡ Some (record s { waits = false }) = sym changed ∙ ap (slice_get (set ss i (record s { waits = false }))) same ∙ get_set_same ss i (record s { waits = false }) s read in cc e))
+      | inl same ↦ inl (
+        same,
+        (let e : Some t ≡ Some (record s { waits = false }) = sym changed ∙ ap (slice_get (set ss i (record s { waits = false }))) same
+            ∙ get_set_same ss i (record s { waits = false }) s read in cc e),
+      )
       | inr ne ↦ inr (ne, sym (get_set_other ss i j (record s { waits = false }) ne) ∙ changed)
     ]
 
@@ -401,13 +387,15 @@ last_set ss i s n m p read last =
       ));
     }
 
-linked_take : (ss : List Slot) (i : ℕ) (s : Slot) → AreLinked ss → slice_get ss i ≡ Some s → ((j : ℕ) (t : Slot) → slice_get ss j ≡ Some t → j < i → t.waits ≡ true → t.element ≢ s.element)
+linked_take : (ss : List Slot) (i : ℕ) (s : Slot) → AreLinked ss → slice_get ss i ≡ Some s
+    → ((j : ℕ) (t : Slot) → slice_get ss j ≡ Some t → j < i → t.waits ≡ true → t.element ≢ s.element)
     → AreLinked (set ss i (record s { waits = false }))
 linked_take ss i s are read first =
     record {
       linked = λ j t there. elim (changed_get ss i j s t read there) [
         | inl same ↦ subst (λ u. LastOf u.element j (set ss i (record s { waits = false })) u.previous) (sym same.1)
-            (subst (λ m. LastOf s.element m (set ss i (record s { waits = false })) s.previous) (sym same.0) (last_set ss i s s.element i s.previous read (are.linked i s read)))
+            (subst (λ m. LastOf s.element m (set ss i (record s { waits = false })) s.previous) (sym same.0)
+            (last_set ss i s s.element i s.previous read (are.linked i s read)))
         | inr other ↦ last_set ss i s t.element j t.previous read (are.linked j t other.1)
       ];
       in_order = λ j k t u one two lt same still. elim (changed_get ss i j s t read one) [
@@ -419,22 +407,29 @@ linked_take ss i s are read first =
       ];
     }
 
-lower_none : (ss : List Slot) (i : ℕ) (s : Slot) → is_first (suc i) s.element (waiting_from 1 ss) ≡ true → (j : ℕ) (t : Slot) → slice_get ss j ≡ Some t → j < i → t.waits ≡ true → t.element ≢ s.element
+lower_none : (ss : List Slot) (i : ℕ) (s : Slot) → is_first (suc i) s.element (waiting_from 1 ss) ≡ true → (j : ℕ) (t : Slot) → slice_get ss j ≡ Some t → j < i
+    → t.waits ≡ true → t.element ≢ s.element
 lower_none ss i s first j t read lt still = λ e. false_true (first_false 1 i j (suc i) s.element ss t read lt still e (omega arith)) first
 
-pub taken : (ss : List Slot) (last : BTreeMap ℕ ℕ) (k : ℕ) (d : Slot) → AreKnown ss last → waits_at ss k ≡ true → d ≡ get_or ss (k - 1) d → leads (entry_of k (waiting_from 1 ss)) (waiting_from 1 ss) ≡ true
-    → AreKnown (set ss (k - 1) (record d { waits = false })) last × (waiting_from 1 (set ss (k - 1) (record d { waits = false })) ≡ without k (waiting_from 1 ss))
+pub taken : (ss : List Slot) (last : BTreeMap ℕ ℕ) (k : ℕ) (d : Slot) → AreKnown ss last → waits_at ss k ≡ true → d ≡ get_or ss (k - 1) d
+    → leads (entry_of k (waiting_from 1 ss)) (waiting_from 1 ss) ≡ true
+    → AreKnown (set ss (k - 1) (record d { waits = false })) last
+    × (waiting_from 1 (set ss (k - 1) (record d { waits = false })) ≡ without k (waiting_from 1 ss))
 taken ss last k d are waits read first =
     let t = there ss k waits in
     let back : k - 1 ≡ t.place = omega (arith, t.number) in
     let here : slice_get ss (k - 1) ≡ Some d = slot_at ss (k - 1) d (within ss k waits).1 read in
-    let still : d.waits ≡ true = (let e : Some d ≡ Some t.slot = sym here ∙ ap (slice_get ss) back ∙ t.read in (let g : d ≡ t.slot = cc e in ap (λ u. u.waits) g ∙ t.still)) in
+    let still : d.waits ≡ true = (let e : Some d ≡ Some t.slot = sym here ∙ ap (slice_get ss) back
+    ∙ t.read in (let g : d ≡ t.slot = cc e in ap (λ u. u.waits) g ∙ t.still)) in
     let number : k ≡ suc (k - 1) = omega (arith, t.number) in
-    let entry : entry_of k (waiting_from 1 ss) ≡ Some (entry_of_slot k d) = entry_at 1 (k - 1) k ss d here (omega (arith, t.number)) ∙ ap (λ b. found b (entry_of_slot k d)) still in
-    let leading : is_first (suc (k - 1)) d.element (waiting_from 1 ss) ≡ true = ap (λ n. is_first n d.element (waiting_from 1 ss)) (sym number) ∙ ap (λ o. leads o (waiting_from 1 ss)) (sym entry) ∙ first in (
+    let entry : entry_of k (waiting_from 1 ss) ≡ Some (entry_of_slot k d) =
+    entry_at 1 (k - 1) k ss d here (omega (arith, t.number)) ∙ ap (λ b. found b (entry_of_slot k d)) still in
+    let leading : is_first (suc (k - 1)) d.element (waiting_from 1 ss) ≡ true =
+    ap (λ n. is_first n d.element (waiting_from 1 ss)) (sym number) ∙ ap (λ o. leads o (waiting_from 1 ss)) (sym entry) ∙ first in (
       record {
         links = linked_take ss (k - 1) d are.links here (lower_none ss (k - 1) d leading);
-        lasts = λ n. subst (λ m. LastOf n m (set ss (k - 1) (record d { waits = false })) (count_at (get nat_cmp last) n)) (sym (length-set ss (k - 1) (record d { waits = false })))
+        lasts = λ n. subst (λ m. LastOf n m (set ss (k - 1) (record d { waits = false })) (count_at (get nat_cmp last) n))
+            (sym (length-set ss (k - 1) (record d { waits = false })))
             (last_set ss (k - 1) d n (length ss) (count_at (get nat_cmp last) n) here (are.lasts n));
       },
       sym (without_at 1 (k - 1) k ss d here still (omega (arith, t.number))),
@@ -445,8 +440,10 @@ taken ss last k d are waits read first =
 pub apart : (k q : ℕ) → k ≢ q → is_at (nat_cmp k) q ≡ false
 apart k q ne = search rules
 
-pub enqueued_known : (ss : List Slot) (old new : BTreeMap ℕ ℕ) (s : Slot) (k n : ℕ) → k ≡ s.element → AreKnown ss old → s.previous ≡ count_at (get nat_cmp old) s.element → s.waits ≡ true
-    → get nat_cmp new k ≡ Some n → n ≡ suc (length ss) → ((q : ℕ) → is_at (nat_cmp k) q ≡ false → get nat_cmp new q ≡ get nat_cmp old q) → AreKnown (ss ++ s ∷ []) new
+pub enqueued_known : (ss : List Slot) (old new : BTreeMap ℕ ℕ) (s : Slot) (k n : ℕ) → k ≡ s.element → AreKnown ss old
+    → s.previous ≡ count_at (get nat_cmp old) s.element → s.waits ≡ true
+    → get nat_cmp new k ≡ Some n → n ≡ suc (length ss) → ((q : ℕ) → is_at (nat_cmp k) q ≡ false → get nat_cmp new q ≡ get nat_cmp old q)
+    → AreKnown (ss ++ s ∷ []) new
 enqueued_known ss old new s k n key are before waits here at others =
     record {
       links = linked_push ss s are.links (subst (LastOf s.element (length ss) ss) (sym before) (are.lasts s.element)) waits;
@@ -458,15 +455,19 @@ enqueued_known ss old new s k n key are before waits here at others =
       ];
     }
 
-pub waiting_same : (n m : ℕ) (es fs : List Entry) → n ≡ m → es ≡ fs → (let w : Waiting = record { numbers = n; entries = es } in w) ≡ record { numbers = m; entries = fs }
-waiting_same n m es fs a b = ap (λ k. (let w : Waiting = record { numbers = k; entries = es } in w)) a ∙ ap (λ xs. (let w : Waiting = record { numbers = m; entries = xs } in w)) b
+pub waiting_same : (n m : ℕ) (es fs : List Entry) → n ≡ m → es ≡ fs
+    → (let w : Waiting = record { numbers = n; entries = es } in w) ≡ record { numbers = m; entries = fs }
+waiting_same n m es fs a b = ap (λ k. (let w : Waiting = record { numbers = k; entries = es } in w)) a
+    ∙ ap (λ xs. (let w : Waiting = record { numbers = m; entries = xs } in w)) b
 
-pub entry_there : (ss : List Slot) (k : ℕ) (d : Slot) → waits_at ss k ≡ true → d ≡ get_or ss (k - 1) d → entry_of k (waiting_from 1 ss) ≡ Some (entry_of_slot k d)
+pub entry_there : (ss : List Slot) (k : ℕ) (d : Slot) → waits_at ss k ≡ true → d ≡ get_or ss (k - 1) d
+    → entry_of k (waiting_from 1 ss) ≡ Some (entry_of_slot k d)
 entry_there ss k d waits read =
     let t = there ss k waits in
     let back : k - 1 ≡ t.place = omega (arith, t.number) in
     let here : slice_get ss (k - 1) ≡ Some d = slot_at ss (k - 1) d (within ss k waits).1 read in
-    let still : d.waits ≡ true = (let e : Some d ≡ Some t.slot = sym here ∙ ap (slice_get ss) back ∙ t.read in (let g : d ≡ t.slot = cc e in ap (λ u. u.waits) g ∙ t.still)) in
+    let still : d.waits ≡ true = (let e : Some d ≡ Some t.slot = sym here ∙ ap (slice_get ss) back
+    ∙ t.read in (let g : d ≡ t.slot = cc e in ap (λ u. u.waits) g ∙ t.still)) in
     entry_at 1 (k - 1) k ss d here (omega (arith, t.number)) ∙ ap (λ b. found b (entry_of_slot k d)) still
 
 none_of_some : (o : Option Entry) → is_some o ≡ false → o ≡ None

@@ -1,10 +1,12 @@
 -- What has started has finished, where its queue is closed.
-use Rattle.std.proofs.Common.{◌≡◌, ℕ, ◌+◌, ◌<◌, ◌≤◌, Bool, true, false, List, [], ◌∷◌, ◌++◌, Option, Some, None, refl, sym, ap, ◌∙◌, subst, arith, ⊎_elim, inl, inr}
+use Rattle.std.proofs.Common.{◌≡◌, ℕ, ◌+◌, ◌<◌, ◌≤◌, Bool, true, false, List, [], ◌∷◌, ◌++◌, Option, Some, None, refl, sym, ap, ◌∙◌, subst, arith, ⊎_elim, inl}
+use Rattle.std.proofs.Common.{inr}
 use Rattle.std.specs.Prelude.{◌⊎◌, ◌&&◌, ◌==◌, is_some}
 use Rattle.std.proofs.lemmas.Bool.{eqb-true, eqb-false}
 use Rattle.rule_tokens.specs.declared.callback.CallName.{CallName}
 use Rattle.ce_events.specs.declared.event.Event.{Event}
-use Rattle.ce_events.specs.declared.event.Event.TheVariants.{Enqueued, QueueOpened, DrainBegun, Started, Finished, Dropped, QueueClosed, UpgradeBegun, UpgradeDone, UpgradeThrew}
+use Rattle.ce_events.specs.declared.event.Event.TheVariants.{Enqueued, QueueOpened, DrainBegun, Started, Finished, Dropped, QueueClosed, UpgradeBegun}
+use Rattle.ce_events.specs.declared.event.Event.TheVariants.{UpgradeDone, UpgradeThrew}
 use Rattle.order_law.specs.Book.{Book, Entry, Bracket, Filling, Draining, Reacting, Upgrading, blank}
 use Rattle.order_law.specs.Lines.{call_of}
 use Rattle.order_law.specs.Reads.{entry_of, without, current, around}
@@ -61,7 +63,8 @@ stays past b e c k no_line hr fits hw hq =
       told = λ w i. let f = k.told w (line w i) in omega (arith, f, hq);
       runs = λ w i. inr (k.runs w (subst (IsAmong w) hr i));
       fits = fits;
-      ends = λ w i. ⊎_elim (λ j. inl (subst (IsAmong w) (sym hw) j)) (λ j. inr (more_begun past e (running b.brackets) (running c.brackets) w (λ a. inr (inr (subst (IsAmong w) (sym hr) a))) j)) (k.ends w (line w i));
+      ends = λ w i. ⊎_elim (λ j. inl (subst (IsAmong w) (sym hw) j))
+          (λ j. inr (more_begun past e (running b.brackets) (running c.brackets) w (λ a. inr (inr (subst (IsAmong w) (sym hr) a))) j)) (k.ends w (line w i));
     }
   where
     line : (w : Entry) → Says (e ∷ past) (enqueue_line w) → Says past (enqueue_line w)
@@ -74,11 +77,14 @@ enqueues past b v k p is =
       told = λ w i. ⊎_elim (λ e. let f = ap (λ (x : Entry). x.queue) (same_line v w e) in let g = low in omega (arith, f, g)) (λ e. k.told w e) i;
       runs = λ w i. inr (k.runs w i);
       fits = k.fits;
-      ends = λ w i. ⊎_elim (λ e. inl (subst (λ x. IsAmong x (b.waiting ++ v ∷ [])) (same_line v w e) (among_last b.waiting v))) (λ e. ⊎_elim (λ j. inl (among_more b.waiting v w j)) (λ j. inr (more_begun past (enqueue_line v) (running b.brackets) (running b.brackets) w (λ a. inr (inr a)) j)) (k.ends w e)) i;
+      ends = λ w i. ⊎_elim (λ e. inl (subst (λ x. IsAmong x (b.waiting ++ v ∷ [])) (same_line v w e) (among_last b.waiting v)))
+          (λ e. ⊎_elim (λ j. inl (among_more b.waiting v w j))
+          (λ j. inr (more_begun past (enqueue_line v) (running b.brackets) (running b.brackets) w (λ a. inr (inr a)) j)) (k.ends w e)) i;
     }
   where
     low : v.queue ≤ b.queues
-    low = ⊎_elim (λ i. let z = i.0 in omega (arith, z, is)) (λ i. let f = p.below (current b.brackets) (p.filling (current b.brackets) i).0 in omega (arith, f, is)) (current_of b.brackets)
+    low = ⊎_elim (λ i. let z = i.0 in omega (arith, z, is))
+        (λ i. let f = p.below (current b.brackets) (p.filling (current b.brackets) i).0 in omega (arith, f, is)) (current_of b.brackets)
 
 -- a reaction starts
 starts : (past : List Event) (b : Book) (r : ℕ) (o : Option Entry) → entry_of r b.waiting ≡ o → is_some o ≡ true → Ends past b → Kept past b →
@@ -89,7 +95,8 @@ starts past b r (Some v) e h k kept =
       told = λ w i. k.told w (line w i);
       runs = λ w i. inr (⊎_elim (λ j. subst (λ x. Says past (enqueue_line x)) j (kept.waits v found.0).0) (λ j. k.runs w j) i);
       fits = k.fits;
-      ends = λ w i. ⊎_elim (λ j. go w j (w.number == v.number) refl) (λ j. inr (more_begun past (Started r) (running b.brackets) (v ∷ running b.brackets) w (λ a. inr (inr (inr a))) j)) (k.ends w (line w i));
+      ends = λ w i. ⊎_elim (λ j. go w j (w.number == v.number) refl)
+          (λ j. inr (more_begun past (Started r) (running b.brackets) (v ∷ running b.brackets) w (λ a. inr (inr (inr a))) j)) (k.ends w (line w i));
     }
   where
     found : IsAmong v b.waiting × (v.number ≡ r)
@@ -102,7 +109,8 @@ starts past b r (Some v) e h k kept =
         IsAmong w (without v.number b.waiting) ⊎ IsBegun (Started r ∷ past) (v ∷ running b.brackets) w
     go w j true is =
         let number = eqb-true w.number v.number is in
-        let both : Some v ≡ Some w = sym (among_found 0 b.waiting v kept.rising found.0) ∙ ap (λ x. entry_of x b.waiting) (sym number) ∙ among_found 0 b.waiting w kept.rising j in
+        let both : Some v ≡ Some w = sym (among_found 0 b.waiting v kept.rising found.0) ∙ ap (λ x. entry_of x b.waiting) (sym number)
+        ∙ among_found 0 b.waiting w kept.rising j in
         inr (inr (inr (inl cc)))
     go w j false is = inl (without_among v.number b.waiting w (eqb-false w.number v.number is) j)
 
@@ -114,7 +122,9 @@ finishes past b r (Reacting v called ∷ bs) e h k c hb hw hq =
       told = λ w i. let f = k.told w (line w i) in omega (arith, f, hq);
       runs = λ w i. inr (k.runs w (subst (λ l. IsAmong w (running l)) (sym e) (inr (subst (λ l. IsAmong w (running l)) hb i))));
       fits = subst Fits (sym hb) (let f : Fits (Reacting v called ∷ bs) = subst Fits e k.fits in f);
-      ends = λ w i. ⊎_elim (λ j. inl (subst (IsAmong w) (sym hw) j)) (λ j. inr (more_begun past (Finished r) (running b.brackets) (running c.brackets) w (λ a. out w (subst (λ l. IsAmong w (running l)) e a)) j)) (k.ends w (line w i));
+      ends = λ w i. ⊎_elim (λ j. inl (subst (IsAmong w) (sym hw) j))
+          (λ j. inr (more_begun past (Finished r) (running b.brackets) (running c.brackets) w (λ a. out w (subst (λ l. IsAmong w (running l)) e a)) j))
+          (k.ends w (line w i));
     }
   where
     line : (w : Entry) → Says (Finished r ∷ past) (enqueue_line w) → Says past (enqueue_line w)
@@ -135,7 +145,8 @@ drops past b r k =
       told = λ w i. k.told w (line w i);
       runs = λ w i. inr (k.runs w i);
       fits = k.fits;
-      ends = λ w i. ⊎_elim (λ j. go w j (w.number == r) refl) (λ j. inr (more_begun past (Dropped r) (running b.brackets) (running b.brackets) w (λ a. inr (inr a)) j)) (k.ends w (line w i));
+      ends = λ w i. ⊎_elim (λ j. go w j (w.number == r) refl)
+          (λ j. inr (more_begun past (Dropped r) (running b.brackets) (running b.brackets) w (λ a. inr (inr a)) j)) (k.ends w (line w i));
     }
   where
     line : (w : Entry) → Says (Dropped r ∷ past) (enqueue_line w) → Says past (enqueue_line w)
@@ -186,18 +197,33 @@ same_stays : (past : List Event) (b : Book) (e : Event) (c : Book) → Ends past
 same_stays past b e c k no_line s hw hq = stays past b e c k no_line s.running (s.fits k.fits) hw (omega (arith, hq))
 
 ends_step : (past : List Event) (b : Book) (e : Event) → Ends past b → Pushed past b → Kept past b → Keeps b e → Ends (e ∷ past) (after b e)
-ends_step past b (Enqueued r n what q) k p kept h = enqueues past b (record { number = r; element = n; what = what; queue = q }) k p (eqb-true q (current b.brackets) (right_true (r == b.numbers + 1) (q == current b.brackets) h.counts))
+ends_step past b (Enqueued r n what q) k p kept h =
+    enqueues past b (record { number = r; element = n; what = what; queue = q }) k p
+    (eqb-true q (current b.brackets) (right_true (r == b.numbers + 1) (q == current b.brackets) h.counts))
 ends_step past b (QueueOpened q) k p kept h =
     let number = eqb-true q (b.queues + 1) h.counts in
-    stays past b (QueueOpened q) (after b (QueueOpened q)) k (λ w i. absurd cc) refl ((λ w i. let f = k.told w (k.runs w i) in omega (arith, f, number)), k.fits) refl (omega (arith, number))
-ends_step past b (DrainBegun q) k p kept h = same_stays past b (DrainBegun q) (after b (DrainBegun q)) k (λ w i. absurd cc) (begun_drain q b.brackets (left_true (begins_drain q b.brackets) _ h.nested)) refl refl
-ends_step past b (QueueClosed q) k p kept h = same_stays past b (QueueClosed q) (after b (QueueClosed q)) k (λ w i. absurd cc) (ended_drain q b.brackets (left_true (ends_drain q b.brackets) _ h.nested)) refl refl
-ends_step past b (Started r) k p kept h = starts past b r (entry_of r b.waiting) refl (left_true (is_some (entry_of r b.waiting)) (is_in_drain b.brackets) (left_true (is_some (entry_of r b.waiting) && is_in_drain b.brackets) _ h.runs)) k kept
-ends_step past b (Finished r) k p kept h = finishes past b r b.brackets refl (left_true (ends_reaction r b.brackets) _ h.nested) k (after b (Finished r)) refl refl refl
+    stays past b (QueueOpened q) (after b (QueueOpened q)) k (λ w i. absurd cc) refl
+    ((λ w i. let f = k.told w (k.runs w i) in omega (arith, f, number)), k.fits) refl (omega (arith, number))
+ends_step past b (DrainBegun q) k p kept h =
+    same_stays past b (DrainBegun q) (after b (DrainBegun q)) k (λ w i. absurd cc)
+    (begun_drain q b.brackets (left_true (begins_drain q b.brackets) _ h.nested)) refl refl
+ends_step past b (QueueClosed q) k p kept h =
+    same_stays past b (QueueClosed q) (after b (QueueClosed q)) k (λ w i. absurd cc)
+    (ended_drain q b.brackets (left_true (ends_drain q b.brackets) _ h.nested)) refl refl
+ends_step past b (Started r) k p kept h =
+    starts past b r (entry_of r b.waiting) refl
+    (left_true (is_some (entry_of r b.waiting)) (is_in_drain b.brackets) (left_true (is_some (entry_of r b.waiting) && is_in_drain b.brackets) _ h.runs)) k kept
+ends_step past b (Finished r) k p kept h =
+    finishes past b r b.brackets refl (left_true (ends_reaction r b.brackets) _ h.nested) k (after b (Finished r)) refl refl refl
 ends_step past b (Dropped r) k p kept h = drops past b r k
-ends_step past b (UpgradeBegun n) k p kept h = same_stays past b (UpgradeBegun n) (after b (UpgradeBegun n)) k (λ w i. absurd cc) (record { running = refl; fits = λ f. f }) refl refl
-ends_step past b (UpgradeDone n) k p kept h = same_stays past b (UpgradeDone n) (after b (UpgradeDone n)) k (λ w i. absurd cc) (ended_upgrade n b.brackets (left_true (ends_upgrade n b.brackets) _ h.nested)) refl refl
-ends_step past b (UpgradeThrew n) k p kept h = same_stays past b (UpgradeThrew n) (after b (UpgradeThrew n)) k (λ w i. absurd cc) (ended_upgrade n b.brackets (left_true (ends_upgrade n b.brackets) _ h.nested)) refl refl
+ends_step past b (UpgradeBegun n) k p kept h =
+    same_stays past b (UpgradeBegun n) (after b (UpgradeBegun n)) k (λ w i. absurd cc) (record { running = refl; fits = λ f. f }) refl refl
+ends_step past b (UpgradeDone n) k p kept h =
+    same_stays past b (UpgradeDone n) (after b (UpgradeDone n)) k (λ w i. absurd cc)
+    (ended_upgrade n b.brackets (left_true (ends_upgrade n b.brackets) _ h.nested)) refl refl
+ends_step past b (UpgradeThrew n) k p kept h =
+    same_stays past b (UpgradeThrew n) (after b (UpgradeThrew n)) k (λ w i. absurd cc)
+    (ended_upgrade n b.brackets (left_true (ends_upgrade n b.brackets) _ h.nested)) refl refl
 ends_step past b e k p kept h = same_stays past b e (after b e) k (λ w i. absurd cc) (marked_call (call_of e) b.brackets) refl refl
 
 -- all three
@@ -210,7 +236,11 @@ all_first : All [] blank
 all_first = record { ends = ends_first; pushed = pushed_first; kept = kept_first }
 
 all_step : (past : List Event) (b : Book) (e : Event) → All past b → Keeps b e → All (e ∷ past) (after b e)
-all_step past b e a h = record { ends = ends_step past b e a.ends a.pushed a.kept h; pushed = pushed_step past b e a.pushed h; kept = kept_step past b e a.kept h }
+all_step past b e a h = record {
+  ends = ends_step past b e a.ends a.pushed a.kept h;
+  pushed = pushed_step past b e a.pushed h;
+  kept = kept_step past b e a.kept h;
+}
 
 -- none that runs was enqueued with the queue that ends
 none_runs : (q : ℕ) (bs : List Bracket) (w : Entry) → ends_drain q bs ≡ true → Fits bs → IsAmong w (running bs) → w.queue ≡ q → ⊥
@@ -231,7 +261,8 @@ close_ends_all before behind q w h i e =
     b = read blank before
 
     runs : IsAmong w (running b.brackets) → ⊥
-    runs j = let a = at All all_first all_step before (QueueClosed q) behind h in none_runs q b.brackets w (left_true (ends_drain q b.brackets) _ a.keeps.nested) a.past.ends.fits j e
+    runs j = let a = at All all_first all_step before (QueueClosed q) behind h in
+        none_runs q b.brackets w (left_true (ends_drain q b.brackets) _ a.keeps.nested) a.past.ends.fits j e
 
     go : IsBegun (past_of before []) (running b.brackets) w → Says before (Finished w.number) ⊎ Says before (Dropped w.number)
     go (inl j) = inl (says_back before (Finished w.number) j)

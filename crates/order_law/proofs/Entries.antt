@@ -94,7 +94,8 @@ found_among r (v ∷ ws) w h = go (v.number == r) refl h (found_among r ws w)
 pub among_found : (low : ℕ) (ws : List Entry) (w : Entry) → Rising low ws → IsAmong w ws → entry_of w.number ws ≡ Some w
 among_found low [] w h i = absurd i
 among_found low (v ∷ ws) w h (inl i) = ap (λ t. if t then Some v else entry_of w.number ws) (eq-eqb v.number w.number (ap (λ x. x.number) i)) ∙ ap Some i
-among_found low (v ∷ ws) w h (inr i) = ap (λ t. if t then Some v else entry_of w.number ws) (other (v.number == w.number) refl) ∙ among_found v.number ws w h.1 i
+among_found low (v ∷ ws) w h (inr i) =
+    ap (λ t. if t then Some v else entry_of w.number ws) (other (v.number == w.number) refl) ∙ among_found v.number ws w h.1 i
   where
     other : (t : Bool) → v.number == w.number ≡ t → t ≡ false
     other true is = let k = rising_above v.number ws w h.1 i in let e = eqb-true v.number w.number is in absurd (omega (arith, k, e))

@@ -8,7 +8,9 @@ use Rattle.rule_tokens.specs.declared.callback.CallName.TheVariants as names
 use Rattle.rule_tokens.specs.declared.callback.CallOrUpgrade.{CallOrUpgrade}
 use Rattle.rule_tokens.specs.declared.callback.CallOrUpgrade.TheVariants.{Call, Upgrade}
 use Rattle.ce_events.specs.declared.event.Event.{Event}
-use Rattle.ce_events.specs.declared.event.Event.TheVariants.{Connected, Disconnected, Adopted, Attribute, FormAssociated, FormDisabled, FormReset, FormStateRestore, QueueOpened, DrainBegun, Started, Finished, QueueClosed, UpgradeBegun, UpgradeDone, UpgradeThrew}
+use Rattle.ce_events.specs.declared.event.Event.TheVariants.{Connected, Disconnected, Adopted, Attribute, FormAssociated, FormDisabled, FormReset}
+use Rattle.ce_events.specs.declared.event.Event.TheVariants.{FormStateRestore, QueueOpened, DrainBegun, Started, Finished, QueueClosed, UpgradeBegun}
+use Rattle.ce_events.specs.declared.event.Event.TheVariants.{UpgradeDone, UpgradeThrew}
 use Rattle.order_law.specs.Book.{Book, Entry, Bracket, Filling, Draining, Reacting, Upgrading}
 use Rattle.order_law.specs.Lines.{call_of}
 use Rattle.order_law.specs.Reads.{is_for, entry_of, around}
@@ -36,7 +38,8 @@ abbrev pub Opens : List Event → List Bracket → Type 0
 Opens log [] = Whole [] log
 Opens log (Filling q ∷ bs) = (0 < q) × Around [] (QueueOpened q) (λ l. Opens l bs) log
 Opens log (Draining q ∷ bs) = Around [] (DrainBegun q) (λ l. ((q ≡ 0) × (bs ≡ []) × Whole [] l) ⊎ Around [] (QueueOpened q) (λ k. Opens k bs) l) log
-Opens log (Reacting w called ∷ bs) = (calls : List Event) × Called w called calls × Around calls (Started w.number) (λ l. Says l (enqueue_line w) × Opens l bs) log
+Opens log (Reacting w called ∷ bs) =
+    (calls : List Event) × Called w called calls × Around calls (Started w.number) (λ l. Says l (enqueue_line w) × Opens l bs) log
 Opens log (Upgrading n ∷ bs) = Around [] (UpgradeBegun n) (λ l. Opens l bs) log
 
 -- a stretch that may stand behind each whole one
@@ -52,7 +55,8 @@ wider calls opening P log more piece a =
 more_in : (bs : List Bracket) (log more : List Event) → Piece more → Opens log bs → Opens (log ++ more) bs
 more_in [] log more piece o = piece [] log o
 more_in (Filling q ∷ bs) log more piece o = (o.0, wider [] (QueueOpened q) (λ l. Opens l bs) log more piece o.1)
-more_in (Draining q ∷ bs) log more piece o = wider [] (DrainBegun q) (λ l. ((q ≡ 0) × (bs ≡ []) × Whole [] l) ⊎ Around [] (QueueOpened q) (λ k. Opens k bs) l) log more piece o
+more_in (Draining q ∷ bs) log more piece o =
+    wider [] (DrainBegun q) (λ l. ((q ≡ 0) × (bs ≡ []) × Whole [] l) ⊎ Around [] (QueueOpened q) (λ k. Opens k bs) l) log more piece o
 more_in (Reacting w called ∷ bs) log more piece o = (o.0, o.1, wider o.0 (Started w.number) (λ l. Says l (enqueue_line w) × Opens l bs) log more piece o.2)
 more_in (Upgrading n ∷ bs) log more piece o = wider [] (UpgradeBegun n) (λ l. Opens l bs) log more piece o
 
@@ -60,7 +64,8 @@ more_in (Upgrading n ∷ bs) log more piece o = wider [] (UpgradeBegun n) (λ l.
 ended : (bs : List Bracket) (calls : List Event) (opening closing : Event) (log outside inside : List Event) → log ≡ outside ++ opening ∷ inside →
     Piece (opening ∷ (inside ++ closing ∷ [])) → Opens outside bs → Opens (log ++ closing ∷ []) bs
 ended bs calls opening closing log outside inside cut piece o =
-    subst (λ l. Opens l bs) (sym (ap (λ l. l ++ closing ∷ []) cut ∙ append_assoc outside (opening ∷ inside) (closing ∷ []))) (more_in bs outside (opening ∷ (inside ++ closing ∷ [])) piece o)
+    subst (λ l. Opens l bs) (sym (ap (λ l. l ++ closing ∷ []) cut ∙ append_assoc outside (opening ∷ inside) (closing ∷ [])))
+    (more_in bs outside (opening ∷ (inside ++ closing ∷ [])) piece o)
 
 plain : (bs : List Bracket) (log : List Event) (e : Event) → is_plain e ≡ true → Opens log bs → Opens (log ++ e ∷ []) bs
 plain bs log e is o = more_in bs log (e ∷ []) (λ calls l w. Plain e is w) o
@@ -85,7 +90,9 @@ ends q (Draining m ∷ bs) log h o = go (subst (λ x. Opens log (Draining x ∷ 
 
     go : Opens log (Draining q ∷ bs) → Opens (log ++ QueueClosed q ∷ []) bs
     go (outside, inside, cut, whole, inl (zero_, none, rest)) =
-        subst (λ l. Opens l bs) (sym (joined outside inside cut)) (subst (λ l. Opens (outside ++ DrainBegun q ∷ (inside ++ QueueClosed q ∷ [])) l) (sym none) (subst (λ x. Whole [] (outside ++ DrainBegun x ∷ (inside ++ QueueClosed x ∷ []))) (sym zero_) (Checkpoint inside rest whole)))
+        subst (λ l. Opens l bs) (sym (joined outside inside cut))
+        (subst (λ l. Opens (outside ++ DrainBegun q ∷ (inside ++ QueueClosed q ∷ [])) l) (sym none)
+        (subst (λ x. Whole [] (outside ++ DrainBegun x ∷ (inside ++ QueueClosed x ∷ []))) (sym zero_) (Checkpoint inside rest whole)))
     go (outside, inside, cut, whole, inr (before, steps, pushed, filled, rest)) =
         let tail = DrainBegun q ∷ (inside ++ QueueClosed q ∷ []) in
         let all = joined outside inside cut ∙ ap (λ l. l ++ tail) pushed ∙ append_assoc before (QueueOpened q ∷ steps) tail in
@@ -97,7 +104,8 @@ ends q (Upgrading n ∷ bs) log h o = false_true h
 
 finishes : (r : ℕ) (bs : List Bracket) (log : List Event) → ends_reaction r bs ≡ true → Opens log bs → Opens (log ++ Finished r ∷ []) (around bs)
 finishes r (Reacting w called ∷ bs) log h (calls, lines, (outside, inside, cut, whole, (said, rest))) =
-    ended bs calls (Started r) (Finished r) log outside inside (subst (λ x. log ≡ outside ++ Started x ∷ inside) (eqb-true w.number r h) cut) (λ c l v. Reaction r inside v whole) rest
+    ended bs calls (Started r) (Finished r) log outside inside (subst (λ x. log ≡ outside ++ Started x ∷ inside) (eqb-true w.number r h) cut)
+    (λ c l v. Reaction r inside v whole) rest
 finishes r [] log h o = false_true h
 finishes r (Filling m ∷ bs) log h o = false_true h
 finishes r (Draining m ∷ bs) log h o = false_true h
@@ -105,7 +113,8 @@ finishes r (Upgrading n ∷ bs) log h o = false_true h
 
 done : (n : ℕ) (bs : List Bracket) (log : List Event) → ends_upgrade n bs ≡ true → Opens log bs → Opens (log ++ UpgradeDone n ∷ []) (around bs)
 done n (Upgrading m ∷ bs) log h (outside, inside, cut, whole, rest) =
-    ended bs [] (UpgradeBegun n) (UpgradeDone n) log outside inside (subst (λ x. log ≡ outside ++ UpgradeBegun x ∷ inside) (eqb-true m n h) cut) (λ c l v. Done n inside v whole) rest
+    ended bs [] (UpgradeBegun n) (UpgradeDone n) log outside inside (subst (λ x. log ≡ outside ++ UpgradeBegun x ∷ inside) (eqb-true m n h) cut)
+    (λ c l v. Done n inside v whole) rest
 done n [] log h o = false_true h
 done n (Filling m ∷ bs) log h o = false_true h
 done n (Draining m ∷ bs) log h o = false_true h
@@ -113,7 +122,8 @@ done n (Reacting w called ∷ bs) log h o = false_true h
 
 threw : (n : ℕ) (bs : List Bracket) (log : List Event) → ends_upgrade n bs ≡ true → Opens log bs → Opens (log ++ UpgradeThrew n ∷ []) (around bs)
 threw n (Upgrading m ∷ bs) log h (outside, inside, cut, whole, rest) =
-    ended bs [] (UpgradeBegun n) (UpgradeThrew n) log outside inside (subst (λ x. log ≡ outside ++ UpgradeBegun x ∷ inside) (eqb-true m n h) cut) (λ c l v. Threw n inside v whole) rest
+    ended bs [] (UpgradeBegun n) (UpgradeThrew n) log outside inside (subst (λ x. log ≡ outside ++ UpgradeBegun x ∷ inside) (eqb-true m n h) cut)
+    (λ c l v. Threw n inside v whole) rest
 threw n [] log h o = false_true h
 threw n (Filling m ∷ bs) log h o = false_true h
 threw n (Draining m ∷ bs) log h o = false_true h
@@ -153,7 +163,8 @@ opens_step log b (QueueOpened q) k o h = let number = eqb-true q (b.queues + 1) 
 opens_step log b (DrainBegun q) k o h = begins q b.brackets log (left_true (begins_drain q b.brackets) _ h.nested) o
 opens_step log b (QueueClosed q) k o h = ends q b.brackets log (left_true (ends_drain q b.brackets) _ h.nested) o
 opens_step log b (Started r) k o h =
-    starts r (entry_of r b.waiting) b log (λ w e. let f = found_among r b.waiting w e in (f.1, (waits_of log b w k f.0).0)) (left_true (is_some (entry_of r b.waiting) && is_in_drain b.brackets) _ h.runs) o
+    starts r (entry_of r b.waiting) b log (λ w e. let f = found_among r b.waiting w e in (f.1, (waits_of log b w k f.0).0))
+    (left_true (is_some (entry_of r b.waiting) && is_in_drain b.brackets) _ h.runs) o
 opens_step log b (Finished r) k o h = finishes r b.brackets log (left_true (ends_reaction r b.brackets) _ h.nested) o
 opens_step log b (UpgradeBegun n) k o h = (log, [], refl, Empty, o)
 opens_step log b (UpgradeDone n) k o h = done n b.brackets log (left_true (ends_upgrade n b.brackets) _ h.nested) o
@@ -165,5 +176,6 @@ opens_step log b (Attribute n name old new) k o h = line (Attribute n name old n
 opens_step log b (FormAssociated n form) k o h = line (FormAssociated n form) n names.FormAssociated b.brackets log refl refl (right_true true _ h.runs) o
 opens_step log b (FormDisabled n disabled) k o h = line (FormDisabled n disabled) n names.FormDisabled b.brackets log refl refl (right_true true _ h.runs) o
 opens_step log b (FormReset n) k o h = line (FormReset n) n names.FormReset b.brackets log refl refl (right_true true _ h.runs) o
-opens_step log b (FormStateRestore n text why) k o h = line (FormStateRestore n text why) n names.FormStateRestore b.brackets log refl refl (right_true true _ h.runs) o
+opens_step log b (FormStateRestore n text why) k o h =
+    line (FormStateRestore n text why) n names.FormStateRestore b.brackets log refl refl (right_true true _ h.runs) o
 opens_step log b e k o h = plain b.brackets log e refl o

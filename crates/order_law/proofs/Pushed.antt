@@ -5,7 +5,8 @@ use Rattle.std.proofs.lemmas.Bool.{eqb-true}
 use Rattle.rule_tokens.specs.declared.callback.CallName.{CallName}
 use Rattle.rule_tokens.specs.declared.callback.CallOrUpgrade.{CallOrUpgrade}
 use Rattle.ce_events.specs.declared.event.Event.{Event}
-use Rattle.ce_events.specs.declared.event.Event.TheVariants.{Enqueued, QueueOpened, DrainBegun, Started, Finished, QueueClosed, UpgradeBegun, UpgradeDone, UpgradeThrew}
+use Rattle.ce_events.specs.declared.event.Event.TheVariants.{Enqueued, QueueOpened, DrainBegun, Started, Finished, QueueClosed, UpgradeBegun, UpgradeDone}
+use Rattle.ce_events.specs.declared.event.Event.TheVariants.{UpgradeThrew}
 use Rattle.order_law.specs.Book.{Book, Entry, Bracket, Filling, Draining, Reacting, Upgrading, blank}
 use Rattle.order_law.specs.Lines.{call_of}
 use Rattle.order_law.specs.Reads.{entry_of, current, around}
@@ -85,11 +86,15 @@ drains : (past : List Event) (b : Book) (q : ℕ) (ms : List ℕ) (c : Book) →
     c.queues ≡ b.queues → Pushed (DrainBegun q ∷ past) c
 drains past b q ms c k hb hc hq =
     record {
-      filling = λ p i. let j = subst (λ l. IsOf l p) hc i in let f = k.filling p (subst (λ l. IsOf l p) (sym hb) (inr j)) in (inr f.0, λ s. ⊎_elim (λ e. let g = ap queue_of e in let lt = falls.0 p j in absurd (omega (arith, g, lt))) (λ e. f.1 e) s);
-      among = λ p i. subst (λ l. IsOf l p) (sym hc) (⊎_elim (λ j. absurd (i.1 (inl (ap DrainBegun j)))) (λ j. j) (subst (λ l. IsOf l p) hb (k.among p (no_push past q p i.0, λ s. i.1 (inr s)))));
+      filling = λ p i. let j = subst (λ l. IsOf l p) hc i in let f =
+          k.filling p (subst (λ l. IsOf l p) (sym hb) (inr j)) in
+          (inr f.0, λ s. ⊎_elim (λ e. let g = ap queue_of e in let lt = falls.0 p j in absurd (omega (arith, g, lt))) (λ e. f.1 e) s);
+      among = λ p i. subst (λ l. IsOf l p) (sym hc)
+          (⊎_elim (λ j. absurd (i.1 (inl (ap DrainBegun j)))) (λ j. j) (subst (λ l. IsOf l p) hb (k.among p (no_push past q p i.0, λ s. i.1 (inr s)))));
       falls = subst Falling (sym hc) falls.1;
       below = λ p i. let f = k.below p (no_push past q p i) in omega (arith, f, hq);
-      begun = λ p i. ⊎_elim (λ e. let g = ap queue_of e in let f = k.below q (k.filling q (subst (λ l. IsOf l q) (sym hb) (inl refl))).0 in omega (arith, f, g, hq)) (λ e. let f = k.begun p e in omega (arith, f, hq)) i;
+      begun = λ p i. ⊎_elim (λ e. let g = ap queue_of e in let f = k.below q (k.filling q (subst (λ l. IsOf l q) (sym hb) (inl refl))).0 in
+          omega (arith, f, g, hq)) (λ e. let f = k.begun p e in omega (arith, f, hq)) i;
     }
   where
     falls : Falling (q ∷ ms)
@@ -156,13 +161,24 @@ marked_call (Some c) (Upgrading n ∷ bs) = refl
 pub pushed_step : (past : List Event) (b : Book) (e : Event) → Pushed past b → Keeps b e → Pushed (e ∷ past) (after b e)
 pushed_step past b (QueueOpened q) k h = pushes past b q k (eqb-true q (b.queues + 1) h.counts)
 pushed_step past b (DrainBegun q) k h = begins past b q k b.brackets refl (left_true (begins_drain q b.brackets) _ h.nested)
-pushed_step past b (QueueClosed q) k h = same past b (QueueClosed q) (after b (QueueClosed q)) k (λ p i. absurd cc) (λ p i. absurd cc) (ended_drain q b.brackets (left_true (ends_drain q b.brackets) _ h.nested)) refl
-pushed_step past b (Started r) k h = same past b (Started r) (after b (Started r)) k (λ p i. absurd cc) (λ p i. absurd cc) (begun_reaction (entry_of r b.waiting) b) (start_unmoved (entry_of r b.waiting) b).queues
-pushed_step past b (Finished r) k h = same past b (Finished r) (after b (Finished r)) k (λ p i. absurd cc) (λ p i. absurd cc) (ended_reaction r b.brackets (left_true (ends_reaction r b.brackets) _ h.nested)) refl
-pushed_step past b (UpgradeDone n) k h = same past b (UpgradeDone n) (after b (UpgradeDone n)) k (λ p i. absurd cc) (λ p i. absurd cc) (ended_upgrade n b.brackets (left_true (ends_upgrade n b.brackets) _ h.nested)) refl
-pushed_step past b (UpgradeThrew n) k h = same past b (UpgradeThrew n) (after b (UpgradeThrew n)) k (λ p i. absurd cc) (λ p i. absurd cc) (ended_upgrade n b.brackets (left_true (ends_upgrade n b.brackets) _ h.nested)) refl
+pushed_step past b (QueueClosed q) k h =
+    same past b (QueueClosed q) (after b (QueueClosed q)) k (λ p i. absurd cc) (λ p i. absurd cc)
+    (ended_drain q b.brackets (left_true (ends_drain q b.brackets) _ h.nested)) refl
+pushed_step past b (Started r) k h =
+    same past b (Started r) (after b (Started r)) k (λ p i. absurd cc) (λ p i. absurd cc) (begun_reaction (entry_of r b.waiting) b)
+    (start_unmoved (entry_of r b.waiting) b).queues
+pushed_step past b (Finished r) k h =
+    same past b (Finished r) (after b (Finished r)) k (λ p i. absurd cc) (λ p i. absurd cc)
+    (ended_reaction r b.brackets (left_true (ends_reaction r b.brackets) _ h.nested)) refl
+pushed_step past b (UpgradeDone n) k h =
+    same past b (UpgradeDone n) (after b (UpgradeDone n)) k (λ p i. absurd cc) (λ p i. absurd cc)
+    (ended_upgrade n b.brackets (left_true (ends_upgrade n b.brackets) _ h.nested)) refl
+pushed_step past b (UpgradeThrew n) k h =
+    same past b (UpgradeThrew n) (after b (UpgradeThrew n)) k (λ p i. absurd cc) (λ p i. absurd cc)
+    (ended_upgrade n b.brackets (left_true (ends_upgrade n b.brackets) _ h.nested)) refl
 pushed_step past b (UpgradeBegun n) k h = same past b (UpgradeBegun n) (after b (UpgradeBegun n)) k (λ p i. absurd cc) (λ p i. absurd cc) refl refl
-pushed_step past b (Enqueued r n what q) k h = same past b (Enqueued r n what q) (after b (Enqueued r n what q)) k (λ p i. absurd cc) (λ p i. absurd cc) refl refl
+pushed_step past b (Enqueued r n what q) k h =
+    same past b (Enqueued r n what q) (after b (Enqueued r n what q)) k (λ p i. absurd cc) (λ p i. absurd cc) refl refl
 pushed_step past b e k h = same past b e (after b e) k (λ p i. absurd cc) (λ p i. absurd cc) (marked_call (call_of e) b.brackets) refl
 
 -- the current queue

@@ -95,7 +95,8 @@ pub reply_leaves_none : (before behind : List Event) (e : Event) (w : Entry) →
 reply_leaves_none before behind e w is h i =
     let a = at_kept before e behind h in
     let b = read blank before in
-    none_among b.waiting w (right_true (is_empty b.brackets) (is_empty b.waiting) (at_rest (is_reply e) (is_empty b.brackets && is_empty b.waiting) a.keeps.replies is)) (among_of before b w a.past i)
+    none_among b.waiting w (right_true (is_empty b.brackets) (is_empty b.waiting)
+    (at_rest (is_reply e) (is_empty b.brackets && is_empty b.waiting) a.keeps.replies is)) (among_of before b w a.past i)
 
 -- what follows a drop
 

@@ -7,12 +7,14 @@ use Rattle.rule_tokens.specs.declared.callback.CallName.{CallName}
 use Rattle.rule_tokens.specs.declared.callback.CallOrUpgrade.{CallOrUpgrade}
 use Rattle.rule_tokens.specs.declared.callback.CallOrUpgrade.TheVariants.{Call, Upgrade}
 use Rattle.ce_events.specs.declared.event.Event.{Event}
-use Rattle.ce_events.specs.declared.event.Event.TheVariants.{QueueOpened, DrainBegun, Started, Finished, Dropped, QueueClosed, UpgradeBegun, UpgradeDone, UpgradeThrew}
+use Rattle.ce_events.specs.declared.event.Event.TheVariants.{QueueOpened, DrainBegun, Started, Finished, Dropped, QueueClosed, UpgradeBegun, UpgradeDone}
+use Rattle.ce_events.specs.declared.event.Event.TheVariants.{UpgradeThrew}
 use Rattle.reaction_queue.specs.ElementQueues.{is_empty}
 use Rattle.order_law.specs.Book.{Book, Entry, Bracket, Filling, Draining, Reacting, Upgrading, blank}
 use Rattle.order_law.specs.Lines.{call_of, is_reply}
 use Rattle.order_law.specs.Reads.{is_callback, is_for, entry_of}
-use Rattle.order_law.specs.Clauses.{is_in_drain, starts_once, may_call, has_called, is_in_upgrade, begins_drain, ends_drain, ends_reaction, ends_upgrade, may_upgrade}
+use Rattle.order_law.specs.Clauses.{is_in_drain, starts_once, may_call, has_called, is_in_upgrade, begins_drain, ends_drain, ends_reaction, ends_upgrade}
+use Rattle.order_law.specs.Clauses.{may_upgrade}
 use Rattle.order_law.specs.After.{after}
 use Rattle.order_law.specs.Law.{may_come, read, is_lawful, Lawful}
 use Rattle.order_law.specs.Words.{Says, Waits, enqueue_line}
@@ -44,7 +46,8 @@ stands_from : (front : List Event) (b : Book) → Stands front b → (log : List
 stands_from front b s [] h = subst (λ l. Stands l b) (sym (append-nil front)) s
 stands_from front b s (e ∷ log) h =
     let next = stands_step front b e s (keeps b e (left_true (may_come b e) _ h)) in
-    subst (λ l. Stands l (read (after b e) log)) (append_assoc front (e ∷ []) log) (stands_from (front ++ e ∷ []) (after b e) next log (right_true (may_come b e) _ h))
+    subst (λ l. Stands l (read (after b e) log)) (append_assoc front (e ∷ []) log)
+    (stands_from (front ++ e ∷ []) (after b e) next log (right_true (may_come b e) _ h))
 
 pub stands : (log : List Event) → Lawful log → Stands log (read blank log)
 stands log h = stands_from [] blank (record { kept = kept_first; opens = Empty }) log h
@@ -75,7 +78,8 @@ said log outside more e cut s = subst (λ l. Says l e) (sym cut) (says_more outs
 -- draining
 
 drains_top : (q : ℕ) (bs : List Bracket) (log : List Event) → 0 < q → begins_drain q bs ≡ true → Opens log bs → Innermost [] (QueueOpened q) log
-drains_top q (Filling m ∷ bs) log lt h o = subst (λ x. Innermost [] (QueueOpened x) log) (eqb-true m q h) (innermost [] (QueueOpened m) (λ l. Opens l bs) log o.1)
+drains_top q (Filling m ∷ bs) log lt h o =
+    subst (λ x. Innermost [] (QueueOpened x) log) (eqb-true m q h) (innermost [] (QueueOpened m) (λ l. Opens l bs) log o.1)
 drains_top q [] log lt h o = let e = eqb-true q 0 h in absurd (omega (arith, e, lt))
 drains_top q (Draining m ∷ bs) log lt h o = false_true h
 drains_top q (Reacting w called ∷ bs) log lt h o = false_true h
@@ -101,7 +105,8 @@ checkpoint_is_outside before behind h =
     checks_top b.brackets before (left_true (begins_drain 0 b.brackets) _ s.keeps.nested) s.stands.opens
 
 closes_top : (q : ℕ) (bs : List Bracket) (log : List Event) → ends_drain q bs ≡ true → Opens log bs → Innermost [] (DrainBegun q) log
-closes_top q (Draining m ∷ bs) log h o = subst (λ x. Innermost [] (DrainBegun x) log) (eqb-true m q h) (record { outside = o.0; inside = o.1; cut = o.2; whole = o.3 })
+closes_top q (Draining m ∷ bs) log h o =
+    subst (λ x. Innermost [] (DrainBegun x) log) (eqb-true m q h) (record { outside = o.0; inside = o.1; cut = o.2; whole = o.3 })
 closes_top q [] log h o = false_true h
 closes_top q (Filling m ∷ bs) log h o = false_true h
 closes_top q (Reacting w called ∷ bs) log h o = false_true h
@@ -124,12 +129,14 @@ pub start_is_in_drain : (before behind : List Event) (r : ℕ) → Lawful (befor
 start_is_in_drain before behind r h =
     let s = here before behind (Started r) h in
     let b = read blank before in
-    starts_top b.brackets before (right_true (is_some (entry_of r b.waiting)) (is_in_drain b.brackets) (left_true (is_some (entry_of r b.waiting) && is_in_drain b.brackets) _ s.keeps.runs)) s.stands.opens
+    starts_top b.brackets before (right_true (is_some (entry_of r b.waiting)) (is_in_drain b.brackets)
+    (left_true (is_some (entry_of r b.waiting) && is_in_drain b.brackets) _ s.keeps.runs)) s.stands.opens
 
 -- upgrades
 
 upgrade_top : (n : ℕ) (bs : List Bracket) (log : List Event) → ends_upgrade n bs ≡ true → Opens log bs → Innermost [] (UpgradeBegun n) log
-upgrade_top n (Upgrading m ∷ bs) log h o = subst (λ x. Innermost [] (UpgradeBegun x) log) (eqb-true m n h) (innermost [] (UpgradeBegun m) (λ l. Opens l bs) log o)
+upgrade_top n (Upgrading m ∷ bs) log h o =
+    subst (λ x. Innermost [] (UpgradeBegun x) log) (eqb-true m n h) (innermost [] (UpgradeBegun m) (λ l. Opens l bs) log o)
 upgrade_top n [] log h o = false_true h
 upgrade_top n (Filling m ∷ bs) log h o = false_true h
 upgrade_top n (Draining m ∷ bs) log h o = false_true h
@@ -148,7 +155,8 @@ throw_is_innermost before behind n h =
     upgrade_top n b.brackets before (left_true (ends_upgrade n b.brackets) _ s.keeps.nested) s.stands.opens
 
 drop_top : (w : Entry) (bs : List Bracket) (log : List Event) → is_in_upgrade (Some w) bs ≡ true → Opens log bs → Innermost [] (UpgradeBegun w.element) log
-drop_top w (Upgrading n ∷ bs) log h o = subst (λ x. Innermost [] (UpgradeBegun x) log) (sym (eqb-true w.element n h)) (innermost [] (UpgradeBegun n) (λ l. Opens l bs) log o)
+drop_top w (Upgrading n ∷ bs) log h o =
+    subst (λ x. Innermost [] (UpgradeBegun x) log) (sym (eqb-true w.element n h)) (innermost [] (UpgradeBegun n) (λ l. Opens l bs) log o)
 drop_top w [] log h o = false_true h
 drop_top w (Filling m ∷ bs) log h o = false_true h
 drop_top w (Draining m ∷ bs) log h o = false_true h
@@ -160,7 +168,8 @@ drop_is_in_upgrade before behind w h i =
     let s = here before behind (Dropped w.number) h in
     let b = read blank before in
     let found = among_found 0 b.waiting w s.stands.kept.rising (among_of before b w s.stands.kept i) in
-    drop_top w b.brackets before (sym (ap (λ o. is_in_upgrade o b.brackets) found) ∙ left_true (is_in_upgrade (entry_of w.number b.waiting) b.brackets) _ s.keeps.drops) s.stands.opens
+    drop_top w b.brackets before (sym (ap (λ o. is_in_upgrade o b.brackets) found)
+    ∙ left_true (is_in_upgrade (entry_of w.number b.waiting) b.brackets) _ s.keeps.drops) s.stands.opens
 
 -- reactions
 
@@ -179,7 +188,15 @@ up_top n (Reacting w called ∷ bs) log h (lines, are, a) =
     let what = is_upgrade w.what (right_true (w.element == n) (not (is_callback w.what)) h) in
     let element = eqb-true w.element n (left_true (w.element == n) (not (is_callback w.what)) h) in
     let none = no_lines w called lines are what in
-    inl (w, element, what, record { enqueued = said log a.0 (Started w.number ∷ a.1) (enqueue_line w) a.2 (a.4).0; innermost = subst (λ l. Innermost l (Started w.number) log) none (record { outside = a.0; inside = a.1; cut = a.2; whole = a.3 }) })
+    inl (
+      w,
+      element,
+      what,
+      record {
+        enqueued = said log a.0 (Started w.number ∷ a.1) (enqueue_line w) a.2 (a.4).0;
+        innermost = subst (λ l. Innermost l (Started w.number) log) none (record { outside = a.0; inside = a.1; cut = a.2; whole = a.3 });
+      },
+    )
 up_top n [] log h o = false_true h
 up_top n (Draining m ∷ bs) log h o = false_true h
 up_top n (Upgrading m ∷ bs) log h o = false_true h
@@ -194,8 +211,15 @@ call_top : (n : ℕ) (name : CallName) (bs : List Bracket) (log : List Event) �
     (w : Entry) × (w.element ≡ n) × (w.what ≡ Call name) × Runs w log
 call_top n name (Reacting w false ∷ bs) log h (lines, none, a) =
     let element = eqb-true w.element n (left_true (w.element == n) (is_for w.what name) h) in
-    let what = for_is w.what name (right_true (w.element == n) (is_for w.what name) h) in
-    (w, element, what, record { enqueued = said log a.0 (Started w.number ∷ a.1) (enqueue_line w) a.2 (a.4).0; innermost = subst (λ l. Innermost l (Started w.number) log) none (record { outside = a.0; inside = a.1; cut = a.2; whole = a.3 }) })
+    let what = for_is w.what name (right_true (w.element == n) (is_for w.what name) h) in (
+      w,
+      element,
+      what,
+      record {
+        enqueued = said log a.0 (Started w.number ∷ a.1) (enqueue_line w) a.2 (a.4).0;
+        innermost = subst (λ l. Innermost l (Started w.number) log) none (record { outside = a.0; inside = a.1; cut = a.2; whole = a.3 });
+      },
+    )
 call_top n name (Reacting w true ∷ bs) log h o = false_true h
 call_top n name [] log h o = false_true h
 call_top n name (Filling m ∷ bs) log h o = false_true h
@@ -215,7 +239,8 @@ call_is_in_its_reaction before behind e n name is h =
 
 all_lines : (w : Entry) (called : Bool) (lines : List Event) → Called w called lines → (what : CallOrUpgrade) → w.what ≡ what →
     called || not (is_callback what) ≡ true → AreLines what w.element lines
-all_lines w true lines c (Call name) is h = let e : Call c.2 ≡ Call name = sym c.4 ∙ is in let f : c.2 ≡ name = cc in (c.0, c.1, c.3 ∙ ap (λ x. Some (w.element, x)) f)
+all_lines w true lines c (Call name) is h = let e : Call c.2 ≡ Call name = sym c.4 ∙ is in let f : c.2 ≡ name =
+    cc in (c.0, c.1, c.3 ∙ ap (λ x. Some (w.element, x)) f)
 all_lines w false lines c (Call name) is h = false_true h
 all_lines w called lines c Upgrade is h = no_lines w called lines c is
 
@@ -251,4 +276,5 @@ pub reply_is_outside : (before behind : List Event) (e : Event) → is_reply e �
 reply_is_outside before behind e is h =
     let s = here before behind e h in
     let b = read blank before in
-    rest_top b.brackets before (left_true (is_empty b.brackets) (is_empty b.waiting) (at_rest (is_reply e) (is_empty b.brackets && is_empty b.waiting) s.keeps.replies is)) s.stands.opens
+    rest_top b.brackets before (left_true (is_empty b.brackets) (is_empty b.waiting)
+    (at_rest (is_reply e) (is_empty b.brackets && is_empty b.waiting) s.keeps.replies is)) s.stands.opens

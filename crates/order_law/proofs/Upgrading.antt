@@ -71,7 +71,8 @@ knows_step past b (UpgradeThrew m) k h =
       begun = λ n s. ⊎_elim (λ i. absurd (let j : UpgradeThrew m ≡ UpgradeBegun n = i in cc)) (λ i. k.begun n i) s;
       threw = λ n s. ⊎_elim (λ i. ap (λ t. t || is_one_of n b.thrown) (eq-eqb m n (ap element_of_up i))) (λ i. more m n b.thrown (k.threw n i)) s;
     }
-knows_step past b (Started r) k h = let u = start_unmoved (entry_of r b.waiting) b in knows_same past b (Started r) (after b (Started r)) k (λ n i. absurd cc) (λ n i. absurd cc) u.upgraded u.thrown
+knows_step past b (Started r) k h = let u =
+    start_unmoved (entry_of r b.waiting) b in knows_same past b (Started r) (after b (Started r)) k (λ n i. absurd cc) (λ n i. absurd cc) u.upgraded u.thrown
 knows_step past b e k h = knows_same past b e (after b e) k (λ n i. absurd cc) (λ n i. absurd cc) refl refl
 
 at_knows : (before : List Event) (e : Event) (behind : List Event) → Lawful (before ++ e ∷ behind) → At Knows before e behind
@@ -90,13 +91,16 @@ pub one_upgrade : (before behind : List Event) (n : ℕ) → Lawful (before ++ U
 one_upgrade before behind n h s =
     let a = at_knows before (UpgradeBegun n) behind h in
     let b = read blank before in
-    not_true (is_one_of n b.upgraded) (right_true (may_upgrade n b.brackets) (not (is_one_of n b.upgraded)) (left_true _ _ a.keeps.upgrades)) (a.past.begun n (says_turned before (UpgradeBegun n) s))
+    not_true (is_one_of n b.upgraded) (right_true (may_upgrade n b.brackets) (not (is_one_of n b.upgraded)) (left_true _ _ a.keeps.upgrades))
+    (a.past.begun n (says_turned before (UpgradeBegun n) s))
 
 pub no_enqueue_behind_throw : (before behind : List Event) (r n q : ℕ) (name : CallName) → Lawful (before ++ Enqueued r n (Call name) q ∷ behind) →
     Says before (UpgradeThrew n) → ⊥
 no_enqueue_behind_throw before behind r n q name h s =
     let a = at_knows before (Enqueued r n (Call name) q) behind h in
-    not_both true (is_one_of n (read blank before).thrown) (right_true (begins_upgrade (read blank before) (Enqueued r n (Call name) q)) _ a.keeps.upgrades) refl (a.past.threw n (says_turned before (UpgradeThrew n) s))
+    not_both true (is_one_of n (read blank before).thrown)
+    (right_true (begins_upgrade (read blank before) (Enqueued r n (Call name) q)) _ a.keeps.upgrades) refl
+    (a.past.threw n (says_turned before (UpgradeThrew n) s))
 
 pub no_start_behind_throw : (before behind : List Event) (w : Entry) (name : CallName) → Lawful (before ++ Started w.number ∷ behind) →
     Waits before w → w.what ≡ Call name → Says before (UpgradeThrew w.element) → ⊥
@@ -105,7 +109,9 @@ no_start_behind_throw before behind w name h i e s =
     let k = at Kept kept_first kept_step before (Started w.number) behind h in
     let b = read blank before in
     let found = among_found 0 b.waiting w k.past.rising (among_of before b w k.past i) in
-    not_both (is_callback w.what) (is_one_of w.element b.thrown) (sym (ap (λ o. not (is_callback_of b.thrown o)) found) ∙ right_true (begins_upgrade b (Started w.number)) _ a.keeps.upgrades) (ap is_callback e) (a.past.threw w.element (says_turned before (UpgradeThrew w.element) s))
+    not_both (is_callback w.what) (is_one_of w.element b.thrown)
+    (sym (ap (λ o. not (is_callback_of b.thrown o)) found) ∙ right_true (begins_upgrade b (Started w.number)) _ a.keeps.upgrades) (ap is_callback e)
+    (a.past.threw w.element (says_turned before (UpgradeThrew w.element) s))
 
 -- the checkpoint
 
@@ -174,7 +180,8 @@ pub enqueue_counts : (before behind : List Event) (r n q : ℕ) (what : CallOrUp
 enqueue_counts before behind r n q what h =
     let a = at_counts before (Enqueued r n what q) behind h in
     let b = read blank before in
-    eqb-true r (b.numbers + 1) (left_true (r == b.numbers + 1) (q == current b.brackets) a.keeps.counts) ∙ ap (λ x. x + 1) (a.past.numbers ∙ count_back is_enqueue before)
+    eqb-true r (b.numbers + 1) (left_true (r == b.numbers + 1) (q == current b.brackets) a.keeps.counts)
+    ∙ ap (λ x. x + 1) (a.past.numbers ∙ count_back is_enqueue before)
 
 pub push_counts : (before behind : List Event) (q : ℕ) → Lawful (before ++ QueueOpened q ∷ behind) → q ≡ count is_push before + 1
 push_counts before behind q h =

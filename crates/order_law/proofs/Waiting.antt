@@ -11,7 +11,8 @@ use Rattle.order_law.specs.After.{after, started}
 use Rattle.order_law.specs.Words.{Says, IsTaken, Waits, enqueue_line}
 use Rattle.order_law.proofs.Fronts.{left_true}
 use Rattle.order_law.proofs.Walk.{Keeps}
-use Rattle.order_law.proofs.Entries.{IsAmong, Rising, rising_append, rising_without, among_append, among_more, among_last, among_without, without_among, gone_without, found_among}
+use Rattle.order_law.proofs.Entries.{IsAmong, Rising, rising_append, rising_without, among_append, among_more, among_last, among_without, without_among}
+use Rattle.order_law.proofs.Entries.{gone_without, found_among}
 
 -- what an event does to what waits: it enqueues a reaction, takes one, or neither
 pub data Change (b : Book) (e : Event) : Type 0 where
@@ -25,7 +26,8 @@ starts : (b : Book) (r : ℕ) (o : Option Entry) → entry_of r b.waiting ≡ o 
 starts b r None e h = absurd (let k : false ≡ true = h in cc)
 starts b r (Some w) e h =
     let number = (found_among r b.waiting w e).1 in
-    Takes w (inl (ap Started (sym number))) (subst (λ x. entry_of x b.waiting ≡ Some w) (sym number) e) (ap (λ o. (started o b).waiting) e) (ap (λ o. (started o b).numbers) e)
+    Takes w (inl (ap Started (sym number))) (subst (λ x. entry_of x b.waiting ≡ Some w) (sym number) e) (ap (λ o. (started o b).waiting) e)
+    (ap (λ o. (started o b).numbers) e)
 
 drops : (b : Book) (r : ℕ) (o : Option Entry) → entry_of r b.waiting ≡ o → is_some o ≡ true → Change b (Dropped r)
 drops b r None e h = absurd (let k : false ≡ true = h in cc)
@@ -35,7 +37,8 @@ drops b r (Some w) e h =
 
 pub change : (b : Book) (e : Event) → Keeps b e → Change b e
 change b (Enqueued r n what q) h =
-    Adds (record { number = r; element = n; what = what; queue = q }) refl (eqb-true r (b.numbers + 1) (left_true (r == b.numbers + 1) (q == current b.brackets) h.counts)) refl refl
+    Adds (record { number = r; element = n; what = what; queue = q }) refl
+    (eqb-true r (b.numbers + 1) (left_true (r == b.numbers + 1) (q == current b.brackets) h.counts)) refl refl
 change b (Started r) h = starts b r (entry_of r b.waiting) refl (left_true _ _ h.runs)
 change b (Dropped r) h = drops b r (entry_of r b.waiting) refl (left_true _ _ h.runs)
 change b e h = Stays (λ w i. absurd cc) (λ r i. absurd cc) (λ r i. absurd cc) refl refl
@@ -82,15 +85,23 @@ adds : (past : List Event) (b : Book) (e : Event) (w : Entry) → Kept past b �
     c.numbers ≡ numbers → Kept (e ∷ past) c
 adds past b e w k is number waiting h numbers n c hw hn =
     record {
-      waits = λ v i. ⊎_elim (λ j. (inr (k.waits v j).0, λ t. (k.waits v j).1 (less v t))) (λ j. (inl (is ∙ ap enqueue_line j), λ t. fresh v j (less v t))) (among_append b.waiting w v (subst (IsAmong v) (hw ∙ h) i));
-      among = λ v i. subst (IsAmong v) (sym (hw ∙ h)) (⊎_elim (λ j. subst (λ x. IsAmong x (b.waiting ++ w ∷ [])) (same_line w v (sym is ∙ j)) (among_last b.waiting w)) (λ j. among_more b.waiting w v (k.among v (j, λ t. i.1 (more_taken past e v.number t)))) i.0);
-      rising = subst (Rising 0) (sym (hw ∙ h)) (rising_append 0 b.numbers b.waiting w k.rising (λ v i. k.below v (k.waits v i).0) (omega (arith)) (omega (arith, number)));
-      below = λ v i. ⊎_elim (λ j. let f = ap (λ (x : Entry). x.number) (same_line w v (sym is ∙ j)) in omega (arith, f, n, hn)) (λ j. let f = k.below v j in omega (arith, f, number, n, hn)) i;
-      taken = λ r t. let f = k.taken r (less_taken past e r (λ i. let j : enqueue_line w ≡ Started r = sym is ∙ i in cc) (λ i. let j : enqueue_line w ≡ Dropped r = sym is ∙ i in cc) t) in omega (arith, f, number, n, hn);
+      waits = λ v i. ⊎_elim (λ j. (inr (k.waits v j).0, λ t. (k.waits v j).1 (less v t))) (λ j. (inl (is ∙ ap enqueue_line j), λ t. fresh v j (less v t)))
+          (among_append b.waiting w v (subst (IsAmong v) (hw ∙ h) i));
+      among = λ v i. subst (IsAmong v) (sym (hw ∙ h))
+          (⊎_elim (λ j. subst (λ x. IsAmong x (b.waiting ++ w ∷ [])) (same_line w v (sym is ∙ j)) (among_last b.waiting w))
+          (λ j. among_more b.waiting w v (k.among v (j, λ t. i.1 (more_taken past e v.number t)))) i.0);
+      rising = subst (Rising 0) (sym (hw ∙ h))
+          (rising_append 0 b.numbers b.waiting w k.rising (λ v i. k.below v (k.waits v i).0) (omega (arith)) (omega (arith, number)));
+      below = λ v i. ⊎_elim (λ j. let f = ap (λ (x : Entry). x.number) (same_line w v (sym is ∙ j)) in omega (arith, f, n, hn))
+          (λ j. let f = k.below v j in omega (arith, f, number, n, hn)) i;
+      taken = λ r t. let f = k.taken r
+          (less_taken past e r (λ i. let j : enqueue_line w ≡ Started r = sym is ∙ i in cc) (λ i. let j : enqueue_line w ≡ Dropped r = sym is ∙ i in cc) t) in
+          omega (arith, f, number, n, hn);
     }
   where
     less : (v : Entry) → IsTaken (e ∷ past) v.number → IsTaken past v.number
-    less v t = less_taken past e v.number (λ i. let j : enqueue_line w ≡ Started v.number = sym is ∙ i in cc) (λ i. let j : enqueue_line w ≡ Dropped v.number = sym is ∙ i in cc) t
+    less v t = less_taken past e v.number (λ i. let j : enqueue_line w ≡ Started v.number = sym is ∙ i in cc)
+        (λ i. let j : enqueue_line w ≡ Dropped v.number = sym is ∙ i in cc) t
 
     fresh : (v : Entry) → w ≡ v → IsTaken past v.number → ⊥
     fresh v j t = let f = k.taken v.number t in let g = ap (λ (x : Entry). x.number) j in omega (arith, f, g, number)
@@ -99,8 +110,10 @@ takes : (past : List Event) (b : Book) (e : Event) (w : Entry) → Kept past b �
     entry_of w.number b.waiting ≡ Some w → (c : Book) → c.waiting ≡ without w.number b.waiting → c.numbers ≡ b.numbers → Kept (e ∷ past) c
 takes past b e w k is found c hw hn =
     record {
-      waits = λ v i. let j = subst (IsAmong v) hw i in let old = k.waits v (among_without w.number b.waiting v j) in (inr old.0, λ t. old.1 (less v.number (gone_without 0 w.number b.waiting v k.rising j) t));
-      among = λ v i. subst (IsAmong v) (sym hw) (without_among w.number b.waiting v (λ j. i.1 (now v.number j)) (k.among v (line v i.0, λ t. i.1 (more_taken past e v.number t))));
+      waits = λ v i. let j = subst (IsAmong v) hw i in let old =
+          k.waits v (among_without w.number b.waiting v j) in (inr old.0, λ t. old.1 (less v.number (gone_without 0 w.number b.waiting v k.rising j) t));
+      among = λ v i. subst (IsAmong v) (sym hw)
+          (without_among w.number b.waiting v (λ j. i.1 (now v.number j)) (k.among v (line v i.0, λ t. i.1 (more_taken past e v.number t))));
       rising = subst (Rising 0) (sym hw) (rising_without 0 w.number b.waiting k.rising);
       below = λ v i. let f = k.below v (line v i) in omega (arith, f, hn);
       taken = λ r t. go r t (r == w.number) refl;
@@ -121,11 +134,13 @@ takes past b e w k is found c hw hn =
     less r other t = less_taken past e r (λ i. other (same r (inl i))) (λ i. other (same r (inr i))) t
 
     line : (v : Entry) → Says (e ∷ past) (enqueue_line v) → Says past (enqueue_line v)
-    line v (inl i) = absurd (⊎_elim (λ x. let j : enqueue_line v ≡ Started w.number = sym i ∙ x in cc) (λ x. let j : enqueue_line v ≡ Dropped w.number = sym i ∙ x in cc) is)
+    line v (inl i) = absurd (⊎_elim (λ x. let j : enqueue_line v ≡ Started w.number = sym i ∙ x in cc)
+        (λ x. let j : enqueue_line v ≡ Dropped w.number = sym i ∙ x in cc) is)
     line v (inr i) = i
 
     go : (r : ℕ) → IsTaken (e ∷ past) r → (t : Bool) → r == w.number ≡ t → r ≤ c.numbers
-    go r s true h = let i = found_among w.number b.waiting w found in let f = k.below w (k.waits w i.0).0 in let g = eqb-true r w.number h in omega (arith, f, g, hn)
+    go r s true h = let i = found_among w.number b.waiting w found in let f = k.below w (k.waits w i.0).0 in let g =
+        eqb-true r w.number h in omega (arith, f, g, hn)
     go r s false h = let f = k.taken r (less r (eqb-false r w.number h) s) in omega (arith, f, hn)
 
 stays : (past : List Event) (b : Book) (e : Event) → Kept past b → ((w : Entry) → e ≡ enqueue_line w → ⊥) → ((r : ℕ) → e ≡ Started r → ⊥) →

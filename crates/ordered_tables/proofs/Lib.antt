@@ -1,5 +1,5 @@
 pub mod Places
-pub mod TextPlaces
-pub mod Pairs
-pub mod Groups
-pub mod Members
+pub mod TextSetPlaces
+pub mod TextMapPlaces
+pub mod IdIndexGroups
+pub mod NodeSetMembers

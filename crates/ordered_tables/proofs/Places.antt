@@ -44,14 +44,26 @@ module _ {X : Type 0} (name : X → List ℕ) where
   none_found [] s e = refl
   none_found (x ∷ es) s e = grind (arith, none_found es s)
 
-  place-push : (es : List (ℕ × X)) (p : ℕ) (x : X) (q : List ℕ) → place_of name es (name x) ≡ None → place_of name (es ++ (p, x) ∷ []) q ≡ cond (bytes_eq (name x) q) (Some p) (place_of name es q)
+  place-push : (es : List (ℕ × X)) (p : ℕ) (x : X) (q : List ℕ) → place_of name es (name x) ≡ None
+      → place_of name (es ++ (p, x) ∷ []) q ≡ cond (bytes_eq (name x) q) (Some p) (place_of name es q)
   place-push [] p x q e = refl
   place-push (y ∷ es) p x q e = grind (arith, same_text (name y.1) q, same_text (name x) q, text_same (name y.1) (name x), place-push es p x q)
 
-  pub place-without : (es : List (ℕ × X)) (s q : List ℕ) → is_once name es ≡ true → place_of name (without name s es) q ≡ cond (bytes_eq s q) None (place_of name es q)
+  pub place-without : (es : List (ℕ × X)) (s q : List ℕ) → is_once name es ≡ true
+      → place_of name (without name s es) q ≡ cond (bytes_eq s q) None (place_of name es q)
   place-without [] s q once = grind arith
   place-without (x ∷ es) s q once =
-      grind (arith, is_nothing (place_of name es (name x.1)), same_text (name x.1) s, same_text s q, same_text (name x.1) q, text_same (name x.1) q, text_same s q, text_same (name x.1) s, place-without es s q)
+      grind (
+        arith,
+        is_nothing (place_of name es (name x.1)),
+        same_text (name x.1) s,
+        same_text s q,
+        same_text (name x.1) q,
+        text_same (name x.1) q,
+        text_same s q,
+        text_same (name x.1) s,
+        place-without es s q,
+      )
 
   place-with : (es : List (ℕ × X)) (x : X) (q : List ℕ) → place_of name (with_item name x es) q ≡ place_of name es q
   place-with [] x q = refl
@@ -116,11 +128,13 @@ module _ {X : Type 0} (name : X → List ℕ) where
 
   -- ---- what stands at the place of a name
 
-  taken : (from : ℕ) (es : List (ℕ × X)) (next p : ℕ) (s : List ℕ) → is_rising from es next ≡ true → place_of name es s ≡ Some p → remove_entry (is_at (nat_cmp p)) es ≡ without name s es
+  taken : (from : ℕ) (es : List (ℕ × X)) (next p : ℕ) (s : List ℕ) → is_rising from es next ≡ true → place_of name es s ≡ Some p
+      → remove_entry (is_at (nat_cmp p)) es ≡ without name s es
   taken from [] next p s up at = refl
   taken from (x ∷ es) next p s up at = grind (arith, nat_tests, number_test p x.0, place_from (x.0 + 1) es next s p, taken (x.0 + 1) es next p s)
 
-  replaced : (from : ℕ) (es : List (ℕ × X)) (next p : ℕ) (x : X) → is_rising from es next ≡ true → place_of name es (name x) ≡ Some p → insert_entry nat_cmp es p x ≡ with_item name x es
+  replaced : (from : ℕ) (es : List (ℕ × X)) (next p : ℕ) (x : X) → is_rising from es next ≡ true → place_of name es (name x) ≡ Some p
+      → insert_entry nat_cmp es p x ≡ with_item name x es
   replaced from [] next p x up at = absurd cc
   replaced from (y ∷ es) next p x up at = grind (arith, nat_tests, place_from (y.0 + 1) es next (name x) p, replaced (y.0 + 1) es next p x)
 
@@ -128,7 +142,8 @@ module _ {X : Type 0} (name : X → List ℕ) where
 
 module _ {X Y : Type 0} (name : X → List ℕ) where
   -- where the entries of both maps stay the same, so does what is found
-  pub finds-kept : (items same : BTreeMap ℕ X) (places kept : BTreeMap (String Y) ℕ) (next : ℕ) → Finds name items places next → same.entries ≡ items.entries → kept.entries ≡ places.entries → Finds name same kept next
+  pub finds-kept : (items same : BTreeMap ℕ X) (places kept : BTreeMap (String Y) ℕ) (next : ℕ) → Finds name items places next → same.entries ≡ items.entries
+      → kept.entries ≡ places.entries → Finds name same kept next
   finds-kept items same places kept next f e k = record {
     found = λ q. rw k (f.found q) ∙ ap (λ es. place_of name es q) (sym e);
     once = rw e f.once;
@@ -136,28 +151,36 @@ module _ {X Y : Type 0} (name : X → List ℕ) where
   }
 
   -- one more was put behind the others
-  pub pushed : (items more : BTreeMap ℕ X) (places : BTreeMap (String Y) ℕ) (next : ℕ) (x : X) → Finds name items places next → more.entries ≡ insert_entry nat_cmp items.entries next x → more.entries ≡ items.entries ++ (next, x) ∷ []
+  pub pushed : (items more : BTreeMap ℕ X) (places : BTreeMap (String Y) ℕ) (next : ℕ) (x : X) → Finds name items places next
+      → more.entries ≡ insert_entry nat_cmp items.entries next x → more.entries ≡ items.entries ++ (next, x) ∷ []
   pushed items more places next x f put = put ∙ put_last 0 items.entries next x f.rising
 
-  pub finds-push : (items more : BTreeMap ℕ X) (places wider : BTreeMap (String Y) ℕ) (next : ℕ) (x : X) → Finds name items places next → place_of name items.entries (name x) ≡ None → more.entries ≡ insert_entry nat_cmp items.entries next x
+  pub finds-push : (items more : BTreeMap ℕ X) (places wider : BTreeMap (String Y) ℕ) (next : ℕ) (x : X) → Finds name items places next
+      → place_of name items.entries (name x) ≡ None → more.entries ≡ insert_entry nat_cmp items.entries next x
       → ((q : List ℕ) → get_by_text wider q ≡ cond (bytes_eq (name x) q) (Some next) (get_by_text places q)) → Finds name more wider (next + 1)
   finds-push items more places wider next x f new put sets =
       let e = pushed items more places next x f put in
       record {
-        found = λ q. sets q ∙ ap (cond (bytes_eq (name x) q) (Some next)) (f.found q) ∙ sym (place-push name items.entries next x q new) ∙ ap (λ es. place_of name es q) (sym e);
+        found = λ q. sets q ∙ ap (cond (bytes_eq (name x) q) (Some next)) (f.found q) ∙ sym (place-push name items.entries next x q new)
+            ∙ ap (λ es. place_of name es q) (sym e);
         once = rw e (once-push name items.entries next x f.once new);
         rising = rw e (rising-push 0 items.entries next x f.rising);
       }
 
   -- what was put behind the others goes again
-  pub back : (items more less : BTreeMap ℕ X) (places : BTreeMap (String Y) ℕ) (next : ℕ) (x : X) → Finds name items places next → more.entries ≡ insert_entry nat_cmp items.entries next x → less.entries ≡ remove_entry (is_at (nat_cmp next)) more.entries → less.entries ≡ items.entries
-  back items more less places next x f put gone = gone ∙ ap (remove_entry (is_at (nat_cmp next))) (pushed items more places next x f put) ∙ put_back 0 items.entries next x f.rising
+  pub back : (items more less : BTreeMap ℕ X) (places : BTreeMap (String Y) ℕ) (next : ℕ) (x : X) → Finds name items places next
+      → more.entries ≡ insert_entry nat_cmp items.entries next x → less.entries ≡ remove_entry (is_at (nat_cmp next)) more.entries
+      → less.entries ≡ items.entries
+  back items more less places next x f put gone =
+      gone ∙ ap (remove_entry (is_at (nat_cmp next))) (pushed items more places next x f put) ∙ put_back 0 items.entries next x f.rising
 
   -- what stood at the place of its name was replaced
-  pub set_there : (items new : BTreeMap ℕ X) (places : BTreeMap (String Y) ℕ) (next p : ℕ) (x : X) → Finds name items places next → Some p ≡ get_by_text places (name x) → new.entries ≡ insert_entry nat_cmp items.entries p x → new.entries ≡ with_item name x items.entries
+  pub set_there : (items new : BTreeMap ℕ X) (places : BTreeMap (String Y) ℕ) (next p : ℕ) (x : X) → Finds name items places next
+      → Some p ≡ get_by_text places (name x) → new.entries ≡ insert_entry nat_cmp items.entries p x → new.entries ≡ with_item name x items.entries
   set_there items new places next p x f at put = put ∙ replaced name 0 items.entries next p x f.rising (sym (f.found (name x)) ∙ sym at)
 
-  pub finds-with : (items new : BTreeMap ℕ X) (places : BTreeMap (String Y) ℕ) (next : ℕ) (x : X) → Finds name items places next → new.entries ≡ with_item name x items.entries → Finds name new places next
+  pub finds-with : (items new : BTreeMap ℕ X) (places : BTreeMap (String Y) ℕ) (next : ℕ) (x : X) → Finds name items places next
+      → new.entries ≡ with_item name x items.entries → Finds name new places next
   finds-with items new places next x f e = record {
     found = λ q. f.found q ∙ sym (place-with name items.entries x q) ∙ ap (λ es. place_of name es q) (sym e);
     once = rw e (once-with name items.entries x ∙ f.once);
@@ -165,13 +188,17 @@ module _ {X Y : Type 0} (name : X → List ℕ) where
   }
 
   -- what stood at the place of a name goes, or nothing where the name has none
-  pub taken_away : (items less : BTreeMap ℕ X) (places : BTreeMap (String Y) ℕ) (next p : ℕ) (s : List ℕ) → Finds name items places next → Some p ≡ get_by_text places s → less.entries ≡ remove_entry (is_at (nat_cmp p)) items.entries → less.entries ≡ without name s items.entries
+  pub taken_away : (items less : BTreeMap ℕ X) (places : BTreeMap (String Y) ℕ) (next p : ℕ) (s : List ℕ) → Finds name items places next
+      → Some p ≡ get_by_text places s → less.entries ≡ remove_entry (is_at (nat_cmp p)) items.entries → less.entries ≡ without name s items.entries
   taken_away items less places next p s f at gone = gone ∙ taken name 0 items.entries next p s f.rising (sym (f.found s) ∙ sym at)
 
-  pub not_there : (items : BTreeMap ℕ X) (places : BTreeMap (String Y) ℕ) (next : ℕ) (s : List ℕ) → Finds name items places next → None ≡ get_by_text places s → items.entries ≡ without name s items.entries
+  pub not_there : (items : BTreeMap ℕ X) (places : BTreeMap (String Y) ℕ) (next : ℕ) (s : List ℕ) → Finds name items places next → None ≡ get_by_text places s
+      → items.entries ≡ without name s items.entries
   not_there items places next s f at = sym (none_found name items.entries s (sym (f.found s) ∙ sym at))
 
-  pub finds-without : (items less : BTreeMap ℕ X) (places rest : BTreeMap (String Y) ℕ) (next : ℕ) (s : List ℕ) → Finds name items places next → less.entries ≡ without name s items.entries → ((q : List ℕ) → get_by_text rest q ≡ cond (bytes_eq s q) None (get_by_text places q)) → Finds name less rest next
+  pub finds-without : (items less : BTreeMap ℕ X) (places rest : BTreeMap (String Y) ℕ) (next : ℕ) (s : List ℕ) → Finds name items places next
+      → less.entries ≡ without name s items.entries → ((q : List ℕ) → get_by_text rest q ≡ cond (bytes_eq s q) None (get_by_text places q))
+      → Finds name less rest next
   finds-without items less places rest next s f e sets = record {
     found = λ q. sets q ∙ ap (cond (bytes_eq s q) None) (f.found q) ∙ sym (place-without name items.entries s q f.once) ∙ ap (λ es. place_of name es q) (sym e);
     once = rw e (once-without name items.entries s f.once);

@@ -31,24 +31,28 @@ module _ (above : List ℕ) (a n m : ℕ) (x : Facts) (s k r : Trees) (apart : I
   from_shadow (inner o) =
       let low = order-there a n s o in
       let one = apart a in
-      inner (ap (λ t. is_among n (tree_order t)) (tree_of-shadow a m x s k r (grind (arith, nat_tests)) (grind (arith, nat_tests)) (grind (arith, nat_tests))) ∙ o)
+      inner (ap (λ t. is_among n (tree_order t)) (tree_of-shadow a m x s k r (grind (arith, nat_tests)) (grind (arith, nat_tests)) (grind (arith, nat_tests)))
+      ∙ o)
 
   from_children : Ancestor (m ∷ above) a n k → Ancestor above a n (tree m x s k r)
   from_children (outer i o) = elim (or_cases (m == a) (is_among a above) i) [
-    | inl e ↦ inner (ap (λ t. is_among n (tree_order t)) (tree_of-here a m x s k r (grind (arith, nat_tests))) ∙ grind (arith, nat_tests, is_among-append n (tree_order k) []))
+    | inl e ↦ inner (ap (λ t. is_among n (tree_order t)) (tree_of-here a m x s k r (grind (arith, nat_tests)))
+        ∙ grind (arith, nat_tests, is_among-append n (tree_order k) []))
     | inr there ↦ outer there (grind (arith, nat_tests, is_among-append n (tree_order k) (tree_order r)))
   ]
   from_children (inner o) =
       let low = order-there a n k o in
       let one = apart a in
-      inner (ap (λ t. is_among n (tree_order t)) (tree_of-children a m x s k r (grind (arith, nat_tests)) (grind (arith, nat_tests)) (grind (arith, nat_tests))) ∙ o)
+      inner (ap (λ t. is_among n (tree_order t)) (tree_of-children a m x s k r (grind (arith, nat_tests)) (grind (arith, nat_tests)) (grind (arith, nat_tests)))
+      ∙ o)
 
   from_rest : Ancestor above a n r → Ancestor above a n (tree m x s k r)
   from_rest (outer i o) = outer i (grind (arith, nat_tests, is_among-append n (tree_order k) (tree_order r)))
   from_rest (inner o) =
       let low = order-there a n r o in
       let one = apart a in
-      inner (ap (λ t. is_among n (tree_order t)) (tree_of-rest a m x s k r (grind (arith, nat_tests)) (grind (arith, nat_tests)) (grind (arith, nat_tests))) ∙ o)
+      inner (ap (λ t. is_among n (tree_order t)) (tree_of-rest a m x s k r (grind (arith, nat_tests)) (grind (arith, nat_tests)) (grind (arith, nat_tests)))
+      ∙ o)
 
 ancestor : (above : List ℕ) (a n : ℕ) (f : Trees) → IsApart f → is_among a (ancestors_below above n f) ≡ true → Ancestor above a n f
 ancestor above a n none apart h = absurd cc
@@ -61,7 +65,8 @@ ancestor above a n (tree m x s k r) apart h =
           let is : ancestors_below above n (tree m x s k r) ≡ above = grind (arith, nat_tests) in
           outer (rw is at h) (grind (arith, nat_tests))
       | inr ne ↦
-          let parts : ancestors_below above n (tree m x s k r) ≡ (ancestors_below [] n s ++ ancestors_below (m ∷ above) n k) ++ ancestors_below above n r = grind (arith, nat_tests) in
+          let parts : ancestors_below above n (tree m x s k r) ≡ (ancestors_below [] n s ++ ancestors_below (m ∷ above) n k) ++ ancestors_below above n r =
+          grind (arith, nat_tests) in
           let all : is_among a ((ancestors_below [] n s ++ ancestors_below (m ∷ above) n k) ++ ancestors_below above n r) ≡ true = rw parts at h in
           elim (or_cases _ _ (sym (is_among-append a (ancestors_below [] n s ++ ancestors_below (m ∷ above) n k) (ancestors_below above n r)) ∙ all)) [
             | inl v ↦ elim (or_cases _ _ (sym (is_among-append a (ancestors_below [] n s) (ancestors_below (m ∷ above) n k)) ∙ v)) [

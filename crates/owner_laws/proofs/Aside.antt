@@ -82,4 +82,11 @@ tree_of-left r (tree m x s k q) g z = grind (arith, nat_tests, tree_of-left r q 
 pub tree_of-place-in : (r n : ℕ) (t f : Trees) → times r f ≡ 0 → tree_of r (place n t f) ≡ tree_of r t
 tree_of-place-in r n t none z = refl
 tree_of-place-in r n t (tree m x s k q) z =
-    grind (arith, nat_tests, tree_of-left r t (tree m x s k q) z, tree_of-place-in r n t q (omega arith), tree_of-absent r s (omega arith), tree_of-absent r k (omega arith))
+    grind (
+      arith,
+      nat_tests,
+      tree_of-left r t (tree m x s k q) z,
+      tree_of-place-in r n t q (omega arith),
+      tree_of-absent r s (omega arith),
+      tree_of-absent r k (omega arith),
+    )

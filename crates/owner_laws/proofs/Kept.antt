@@ -59,9 +59,17 @@ module _ (q : ℕ → Bool) where
     | inr ne ↦
         let parts : tree_of n (tree m x s k r) ≡ join (tree_of n s) (join (tree_of n k) (tree_of n r)) = grind (arith, nat_tests) in
         let z_parts : found_in (join (tree_of n s) (join (tree_of n k) (tree_of n r))) ≡ [] = rw parts at z in
-        let z_two = (both-empty (found_in (tree_of n s)) (found_in (join (tree_of n k) (tree_of n r))) (sym (found-join (tree_of n s) (join (tree_of n k) (tree_of n r))) ∙ z_parts)).1 in
+        let z_two = (both-empty (found_in (tree_of n s)) (found_in (join (tree_of n k) (tree_of n r)))
+        (sym (found-join (tree_of n s) (join (tree_of n k) (tree_of n r))) ∙ z_parts)).1 in
         let z_each = both-empty (found_in (tree_of n k)) (found_in (tree_of n r)) (sym (found-join (tree_of n k) (tree_of n r)) ∙ z_two) in
-        grind (arith, nat_tests, found-tree m x s k r, found-tree m x (without n s) (without n k) (without n r), found-without n k z_each.0, found-without n r z_each.1)
+        grind (
+          arith,
+          nat_tests,
+          found-tree m x s k r,
+          found-tree m x (without n s) (without n k) (without n r),
+          found-without n k z_each.0,
+          found-without n r z_each.1,
+        )
   ]
 
   -- the law: what is found in the tree of r stays, where a tree without r is taken out in which nothing is found

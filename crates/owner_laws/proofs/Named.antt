@@ -19,7 +19,8 @@ find-first q (x ∷ xs) = by_test (q x) (find-first q xs)
 
 -- in trees where the facts of each node stay
 module _ (f g : Trees) (r : ℕ) (id : List ℕ) (facts : (m : ℕ) → facts_at g m ≡ facts_at f m) where
-  pub named-same : filter (λ m. has_id id (facts_at f m)) (tree_order_of g r) ≡ filter (λ m. has_id id (facts_at f m)) (tree_order_of f r) → first_with_id g r id ≡ first_with_id f r id
+  pub named-same : filter (λ m. has_id id (facts_at f m)) (tree_order_of g r) ≡ filter (λ m. has_id id (facts_at f m)) (tree_order_of f r)
+      → first_with_id g r id ≡ first_with_id f r id
   named-same e =
       find-first (λ m. has_id id (facts_at g m)) (tree_order_of g r)
       ∙ ap first_of (filter_agree (λ m. has_id id (facts_at g m)) (λ m. has_id id (facts_at f m)) (λ m. ap (has_id id) (facts m)) (tree_order_of g r) ∙ e)

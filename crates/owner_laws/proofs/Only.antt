@@ -22,13 +22,16 @@ module _ (q : ℕ → Bool) where
         | inl e ↦
             let left : without n (tree m x s k r) ≡ r = grind (arith, nat_tests) in
             let gone : found_in q r ≡ [] = rw left at z in
-            rw (tree_of-here n m x s k r e) (found-tree q m x s k r ∙ ap (λ v. cond (q m) (m ∷ (found_in q k ++ v)) (found_in q k ++ v)) gone ∙ sym (found-tree q m x s k none))
+            rw (tree_of-here n m x s k r e) (found-tree q m x s k r ∙ ap (λ v. cond (q m) (m ∷ (found_in q k ++ v)) (found_in q k ++ v)) gone
+            ∙ sym (found-tree q m x s k none))
         | inr ne ↦
             let left : without n (tree m x s k r) ≡ tree m x (without n s) (without n k) (without n r) = grind (arith, nat_tests) in
             let none_left = finds-none q m x (without n s) (without n k) (without n r) (rw left at z) in
             let fails = none_left.fails in
-            let start : found_in q (tree m x s k r) ≡ found_in q k ++ found_in q r = found-tree q m x s k r ∙ ap (λ b. cond b (m ∷ (found_in q k ++ found_in q r)) (found_in q k ++ found_in q r)) fails in
-            let there : (is_among n (tree_order k) || is_among n (tree_order r)) ≡ true = grind (arith, nat_tests, is_among-append n (tree_order k) (tree_order r)) in
+            let start : found_in q (tree m x s k r) ≡ found_in q k ++ found_in q r =
+            found-tree q m x s k r ∙ ap (λ b. cond b (m ∷ (found_in q k ++ found_in q r)) (found_in q k ++ found_in q r)) fails in
+            let there : (is_among n (tree_order k) || is_among n (tree_order r)) ≡ true =
+            grind (arith, nat_tests, is_among-append n (tree_order k) (tree_order r)) in
             elim (or_cases (is_among n (tree_order k)) (is_among n (tree_order r)) there) [
               | inl a ↦
                   let low = order-inside n k a in

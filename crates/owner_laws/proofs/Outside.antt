@@ -20,7 +20,8 @@ above-place above m n t none z = above-absent above m t z
 above-place above m n t (tree j x s k r) z =
     grind (arith, nat_tests, above-right above m t (tree j x s k r) z, above-place above m n t r z)
 
-above-without : (above : List ℕ) (m n : ℕ) (f : Trees) → IsApart f → times m (tree_of n f) ≡ 0 → ancestors_below above m (without n f) ≡ ancestors_below above m f
+above-without : (above : List ℕ) (m n : ℕ) (f : Trees) → IsApart f → times m (tree_of n f) ≡ 0
+    → ancestors_below above m (without n f) ≡ ancestors_below above m f
 above-without above m n none apart z = refl
 above-without above m n (tree j x s k r) apart z = elim (cases_eq j n) [
   | inl e ↦

@@ -36,7 +36,8 @@ take_back : (b : Option ℕ) (n : ℕ) (ms : List ℕ) → is_among n ms ≡ fal
 take_back b n [] out = grind (arith, nat_tests)
 take_back b n (m ∷ ms) out = grind (arith, nat_tests, take_back b n ms)
 
-module _ (f : Trees) (p n : ℕ) (b : Option ℕ) (tidy : IsTidy f) (is_p : IsNode f p) (is_n : IsNode f n) (may : may_insert f p n b ≡ None) (free : parent_at f n ≡ None) where
+module _ (f : Trees) (p n : ℕ) (b : Option ℕ) (tidy : IsTidy f) (is_p : IsNode f p) (is_n : IsNode f n) (may : may_insert f p n b ≡ None)
+    (free : parent_at f n ≡ None) where
   ne : p ≢ n
   ne e = absurd (omega (arith, in-tree f n tidy is_n, parent-outside f p n b tidy is_n may, ap (λ v. times v (tree_of n f)) e))
 

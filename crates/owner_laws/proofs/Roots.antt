@@ -1,5 +1,6 @@
 -- The root of a node's tree, a step up at a time, and who stands in the order of that tree.
-use Rattle.std.proofs.Common.{◌≡◌, ◌≢◌, ℕ, zero, suc, ◌<◌, ◌≤◌, Bool, true, false, not, List, [], ◌∷◌, ◌++◌, Some, None, refl, ap, sym, ◌∙◌, subst, arith, inl, inr, length}
+use Rattle.std.proofs.Common.{◌≡◌, ◌≢◌, ℕ, zero, suc, ◌<◌, ◌≤◌, Bool, true, false, not, List, [], ◌∷◌, ◌++◌, Some, None, refl, ap, sym, ◌∙◌, subst, arith, inl}
+use Rattle.std.proofs.Common.{inr, length}
 use Rattle.std.specs.Prelude.{reverse, is_some}
 use Rattle.std.specs.List.{find}
 use Rattle.std.proofs.lemmas.Bool.{cases_eq, cases_lt}
@@ -36,10 +37,12 @@ find-no p m xs e = rw e refl
 
 module _ (f : Trees) (m : ℕ) (xs : List ℕ) where
   rootward-here : parent_at f m ≡ None → rootward f (xs ++ (m ∷ [])) ≡ Some m
-  rootward-here free = ap (find (λ i. not (has_parent f i))) (reverse-append xs (m ∷ [])) ∙ find-yes (λ i. not (has_parent f i)) m (reverse xs) (ap (λ o. not (is_some o)) free)
+  rootward-here free = ap (find (λ i. not (has_parent f i))) (reverse-append xs (m ∷ []))
+      ∙ find-yes (λ i. not (has_parent f i)) m (reverse xs) (ap (λ o. not (is_some o)) free)
 
   rootward-on : (q : ℕ) → parent_at f m ≡ Some q → rootward f (xs ++ (m ∷ [])) ≡ rootward f xs
-  rootward-on q up = ap (find (λ i. not (has_parent f i))) (reverse-append xs (m ∷ [])) ∙ find-no (λ i. not (has_parent f i)) m (reverse xs) (ap (λ o. not (is_some o)) up)
+  rootward-on q up = ap (find (λ i. not (has_parent f i))) (reverse-append xs (m ∷ []))
+      ∙ find-no (λ i. not (has_parent f i)) m (reverse xs) (ap (λ o. not (is_some o)) up)
 
 -- a path ends with its node
 record EndsHere (f : Trees) (m : ℕ) : Type 0 where
@@ -72,7 +75,15 @@ module _ (f : Trees) (tidy : IsTidy f) where
   climb (suc k) m short node = by_option (parent_at f m)
       (λ free.
       let e = ends_here f m tidy node in
-      record { root = m; is = record { found = ap (rootward f) e.is ∙ rootward-here f m e.above free; free = free; node = node; among = among-root f m tidy node } })
+      record {
+        root = m;
+        is = record {
+          found = ap (rootward f) e.is ∙ rootward-here f m e.above free;
+          free = free;
+          node = node;
+          among = among-root f m tidy node;
+        };
+      })
       (λ q up.
       let a = parent-above f m q tidy node up in
       let near = a.nearer in

@@ -9,7 +9,8 @@ use Rattle.node_trees.specs.Trees.{Trees}
 use Rattle.node_trees.specs.Paths.{is_among, connected}
 use Rattle.node_trees.specs.Spots.{attribute_at, parent_at}
 use Rattle.form_controls.specs.Kinds.{native_at, is_a}
-use Rattle.form_controls.specs.Owners.{Forms, ancestors, is_listed_native, is_associated, is_listed, is_submittable, named_form, nearest_form, owner_by, form_owner}
+use Rattle.form_controls.specs.Owners.{Forms, ancestors, is_listed_native, is_associated, is_listed, is_submittable, named_form, nearest_form, owner_by}
+use Rattle.form_controls.specs.Owners.{form_owner}
 use Rattle.form_controls.specs.Disabled.{has_disabled, disables, is_in_disabled_fieldset, is_in_disabled_group, is_option_disabled, is_disabled}
 use Rattle.owner_laws.specs.Locality.{IsUnchanged}
 use Rattle.owner_laws.proofs.Tests.{find-same, any-same}
@@ -68,7 +69,8 @@ module _ (before : Forms) (g : Trees) (m : ℕ) (same : ReadsSame before.forest 
   submittable : is_submittable now m ≡ is_submittable before m
   submittable = ap (λ b. b && not (is_a Fieldset g m)) listed ∙ ap (λ b. is_listed before m && not b) (is_a-same f g same.native Fieldset m)
 
-  control-same : (is_submittable now m && (has_disabled g m || is_in_disabled_fieldset g m)) ≡ (is_submittable before m && (has_disabled f m || is_in_disabled_fieldset f m))
+  control-same : (is_submittable now m && (has_disabled g m || is_in_disabled_fieldset g m))
+      ≡ (is_submittable before m && (has_disabled f m || is_in_disabled_fieldset f m))
   control-same =
       ap (λ b. b && (has_disabled g m || is_in_disabled_fieldset g m)) submittable
       ∙ ap (λ b. is_submittable before m && (b || is_in_disabled_fieldset g m)) has-same
@@ -76,7 +78,8 @@ module _ (before : Forms) (g : Trees) (m : ℕ) (same : ReadsSame before.forest 
 
   disabled-same : is_disabled now m ≡ is_disabled before m
   disabled-same =
-      ap (λ b. cond b (is_option_disabled g m) (is_submittable now m && (has_disabled g m || is_in_disabled_fieldset g m))) (is_a-same f g same.native OptionItem m)
+      ap (λ b. cond b (is_option_disabled g m) (is_submittable now m && (has_disabled g m || is_in_disabled_fieldset g m)))
+      (is_a-same f g same.native OptionItem m)
       ∙ ap (λ b. cond (is_a OptionItem f m) b (is_submittable now m && (has_disabled g m || is_in_disabled_fieldset g m))) option-same
       ∙ ap (λ b. cond (is_a OptionItem f m) (is_option_disabled f m) b) control-same
 
@@ -87,5 +90,7 @@ module _ (before : Forms) (g : Trees) (m : ℕ) (same : ReadsSame before.forest 
 pub unchanged-marked : (f : Forms) (other : List ℕ) (m : ℕ) → is_among m other ≡ is_among m f.associated → IsUnchanged f (record f { associated = other }) m
 unchanged-marked f other m same = record {
   owner = ap (λ b. cond (is_listed_native (native_at f.forest m) || b) (owner_by f.forest m (attribute_at f.forest m (codes "form"))) None) same;
-  disabled = ap (λ b. cond (is_a OptionItem f.forest m) (is_option_disabled f.forest m) (((is_listed_native (native_at f.forest m) || b) && not (is_a Fieldset f.forest m)) && (has_disabled f.forest m || is_in_disabled_fieldset f.forest m))) same;
+  disabled = ap (λ b. cond (is_a OptionItem f.forest m) (is_option_disabled f.forest m)
+      (((is_listed_native (native_at f.forest m) || b) && not (is_a Fieldset f.forest m)) && (has_disabled f.forest m || is_in_disabled_fieldset f.forest m)))
+      same;
 }

@@ -39,7 +39,8 @@ pub record IsShift (f g : Trees) (n p : ℕ) : Type 0 where
   pub above : (i : ℕ) → times i (tree_of n f) ≡ 0 → ancestors g i ≡ ancestors f i
   pub way : (i : ℕ) → times i (tree_of n f) ≡ 0 → path i g ≡ path i f
   pub root : (i : ℕ) → IsNode f i → times i (tree_of n f) ≡ 0 → root_at g i ≡ root_at f i
-  pub kept : (q : ℕ → Bool) (r : ℕ) → times r (tree_of n f) ≡ 0 → filter q (tree_order_of f n) ≡ [] → filter q (tree_order_of g r) ≡ filter q (tree_order_of f r)
+  pub kept : (q : ℕ → Bool) (r : ℕ) → times r (tree_of n f) ≡ 0 → filter q (tree_order_of f n) ≡ []
+      → filter q (tree_order_of g r) ≡ filter q (tree_order_of f r)
 
 -- seen from behind
 node-still : (f g : Trees) → size g ≡ size f → (i : ℕ) → IsNode g i → IsNode f i
@@ -104,7 +105,9 @@ module _ (f : Trees) (n p : ℕ) (tidy : IsTidy f) (node : IsNode f n) (up : par
   }
 
 -- an insertion
-pub graft-shift : (f : Trees) (p n : ℕ) (b : Option ℕ) → IsTidy f → IsNode f p → IsNode f n → may_insert f p n b ≡ None → parent_at f n ≡ None → IsShift f (graft f p n b) n p
+pub graft-shift : (f : Trees) (p n : ℕ) (b : Option ℕ) → IsTidy f → IsNode f p → IsNode f n → may_insert f p n b ≡ None → parent_at f n ≡ None
+    → IsShift f (graft f p n b) n p
 graft-shift f p n b tidy is_p is_n may free =
-    let back = cut-shift (graft f p n b) n p (graft-tidy f p n b tidy is_p is_n may free) (graft-node f p n b tidy is_p is_n may free n is_n) (graft-up f p n b tidy is_p is_n may free) in
+    let back = cut-shift (graft f p n b) n p (graft-tidy f p n b tidy is_p is_n may free) (graft-node f p n b tidy is_p is_n may free n is_n)
+    (graft-up f p n b tidy is_p is_n may free) in
     turned (graft f p n b) f n p (subst (λ v. IsShift (graft f p n b) v n p) (cut-graft f p n b tidy is_p is_n may free) back)

@@ -39,7 +39,8 @@ module _ (f g : Trees) (n p m : ℕ) (is_n : IsNode f n) (is_m : IsNode f m) (sh
   ]
 
   apart-from : (i : ℕ) → times i (tree_of n f) ≡ 0 → i ≢ n
-  apart-from i z e = let low = in-tree f n shift.old is_n in let gone : times n (tree_of n f) ≡ 0 = subst (λ v. times v (tree_of n f) ≡ 0) e z in absurd (omega arith)
+  apart-from i z e = let low = in-tree f n shift.old is_n in let gone : times n (tree_of n f) ≡ 0 =
+      subst (λ v. times v (tree_of n f) ≡ 0) e z in absurd (omega arith)
 
   natives : (i : ℕ) → native_at g i ≡ native_at f i
   natives i = ap (λ (x : Facts). native x.local) (shift.facts i)
@@ -113,7 +114,8 @@ module _ (f g : Trees) (n p m : ℕ) (is_n : IsNode f n) (is_m : IsNode f m) (sh
       ap (λ b. b && has_disabled g i && not (is_inside g m (first_legend g i))) e
       ∙ sym (ap (λ b. b && has_disabled f i && not (is_inside f m (first_legend f i))) (sym (is-a Fieldset i) ∙ e))
 
-  at-parent : is_among p (ancestors f m) ≡ true → (fieldset legend : Bool) → is_a Fieldset g p ≡ fieldset → is_a Legend g n ≡ legend → disables g m p ≡ disables f m p
+  at-parent : is_among p (ancestors f m) ≡ true → (fieldset legend : Bool) → is_a Fieldset g p ≡ fieldset → is_a Legend g n ≡ legend
+      → disables g m p ≡ disables f m p
   at-parent h false legend is_fieldset is_legend = no-fieldset p is_fieldset
   at-parent h true false is_fieldset is_legend =
       with-legend p (legend-same p ∙ shift.found (is_a Legend f) (sym (is-a Legend n) ∙ is_legend))

@@ -26,7 +26,8 @@ use Rattle.owner_laws.proofs.Roots.{root-free, root-node, root-among, order-root
 abbrev pub AreTogether : (ℕ → Bool) → Trees → Trees → ℕ → Type 0
 AreTogether q f new g = (m : ℕ) → q m ≡ true → IsNode f m × ((root_at f m ≡ root_at f g) × (root_at new m ≡ root_at new g))
 
-module _ (f : Trees) (n p : ℕ) (tidy : IsTidy f) (node : IsNode f n) (up : parent_at f n ≡ Some p) (g : ℕ) (at : IsNode f g) (q : ℕ → Bool) (together : AreTogether q f (cut f n) g) where
+module _ (f : Trees) (n p : ℕ) (tidy : IsTidy f) (node : IsNode f n) (up : parent_at f n ≡ Some p) (g : ℕ) (at : IsNode f g) (q : ℕ → Bool)
+    (together : AreTogether q f (cut f n) g) where
   -- the root of g's tree is not the node that is taken out, which has a parent
   not-root : root_at f g ≢ n
   not-root e = absurd (let free = subst (λ v. parent_at f v ≡ None) e (root-free f tidy g at) in cc)
@@ -41,7 +42,8 @@ module _ (f : Trees) (n p : ℕ) (tidy : IsTidy f) (node : IsNode f n) (up : par
 
     outside-in : times (root_at f g) (tree_of n f) ≡ 0
     outside-in =
-        above-outside f n (root_at f g) (tidy-apart f tidy) (node_stands f n tidy node) (λ e. not-root (sym e)) (order-inside n (tree_of (root_at f g) f) n_among)
+        above-outside f n (root_at f g) (tidy-apart f tidy) (node_stands f n tidy node) (λ e. not-root (sym e))
+        (order-inside n (tree_of (root_at f g) f) n_among)
 
     rest_order : tree_of (root_at f g) (cut f n) ≡ without n (tree_of (root_at f g) f)
     rest_order =
@@ -53,7 +55,8 @@ module _ (f : Trees) (n p : ℕ) (tidy : IsTidy f) (node : IsNode f n) (up : par
 
     rest_fails : (i : ℕ) → is_among i (tree_order_of (cut f n) (root_at f g)) ≡ true → q i ≡ false
     rest_fails i i_among = false_from_ne_true (q i) (λ passes. not-root
-        (sym (order-top (cut f n) (cut-tidy f n p tidy node up) (root_at f g) i top_free i_among) ∙ (together i passes).1.1 ∙ root-cut-in f n p tidy node up g among))
+        (sym (order-top (cut f n) (cut-tidy f n p tidy node up) (root_at f g) i top_free i_among) ∙ (together i passes).1.1
+        ∙ root-cut-in f n p tidy node up g among))
 
     rest_empty : found_in q (without n (tree_of (root_at f g) f)) ≡ []
     rest_empty = ap (found_in q) (sym rest_order) ∙ filter-none q (tree_order_of (cut f n) (root_at f g)) rest_fails
@@ -61,7 +64,9 @@ module _ (f : Trees) (n p : ℕ) (tidy : IsTidy f) (node : IsNode f n) (up : par
     together-in : filter q (tree_order_of (cut f n) (root_at (cut f n) g)) ≡ filter q (tree_order_of f (root_at f g))
     together-in =
         ap (λ r. filter q (tree_order_of (cut f n) r)) (root-cut-in f n p tidy node up g among)
-        ∙ ap (found_in q) (cut-tree f n p tidy node up ∙ tree_of-inside (root_at f g) n f (tidy-apart f tidy) (node_stands f (root_at f g) tidy (root-node f tidy g at)) (order-inside n (tree_of (root_at f g) f) n_among))
+        ∙ ap (found_in q) (cut-tree f n p tidy node up
+        ∙ tree_of-inside (root_at f g) n f (tidy-apart f tidy) (node_stands f (root_at f g) tidy (root-node f tidy g at))
+        (order-inside n (tree_of (root_at f g) f) n_among))
         ∙ sym (found-only q n (tree_of (root_at f g) f) (tree_apart (root_at f g) f (tidy-apart f tidy)) n_among rest_empty)
 
   -- g is not there: the root of its tree stays

@@ -11,7 +11,8 @@ use Rattle.node_trees.specs.Spots.{parent_at}
 use Rattle.owner_laws.proofs.PutBack.{graft-tidy, graft-node, graft-up, cut-graft}
 use Rattle.owner_laws.proofs.TogetherCut.{AreTogether, together-cut}
 
-module _ (f : Trees) (p n : ℕ) (b : Option ℕ) (tidy : IsTidy f) (is_p : IsNode f p) (is_n : IsNode f n) (may : may_insert f p n b ≡ None) (free : parent_at f n ≡ None) (g : ℕ) (at : IsNode f g) (q : ℕ → Bool) (together : AreTogether q f (graft f p n b) g) where
+module _ (f : Trees) (p n : ℕ) (b : Option ℕ) (tidy : IsTidy f) (is_p : IsNode f p) (is_n : IsNode f n) (may : may_insert f p n b ≡ None)
+    (free : parent_at f n ≡ None) (g : ℕ) (at : IsNode f g) (q : ℕ → Bool) (together : AreTogether q f (graft f p n b) g) where
   -- the same, seen from the trees after the insertion
   together-back : AreTogether q (graft f p n b) (cut (graft f p n b) n) g
   together-back m passes =
@@ -22,4 +23,5 @@ module _ (f : Trees) (p n : ℕ) (b : Option ℕ) (tidy : IsTidy f) (is_p : IsNo
   pub together-graft : filter q (tree_order_of (graft f p n b) (root_at (graft f p n b) g)) ≡ filter q (tree_order_of f (root_at f g))
   together-graft =
       sym (ap (λ v. filter q (tree_order_of v (root_at v g))) (sym (cut-graft f p n b tidy is_p is_n may free))
-      ∙ together-cut (graft f p n b) n p (graft-tidy f p n b tidy is_p is_n may free) (graft-node f p n b tidy is_p is_n may free n is_n) (graft-up f p n b tidy is_p is_n may free) g (graft-node f p n b tidy is_p is_n may free g at) q together-back)
+      ∙ together-cut (graft f p n b) n p (graft-tidy f p n b tidy is_p is_n may free) (graft-node f p n b tidy is_p is_n may free n is_n)
+      (graft-up f p n b tidy is_p is_n may free) g (graft-node f p n b tidy is_p is_n may free g at) q together-back)

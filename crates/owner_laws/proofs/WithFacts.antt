@@ -44,7 +44,8 @@ module _ (f : Trees) (n : ℕ) (c : Facts → Facts) where
   pub root-with : (i : ℕ) → root_at (with_facts n c f) i ≡ root_at f i
   root-with i =
       ap (λ xs. or_number (find (λ j. not (has_parent (with_facts n c f) j)) (reverse xs)) i) (path-with n c i f)
-      ∙ ap (λ o. or_number o i) (find-same (λ j. not (has_parent (with_facts n c f) j)) (λ j. not (has_parent f j)) (reverse (path i f)) (λ j _. ap (λ o. not (is_some o)) (parent_at-with n c f j)))
+      ∙ ap (λ o. or_number o i) (find-same (λ j. not (has_parent (with_facts n c f) j)) (λ j. not (has_parent f j)) (reverse (path i f))
+      (λ j _. ap (λ o. not (is_some o)) (parent_at-with n c f j)))
 
   pub joined-with : ((x : Facts) → (c x).kind ≡ x.kind) → (i : ℕ) → connected (with_facts n c f) i ≡ connected f i
   joined-with kind i =

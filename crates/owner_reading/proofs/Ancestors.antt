@@ -49,7 +49,8 @@ up above p h n (tree m x s k r) row apart pos is =
         | at_top e z ↦ at_host e (above-shadow above n m x s k r ne b c ∙ z)
         | in_tree q e low z ↦
             let one = apart q in
-            in_tree q e (omega arith) (above-shadow above n m x s k r ne b c ∙ z ∙ ap (λ v. q ∷ v) (sym (above-shadow above q m x s k r (grind (arith, nat_tests)) (grind (arith, nat_tests)) (grind (arith, nat_tests)))))
+            in_tree q e (omega arith) (above-shadow above n m x s k r ne b c ∙ z
+            ∙ ap (λ v. q ∷ v) (sym (above-shadow above q m x s k r (grind (arith, nat_tests)) (grind (arith, nat_tests)) (grind (arith, nat_tests)))))
         | at_host e z ↦ at_host e (above-shadow above n m x s k r ne b c ∙ z)
       ]
       | in_children ne a b c ↦ elim (up (m ∷ above) (Some m) None n k row (apart-children m x s k r apart) b (sym (spot-children p h n m x s k r ne a c) ∙ is)) [
@@ -58,14 +59,16 @@ up above p h n (tree m x s k r) row apart pos is =
             in_tree m e (grind (arith, nat_tests)) (above-children above n m x s k r ne a c ∙ z ∙ ap (λ v. m ∷ v) (sym (above-here above m m x s k r refl)))
         | in_tree q e low z ↦
             let one = apart q in
-            in_tree q e (omega arith) (above-children above n m x s k r ne a c ∙ z ∙ ap (λ v. q ∷ v) (sym (above-children above q m x s k r (grind (arith, nat_tests)) (grind (arith, nat_tests)) (grind (arith, nat_tests)))))
+            in_tree q e (omega arith) (above-children above n m x s k r ne a c ∙ z
+            ∙ ap (λ v. q ∷ v) (sym (above-children above q m x s k r (grind (arith, nat_tests)) (grind (arith, nat_tests)) (grind (arith, nat_tests)))))
         | at_host e z ↦ at_host e (above-children above n m x s k r ne a c ∙ z)
       ]
       | in_rest ne a b c ↦ elim (up above p h n r row (apart-rest m x s k r apart) c (sym (spot-rest p h n m x s k r ne a b) ∙ is)) [
         | at_top e z ↦ at_top e (above-rest above n m x s k r ne a b ∙ z)
         | in_tree q e low z ↦
             let one = apart q in
-            in_tree q e (omega arith) (above-rest above n m x s k r ne a b ∙ z ∙ ap (λ v. q ∷ v) (sym (above-rest above q m x s k r (grind (arith, nat_tests)) (grind (arith, nat_tests)) (grind (arith, nat_tests)))))
+            in_tree q e (omega arith) (above-rest above n m x s k r ne a b ∙ z
+            ∙ ap (λ v. q ∷ v) (sym (above-rest above q m x s k r (grind (arith, nat_tests)) (grind (arith, nat_tests)) (grind (arith, nat_tests)))))
         | at_host e z ↦ at_host e (above-rest above n m x s k r ne a b ∙ z)
       ]
     ]

@@ -24,12 +24,14 @@ nowhere n low high xs met front back =
 
 -- one more of each end
 
-pub from-front : (n low x : ℕ) (xs : List ℕ) → low < length xs → x ≡ get_or xs low x → eqb x n ≡ false → is_among n (take low xs) ≡ false → is_among n (take (low + 1) xs) ≡ false
+pub from-front : (n low x : ℕ) (xs : List ℕ) → low < length xs → x ≡ get_or xs low x → eqb x n ≡ false → is_among n (take low xs) ≡ false
+    → is_among n (take (low + 1) xs) ≡ false
 from-front n low x xs lt at other out =
     ap (is_among n) (take_more xs low x lt ∙ ap (λ y. take low xs ++ y ∷ []) (sym at))
     ∙ is_among-append n (take low xs) (x ∷ [])
     ∙ grind (arith, nat_tests, out, other)
 
-pub from-back : (n high x : ℕ) (xs : List ℕ) → high < length xs → x ≡ get_or xs high x → eqb x n ≡ false → is_among n (drop (high + 1) xs) ≡ false → is_among n (drop high xs) ≡ false
+pub from-back : (n high x : ℕ) (xs : List ℕ) → high < length xs → x ≡ get_or xs high x → eqb x n ≡ false → is_among n (drop (high + 1) xs) ≡ false
+    → is_among n (drop high xs) ≡ false
 from-back n high x xs lt at other out =
     ap (is_among n) (drop_more xs high x lt ∙ ap (λ y. y ∷ drop (high + 1) xs) (sym at)) ∙ grind (arith, nat_tests, out, other)

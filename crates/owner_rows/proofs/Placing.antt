@@ -36,6 +36,7 @@ insert-before s n (suc p) (x ∷ xs) apart e =
     grind (arith, nat_tests, on)
 
 -- where a place says whether it is there
-pub placed-among : (n : ℕ) (xs : List ℕ) (o : Option ℕ) → IfSome o (λ p. slice_get xs p ≡ Some n) → (o ≡ None → is_among n xs ≡ false) → is_some o ≡ is_among n xs
+pub placed-among : (n : ℕ) (xs : List ℕ) (o : Option ℕ) → IfSome o (λ p. slice_get xs p ≡ Some n) → (o ≡ None → is_among n xs ≡ false)
+    → is_some o ≡ is_among n xs
 placed-among n xs None here none = sym (none refl)
 placed-among n xs (Some p) here none = sym (got-among n p xs here)

@@ -12,5 +12,6 @@ use Rattle.ce_page.specs.Ends.{work}
 use Rattle.page_calls.specs.Commands.{commanded}
 
 -- of a node that is what it has to be, a command is its deed
-pub commanded-fits : (kind : Fit) (n : ℕ) (what : ControlDeed) (p : Page) (fuel : ℕ) → fits kind p n ≡ true → control_steps what (work p fuel) ≡ commanded kind n what (work p fuel)
+pub commanded-fits : (kind : Fit) (n : ℕ) (what : ControlDeed) (p : Page) (fuel : ℕ) → fits kind p n ≡ true
+    → control_steps what (work p fuel) ≡ commanded kind n what (work p fuel)
 commanded-fits kind n what p fuel fit = ap (λ (b : Bool). then_do (throw_if (not b) TypeError (work p fuel)) (λ _. control_steps what)) (sym fit)

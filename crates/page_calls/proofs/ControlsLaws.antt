@@ -4,6 +4,7 @@ use Rattle.std.specs.Prelude.{IfOk}
 use Rattle.node_trees.specs.Nodes.{IsNode}
 use Rattle.node_trees.specs.Trees.{Trees}
 
-pub copied-nodes : {E : Type 0} (f : Trees) (result : Result (List ℕ) E) (from : List ℕ) → All (IsNode f) from → IfOk result (λ ns. ns ≡ from) → IfOk result (All (IsNode f))
+pub copied-nodes : {E : Type 0} (f : Trees) (result : Result (List ℕ) E) (from : List ℕ) → All (IsNode f) from → IfOk result (λ ns. ns ≡ from)
+    → IfOk result (All (IsNode f))
 copied-nodes f (Ok ns) from nodes copied = subst (All (IsNode f)) (sym copied) nodes
 copied-nodes f (Err e) from nodes copied = tt

@@ -13,14 +13,16 @@ use Rattle.ce_page.specs.declared.stop.PageStop.TheVariants.{Refused, FuelSpent,
 use Rattle.page_calls.specs.Given.{IsThere, node_of, nothing_of}
 
 -- steps that give nothing
-pub nothing_ends : {S : Type 0} (r : Result (Unit {0}) PageStop) (s : S) (o : Outcome S (Unit {0})) → Does r s o → Ends (λ g. g) (nothing_of r) s (then_do o (λ _. give Nothing))
+pub nothing_ends : {S : Type 0} (r : Result (Unit {0}) PageStop) (s : S) (o : Outcome S (Unit {0})) → Does r s o
+    → Ends (λ g. g) (nothing_of r) s (then_do o (λ _. give Nothing))
 nothing_ends (Ok x) s o e = ap (λ o. then_do o (λ _. give Nothing)) e
 nothing_ends (Err (Refused f)) s o e = ap (λ o. then_do o (λ _. give Nothing)) e
 nothing_ends (Err FuelSpent) s o e = ap (λ o. then_do o (λ _. give Nothing)) e
 nothing_ends (Err NoMemory) s o e = tt
 
 -- steps that give a node
-pub node_ends : {S : Type 0} (r : Result ℕ PageStop) (s : S) (o : Outcome S ℕ) → Ends (λ n. n) r s o → Ends (λ g. g) (node_of r) s (then_do o (λ n. give (Node n)))
+pub node_ends : {S : Type 0} (r : Result ℕ PageStop) (s : S) (o : Outcome S ℕ) → Ends (λ n. n) r s o
+    → Ends (λ g. g) (node_of r) s (then_do o (λ n. give (Node n)))
 node_ends (Ok n) s o e = ap (λ o. then_do o (λ n. give (Node n))) e
 node_ends (Err (Refused f)) s o e = ap (λ o. then_do o (λ n. give (Node n))) e
 node_ends (Err FuelSpent) s o e = ap (λ o. then_do o (λ n. give (Node n))) e

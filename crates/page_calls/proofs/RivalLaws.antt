@@ -15,10 +15,13 @@ drop-here ns i n at =
     rw (add-one, drop-cons ns i 0, here) refl
 
 -- one of them has its turn
-pub off-step : (n i other : ℕ) (ns : List ℕ) (cs new : List Control) → slice_get ns i ≡ Some other → new ≡ (if other == n then cs else set_flag cs other false) →
+pub off-step : (n i other : ℕ) (ns : List ℕ) (cs new : List Control) → slice_get ns i ≡ Some other → new ≡ (if other == n then cs else set_flag cs other false)
+    →
     set_all_off new (without n (drop (i + 1) ns)) ≡ set_all_off cs (without n (drop i ns))
-off-step n i other ns cs new at is = ap (λ v. set_all_off v (without n (drop (i + 1) ns))) is ∙ by_test (other == n) ∙ ap (λ v. set_all_off cs (without n v)) (sym (drop-here ns i other at))
+off-step n i other ns cs new at is =
+    ap (λ v. set_all_off v (without n (drop (i + 1) ns))) is ∙ by_test (other == n) ∙ ap (λ v. set_all_off cs (without n v)) (sym (drop-here ns i other at))
   where
-    by_test : (same : Bool) → set_all_off (if same then cs else set_flag cs other false) (without n (drop (i + 1) ns)) ≡ set_all_off cs (if not same then other ∷ without n (drop (i + 1) ns) else without n (drop (i + 1) ns))
+    by_test : (same : Bool) → set_all_off (if same then cs else set_flag cs other false) (without n (drop (i + 1) ns))
+        ≡ set_all_off cs (if not same then other ∷ without n (drop (i + 1) ns) else without n (drop (i + 1) ns))
     by_test true = refl
     by_test false = refl

@@ -30,11 +30,13 @@ once s i key (l ∷ ls) has among = elim (cases_eq key l.key) [
     behind (inl same) other = absurd (other same)
     behind (inr among) other = among
 
-pub once_in_its_own : (s : Slab Cell) (ends : List (Option Ends)) (links : List (List Link)) (key : ℕ) (c : Cell) → AreChains s ends links → get s key ≡ Some c → times key (get_or links c.place []) ≡ 1
+pub once_in_its_own : (s : Slab Cell) (ends : List (Option Ends)) (links : List (List Link)) (key : ℕ) (c : Cell) → AreChains s ends links → get s key ≡ Some c
+    → times key (get_or links c.place []) ≡ 1
 once_in_its_own s ends links key c are found =
     once s c.place key (get_or links c.place []) (are.chains c.place).cells ((are.chains c.place).all key c found refl)
 
-pub never_in_another : (s : Slab Cell) (ends : List (Option Ends)) (links : List (List Link)) (key i : ℕ) (c : Cell) → AreChains s ends links → get s key ≡ Some c → i ≢ c.place → times key (get_or links i []) ≡ 0
+pub never_in_another : (s : Slab Cell) (ends : List (Option Ends)) (links : List (List Link)) (key i : ℕ) (c : Cell) → AreChains s ends links
+    → get s key ≡ Some c → i ≢ c.place → times key (get_or links i []) ≡ 0
 never_in_another s ends links key i c are found differs =
     never key (get_or links i []) (λ among. differs (sym (placed s i key c (get_or links i []) (are.chains i).cells among found)))
 
@@ -46,6 +48,7 @@ cell_found s i key (l ∷ ls) has (inl same) none =
     absurd (cc clash)
 cell_found s i key (l ∷ ls) has (inr later) none = cell_found s i key ls has.1 later none
 
-pub never_without_a_cell : (s : Slab Cell) (ends : List (Option Ends)) (links : List (List Link)) (key i : ℕ) → AreChains s ends links → get s key ≡ None → times key (get_or links i []) ≡ 0
+pub never_without_a_cell : (s : Slab Cell) (ends : List (Option Ends)) (links : List (List Link)) (key i : ℕ) → AreChains s ends links → get s key ≡ None
+    → times key (get_or links i []) ≡ 0
 never_without_a_cell s ends links key i are none =
     never key (get_or links i []) (λ among. cell_found s i key (get_or links i []) (are.chains i).cells among none)

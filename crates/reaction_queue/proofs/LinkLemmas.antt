@@ -4,7 +4,8 @@ use Rattle.slab.specs.Slab.{Slab, get}
 use Rattle.reaction_queue.specs.declared.reaction.Reaction.{Reaction}
 use Rattle.reaction_queue.specs.declared.chain.Cell.{Cell}
 use Rattle.reaction_queue.specs.declared.chain.Ends.{Ends}
-use Rattle.reaction_queue.specs.Chains.{Link, first_key, last_key, ends_of, ends_behind, with_last, cell_of, HasLinks, IsAmong, IsChain, SameFor, linked, links_from, waiting_in}
+use Rattle.reaction_queue.specs.Chains.{Link, first_key, last_key, ends_of, ends_behind, with_last, cell_of, HasLinks, IsAmong, IsChain, SameFor, linked}
+use Rattle.reaction_queue.specs.Chains.{links_from, waiting_in}
 
 -- what is read in a cell, if there is one
 
@@ -25,7 +26,8 @@ no_links s i (l ∷ ls) is = absurd (let ends = is.between in cc ends)
 pub some_links : (s : Slab Cell) (i : ℕ) (e : Ends) → IsChain s i (Some e) [] → ⊥
 some_links s i e is = absurd (let ends = is.between in cc ends)
 
-pub ends_are : (s : Slab Cell) (i : ℕ) (e : Ends) (l : Link) (ls : List Link) → IsChain s i (Some e) (l ∷ ls) → e ≡ record { first = l.key; last = last_key l.key ls }
+pub ends_are : (s : Slab Cell) (i : ℕ) (e : Ends) (l : Link) (ls : List Link) → IsChain s i (Some e) (l ∷ ls)
+    → e ≡ record { first = l.key; last = last_key l.key ls }
 ends_are s i e l ls is = let ends = is.between in cc ends
 
 -- a link's cell is at the place of the node
@@ -36,7 +38,8 @@ placed s i key c (l ∷ ls) has (inl same) found =
 placed s i key c (l ∷ ls) has (inr later) found = placed s i key c ls has.1 later found
 
 -- links whose cells stay
-pub has_stays : (s t : Slab Cell) (i : ℕ) (ls : List Link) → ((key : ℕ) (c : Cell) → IsAmong key ls → c.place ≡ i → get s key ≡ Some c → get t key ≡ Some c) → HasLinks s i ls → HasLinks t i ls
+pub has_stays : (s t : Slab Cell) (i : ℕ) (ls : List Link) → ((key : ℕ) (c : Cell) → IsAmong key ls → c.place ≡ i → get s key ≡ Some c → get t key ≡ Some c)
+    → HasLinks s i ls → HasLinks t i ls
 has_stays s t i [] stays has = has
 has_stays s t i (l ∷ ls) stays has = (
   stays l.key (cell_of i l (first_key ls)) (inl refl) refl has.0,
@@ -62,7 +65,8 @@ same_length s i j (l ∷ ls) (m ∷ ms) has and_has first =
     ap suc (same_length s i j ls ms has.1 and_has.1 next)
 
 -- so the first key of longer links is not among fewer ones
-pub not_among : (s : Slab Cell) (i j : ℕ) (ms ls : List Link) (key : ℕ) → HasLinks s i ms → HasLinks s j ls → first_key ls ≡ Some key → length ms < length ls → IsAmong key ms → ⊥
+pub not_among : (s : Slab Cell) (i j : ℕ) (ms ls : List Link) (key : ℕ) → HasLinks s i ms → HasLinks s j ls → first_key ls ≡ Some key → length ms < length ls
+    → IsAmong key ms → ⊥
 not_among s i j [] ls key has and_has first shorter among = among
 not_among s i j (m ∷ ms) ls key has and_has first shorter (inl same) =
     omega (arith, same_length s i j (m ∷ ms) ls has and_has (sym (first ∙ ap (λ k. Some k) same)))

@@ -29,7 +29,8 @@ not_last s i j k last next l z found end same =
     let clash : Some next ≡ None = ap next_in (sym found ∙ ap (get s) same ∙ end) in
     absurd (cc clash)
 
-longer_links : (old new : Slab Cell) (i key : ℕ) (w : ℕ × Reaction) (l : Link) (ls : List Link) → GetsLast old new i (last_key l.key ls) key w → HasLinks old i (l ∷ ls) → HasLinks new i (with_last (l ∷ ls) key w)
+longer_links : (old new : Slab Cell) (i key : ℕ) (w : ℕ × Reaction) (l : Link) (ls : List Link) → GetsLast old new i (last_key l.key ls) key w
+    → HasLinks old i (l ∷ ls) → HasLinks new i (with_last (l ∷ ls) key w)
 longer_links old new i key w l [] gets has = (gets.leads l has.0, (gets.there, tt))
 longer_links old new i key w l (m ∷ ms) gets has =
     let z = last_cell old i m ms has.1 in (
@@ -40,13 +41,15 @@ longer_links old new i key w l (m ∷ ms) gets has =
     )
 
 -- the longer chain
-pub longer : (old new : Slab Cell) (i key : ℕ) (w : ℕ × Reaction) (e : Ends) (ls : List Link) → GetsLast old new i e.last key w → IsChain old i (Some e) ls → IsChain new i (Some (record { first = e.first; last = key })) (with_last ls key w)
+pub longer : (old new : Slab Cell) (i key : ℕ) (w : ℕ × Reaction) (e : Ends) (ls : List Link) → GetsLast old new i e.last key w → IsChain old i (Some e) ls
+    → IsChain new i (Some (record { first = e.first; last = key })) (with_last ls key w)
 longer old new i key w e [] gets is = absurd (some_links old i e is)
 longer old new i key w e (l ∷ ls) gets is =
     let ends = ends_are old i e l ls is in
     let at : e.last ≡ last_key l.key ls = ap (λ (x : Ends). x.last) ends in
     record {
-      between = ap (λ (x : Ends). Some (record { first = x.first; last = key })) ends ∙ ap (λ end. Some (record { first = l.key; last = end })) (sym (last_of_longer l.key ls key w));
+      between = ap (λ (x : Ends). Some (record { first = x.first; last = key })) ends
+          ∙ ap (λ end. Some (record { first = l.key; last = end })) (sym (last_of_longer l.key ls key w));
       cells = longer_links old new i key w l ls (subst (λ last. GetsLast old new i last key w) at gets) is.cells;
       all = λ k c found place. elim (cases_eq k key) [
         | inl same ↦ subst (λ x. IsAmong x (with_last (l ∷ ls) key w)) (sym same) (end_among (l ∷ ls) key w)
@@ -58,7 +61,8 @@ longer old new i key w e (l ∷ ls) gets is =
     }
 
 -- the cells of other nodes
-pub longer_others : (old new : Slab Cell) (i j key : ℕ) (w : ℕ × Reaction) (e : Ends) (ls : List Link) → GetsLast old new i e.last key w → IsChain old i (Some e) ls → j ≢ i → SameFor j old new
+pub longer_others : (old new : Slab Cell) (i j key : ℕ) (w : ℕ × Reaction) (e : Ends) (ls : List Link) → GetsLast old new i e.last key w
+    → IsChain old i (Some e) ls → j ≢ i → SameFor j old new
 longer_others old new i j key w e [] gets is differs = absurd (some_links old i e is)
 longer_others old new i j key w e (l ∷ ls) gets is differs =
     let ends = ends_are old i e l ls is in
@@ -77,7 +81,9 @@ longer_others old new i j key w e (l ∷ ls) gets is differs =
     }
 
 -- the first cell of a node
-pub alone : (old new : Slab Cell) (i key : ℕ) (w : ℕ × Reaction) (ls : List Link) → Updates old new key (Some (cell_of i (record { key = key; waits = w }) None)) → IsChain old i None ls → IsChain new i (Some (record { first = key; last = key })) (with_last ls key w)
+pub alone : (old new : Slab Cell) (i key : ℕ) (w : ℕ × Reaction) (ls : List Link)
+    → Updates old new key (Some (cell_of i (record { key = key; waits = w }) None)) → IsChain old i None ls
+    → IsChain new i (Some (record { first = key; last = key })) (with_last ls key w)
 alone old new i key w (l ∷ ls) updates is = absurd (let none = no_links old i (l ∷ ls) is in cc none)
 alone old new i key w [] updates is =
     record {
@@ -90,7 +96,8 @@ alone old new i key w [] updates is =
     }
 
 -- what an insert and the write of a next make of the cells
-pub gets_last : (s t : Slab Cell) (i last key : ℕ) (w : ℕ × Reaction) (d : Cell) → get s key ≡ None → Updates s t key (Some (cell_of i (record { key = key; waits = w }) None)) → Some d ≡ get t last → (last ≡ key → ⊥)
+pub gets_last : (s t : Slab Cell) (i last key : ℕ) (w : ℕ × Reaction) (d : Cell) → get s key ≡ None
+    → Updates s t key (Some (cell_of i (record { key = key; waits = w }) None)) → Some d ≡ get t last → (last ≡ key → ⊥)
     → GetsLast s (with_value t last (record d { next = Some key })) i last key w
 gets_last s t i last key w d none updates found differs =
     let present : ContainsKey t last = subst IsSome found (search rules) in
@@ -115,10 +122,12 @@ last_is_old s i key e (l ∷ ls) none is same =
     vacant s key e.last (cell_of i z.0 None) none (ap (λ (x : Ends). get s x.last) ends ∙ z.1) same
 
 -- and it is there after the insert
-pub last_found : (s t : Slab Cell) (i key : ℕ) (w : ℕ × Reaction) (e : Ends) (ls : List Link) → get s key ≡ None → Updates s t key (Some (cell_of i (record { key = key; waits = w }) None)) → IsChain s i (Some e) ls → None ≡ get t e.last → ⊥
+pub last_found : (s t : Slab Cell) (i key : ℕ) (w : ℕ × Reaction) (e : Ends) (ls : List Link) → get s key ≡ None
+    → Updates s t key (Some (cell_of i (record { key = key; waits = w }) None)) → IsChain s i (Some e) ls → None ≡ get t e.last → ⊥
 last_found s t i key w e [] none updates is lost = absurd (some_links s i e is)
 last_found s t i key w e (l ∷ ls) none updates is lost =
     let ends = ends_are s i e l ls is in
     let z = last_cell s i l ls is.cells in
-    let clash : None ≡ Some (cell_of i z.0 None) = lost ∙ updates.others e.last (last_is_old s i key e (l ∷ ls) none is) ∙ ap (λ (x : Ends). get s x.last) ends ∙ z.1 in
+    let clash : None ≡ Some (cell_of i z.0 None) = lost ∙ updates.others e.last (last_is_old s i key e (l ∷ ls) none is) ∙ ap (λ (x : Ends). get s x.last) ends
+    ∙ z.1 in
     absurd (cc clash)

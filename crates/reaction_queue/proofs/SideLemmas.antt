@@ -1,5 +1,6 @@
 -- The chains of all nodes, side by side.
-use Rattle.std.proofs.Common.{◌≡◌, ◌≢◌, ◌≤◌, ◌<◌, ◌+◌, inl, inr, ℕ, zero, suc, List, [], ◌∷◌, ◌++◌, length, get_or, set, map, refl, ap, sym, subst, ◌∙◌, arith, Option, Some, None}
+use Rattle.std.proofs.Common.{◌≡◌, ◌≢◌, ◌≤◌, ◌<◌, ◌+◌, inl, inr, ℕ, zero, suc, List, [], ◌∷◌, ◌++◌, length, get_or, set, map, refl, ap, sym, subst, ◌∙◌, arith}
+use Rattle.std.proofs.Common.{Option, Some, None}
 use Rattle.std.specs.List.{sum_by}
 use Rattle.std.proofs.lemmas.Bool.{cases_eq}
 use Rattle.std.proofs.lemmas.List.{ext_get_or, get_or-map, get_or-set_other, get_or-set_same, get_or_past, length-append, length-map, length-set}
@@ -84,7 +85,8 @@ one_more s ends links are =
       count = omega (arith, are.count, sum_by_push length links []);
     }
 
-pub padded_chains : (s : Slab Cell) (ends : List (Option Ends)) (links : List (List Link)) (n : ℕ) → AreChains s ends links → AreChains s (padded None ends n) (padded [] links n)
+pub padded_chains : (s : Slab Cell) (ends : List (Option Ends)) (links : List (List Link)) (n : ℕ) → AreChains s ends links
+    → AreChains s (padded None ends n) (padded [] links n)
 padded_chains s ends links zero are = are
 padded_chains s ends links (suc n) are =
     one_more s (padded None ends n) (padded [] links n) (padded_chains s ends links n are)
@@ -99,7 +101,8 @@ padded_view links (suc n) =
     pushed (ls ∷ links) = ap (λ rest. waiting_in ls ∷ rest) (pushed links)
 
 -- the room of a slab is nothing to its chains
-pub with_room : (s t : Slab Cell) (ends : List (Option Ends)) (links : List (List Link)) → t ≡ record s { capacity = t.capacity } → AreChains s ends links → AreChains t ends links
+pub with_room : (s t : Slab Cell) (ends : List (Option Ends)) (links : List (List Link)) → t ≡ record s { capacity = t.capacity } → AreChains s ends links
+    → AreChains t ends links
 with_room s t ends links same are = subst (λ x. AreChains x ends links) (sym same) (room t.capacity)
   where
     room : (n : ℕ) → AreChains (record s { capacity = n }) ends links

@@ -1,5 +1,6 @@
 -- Lists side by side, without the empty ones at the end.
-use Rattle.std.proofs.Common.{◌≡◌, ◌≤◌, ◌<◌, ℕ, zero, suc, List, [], ◌∷◌, ◌++◌, length, get_or, refl, ap, sym, ◌∙◌, arith, Option, Some, None, IfNone, MatchOption}
+use Rattle.std.proofs.Common.{◌≡◌, ◌≤◌, ◌<◌, ℕ, zero, suc, List, [], ◌∷◌, ◌++◌, length, get_or, refl, ap, sym, ◌∙◌, arith, Option, Some, None, IfNone}
+use Rattle.std.proofs.Common.{MatchOption}
 use Rattle.std.specs.Prelude.{slice_set}
 use Rattle.std.proofs.lemmas.List.{get_or-set_same, length-set, set-get_or}
 use Rattle.std.proofs.lemmas.Option.{slice_get-get_or, slice_get_past}
@@ -59,20 +60,24 @@ list_at-set i ls l lt =
     list_at-read i (slice_set ls i l) l (omega (arith, length-set ls i l)) (sym (get_or-set_same ls i l l lt))
 
 -- the first of the list at a place is taken, if there is one
-pub takes_first : {A : Type 0} → (ls : List (List A)) (i : ℕ) (l m : List A) (r : Option A) → i < length ls → l ≡ get_or ls i l → MatchOption r ((l ≡ []) × (m ≡ [])) (λ x. l ≡ x ∷ m)
+pub takes_first : {A : Type 0} → (ls : List (List A)) (i : ℕ) (l m : List A) (r : Option A) → i < length ls → l ≡ get_or ls i l
+    → MatchOption r ((l ≡ []) × (m ≡ [])) (λ x. l ≡ x ∷ m)
     → MatchOption r (list_at i (trimmed ls) ≡ []) (λ x. list_at i (trimmed ls) ≡ x ∷ list_at i (trimmed (slice_set ls i m)))
 takes_first ls i l m None lt read taken = list_at-read i ls l lt read ∙ taken.0
 takes_first ls i l m (Some x) lt read taken =
     list_at-read i ls l lt read ∙ taken ∙ ap (λ xs. x ∷ xs) (sym (list_at-set i ls m lt))
 
-pub takes_others : {A : Type 0} → (ls : List (List A)) (i : ℕ) (l m : List A) (r : Option A) → i < length ls → l ≡ get_or ls i l → MatchOption r ((l ≡ []) × (m ≡ [])) (λ x. l ≡ x ∷ m)
-    → MatchOption r (trimmed (slice_set ls i m) ≡ trimmed ls) (λ x. trimmed (slice_set ls i m) ≡ with_list i (list_at i (trimmed (slice_set ls i m))) (trimmed ls))
+pub takes_others : {A : Type 0} → (ls : List (List A)) (i : ℕ) (l m : List A) (r : Option A) → i < length ls → l ≡ get_or ls i l
+    → MatchOption r ((l ≡ []) × (m ≡ [])) (λ x. l ≡ x ∷ m)
+    → MatchOption r (trimmed (slice_set ls i m) ≡ trimmed ls)
+    (λ x. trimmed (slice_set ls i m) ≡ with_list i (list_at i (trimmed (slice_set ls i m))) (trimmed ls))
 takes_others ls i l m None lt read taken =
     ap trimmed (ap (slice_set ls i) (taken.1 ∙ sym taken.0 ∙ read) ∙ set-get_or ls i l)
 takes_others ls i l m (Some x) lt read taken =
     trimmed-set i m ls lt ∙ ap (λ xs. with_list i xs (trimmed ls)) (sym (list_at-set i ls m lt))
 
-pub takes_none : {A : Type 0} → (ls : List (List A)) (i : ℕ) (l m : List A) (r : Option A) → i < length ls → l ≡ get_or ls i l → MatchOption r ((l ≡ []) × (m ≡ [])) (λ x. l ≡ x ∷ m)
+pub takes_none : {A : Type 0} → (ls : List (List A)) (i : ℕ) (l m : List A) (r : Option A) → i < length ls → l ≡ get_or ls i l
+    → MatchOption r ((l ≡ []) × (m ≡ [])) (λ x. l ≡ x ∷ m)
     → IfNone r (with_list i [] (trimmed ls) ≡ trimmed ls)
 takes_none ls i l m None lt read taken = trimmed-empty i ls (list_at-read i ls l lt read ∙ taken.0)
 takes_none ls i l m (Some x) lt read taken = tt

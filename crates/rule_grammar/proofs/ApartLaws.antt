@@ -23,7 +23,8 @@ places : (a : List Token) (x : Token) (r b : List Token) (y : Token) (s : List T
 places [] x r [] y s e = inl refl
 places [] x r (t ∷ b) y s e = let same : x ≡ t = cc in inr (inl (b, ap (λ (u : Token). u ∷ b) (sym same)))
 places (t ∷ a) x r [] y s e = let same : t ≡ y = cc in inr (inr (a, ap (λ (u : Token). u ∷ a) same))
-places (t ∷ a) x r (u ∷ b) y s e = let same : t ≡ u = cc in let more : a ++ x ∷ r ≡ b ++ y ∷ s = cc in same_first t u a x b y same (further t a x b y (places a x r b y s more))
+places (t ∷ a) x r (u ∷ b) y s e = let same : t ≡ u = cc in let more : a ++ x ∷ r ≡ b ++ y ∷ s =
+    cc in same_first t u a x b y same (further t a x b y (places a x r b y s more))
 
 -- what begins something begins it with each of its fronts
 front_begins : (L : List Token → Type 0) (a : List Token) (x : Token) (m : List Token) → Begins L (a ++ x ∷ m) → Begins L (a ++ x ∷ [])
@@ -39,7 +40,8 @@ whole_begins L ts whole = ([], subst L (sym (append-nil ts)) whole)
 -- ---- one fault at most
 
 -- where tokens begin a whole, none of them stands amiss
-not_amiss : (L : List Token → Type 0) (ts before : List Token) (t : Token) (rest : List Token) → ts ≡ before ++ t ∷ rest → (Begins L (before ++ t ∷ []) → ⊥) → Begins L ts → ⊥
+not_amiss : (L : List Token → Type 0) (ts before : List Token) (t : Token) (rest : List Token) → ts ≡ before ++ t ∷ rest → (Begins L (before ++ t ∷ []) → ⊥)
+    → Begins L ts → ⊥
 not_amiss L ts before t rest is unfit begins = unfit (front_begins L before t rest (subst (Begins L) is begins))
 
 -- two tokens that stand amiss behind what begins a whole stand in one place
@@ -62,7 +64,9 @@ form_has_no_wrong_number L ts whole (inr over) = not_amiss L ts over.before over
 word_or_number : (L : List Token → Type 0) (ts : List Token) → HasWrongWord L ts → HasWrongNumber L ts → ⊥
 word_or_number L ts w (inl lacks) = not_amiss L ts w.before w.token w.rest w.tokens_are w.unfit lacks.0
 word_or_number L ts w (inr over) =
-    let same : w.before ≡ over.before = one_place L ts w.before w.token w.rest over.before over.token over.rest w.tokens_are over.tokens_are w.begins (whole_begins L over.before over.whole) w.unfit over.unfit in
+    let same : w.before ≡ over.before =
+    one_place L ts w.before w.token w.rest over.before over.token over.rest w.tokens_are over.tokens_are w.begins
+    (whole_begins L over.before over.whole) w.unfit over.unfit in
     over.wants (subst (WantsOperand L) same w.wants)
 
 pub one_fault : FaultsAreApart

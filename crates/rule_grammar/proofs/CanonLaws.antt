@@ -1,5 +1,6 @@
 -- What tokens spell is spelled by its canonical tokens too.
-use Rattle.std.proofs.Common.{◌≡◌, ◌≤◌, ℕ, zero, suc, length, arith, Bool, true, false, cond, not, ◌&&◌, List, [], ◌∷◌, ◌++◌, Option, Some, None, refl, sym, ap, subst, ◌⊎◌, inl, inr}
+use Rattle.std.proofs.Common.{◌≡◌, ◌≤◌, ℕ, zero, suc, length, arith, Bool, true, false, cond, not, ◌&&◌, List, [], ◌∷◌, ◌++◌, Option, Some, None, refl, sym, ap}
+use Rattle.std.proofs.Common.{subst, ◌⊎◌, inl, inr}
 use Rattle.std.specs.List.{list_any}
 use Rattle.std.specs.Str.{bytes_eq}
 use Rattle.std.proofs.lemmas.Slice.Eq.{bytes_eq-Decides}
@@ -16,7 +17,8 @@ use Rattle.rule_grammar.specs.Grammar.{Key, Wants, End, One, Pick, Keys, Maybe, 
 use Rattle.rule_grammar.specs.Rows.{forms}
 use Rattle.rule_grammar.specs.Whole.{either}
 use Rattle.rule_grammar.specs.FixedWords.{keyword, spelling}
-use Rattle.rule_grammar.specs.Spells.{Spelling, SpellNothing, SpellOne, SpellMarked, SpellBehind, SpellKeys, SpellMaybe, SpellMany, SpellPairs, Spell, SpellRow, SpellWithin, Spelled}
+use Rattle.rule_grammar.specs.Spells.{Spelling, SpellNothing, SpellOne, SpellMarked, SpellBehind, SpellKeys, SpellMaybe, SpellMany, SpellPairs, Spell, SpellRow}
+use Rattle.rule_grammar.specs.Spells.{SpellWithin, Spelled}
 use Rattle.rule_grammar.proofs.Either.{to_first, to_second}
 use Rattle.std.proofs.lemmas.Bool.{and_parts, or_parts, not-true}
 
@@ -37,7 +39,8 @@ word_token s t e = by t.quoted t.text e
 
 -- ---- an operand
 
-one_again : FlagsAgain → (kind : Kind) (Rest : Spelling) (ts us : List Token) (g : ReadAs) (gs : List ReadAs) → SpellOne kind Rest ts (g ∷ gs) → ((ts : List Token) → Rest ts gs → Rest us gs) → SpellOne kind Rest (tokens_of g ++ us) (g ∷ gs)
+one_again : FlagsAgain → (kind : Kind) (Rest : Spelling) (ts us : List Token) (g : ReadAs) (gs : List ReadAs) → SpellOne kind Rest ts (g ∷ gs)
+    → ((ts : List Token) → Rest ts gs → Rest us gs) → SpellOne kind Rest (tokens_of g ++ us) (g ∷ gs)
 one_again again kind Rest [] us g gs spelled rest = absurd spelled
 one_again again kind Rest (t ∷ ts) us g gs spelled rest = let o = own again kind t g spelled.0 in rw (o.alone) (o.said, rest ts spelled.1)
 
@@ -78,21 +81,27 @@ not_next word [] gs e = refl
 not_next word (key ∷ keys) [] e = refl
 not_next word (key ∷ keys) (g ∷ gs) e = let both = or_parts _ _ e in by both.0 (not_next word keys gs both.1) (keyed_first key.word g)
   where
-    by : bytes_eq (keyword key.word) word ≡ false → begins word (keys_tokens keys gs) ≡ false → (keyed key.word g ≡ []) ⊎ ((ts : List Token) × (keyed key.word g ≡ bare (keyword key.word) ∷ ts)) → begins word (keyed key.word g ++ keys_tokens keys gs) ≡ false
+    by : bytes_eq (keyword key.word) word ≡ false → begins word (keys_tokens keys gs) ≡ false
+        → (keyed key.word g ≡ []) ⊎ ((ts : List Token) × (keyed key.word g ≡ bare (keyword key.word) ∷ ts))
+        → begins word (keyed key.word g ++ keys_tokens keys gs) ≡ false
     by first others (inl is) = rw is others
     by first others (inr (ts, is)) = rw is first
 
-key_skipped : (key : Key) (keys : List Key) (us : List Token) (gs : List ReadAs) → begins (keyword key.word) us ≡ false → SpellKeys keys us gs → SpellKeys (key ∷ keys) us (read_as.NotThere ∷ gs)
+key_skipped : (key : Key) (keys : List Key) (us : List Token) (gs : List ReadAs) → begins (keyword key.word) us ≡ false → SpellKeys keys us gs
+    → SpellKeys (key ∷ keys) us (read_as.NotThere ∷ gs)
 key_skipped key keys [] gs e spelled = (refl, spelled)
 key_skipped key keys (u ∷ us) gs e spelled = to_second (is_word (keyword key.word) u) _ _ e (refl, spelled)
 
-key_taken : FlagsAgain → (key : Key) (keys : List Key) (operand : Option Kind) → key.operand ≡ operand → (ts : List Token) (g : ReadAs) (gs : List ReadAs) → SpellBehind operand (SpellKeys keys) ts (g ∷ gs)
+key_taken : FlagsAgain → (key : Key) (keys : List Key) (operand : Option Kind) → key.operand ≡ operand → (ts : List Token) (g : ReadAs) (gs : List ReadAs)
+    → SpellBehind operand (SpellKeys keys) ts (g ∷ gs)
     → ((ts : List Token) → SpellKeys keys ts gs → SpellKeys keys (keys_tokens keys gs) gs) → SpellKeys (key ∷ keys) (keys_tokens (key ∷ keys) (g ∷ gs)) (g ∷ gs)
 key_taken again key keys None is ts g gs spelled rest = subst (λ (x : ReadAs). SpellKeys (key ∷ keys) (keys_tokens (key ∷ keys) (x ∷ gs)) (x ∷ gs)) spelled.0
-    (to_first (is_word (keyword key.word) (bare (keyword key.word))) _ _ (word_again (keyword key.word)) (subst (λ (o : Option Kind). SpellBehind o (SpellKeys keys) (keys_tokens keys gs) (read_as.There ∷ gs)) (sym is) (refl, rest ts spelled.1)))
+    (to_first (is_word (keyword key.word) (bare (keyword key.word))) _ _ (word_again (keyword key.word))
+    (subst (λ (o : Option Kind). SpellBehind o (SpellKeys keys) (keys_tokens keys gs) (read_as.There ∷ gs)) (sym is) (refl, rest ts spelled.1)))
 key_taken again key keys (Some kind) is [] g gs spelled rest = absurd spelled
 key_taken again key keys (Some kind) is (t ∷ ts) g gs spelled rest = let o = own again kind t g spelled.0 in rw (o.behind key.word)
-    (to_first (is_word (keyword key.word) (bare (keyword key.word))) _ _ (word_again (keyword key.word)) (subst (λ (k : Option Kind). SpellBehind k (SpellKeys keys) (o.token ∷ keys_tokens keys gs) (g ∷ gs)) (sym is) (o.said, rest ts spelled.1)))
+    (to_first (is_word (keyword key.word) (bare (keyword key.word))) _ _ (word_again (keyword key.word))
+    (subst (λ (k : Option Kind). SpellBehind k (SpellKeys keys) (o.token ∷ keys_tokens keys gs) (g ∷ gs)) (sym is) (o.said, rest ts spelled.1)))
 
 none_again : (ts : List Token) (gs : List ReadAs) → SpellNothing ts gs → SpellNothing [] gs
 none_again [] gs spelled = spelled
@@ -107,7 +116,8 @@ nothing_again [] [] spelled = tt
 nothing_again [] (g ∷ gs) spelled = absurd spelled
 nothing_again (t ∷ ts) gs spelled = absurd spelled
 
-key_again : FlagsAgain → (key : Key) (keys : List Key) → named (keyword key.word) keys ≡ false → (ts : List Token) (g : ReadAs) (gs : List ReadAs) → ((ts : List Token) → SpellKeys keys ts gs → SpellKeys keys (keys_tokens keys gs) gs)
+key_again : FlagsAgain → (key : Key) (keys : List Key) → named (keyword key.word) keys ≡ false → (ts : List Token) (g : ReadAs) (gs : List ReadAs)
+    → ((ts : List Token) → SpellKeys keys ts gs → SpellKeys keys (keys_tokens keys gs) gs)
     → SpellKeys (key ∷ keys) ts (g ∷ gs) → SpellKeys (key ∷ keys) (keys_tokens (key ∷ keys) (g ∷ gs)) (g ∷ gs)
 key_again again key keys other ts g gs rest spelled = at ts spelled
   where
@@ -119,11 +129,13 @@ key_again again key keys other ts g gs rest spelled = at ts spelled
     at [] spelled = skip [] spelled
     at (t ∷ ts) spelled = by (is_word (keyword key.word) t) spelled
       where
-        by : (b : Bool) → either b (SpellBehind key.operand (SpellKeys keys) ts (g ∷ gs)) (SpellMarked read_as.NotThere (SpellKeys keys) (t ∷ ts) (g ∷ gs)) → SpellKeys (key ∷ keys) (keys_tokens (key ∷ keys) (g ∷ gs)) (g ∷ gs)
+        by : (b : Bool) → either b (SpellBehind key.operand (SpellKeys keys) ts (g ∷ gs)) (SpellMarked read_as.NotThere (SpellKeys keys) (t ∷ ts) (g ∷ gs))
+            → SpellKeys (key ∷ keys) (keys_tokens (key ∷ keys) (g ∷ gs)) (g ∷ gs)
         by true spelled = key_taken again key keys key.operand refl ts g gs spelled rest
         by false spelled = skip (t ∷ ts) spelled
 
-keys_again : FlagsAgain → (keys : List Key) → keys_apart keys ≡ true → (ts : List Token) (gs : List ReadAs) → SpellKeys keys ts gs → SpellKeys keys (keys_tokens keys gs) gs
+keys_again : FlagsAgain → (keys : List Key) → keys_apart keys ≡ true → (ts : List Token) (gs : List ReadAs) → SpellKeys keys ts gs
+    → SpellKeys keys (keys_tokens keys gs) gs
 keys_again again [] apart ts gs spelled = none_again ts gs spelled
 keys_again again (key ∷ keys) apart ts [] spelled = absurd (none ts spelled)
   where
@@ -222,10 +234,12 @@ fewer : (g : ReadAs) (gs : List ReadAs) (n : ℕ) → length (g ∷ gs) ≤ n �
 fewer g gs n small = omega (arith, small)
 
 mutual
-  wants_again : FlagsAgain → (Action : Spelling) (action : List ReadAs → List Token) (n : ℕ) → SpelledAgain n Action action → (wants : Wants) → apart wants ≡ true → (ts : List Token) (gs : List ReadAs) → length gs ≤ n → Spell Action wants ts gs → Spell Action wants (canon action wants gs) gs
+  wants_again : FlagsAgain → (Action : Spelling) (action : List ReadAs → List Token) (n : ℕ) → SpelledAgain n Action action → (wants : Wants)
+      → apart wants ≡ true → (ts : List Token) (gs : List ReadAs) → length gs ≤ n → Spell Action wants ts gs → Spell Action wants (canon action wants gs) gs
   wants_again again Action action n is End ok ts gs small spelled = nothing_again ts gs spelled
   wants_again again Action action n is (One kind more) ok ts [] small spelled = absurd (one_none kind (Spell Action more) ts spelled)
-  wants_again again Action action n is (One kind more) ok ts (g ∷ gs) small spelled = one_again again kind (Spell Action more) ts (canon action more gs) g gs spelled
+  wants_again again Action action n is (One kind more) ok ts (g ∷ gs) small spelled =
+      one_again again kind (Spell Action more) ts (canon action more gs) g gs spelled
       (λ us rest. wants_again again Action action n is more ok us gs (fewer g gs n small) rest)
   wants_again again Action action n is (Pick rows) ok [] gs small spelled = absurd spelled
   wants_again again Action action n is (Pick rows) ok (t ∷ ts) [] small spelled = absurd (row_none Action rows t ts spelled)
@@ -237,10 +251,14 @@ mutual
   wants_again again Action action n is (Pairs k kind) ok ts gs small spelled = pairs_again again k kind ts gs spelled
   wants_again again Action action n is Inner ok ts gs small spelled = is ts gs small spelled
 
-  row_again : FlagsAgain → (Action : Spelling) (action : List ReadAs → List Token) (n : ℕ) → SpelledAgain n Action action → (rows : Rows) → rows_apart rows ≡ true → (t : Token) (ts : List Token) (g : ReadAs) (gs : List ReadAs) → length gs ≤ n → SpellRow Action rows t ts (g ∷ gs) → RowAgain Action action rows t g gs
-  row_again again Action action n is (LastRow word wants) ok t ts g gs small spelled = by (is_word (spelling word) t) refl (λ rest. wants_again again Action action n is wants ok ts gs small rest) spelled
+  row_again : FlagsAgain → (Action : Spelling) (action : List ReadAs → List Token) (n : ℕ) → SpelledAgain n Action action → (rows : Rows)
+      → rows_apart rows ≡ true → (t : Token) (ts : List Token) (g : ReadAs) (gs : List ReadAs) → length gs ≤ n → SpellRow Action rows t ts (g ∷ gs)
+      → RowAgain Action action rows t g gs
+  row_again again Action action n is (LastRow word wants) ok t ts g gs small spelled =
+      by (is_word (spelling word) t) refl (λ rest. wants_again again Action action n is wants ok ts gs small rest) spelled
     where
-      by : (b : Bool) → is_word (spelling word) t ≡ b → (Spell Action wants ts gs → Spell Action wants (canon action wants gs) gs) → either b (SpellMarked (read_as.Word word) (Spell Action wants) ts (g ∷ gs)) ⊥ → RowAgain Action action (LastRow word wants) t g gs
+      by : (b : Bool) → is_word (spelling word) t ≡ b → (Spell Action wants ts gs → Spell Action wants (canon action wants gs) gs)
+          → either b (SpellMarked (read_as.Word word) (Spell Action wants) ts (g ∷ gs)) ⊥ → RowAgain Action action (LastRow word wants) t g gs
       by true is_it more spelled = record {
         word = word;
         got = sym spelled.0;
@@ -252,9 +270,13 @@ mutual
       by false is_it more spelled = absurd spelled
   row_again again Action action n is (Row word wants rows) ok t ts g gs small spelled =
       let both = and_parts (apart wants) (rows_apart rows) ok in
-      by (is_word (spelling word) t) refl (λ rest. wants_again again Action action n is wants both.0 ts gs small rest) (λ rest. row_again again Action action n is rows both.1 t ts g gs small rest) spelled
+      by (is_word (spelling word) t) refl (λ rest. wants_again again Action action n is wants both.0 ts gs small rest)
+      (λ rest. row_again again Action action n is rows both.1 t ts g gs small rest) spelled
     where
-      by : (b : Bool) → is_word (spelling word) t ≡ b → (Spell Action wants ts gs → Spell Action wants (canon action wants gs) gs) → (SpellRow Action rows t ts (g ∷ gs) → RowAgain Action action rows t g gs) → either b (SpellMarked (read_as.Word word) (Spell Action wants) ts (g ∷ gs)) (SpellRow Action rows t ts (g ∷ gs)) → RowAgain Action action (Row word wants rows) t g gs
+      by : (b : Bool) → is_word (spelling word) t ≡ b → (Spell Action wants ts gs → Spell Action wants (canon action wants gs) gs)
+          → (SpellRow Action rows t ts (g ∷ gs) → RowAgain Action action rows t g gs)
+          → either b (SpellMarked (read_as.Word word) (Spell Action wants) ts (g ∷ gs)) (SpellRow Action rows t ts (g ∷ gs))
+          → RowAgain Action action (Row word wants rows) t g gs
       by true is_it more others spelled = record {
         word = word;
         got = sym spelled.0;
@@ -276,13 +298,15 @@ mutual
 forms_apart : rows_apart forms ≡ true
 forms_apart = refl
 
-within_again : FlagsAgain → (depth n : ℕ) (ts : List Token) (gs : List ReadAs) → length gs ≤ n → SpellWithin depth ts gs → SpellWithin depth (canon_within n gs) gs
+within_again : FlagsAgain → (depth n : ℕ) (ts : List Token) (gs : List ReadAs) → length gs ≤ n → SpellWithin depth ts gs
+    → SpellWithin depth (canon_within n gs) gs
 within_again again zero n ts gs small spelled = absurd spelled
 within_again again (suc depth) n [] gs small spelled = absurd spelled
 within_again again (suc depth) n (t ∷ ts) [] small spelled = absurd (row_none (SpellWithin depth) forms t ts spelled)
 within_again again (suc depth) zero (t ∷ ts) (g ∷ gs) small spelled = absurd (omega (arith, small))
 within_again again (suc depth) (suc n) (t ∷ ts) (g ∷ gs) small spelled =
-    let r = row_again again (SpellWithin depth) (canon_within n) n (λ us hs few inner. within_again again depth n us hs few inner) forms forms_apart t ts g gs (omega (arith, small)) spelled in rw r.tokens r.spelled
+    let r = row_again again (SpellWithin depth) (canon_within n) n (λ us hs few inner. within_again again depth n us hs few inner) forms forms_apart t ts g gs
+    (omega (arith, small)) spelled in rw r.tokens r.spelled
 
 pub spelled_again : FlagsAgain → (ts : List Token) (gs : List ReadAs) → Spelled ts gs → Spelled (canon_tokens gs) gs
 spelled_again again ts gs (depth, spelled) = (depth, within_again again depth (length gs) ts gs (omega arith) spelled)

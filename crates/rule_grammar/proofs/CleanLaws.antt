@@ -1,5 +1,6 @@
 -- The canonical tokens of what is spelled can be written as a line and read again.
-use Rattle.std.proofs.Common.{◌≡◌, ◌≢◌, ◌==◌, ℕ, zero, suc, length, arith, Bool, true, false, cond, not, ◌&&◌, List, [], ◌∷◌, ◌++◌, Option, Some, None, refl, sym, subst}
+use Rattle.std.proofs.Common.{◌≡◌, ◌≢◌, ◌==◌, ℕ, zero, suc, length, arith, Bool, true, false, cond, not, ◌&&◌, List, [], ◌∷◌, ◌++◌, Option, Some, None, refl}
+use Rattle.std.proofs.Common.{sym, subst}
 use Rattle.std.specs.List.{list_all}
 use Rattle.std.specs.Prelude.{nat_lt}
 use Rattle.std.specs.Char.{is_ascii_lowercase, is_ascii_uppercase}
@@ -26,13 +27,15 @@ use Rattle.rule_grammar.specs.declared.keyword.Keyword.{Keyword}
 use Rattle.rule_grammar.specs.declared.keyword.Keyword.TheVariants as keywords
 use Rattle.rule_grammar.specs.declared.word.Word.{Word}
 use Rattle.rule_grammar.specs.declared.word.Word.TheVariants as words
-use Rattle.rule_grammar.specs.Canon.{node_token, value_token, tokens_of, keyed, all_tokens, keys_tokens, is_read_as_word, canon, canon_row, canon_within, canon_tokens}
+use Rattle.rule_grammar.specs.Canon.{node_token, value_token, tokens_of, keyed, all_tokens, keys_tokens, is_read_as_word, canon, canon_row, canon_within}
+use Rattle.rule_grammar.specs.Canon.{canon_tokens}
 use Rattle.rule_grammar.specs.Clean.{IsBareBy, IsBareClean, AreBareClean, IsTextBy, AreTexts}
 use Rattle.rule_grammar.specs.Grammar.{said_as, Key, Wants, End, One, Pick, Keys, Maybe, Many, Pairs, Inner, Rows, LastRow, Row}
 use Rattle.rule_grammar.specs.Rows.{forms}
 use Rattle.rule_grammar.specs.Whole.{either}
 use Rattle.rule_grammar.specs.FixedWords.{keyword, spelling}
-use Rattle.rule_grammar.specs.Spells.{Spelling, SpellNothing, SpellOne, SpellMarked, SpellBehind, SpellKeys, SpellMaybe, SpellMany, SpellPairs, Spell, SpellRow, SpellWithin, Spelled}
+use Rattle.rule_grammar.specs.Spells.{Spelling, SpellNothing, SpellOne, SpellMarked, SpellBehind, SpellKeys, SpellMaybe, SpellMany, SpellPairs, Spell, SpellRow}
+use Rattle.rule_grammar.specs.Spells.{SpellWithin, Spelled}
 
 -- the canonical text of flags that a token names can stand in a bare token
 abbrev pub FlagsClean : Type 0
@@ -198,13 +201,20 @@ value_clean values.Second = ((λ e. cc), refl)
 value_clean values.Third = ((λ e. cc), refl)
 
 operand_clean : FlagsClean → (kind : Kind) (t : Token) (g : ReadAs) → said_as kind t ≡ Some g → AreBareClean (tokens_of g)
-operand_clean clean kinds.Variable t g e = let m = mapped read_as.Variable (variable t) g e in subst (λ (x : ReadAs). AreBareClean (tokens_of x)) m.1.1 (variable_clean m.0 (variable_has t m.0 m.1.0), tt)
-operand_clean clean kinds.Node t g e = let m = mapped read_as.Node (node t) g e in subst (λ (x : ReadAs). AreBareClean (tokens_of x)) m.1.1 (node_clean m.0 (node_has t m.0 m.1.0), tt)
-operand_clean clean kinds.Class t g e = let m = mapped read_as.Class (class_name t) g e in subst (λ (x : ReadAs). AreBareClean (tokens_of x)) m.1.1 (class_bytes m.0 (class_has t m.0 m.1.0), tt)
+operand_clean clean kinds.Variable t g e = let m =
+    mapped read_as.Variable (variable t) g e in subst (λ (x : ReadAs). AreBareClean (tokens_of x)) m.1.1 (variable_clean m.0 (variable_has t m.0 m.1.0), tt)
+operand_clean clean kinds.Node t g e = let m =
+    mapped read_as.Node (node t) g e in subst (λ (x : ReadAs). AreBareClean (tokens_of x)) m.1.1 (node_clean m.0 (node_has t m.0 m.1.0), tt)
+operand_clean clean kinds.Class t g e = let m =
+    mapped read_as.Class (class_name t) g e in subst (λ (x : ReadAs). AreBareClean (tokens_of x)) m.1.1 (class_bytes m.0 (class_has t m.0 m.1.0), tt)
 operand_clean clean kinds.Chars t g e = let m = mapped read_as.Chars (text t) g e in subst (λ (x : ReadAs). AreBareClean (tokens_of x)) m.1.1 (tt, tt)
-operand_clean clean kinds.Value t g e = let m = mapped read_as.Value (value t) g e in subst (λ (x : ReadAs). AreBareClean (tokens_of x)) m.1.1 (value_clean m.0, tt)
-operand_clean clean kinds.Flags t g e = let m = mapped (λ (raised : List Bool). read_as.Flags (record { 0 = raised })) (flags t) g e in subst (λ (x : ReadAs). AreBareClean (tokens_of x)) m.1.1 (clean t m.0 m.1.0, tt)
-operand_clean clean kinds.Callback t g e = let m = mapped read_as.Callback (call_name t) g e in subst (λ (x : ReadAs). AreBareClean (tokens_of x)) m.1.1 (line_word_clean (call_word m.0) (call_line m.0), tt)
+operand_clean clean kinds.Value t g e = let m =
+    mapped read_as.Value (value t) g e in subst (λ (x : ReadAs). AreBareClean (tokens_of x)) m.1.1 (value_clean m.0, tt)
+operand_clean clean kinds.Flags t g e = let m =
+    mapped (λ (raised : List Bool). read_as.Flags (record { 0 = raised })) (flags t) g e in
+    subst (λ (x : ReadAs). AreBareClean (tokens_of x)) m.1.1 (clean t m.0 m.1.0, tt)
+operand_clean clean kinds.Callback t g e = let m =
+    mapped read_as.Callback (call_name t) g e in subst (λ (x : ReadAs). AreBareClean (tokens_of x)) m.1.1 (line_word_clean (call_word m.0) (call_line m.0), tt)
 
 -- ---- what is spelled
 
@@ -222,11 +232,13 @@ one_clean clean kind Rest rest [] gs spelled = absurd spelled
 one_clean clean kind Rest rest (t ∷ ts) [] spelled = absurd spelled
 one_clean clean kind Rest rest (t ∷ ts) (g ∷ gs) spelled = (operand_clean clean kind t g spelled.0, rest ts gs spelled.1)
 
-marked_clean : (mark : ReadAs) → AreBareClean (tokens_of mark) → (Rest : Spelling) → SpellsClean Rest → (ts : List Token) (gs : List ReadAs) → SpellMarked mark Rest ts gs → AllClean gs
+marked_clean : (mark : ReadAs) → AreBareClean (tokens_of mark) → (Rest : Spelling) → SpellsClean Rest → (ts : List Token) (gs : List ReadAs)
+    → SpellMarked mark Rest ts gs → AllClean gs
 marked_clean mark is Rest rest ts [] spelled = absurd spelled
 marked_clean mark is Rest rest ts (g ∷ gs) spelled = (subst (λ (x : ReadAs). AreBareClean (tokens_of x)) spelled.0 is, rest ts gs spelled.1)
 
-behind_clean : FlagsClean → (operand : Option Kind) (Rest : Spelling) → SpellsClean Rest → (ts : List Token) (gs : List ReadAs) → SpellBehind operand Rest ts gs → AllClean gs
+behind_clean : FlagsClean → (operand : Option Kind) (Rest : Spelling) → SpellsClean Rest → (ts : List Token) (gs : List ReadAs)
+    → SpellBehind operand Rest ts gs → AllClean gs
 behind_clean clean None Rest rest ts gs spelled = marked_clean read_as.There tt Rest rest ts gs spelled
 behind_clean clean (Some kind) Rest rest ts gs spelled = one_clean clean kind Rest rest ts gs spelled
 
@@ -240,7 +252,8 @@ keys_clean clean [] ts gs spelled = nothing_clean ts gs spelled
 keys_clean clean (key ∷ keys) [] gs spelled = marked_clean read_as.NotThere tt (SpellKeys keys) (λ us hs more. keys_clean clean keys us hs more) [] gs spelled
 keys_clean clean (key ∷ keys) (t ∷ ts) gs spelled =
     let rest : SpellsClean (SpellKeys keys) = λ us hs more. keys_clean clean keys us hs more in
-    from_either (is_word (keyword key.word) t) _ _ (AllClean gs) (λ x. behind_clean clean key.operand (SpellKeys keys) rest ts gs x) (λ x. marked_clean read_as.NotThere tt (SpellKeys keys) rest (t ∷ ts) gs x) spelled
+    from_either (is_word (keyword key.word) t) _ _ (AllClean gs) (λ x. behind_clean clean key.operand (SpellKeys keys) rest ts gs x)
+    (λ x. marked_clean read_as.NotThere tt (SpellKeys keys) rest (t ∷ ts) gs x) spelled
 
 maybe_clean : FlagsClean → (kind : Kind) (ts : List Token) (gs : List ReadAs) → SpellMaybe kind ts gs → AllClean gs
 maybe_clean clean kind [] gs spelled = marked_clean read_as.NotThere tt SpellNothing nothing_clean [] gs spelled
@@ -250,22 +263,26 @@ many_clean : FlagsClean → (n : ℕ) (kind : Kind) (ts : List Token) (gs : List
 many_clean clean zero kind [] gs spelled = nothing_clean [] gs spelled
 many_clean clean (suc n) kind [] gs spelled = nothing_clean [] gs spelled
 many_clean clean zero kind (t ∷ ts) gs spelled = absurd spelled
-many_clean clean (suc n) kind (t ∷ ts) gs spelled = one_clean clean kind (SpellMany n kind) (λ us hs more. many_clean clean n kind us hs more) (t ∷ ts) gs spelled
+many_clean clean (suc n) kind (t ∷ ts) gs spelled =
+    one_clean clean kind (SpellMany n kind) (λ us hs more. many_clean clean n kind us hs more) (t ∷ ts) gs spelled
 
 pairs_clean : FlagsClean → (n : ℕ) (kind : Kind) (ts : List Token) (gs : List ReadAs) → SpellPairs n kind ts gs → AllClean gs
 pairs_clean clean zero kind [] gs spelled = nothing_clean [] gs spelled
 pairs_clean clean (suc n) kind [] gs spelled = nothing_clean [] gs spelled
 pairs_clean clean zero kind (t ∷ ts) gs spelled = absurd spelled
 pairs_clean clean (suc n) kind (t ∷ ts) gs spelled =
-    one_clean clean kind (SpellOne kind (SpellPairs n kind)) (λ us hs more. one_clean clean kind (SpellPairs n kind) (λ vs is last. pairs_clean clean n kind vs is last) us hs more) (t ∷ ts) gs spelled
+    one_clean clean kind (SpellOne kind (SpellPairs n kind))
+    (λ us hs more. one_clean clean kind (SpellPairs n kind) (λ vs is last. pairs_clean clean n kind vs is last) us hs more) (t ∷ ts) gs spelled
 
 word_clean : (word : Word) → AreBareClean (tokens_of (read_as.Word word))
 word_clean word = (line_word_clean (spelling word) (word_line word), tt)
 
 mutual
-  wants_clean : FlagsClean → (Action : Spelling) → SpellsClean Action → (wants : Wants) (ts : List Token) (gs : List ReadAs) → Spell Action wants ts gs → AllClean gs
+  wants_clean : FlagsClean → (Action : Spelling) → SpellsClean Action → (wants : Wants) (ts : List Token) (gs : List ReadAs) → Spell Action wants ts gs
+      → AllClean gs
   wants_clean clean Action is End ts gs spelled = nothing_clean ts gs spelled
-  wants_clean clean Action is (One kind more) ts gs spelled = one_clean clean kind (Spell Action more) (λ us hs rest. wants_clean clean Action is more us hs rest) ts gs spelled
+  wants_clean clean Action is (One kind more) ts gs spelled =
+      one_clean clean kind (Spell Action more) (λ us hs rest. wants_clean clean Action is more us hs rest) ts gs spelled
   wants_clean clean Action is (Pick rows) [] gs spelled = absurd spelled
   wants_clean clean Action is (Pick rows) (t ∷ ts) gs spelled = row_clean clean Action is rows t ts gs spelled
   wants_clean clean Action is (Keys keys) ts gs spelled = keys_clean clean keys ts gs spelled
@@ -274,15 +291,21 @@ mutual
   wants_clean clean Action is (Pairs n kind) ts gs spelled = pairs_clean clean n kind ts gs spelled
   wants_clean clean Action is Inner ts gs spelled = is ts gs spelled
 
-  row_clean : FlagsClean → (Action : Spelling) → SpellsClean Action → (rows : Rows) (t : Token) (ts : List Token) (gs : List ReadAs) → SpellRow Action rows t ts gs → AllClean gs
+  row_clean : FlagsClean → (Action : Spelling) → SpellsClean Action → (rows : Rows) (t : Token) (ts : List Token) (gs : List ReadAs)
+      → SpellRow Action rows t ts gs → AllClean gs
   row_clean clean Action is (LastRow word wants) t ts gs spelled =
-      from_either (is_word (spelling word) t) _ _ (AllClean gs) (λ x. marked_clean (read_as.Word word) (word_clean word) (Spell Action wants) (λ us hs rest. wants_clean clean Action is wants us hs rest) ts gs x) (λ x. absurd x) spelled
+      from_either (is_word (spelling word) t) _ _ (AllClean gs)
+      (λ x. marked_clean (read_as.Word word) (word_clean word) (Spell Action wants) (λ us hs rest. wants_clean clean Action is wants us hs rest) ts gs x)
+      (λ x. absurd x) spelled
   row_clean clean Action is (Row word wants rows) t ts gs spelled =
-      from_either (is_word (spelling word) t) _ _ (AllClean gs) (λ x. marked_clean (read_as.Word word) (word_clean word) (Spell Action wants) (λ us hs rest. wants_clean clean Action is wants us hs rest) ts gs x) (λ x. row_clean clean Action is rows t ts gs x) spelled
+      from_either (is_word (spelling word) t) _ _ (AllClean gs)
+      (λ x. marked_clean (read_as.Word word) (word_clean word) (Spell Action wants) (λ us hs rest. wants_clean clean Action is wants us hs rest) ts gs x)
+      (λ x. row_clean clean Action is rows t ts gs x) spelled
 
 within_clean : FlagsClean → (depth : ℕ) (ts : List Token) (gs : List ReadAs) → SpellWithin depth ts gs → AllClean gs
 within_clean clean zero ts gs spelled = absurd spelled
-within_clean clean (suc depth) ts gs spelled = wants_clean clean (SpellWithin depth) (λ us hs inner. within_clean clean depth us hs inner) (Pick forms) ts gs spelled
+within_clean clean (suc depth) ts gs spelled =
+    wants_clean clean (SpellWithin depth) (λ us hs inner. within_clean clean depth us hs inner) (Pick forms) ts gs spelled
 
 -- ---- canonical tokens
 
@@ -320,7 +343,8 @@ abbrev CanonClean : (List ReadAs → List Token) → Type 0
 CanonClean action = (gs : List ReadAs) → AllClean gs → AreBareClean (action gs)
 
 mutual
-  canon_clean : (action : List ReadAs → List Token) → CanonClean action → (wants : Wants) (gs : List ReadAs) → AllClean gs → AreBareClean (canon action wants gs)
+  canon_clean : (action : List ReadAs → List Token) → CanonClean action → (wants : Wants) (gs : List ReadAs) → AllClean gs
+      → AreBareClean (canon action wants gs)
   canon_clean action is End gs are = all_clean gs are
   canon_clean action is (One kind more) [] are = tt
   canon_clean action is (One kind more) (g ∷ gs) are = both_clean (tokens_of g) (canon action more gs) are.0 (canon_clean action is more gs are.1)
@@ -332,10 +356,12 @@ mutual
   canon_clean action is (Pairs n kind) gs are = all_clean gs are
   canon_clean action is Inner gs are = is gs are
 
-  canon_row_clean : (action : List ReadAs → List Token) → CanonClean action → (rows : Rows) (g : ReadAs) (gs : List ReadAs) → AreBareClean (tokens_of g) → AllClean gs → AreBareClean (canon_row action rows g gs)
+  canon_row_clean : (action : List ReadAs → List Token) → CanonClean action → (rows : Rows) (g : ReadAs) (gs : List ReadAs) → AreBareClean (tokens_of g)
+      → AllClean gs → AreBareClean (canon_row action rows g gs)
   canon_row_clean action is (LastRow word wants) g gs one are = both_clean (tokens_of g) (canon action wants gs) one (canon_clean action is wants gs are)
   canon_row_clean action is (Row word wants rows) g gs one are =
-      cond_clean (is_read_as_word word g) (tokens_of g ++ canon action wants gs) (canon_row action rows g gs) (both_clean (tokens_of g) (canon action wants gs) one (canon_clean action is wants gs are)) (canon_row_clean action is rows g gs one are)
+      cond_clean (is_read_as_word word g) (tokens_of g ++ canon action wants gs) (canon_row action rows g gs)
+      (both_clean (tokens_of g) (canon action wants gs) one (canon_clean action is wants gs are)) (canon_row_clean action is rows g gs one are)
 
 canon_within_clean : (n : ℕ) (gs : List ReadAs) → AllClean gs → AreBareClean (canon_within n gs)
 canon_within_clean zero gs are = tt
@@ -352,8 +378,11 @@ marked_word word Rest ts [] spelled = absurd spelled
 marked_word word Rest ts (g ∷ gs) spelled = (word, gs, rw spelled.0 refl)
 
 row_word : (Action : Spelling) (rows : Rows) (t : Token) (ts : List Token) (gs : List ReadAs) → SpellRow Action rows t ts gs → BeginsWord gs
-row_word Action (LastRow word wants) t ts gs spelled = from_either (is_word (spelling word) t) _ _ (BeginsWord gs) (λ x. marked_word word (Spell Action wants) ts gs x) (λ x. absurd x) spelled
-row_word Action (Row word wants rows) t ts gs spelled = from_either (is_word (spelling word) t) _ _ (BeginsWord gs) (λ x. marked_word word (Spell Action wants) ts gs x) (λ x. row_word Action rows t ts gs x) spelled
+row_word Action (LastRow word wants) t ts gs spelled =
+    from_either (is_word (spelling word) t) _ _ (BeginsWord gs) (λ x. marked_word word (Spell Action wants) ts gs x) (λ x. absurd x) spelled
+row_word Action (Row word wants rows) t ts gs spelled =
+    from_either (is_word (spelling word) t) _ _ (BeginsWord gs) (λ x. marked_word word (Spell Action wants) ts gs x)
+    (λ x. row_word Action rows t ts gs x) spelled
 
 within_word : (depth : ℕ) (ts : List Token) (gs : List ReadAs) → SpellWithin depth ts gs → BeginsWord gs
 within_word zero ts gs spelled = absurd spelled
@@ -367,7 +396,8 @@ cond_line false ts us one two = two
 row_line : (action : List ReadAs → List Token) (rows : Rows) (word : Word) (gs : List ReadAs) → IsLine (canon_row action rows (read_as.Word word) gs)
 row_line action (LastRow other wants) word gs = (refl, line_word_begins (spelling word) (word_line word))
 row_line action (Row other wants rows) word gs =
-    cond_line (is_read_as_word other (read_as.Word word)) (tokens_of (read_as.Word word) ++ canon action wants gs) (canon_row action rows (read_as.Word word) gs) (refl, line_word_begins (spelling word) (word_line word)) (row_line action rows word gs)
+    cond_line (is_read_as_word other (read_as.Word word)) (tokens_of (read_as.Word word) ++ canon action wants gs)
+    (canon_row action rows (read_as.Word word) gs) (refl, line_word_begins (spelling word) (word_line word)) (row_line action rows word gs)
 
 canon_line : (gs : List ReadAs) → BeginsWord gs → IsLine (canon_tokens gs)
 canon_line gs (word, rest, is) = subst (λ (hs : List ReadAs). IsLine (canon_tokens hs)) (sym is) (row_line (canon_within (length rest)) forms word rest)
@@ -382,5 +412,9 @@ are_clean : (ts : List Token) → AreBareClean ts → AreTexts ts → AreClean t
 are_clean [] one two = tt
 are_clean (t ∷ ts) one two = (clean_by t.quoted t.text one.0 two.0, are_clean ts one.1 two.1)
 
-pub canonical_clean : FlagsClean → (ts : List Token) (gs : List ReadAs) → Spelled ts gs → AreTexts (canon_tokens gs) → AreClean (canon_tokens gs) × IsLine (canon_tokens gs)
-canonical_clean clean ts gs (depth, spelled) texts = (are_clean (canon_tokens gs) (canon_within_clean (length gs) gs (within_clean clean depth ts gs spelled)) texts, canon_line gs (within_word depth ts gs spelled))
+pub canonical_clean : FlagsClean → (ts : List Token) (gs : List ReadAs) → Spelled ts gs → AreTexts (canon_tokens gs)
+    → AreClean (canon_tokens gs) × IsLine (canon_tokens gs)
+canonical_clean clean ts gs (depth, spelled) texts = (
+  are_clean (canon_tokens gs) (canon_within_clean (length gs) gs (within_clean clean depth ts gs spelled)) texts,
+  canon_line gs (within_word depth ts gs spelled),
+)

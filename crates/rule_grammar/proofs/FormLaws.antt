@@ -10,7 +10,8 @@ use Rattle.rule_grammar.specs.Laws.{IsAnswer, FormsAreRead}
 use Rattle.rule_grammar.specs.Read.{Reads, read_within, read_tokens}
 use Rattle.rule_grammar.specs.Rows.{forms}
 use Rattle.rule_grammar.specs.Whole.{either, Whole, WholeRow, FormWithin, IsForm, Begins}
-use Rattle.rule_grammar.proofs.ReadLaws.{Says, rows_say}
+use Rattle.rule_grammar.proofs.Behind.{Says}
+use Rattle.rule_grammar.proofs.ReadLaws.{rows_say}
 
 -- ---- what is whole for some actions is whole for more
 
@@ -32,9 +33,13 @@ mutual
   whole_map A B also (Pairs n kind) ts whole = whole
   whole_map A B also Inner ts whole = also ts whole
 
-  row_map : (A B : List Token → Type 0) → ((ts : List Token) → A ts → B ts) → (rows : Rows) (t : Token) (ts : List Token) → WholeRow A rows t ts → WholeRow B rows t ts
-  row_map A B also (LastRow word wants) t ts whole = either_map (is_word (spelling word) t) (Whole A wants ts) ⊥ (Whole B wants ts) ⊥ (λ w. whole_map A B also wants ts w) (λ w. w) whole
-  row_map A B also (Row word wants rows) t ts whole = either_map (is_word (spelling word) t) (Whole A wants ts) (WholeRow A rows t ts) (Whole B wants ts) (WholeRow B rows t ts) (λ w. whole_map A B also wants ts w) (λ w. row_map A B also rows t ts w) whole
+  row_map : (A B : List Token → Type 0) → ((ts : List Token) → A ts → B ts) → (rows : Rows) (t : Token) (ts : List Token) → WholeRow A rows t ts
+      → WholeRow B rows t ts
+  row_map A B also (LastRow word wants) t ts whole =
+      either_map (is_word (spelling word) t) (Whole A wants ts) ⊥ (Whole B wants ts) ⊥ (λ w. whole_map A B also wants ts w) (λ w. w) whole
+  row_map A B also (Row word wants rows) t ts whole =
+      either_map (is_word (spelling word) t) (Whole A wants ts) (WholeRow A rows t ts) (Whole B wants ts) (WholeRow B rows t ts)
+      (λ w. whole_map A B also wants ts w) (λ w. row_map A B also rows t ts w) whole
 
 -- ---- a form is a whole of the table, and only that
 
@@ -60,8 +65,12 @@ mutual
   whole_at Inner ts whole = whole
 
   row_at : (rows : Rows) (t : Token) (ts : List Token) → WholeRow IsForm rows t ts → (depth : ℕ) × WholeRow (FormWithin depth) rows t ts
-  row_at (LastRow word wants) t ts whole = some_either (is_word (spelling word) t) (λ n. Whole (FormWithin n) wants ts) (λ n. ⊥) (Whole IsForm wants ts) ⊥ (λ w. whole_at wants ts w) (λ w. absurd w) whole
-  row_at (Row word wants rows) t ts whole = some_either (is_word (spelling word) t) (λ n. Whole (FormWithin n) wants ts) (λ n. WholeRow (FormWithin n) rows t ts) (Whole IsForm wants ts) (WholeRow IsForm rows t ts) (λ w. whole_at wants ts w) (λ w. row_at rows t ts w) whole
+  row_at (LastRow word wants) t ts whole =
+      some_either (is_word (spelling word) t) (λ n. Whole (FormWithin n) wants ts) (λ n. ⊥) (Whole IsForm wants ts) ⊥ (λ w. whole_at wants ts w)
+      (λ w. absurd w) whole
+  row_at (Row word wants rows) t ts whole =
+      some_either (is_word (spelling word) t) (λ n. Whole (FormWithin n) wants ts) (λ n. WholeRow (FormWithin n) rows t ts) (Whole IsForm wants ts)
+      (WholeRow IsForm rows t ts) (λ w. whole_at wants ts w) (λ w. row_at rows t ts w) whole
 
 form_less : (t : Token) (ts : List Token) → IsForm (t ∷ ts) → WholeRow IsForm forms t ts
 form_less t ts (zero, form) = absurd form
@@ -90,7 +99,9 @@ form_begins = (bump, bump_is)
 says_within : (n : ℕ) (ts : List Token) → length ts < n → Says IsForm ts (read_within n ts)
 says_within zero ts small = absurd (omega (arith, small))
 says_within (suc n) [] small = inl (form_begins, no_form)
-says_within (suc n) (t ∷ ts) small = rows_say IsForm (read_within n) n (record { says = λ us few. says_within n us few; some = bump; is_action = bump_is }) forms IsForm t ts (omega (arith, small))
+says_within (suc n) (t ∷ ts) small =
+    rows_say IsForm (read_within n) n (record { says = λ us few. says_within n us few; some = bump; is_action = bump_is }) forms IsForm t ts
+    (omega (arith, small))
     (record { behind = record { less = form_less t; more = form_more t }; begins = form_begins; part = no_form })
 
 answer : (ts : List Token) (r : Reads) → Says IsForm ts r → IsAnswer ts r

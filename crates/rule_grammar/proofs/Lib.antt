@@ -1,4 +1,5 @@
 pub mod Either
+pub mod Behind
 pub mod ReadLaws
 pub mod FormLaws
 pub mod SpellLaws

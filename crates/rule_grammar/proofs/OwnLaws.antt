@@ -66,14 +66,16 @@ own_node (operands.Variable v) is = record { token = bare (36 ∷ v); alone = re
 pub node_has : (t : Token) (place : Operand) → node t ≡ Some place → (v : List ℕ) → place ≡ operands.Variable v → is_variable v ≡ true
 node_has t place e v same = at (is_word _ t) (is_word _ t) e
   where
-    at : (doc this : Bool) → cond doc (Some operands.Doc) (cond this (Some operands.This) (option_map operands.Variable (variable t))) ≡ Some place → is_variable v ≡ true
+    at : (doc this : Bool) → cond doc (Some operands.Doc) (cond this (Some operands.This) (option_map operands.Variable (variable t))) ≡ Some place
+        → is_variable v ≡ true
     at true this read = let clash : operands.Doc ≡ operands.Variable v = cc in absurd cc
     at false true read = let clash : operands.This ≡ operands.Variable v = cc in absurd cc
     at false false read = by (variable t) refl read
       where
         by : (o : Option (List ℕ)) → variable t ≡ o → option_map operands.Variable o ≡ Some place → is_variable v ≡ true
         by None is read = absurd cc
-        by (Some w) is read = let both : operands.Variable w ≡ operands.Variable v = cc in let w_is : w ≡ v = cc in subst (λ (x : List ℕ). is_variable x ≡ true) w_is (variable_has t w is)
+        by (Some w) is read = let both : operands.Variable w ≡ operands.Variable v = cc in let w_is : w ≡ v =
+            cc in subst (λ (x : List ℕ). is_variable x ≡ true) w_is (variable_has t w is)
 
 pub class_has : (t : Token) (name : List ℕ) → class_name t ≡ Some name → is_class name ≡ true
 class_has t name e = at (t.quoted) (is_class t.text) refl e
@@ -101,10 +103,13 @@ own_flags : FlagsAgain → (t : Token) (raised : List Bool) → flags t ≡ Some
 own_flags again t raised e = record { token = bare (flags_text raised); alone = refl; behind = λ word. refl; said = rw (again t raised e) refl }
 
 pub own : FlagsAgain → (kind : Kind) (t : Token) (g : ReadAs) → said_as kind t ≡ Some g → Own kind g
-own again kinds.Variable t g e = let m = mapped read_as.Variable (variable t) g e in subst (Own kinds.Variable) m.1.1 (own_variable m.0 (variable_has t m.0 m.1.0))
+own again kinds.Variable t g e = let m =
+    mapped read_as.Variable (variable t) g e in subst (Own kinds.Variable) m.1.1 (own_variable m.0 (variable_has t m.0 m.1.0))
 own again kinds.Node t g e = let m = mapped read_as.Node (node t) g e in subst (Own kinds.Node) m.1.1 (own_node m.0 (node_has t m.0 m.1.0))
 own again kinds.Class t g e = let m = mapped read_as.Class (class_name t) g e in subst (Own kinds.Class) m.1.1 (own_class m.0 (class_has t m.0 m.1.0))
-own again kinds.Chars t g e = let m = mapped read_as.Chars (text t) g e in subst (Own kinds.Chars) m.1.1 (record { token = quoted m.0; alone = refl; behind = λ word. refl; said = refl })
+own again kinds.Chars t g e = let m =
+    mapped read_as.Chars (text t) g e in subst (Own kinds.Chars) m.1.1 (record { token = quoted m.0; alone = refl; behind = λ word. refl; said = refl })
 own again kinds.Value t g e = let m = mapped read_as.Value (value t) g e in subst (Own kinds.Value) m.1.1 (own_value m.0)
-own again kinds.Flags t g e = let m = mapped (λ (raised : List Bool). read_as.Flags (record { 0 = raised })) (flags t) g e in subst (Own kinds.Flags) m.1.1 (own_flags again t m.0 m.1.0)
+own again kinds.Flags t g e = let m =
+    mapped (λ (raised : List Bool). read_as.Flags (record { 0 = raised })) (flags t) g e in subst (Own kinds.Flags) m.1.1 (own_flags again t m.0 m.1.0)
 own again kinds.Callback t g e = let m = mapped read_as.Callback (call_name t) g e in subst (Own kinds.Callback) m.1.1 (own_callback m.0)

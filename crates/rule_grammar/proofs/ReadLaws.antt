@@ -1,5 +1,6 @@
 -- What a reading answers is the case that holds.
-use Rattle.std.proofs.Common.{◌≡◌, ◌<◌, ℕ, zero, suc, length, arith, Bool, true, false, cond, ◌||◌, List, [], ◌∷◌, ◌++◌, Option, Some, None, Ok, Err, refl, sym, ap, ◌∙◌, inl, inr}
+use Rattle.std.proofs.Common.{◌≡◌, ◌<◌, ℕ, zero, suc, length, arith, Bool, true, false, cond, ◌||◌, List, [], ◌∷◌, ◌++◌, Option, Some, None, Ok, Err, refl, sym}
+use Rattle.std.proofs.Common.{ap, ◌∙◌, inl, inr}
 use Rattle.std.specs.Prelude.{codes}
 use Rattle.std.proofs.lemmas.Slice.Eq.{bytes_eq-Decides}
 use Rattle.rule_tokens.specs.declared.refused.Bad.TheVariants.{Long, Utf8, Quote, Escape, Word as BadWord, Arity, Place}
@@ -16,90 +17,11 @@ use Rattle.rule_grammar.specs.declared.word.Word.{Word}
 use Rattle.rule_grammar.specs.FixedWords.{keyword, spelling}
 use Rattle.rule_grammar.specs.Grammar.{said_as, Key, Wants, End, One, Pick, Keys, Maybe, Many, Pairs, Inner, Rows, LastRow, Row}
 use Rattle.rule_grammar.specs.Read.{Reads, then_read_as, behind_key, read_keys, read_maybe, read_many, read_pairs, read, read_row}
-use Rattle.rule_grammar.specs.Whole.{Fits, BehindKey, WholeKeys, WholeMaybe, WholeMany, WholePairs, Whole, WholeRow, Begins, is_keyword, WantsOperand, HasWrongWord, HasOneOver, HasWrongNumber}
+use Rattle.rule_grammar.specs.Whole.{Fits, BehindKey, WholeKeys, WholeMaybe, WholeMany, WholePairs, Whole, WholeRow, Begins, is_keyword, WantsOperand}
+use Rattle.rule_grammar.specs.Whole.{HasWrongWord, HasOneOver, HasWrongNumber}
 use Rattle.rule_grammar.proofs.Either.{first_of, to_first, second_of, to_second}
 use Rattle.std.proofs.lemmas.Bool.{or_left, or_right}
-
-abbrev pub Says : (List Token → Type 0) → List Token → Reads → Type 0
-Says L ts (Ok read_as) = L ts
-Says L ts (Err Long) = ⊥
-Says L ts (Err Utf8) = ⊥
-Says L ts (Err Quote) = ⊥
-Says L ts (Err Escape) = ⊥
-Says L ts (Err BadWord) = HasWrongWord L ts
-Says L ts (Err Arity) = HasWrongNumber L ts
-Says L ts (Err Place) = ⊥
-
--- ---- behind one more token
-
--- what is whole behind the token is whole with it, and only that
-pub record Behind (L M : List Token → Type 0) (t : Token) : Type 0 where
-  pub less : (ts : List Token) → L (t ∷ ts) → M ts
-  pub more : (ts : List Token) → M ts → L (t ∷ ts)
-
-begins_more : (L M : List Token → Type 0) (t : Token) → Behind L M t → (ts : List Token) → Begins M ts → Begins L (t ∷ ts)
-begins_more L M t behind ts (rest, whole) = (rest, behind.more (ts ++ rest) whole)
-
-begins_less : (L M : List Token → Type 0) (t : Token) → Behind L M t → (ts : List Token) → Begins L (t ∷ ts) → Begins M ts
-begins_less L M t behind ts (rest, whole) = (rest, behind.less (ts ++ rest) whole)
-
-wants_more : (L M : List Token → Type 0) (t : Token) → Behind L M t → (ts : List Token) → WantsOperand M ts → WantsOperand L (t ∷ ts)
-wants_more L M t behind ts (inl part) = inl (λ whole. part (behind.less ts whole))
-wants_more L M t behind ts (inr (u, (plain, begins))) = inr (u, (plain, begins_more L M t behind (ts ++ u ∷ []) begins))
-
-wants_less : (L M : List Token → Type 0) (t : Token) → Behind L M t → (ts : List Token) → WantsOperand L (t ∷ ts) → WantsOperand M ts
-wants_less L M t behind ts (inl part) = inl (λ whole. part (behind.more ts whole))
-wants_less L M t behind ts (inr (u, (plain, begins))) = inr (u, (plain, begins_less L M t behind (ts ++ u ∷ []) begins))
-
-one_more : (t : Token) (ts us : List Token) → ts ≡ us → t ∷ ts ≡ t ∷ us
-one_more t ts us is = ap (λ (l : List Token). t ∷ l) is
-
-wrong_more : (L M : List Token → Type 0) (t : Token) → Behind L M t → (ts : List Token) → HasWrongWord M ts → HasWrongWord L (t ∷ ts)
-wrong_more L M t behind ts w = record {
-  before = t ∷ w.before;
-  token = w.token;
-  rest = w.rest;
-  tokens_are = one_more t ts (w.before ++ w.token ∷ w.rest) w.tokens_are;
-  begins = begins_more L M t behind w.before w.begins;
-  wants = wants_more L M t behind w.before w.wants;
-  unfit = λ b. w.unfit (begins_less L M t behind (w.before ++ w.token ∷ []) b);
-}
-
-number_more : (L M : List Token → Type 0) (t : Token) → Behind L M t → (ts : List Token) → HasWrongNumber M ts → HasWrongNumber L (t ∷ ts)
-number_more L M t behind ts (inl lacks) = inl (begins_more L M t behind ts lacks.0, λ whole. lacks.1 (behind.less ts whole))
-number_more L M t behind ts (inr w) = inr (record {
-  before = t ∷ w.before;
-  token = w.token;
-  rest = w.rest;
-  tokens_are = one_more t ts (w.before ++ w.token ∷ w.rest) w.tokens_are;
-  whole = behind.more w.before w.whole;
-  wants = λ b. w.wants (wants_less L M t behind w.before b);
-  unfit = λ b. w.unfit (begins_less L M t behind (w.before ++ w.token ∷ []) b);
-})
-
-says_behind : (L M : List Token → Type 0) (t : Token) → Behind L M t → (ts : List Token) (r : Reads) → Says M ts r → Says L (t ∷ ts) r
-says_behind L M t behind ts (Ok read_as) says = behind.more ts says
-says_behind L M t behind ts (Err Long) says = says
-says_behind L M t behind ts (Err Utf8) says = says
-says_behind L M t behind ts (Err Quote) says = says
-says_behind L M t behind ts (Err Escape) says = says
-says_behind L M t behind ts (Err BadWord) says = wrong_more L M t behind ts says
-says_behind L M t behind ts (Err Arity) says = number_more L M t behind ts says
-says_behind L M t behind ts (Err Place) says = says
-
--- with more operands in front the case is the same
-says_front : (L : List Token → Type 0) (ts : List Token) (front : List ReadAs) (r : Reads) → Says L ts r → Says L ts (with_front front r)
-says_front L ts front (Ok read_as) says = says
-says_front L ts front (Err Long) says = says
-says_front L ts front (Err Utf8) says = says
-says_front L ts front (Err Quote) says = says
-says_front L ts front (Err Escape) says = says
-says_front L ts front (Err BadWord) says = says
-says_front L ts front (Err Arity) says = says
-says_front L ts front (Err Place) says = says
-
-says_more : (L M : List Token → Type 0) (t : Token) → Behind L M t → (g : ReadAs) (ts : List Token) (r : Reads) → Says M ts r → Says L (t ∷ ts) (with_front (g ∷ []) r)
-says_more L M t behind g ts r says = says_front L (t ∷ ts) (g ∷ []) r (says_behind L M t behind ts r says)
+use Rattle.rule_grammar.proofs.Behind.{Says, Behind, says_behind, says_front, says_more}
 
 -- ---- at the first token
 
@@ -157,16 +79,35 @@ keys_none (key ∷ keys) = tt
 
 -- a keyword is one
 keyword_is : (k : Keyword) (t : Token) → is_word (keyword k) t ≡ true → is_keyword t ≡ true
-keyword_is keywords.Is t is = or_left (is_word (codes "is") t) (is_word (codes "in") t || (is_word (codes "extends") t || (is_word (codes "state") t || (is_word (codes "deep") t || false)))) is
-keyword_is keywords.In t is = or_right (is_word (codes "is") t) (is_word (codes "in") t || (is_word (codes "extends") t || (is_word (codes "state") t || (is_word (codes "deep") t || false)))) (or_left (is_word (codes "in") t) (is_word (codes "extends") t || (is_word (codes "state") t || (is_word (codes "deep") t || false))) is)
-keyword_is keywords.Extends t is = or_right (is_word (codes "is") t) (is_word (codes "in") t || (is_word (codes "extends") t || (is_word (codes "state") t || (is_word (codes "deep") t || false)))) (or_right (is_word (codes "in") t) (is_word (codes "extends") t || (is_word (codes "state") t || (is_word (codes "deep") t || false))) (or_left (is_word (codes "extends") t) (is_word (codes "state") t || (is_word (codes "deep") t || false)) is))
-keyword_is keywords.State t is = or_right (is_word (codes "is") t) (is_word (codes "in") t || (is_word (codes "extends") t || (is_word (codes "state") t || (is_word (codes "deep") t || false)))) (or_right (is_word (codes "in") t) (is_word (codes "extends") t || (is_word (codes "state") t || (is_word (codes "deep") t || false))) (or_right (is_word (codes "extends") t) (is_word (codes "state") t || (is_word (codes "deep") t || false)) (or_left (is_word (codes "state") t) (is_word (codes "deep") t || false) is)))
-keyword_is keywords.Deep t is = or_right (is_word (codes "is") t) (is_word (codes "in") t || (is_word (codes "extends") t || (is_word (codes "state") t || (is_word (codes "deep") t || false)))) (or_right (is_word (codes "in") t) (is_word (codes "extends") t || (is_word (codes "state") t || (is_word (codes "deep") t || false))) (or_right (is_word (codes "extends") t) (is_word (codes "state") t || (is_word (codes "deep") t || false)) (or_right (is_word (codes "state") t) (is_word (codes "deep") t || false) (or_left (is_word (codes "deep") t) false is))))
+keyword_is keywords.Is t is = or_left (is_word (codes "is") t)
+    (is_word (codes "in") t || (is_word (codes "extends") t || (is_word (codes "state") t || (is_word (codes "deep") t || false)))) is
+keyword_is keywords.In t is = or_right (is_word (codes "is") t)
+    (is_word (codes "in") t || (is_word (codes "extends") t || (is_word (codes "state") t || (is_word (codes "deep") t || false))))
+    (or_left (is_word (codes "in") t) (is_word (codes "extends") t || (is_word (codes "state") t || (is_word (codes "deep") t || false))) is)
+keyword_is keywords.Extends t is =
+    or_right (is_word (codes "is") t)
+    (is_word (codes "in") t || (is_word (codes "extends") t || (is_word (codes "state") t || (is_word (codes "deep") t || false))))
+    (or_right (is_word (codes "in") t) (is_word (codes "extends") t || (is_word (codes "state") t || (is_word (codes "deep") t || false)))
+    (or_left (is_word (codes "extends") t) (is_word (codes "state") t || (is_word (codes "deep") t || false)) is))
+keyword_is keywords.State t is =
+    or_right (is_word (codes "is") t)
+    (is_word (codes "in") t || (is_word (codes "extends") t || (is_word (codes "state") t || (is_word (codes "deep") t || false))))
+    (or_right (is_word (codes "in") t) (is_word (codes "extends") t || (is_word (codes "state") t || (is_word (codes "deep") t || false)))
+    (or_right (is_word (codes "extends") t) (is_word (codes "state") t || (is_word (codes "deep") t || false))
+    (or_left (is_word (codes "state") t) (is_word (codes "deep") t || false) is)))
+keyword_is keywords.Deep t is =
+    or_right (is_word (codes "is") t)
+    (is_word (codes "in") t || (is_word (codes "extends") t || (is_word (codes "state") t || (is_word (codes "deep") t || false))))
+    (or_right (is_word (codes "in") t) (is_word (codes "extends") t || (is_word (codes "state") t || (is_word (codes "deep") t || false)))
+    (or_right (is_word (codes "extends") t) (is_word (codes "state") t || (is_word (codes "deep") t || false))
+    (or_right (is_word (codes "state") t) (is_word (codes "deep") t || false) (or_left (is_word (codes "deep") t) false is))))
 
 -- nothing but a keyword begins optional parts
-keys_begin_by : (b : Bool) (key : Key) (keys : List Key) (t : Token) (ts : List Token) → is_word (keyword key.word) t ≡ b → WholeKeys (key ∷ keys) (t ∷ ts) → (WholeKeys keys (t ∷ ts) → is_keyword t ≡ true) → is_keyword t ≡ true
+keys_begin_by : (b : Bool) (key : Key) (keys : List Key) (t : Token) (ts : List Token) → is_word (keyword key.word) t ≡ b → WholeKeys (key ∷ keys) (t ∷ ts)
+    → (WholeKeys keys (t ∷ ts) → is_keyword t ≡ true) → is_keyword t ≡ true
 keys_begin_by true key keys t ts is whole others = keyword_is key.word t is
-keys_begin_by false key keys t ts is whole others = others (second_of (is_word (keyword key.word) t) (BehindKey key.operand (WholeKeys keys) ts) (WholeKeys keys (t ∷ ts)) is whole)
+keys_begin_by false key keys t ts is whole others =
+    others (second_of (is_word (keyword key.word) t) (BehindKey key.operand (WholeKeys keys) ts) (WholeKeys keys (t ∷ ts)) is whole)
 
 keys_begin : (keys : List Key) (t : Token) (ts : List Token) → WholeKeys keys (t ∷ ts) → is_keyword t ≡ true
 keys_begin [] t ts whole = absurd whole
@@ -190,36 +131,65 @@ also_begins L M t also x is ts (rest, whole) = (rest, also.more x is (ts ++ rest
 also_less : (L M : List Token → Type 0) (t : Token) → AlsoAt L M t → (x : Token) → x ≡ t → (ts : List Token) → Begins L (x ∷ ts) → Begins M (x ∷ ts)
 also_less L M t also x is ts (rest, whole) = (rest, also.less x is (ts ++ rest) whole)
 
-also_wants : (L M : List Token → Type 0) (t : Token) → AlsoAt L M t → (x : Token) → x ≡ t → (ts : List Token) → WantsOperand M (x ∷ ts) → WantsOperand L (x ∷ ts)
+also_wants : (L M : List Token → Type 0) (t : Token) → AlsoAt L M t → (x : Token) → x ≡ t → (ts : List Token) → WantsOperand M (x ∷ ts)
+    → WantsOperand L (x ∷ ts)
 also_wants L M t also x is ts (inl part) = inl (λ whole. part (also.less x is ts whole))
 also_wants L M t also x is ts (inr (u, (plain, begins))) = inr (u, (plain, also_begins L M t also x is (ts ++ u ∷ []) begins))
 
-also_wants_less : (L M : List Token → Type 0) (t : Token) → AlsoAt L M t → (x : Token) → x ≡ t → (ts : List Token) → WantsOperand L (x ∷ ts) → WantsOperand M (x ∷ ts)
+also_wants_less : (L M : List Token → Type 0) (t : Token) → AlsoAt L M t → (x : Token) → x ≡ t → (ts : List Token) → WantsOperand L (x ∷ ts)
+    → WantsOperand M (x ∷ ts)
 also_wants_less L M t also x is ts (inl part) = inl (λ whole. part (also.more x is ts whole))
 also_wants_less L M t also x is ts (inr (u, (plain, begins))) = inr (u, (plain, also_less L M t also x is (ts ++ u ∷ []) begins))
 
 also_wrong : (L M : List Token → Type 0) (t : Token) → AlsoAt L M t → (ts : List Token) → HasWrongWord M (t ∷ ts) → HasWrongWord L (t ∷ ts)
 also_wrong L M t also ts w = go w.before w.tokens_are w.begins w.wants w.unfit
   where
-    go : (before : List Token) → t ∷ ts ≡ before ++ w.token ∷ w.rest → Begins M before → WantsOperand M before → (Begins M (before ++ w.token ∷ []) → ⊥) → HasWrongWord L (t ∷ ts)
+    go : (before : List Token) → t ∷ ts ≡ before ++ w.token ∷ w.rest → Begins M before → WantsOperand M before → (Begins M (before ++ w.token ∷ []) → ⊥)
+        → HasWrongWord L (t ∷ ts)
     go [] is begins wants unfit = absurd (also.other wants)
     go (x ∷ before) is begins wants unfit =
         let first : x ≡ t = (cc) in
-        record { before = x ∷ before; token = w.token; rest = w.rest; tokens_are = is; begins = also_begins L M t also x first before begins; wants = also_wants L M t also x first before wants; unfit = λ b. unfit (also_less L M t also x first (before ++ w.token ∷ []) b) }
+        record {
+          before = x ∷ before;
+          token = w.token;
+          rest = w.rest;
+          tokens_are = is;
+          begins = also_begins L M t also x first before begins;
+          wants = also_wants L M t also x first before wants;
+          unfit = λ b. unfit (also_less L M t also x first (before ++ w.token ∷ []) b);
+        }
 
 also_number : (L M : List Token → Type 0) (t : Token) → AlsoAt L M t → (ts : List Token) → HasWrongNumber M (t ∷ ts) → HasWrongNumber L (t ∷ ts)
 also_number L M t also ts (inl lacks) = inl (also_begins L M t also t refl ts lacks.0, λ whole. lacks.1 (also.less t refl ts whole))
 also_number L M t also ts (inr w) = inr (go w.before w.tokens_are w.whole w.wants w.unfit)
   where
-    go : (before : List Token) → t ∷ ts ≡ before ++ w.token ∷ w.rest → M before → (WantsOperand M before → ⊥) → (Begins M (before ++ w.token ∷ []) → ⊥) → HasOneOver L (t ∷ ts)
+    go : (before : List Token) → t ∷ ts ≡ before ++ w.token ∷ w.rest → M before → (WantsOperand M before → ⊥) → (Begins M (before ++ w.token ∷ []) → ⊥)
+        → HasOneOver L (t ∷ ts)
     go [] is whole wants unfit =
         let first : w.token ≡ t = (cc) in
-        record { before = []; token = w.token; rest = w.rest; tokens_are = is; whole = also.none; wants = also.wants; unfit = λ b. unfit (also_less L M t also w.token first [] b) }
+        record {
+          before = [];
+          token = w.token;
+          rest = w.rest;
+          tokens_are = is;
+          whole = also.none;
+          wants = also.wants;
+          unfit = λ b. unfit (also_less L M t also w.token first [] b);
+        }
     go (x ∷ before) is whole wants unfit =
         let first : x ≡ t = (cc) in
-        record { before = x ∷ before; token = w.token; rest = w.rest; tokens_are = is; whole = also.more x first before whole; wants = λ b. wants (also_wants_less L M t also x first before b); unfit = λ b. unfit (also_less L M t also x first (before ++ w.token ∷ []) b) }
+        record {
+          before = x ∷ before;
+          token = w.token;
+          rest = w.rest;
+          tokens_are = is;
+          whole = also.more x first before whole;
+          wants = λ b. wants (also_wants_less L M t also x first before b);
+          unfit = λ b. unfit (also_less L M t also x first (before ++ w.token ∷ []) b);
+        }
 
-says_also : (L M : List Token → Type 0) (t : Token) → AlsoAt L M t → (g : ReadAs) (ts : List Token) (r : Reads) → Says M (t ∷ ts) r → Says L (t ∷ ts) (with_front (g ∷ []) r)
+says_also : (L M : List Token → Type 0) (t : Token) → AlsoAt L M t → (g : ReadAs) (ts : List Token) (r : Reads) → Says M (t ∷ ts) r
+    → Says L (t ∷ ts) (with_front (g ∷ []) r)
 says_also L M t also g ts (Ok read_as) says = also.more t refl ts says
 says_also L M t also g ts (Err Long) says = says
 says_also L M t also g ts (Err Utf8) says = says
@@ -231,21 +201,28 @@ says_also L M t also g ts (Err Place) says = says
 
 -- ---- the keyword is there, or it is not
 
-behind_says : (operand : Option Kind) (keys : List Key) (ts : List Token) → ((us : List Token) → Says (WholeKeys keys) us (read_keys keys us)) → Says (BehindKey operand (WholeKeys keys)) ts (behind_key operand (read_keys keys) ts)
+behind_says : (operand : Option Kind) (keys : List Key) (ts : List Token) → ((us : List Token) → Says (WholeKeys keys) us (read_keys keys us))
+    → Says (BehindKey operand (WholeKeys keys)) ts (behind_key operand (read_keys keys) ts)
 behind_says None keys ts says = says_front (WholeKeys keys) ts (read_as.There ∷ []) (read_keys keys ts) (says ts)
 behind_says (Some kind) keys [] says = inl ((sample kind ∷ [], (sample_fits kind, keys_none keys)), λ whole. whole)
-behind_says (Some kind) keys (t ∷ ts) says = says_read_as (BehindKey (Some kind) (WholeKeys keys)) (WholeKeys keys) kind t ts (read_keys keys ts) (said_as kind t) refl
-    (λ fit. record { less = λ us whole. whole.1; more = λ us whole. (fit, whole) }) (sample kind ∷ [], (sample_fits kind, keys_none keys)) (inl (λ whole. whole)) (λ begins. begins.1.0) (says ts)
+behind_says (Some kind) keys (t ∷ ts) says =
+    says_read_as (BehindKey (Some kind) (WholeKeys keys)) (WholeKeys keys) kind t ts (read_keys keys ts) (said_as kind t) refl
+    (λ fit. record { less = λ us whole. whole.1; more = λ us whole. (fit, whole) }) (sample kind ∷ [], (sample_fits kind, keys_none keys))
+    (inl (λ whole. whole)) (λ begins. begins.1.0) (says ts)
 
-keys_say_by : (b : Bool) (key : Key) (keys : List Key) (t : Token) (ts : List Token) → is_word (keyword key.word) t ≡ b → ((us : List Token) → Says (WholeKeys keys) us (read_keys keys us))
-    → Says (WholeKeys (key ∷ keys)) (t ∷ ts) (cond b (behind_key key.operand (read_keys keys) ts) (with_front (read_as.NotThere ∷ []) (read_keys keys (t ∷ ts))))
+keys_say_by : (b : Bool) (key : Key) (keys : List Key) (t : Token) (ts : List Token) → is_word (keyword key.word) t ≡ b
+    → ((us : List Token) → Says (WholeKeys keys) us (read_keys keys us))
+    → Says (WholeKeys (key ∷ keys)) (t ∷ ts)
+    (cond b (behind_key key.operand (read_keys keys) ts) (with_front (read_as.NotThere ∷ []) (read_keys keys (t ∷ ts))))
 keys_say_by true key keys t ts is says = says_behind (WholeKeys (key ∷ keys)) (BehindKey key.operand (WholeKeys keys)) t (record {
   less = λ us whole. first_of (is_word (keyword key.word) t) (BehindKey key.operand (WholeKeys keys) us) (WholeKeys keys (t ∷ us)) is whole;
   more = λ us whole. to_first (is_word (keyword key.word) t) (BehindKey key.operand (WholeKeys keys) us) (WholeKeys keys (t ∷ us)) is whole;
 }) ts (behind_key key.operand (read_keys keys) ts) (behind_says key.operand keys ts says)
 keys_say_by false key keys t ts is says = says_also (WholeKeys (key ∷ keys)) (WholeKeys keys) t (record {
-  less = λ x same us whole. second_of (is_word (keyword key.word) x) (BehindKey key.operand (WholeKeys keys) us) (WholeKeys keys (x ∷ us)) (ap (λ (y : Token). is_word (keyword key.word) y) same ∙ is) whole;
-  more = λ x same us whole. to_second (is_word (keyword key.word) x) (BehindKey key.operand (WholeKeys keys) us) (WholeKeys keys (x ∷ us)) (ap (λ (y : Token). is_word (keyword key.word) y) same ∙ is) whole;
+  less = λ x same us whole. second_of (is_word (keyword key.word) x) (BehindKey key.operand (WholeKeys keys) us) (WholeKeys keys (x ∷ us))
+      (ap (λ (y : Token). is_word (keyword key.word) y) same ∙ is) whole;
+  more = λ x same us whole. to_second (is_word (keyword key.word) x) (BehindKey key.operand (WholeKeys keys) us) (WholeKeys keys (x ∷ us))
+      (ap (λ (y : Token). is_word (keyword key.word) y) same ∙ is) whole;
   none = tt;
   wants = keys_want_none (key ∷ keys);
   other = keys_want_none keys;
@@ -279,9 +256,11 @@ maybe_fits : (kind : Kind) (t : Token) (us : List Token) → WholeMaybe kind (t 
 maybe_fits kind t [] whole = whole
 maybe_fits kind t (u ∷ us) whole = absurd whole
 
-maybe_read_as : (kind : Kind) (t : Token) (ts : List Token) (r : Reads) → Says (WholeKeys []) ts r → Says (WholeMaybe kind) (t ∷ ts) (then_read_as (said_as kind t) r)
+maybe_read_as : (kind : Kind) (t : Token) (ts : List Token) (r : Reads) → Says (WholeKeys []) ts r
+    → Says (WholeMaybe kind) (t ∷ ts) (then_read_as (said_as kind t) r)
 maybe_read_as kind t ts r says = says_read_as (WholeMaybe kind) (WholeKeys []) kind t ts r (said_as kind t) refl
-    (λ fit. record { less = maybe_less kind t; more = maybe_more kind t fit }) ([], tt) (may_begin (WholeMaybe kind) kind ([], sample_fits kind)) (λ begins. maybe_fits kind t begins.0 begins.1) says
+    (λ fit. record { less = maybe_less kind t; more = maybe_more kind t fit }) ([], tt) (may_begin (WholeMaybe kind) kind ([], sample_fits kind))
+    (λ begins. maybe_fits kind t begins.0 begins.1) says
 
 maybe_says : (kind : Kind) (ts : List Token) → Says (WholeMaybe kind) ts (read_maybe kind ts)
 maybe_says kind [] = tt
@@ -297,7 +276,8 @@ many_say zero kind (t ∷ ts) = over_first (WholeMany zero kind) t ts tt wants (
     wants (inl part) = part tt
     wants (inr (u, (plain, begins))) = begins.1
 many_say (suc n) kind (t ∷ ts) = says_read_as (WholeMany (suc n) kind) (WholeMany n kind) kind t ts (read_many n kind ts) (said_as kind t) refl
-    (λ fit. record { less = λ us whole. whole.1; more = λ us whole. (fit, whole) }) ([], tt) (may_begin (WholeMany (suc n) kind) kind ([], (sample_fits kind, many_none n kind))) (λ begins. begins.1.0) (many_say n kind ts)
+    (λ fit. record { less = λ us whole. whole.1; more = λ us whole. (fit, whole) }) ([], tt)
+    (may_begin (WholeMany (suc n) kind) kind ([], (sample_fits kind, many_none n kind))) (λ begins. begins.1.0) (many_say n kind ts)
 
 pairs_none : (n : ℕ) (kind : Kind) → WholePairs n kind []
 pairs_none zero kind = tt
@@ -320,10 +300,12 @@ pair_fits : (n : ℕ) (kind : Kind) (t : Token) (us : List Token) → WholePairs
 pair_fits n kind t [] whole = absurd whole
 pair_fits n kind t (u ∷ us) whole = whole.0.0
 
-pair_read_as : (n : ℕ) (kind : Kind) (t : Token) (ts : List Token) (r : Reads) → Says (Second n kind) ts r → Says (WholePairs (suc n) kind) (t ∷ ts) (then_read_as (said_as kind t) r)
+pair_read_as : (n : ℕ) (kind : Kind) (t : Token) (ts : List Token) (r : Reads) → Says (Second n kind) ts r
+    → Says (WholePairs (suc n) kind) (t ∷ ts) (then_read_as (said_as kind t) r)
 pair_read_as n kind t ts r says = says_read_as (WholePairs (suc n) kind) (Second n kind) kind t ts r (said_as kind t) refl
     (λ fit. record { less = pair_less n kind t; more = pair_more n kind t fit }) ([], tt)
-    (may_begin (WholePairs (suc n) kind) kind (sample kind ∷ [], ((sample_fits kind, sample_fits kind), pairs_none n kind))) (λ begins. pair_fits n kind t begins.0 begins.1) says
+    (may_begin (WholePairs (suc n) kind) kind (sample kind ∷ [], ((sample_fits kind, sample_fits kind), pairs_none n kind)))
+    (λ begins. pair_fits n kind t begins.0 begins.1) says
 
 pairs_say : (n : ℕ) (kind : Kind) (ts : List Token) → Says (WholePairs n kind) ts (read_pairs n kind ts)
 pairs_say zero kind [] = tt
@@ -336,7 +318,8 @@ pairs_say zero kind (t ∷ ts) = over_first (WholePairs zero kind) t ts tt wants
 pairs_say (suc n) kind (t ∷ []) = pair_read_as n kind t [] (Err Arity) (inl ((sample kind ∷ [], (sample_fits kind, pairs_none n kind)), λ whole. whole))
 pairs_say (suc n) kind (t ∷ u ∷ ts) = pair_read_as n kind t (u ∷ ts) (then_read_as (said_as kind u) (read_pairs n kind ts))
     (says_read_as (Second n kind) (WholePairs n kind) kind u ts (read_pairs n kind ts) (said_as kind u) refl
-    (λ fit. record { less = λ us whole. whole.1; more = λ us whole. (fit, whole) }) (sample kind ∷ [], (sample_fits kind, pairs_none n kind)) (inl (λ whole. whole)) (λ begins. begins.1.0) (pairs_say n kind ts))
+    (λ fit. record { less = λ us whole. whole.1; more = λ us whole. (fit, whole) }) (sample kind ∷ [], (sample_fits kind, pairs_none n kind))
+    (inl (λ whole. whole)) (λ begins. begins.1.0) (pairs_say n kind ts))
 
 -- ---- what is wanted can be had
 
@@ -359,8 +342,19 @@ mutual
   some_whole Action a is Inner = (a, is)
 
   some_row : (Action : List Token → Type 0) (a : List Token) → Action a → (rows : Rows) → (t : Token) × (ts : List Token) × WholeRow Action rows t ts
-  some_row Action a is (LastRow word wants) = let rest = some_whole Action a is wants in (word_token (spelling word), rest.0, to_first (is_word (spelling word) (word_token (spelling word))) (Whole Action wants rest.0) ⊥ (is_word_same (spelling word)) rest.1)
-  some_row Action a is (Row word wants rows) = let rest = some_whole Action a is wants in (word_token (spelling word), rest.0, to_first (is_word (spelling word) (word_token (spelling word))) (Whole Action wants rest.0) (WholeRow Action rows (word_token (spelling word)) rest.0) (is_word_same (spelling word)) rest.1)
+  some_row Action a is (LastRow word wants) = let rest =
+      some_whole Action a is wants in (
+        word_token (spelling word),
+        rest.0,
+        to_first (is_word (spelling word) (word_token (spelling word))) (Whole Action wants rest.0) ⊥ (is_word_same (spelling word)) rest.1,
+      )
+  some_row Action a is (Row word wants rows) = let rest =
+      some_whole Action a is wants in (
+        word_token (spelling word),
+        rest.0,
+        to_first (is_word (spelling word) (word_token (spelling word))) (Whole Action wants rest.0) (WholeRow Action rows (word_token (spelling word)) rest.0)
+            (is_word_same (spelling word)) rest.1,
+      )
 
 -- ---- what is wanted
 
@@ -384,16 +378,19 @@ end_says Action (t ∷ ts) action = over_first (Whole Action End) t ts tt wants 
     wants (inl part) = part tt
     wants (inr (u, (plain, begins))) = begins.1
 
-last_row_by : (b : Bool) (Action L : List Token → Type 0) (action : List Token → Reads) (word : Word) (wants : Wants) (t : Token) (ts : List Token) → is_word (spelling word) t ≡ b → Picks Action L (LastRow word wants) t
+last_row_by : (b : Bool) (Action L : List Token → Type 0) (action : List Token → Reads) (word : Word) (wants : Wants) (t : Token) (ts : List Token)
+    → is_word (spelling word) t ≡ b → Picks Action L (LastRow word wants) t
     → Says (Whole Action wants) ts (read action wants ts) → Says L (t ∷ ts) (cond b (with_front (read_as.Word word ∷ []) (read action wants ts)) (Err BadWord))
 last_row_by true Action L action word wants t ts is picks says = says_more L (Whole Action wants) t (record {
   less = λ us whole. first_of (is_word (spelling word) t) (Whole Action wants us) ⊥ is (picks.behind.less us whole);
   more = λ us whole. picks.behind.more us (to_first (is_word (spelling word) t) (Whole Action wants us) ⊥ is whole);
 }) (read_as.Word word) ts (read action wants ts) says
 last_row_by false Action L action word wants t ts is picks says =
-    wrong_first L t ts picks.begins (inl picks.part) (λ begins. second_of (is_word (spelling word) t) (Whole Action wants begins.0) ⊥ is (picks.behind.less begins.0 begins.1))
+    wrong_first L t ts picks.begins (inl picks.part)
+    (λ begins. second_of (is_word (spelling word) t) (Whole Action wants begins.0) ⊥ is (picks.behind.less begins.0 begins.1))
 
-row_by : (b : Bool) (Action L : List Token → Type 0) (action : List Token → Reads) (word : Word) (wants : Wants) (rows : Rows) (t : Token) (ts : List Token) → is_word (spelling word) t ≡ b → Picks Action L (Row word wants rows) t
+row_by : (b : Bool) (Action L : List Token → Type 0) (action : List Token → Reads) (word : Word) (wants : Wants) (rows : Rows) (t : Token) (ts : List Token)
+    → is_word (spelling word) t ≡ b → Picks Action L (Row word wants rows) t
     → Says (Whole Action wants) ts (read action wants ts) → (Picks Action L rows t → Says L (t ∷ ts) (read_row action rows t ts))
     → Says L (t ∷ ts) (cond b (with_front (read_as.Word word ∷ []) (read action wants ts)) (read_row action rows t ts))
 row_by true Action L action word wants rows t ts is picks says others = says_more L (Whole Action wants) t (record {
@@ -419,11 +416,14 @@ pub fewer : (t : Token) (ts : List Token) (n : ℕ) → length (t ∷ ts) < n �
 fewer t ts n small = omega (arith, small)
 
 mutual
-  wants_say : (Action : List Token → Type 0) (action : List Token → Reads) (n : ℕ) → IsActionOf Action action n → (wants : Wants) (ts : List Token) → length ts < n → Says (Whole Action wants) ts (read action wants ts)
+  wants_say : (Action : List Token → Type 0) (action : List Token → Reads) (n : ℕ) → IsActionOf Action action n → (wants : Wants) (ts : List Token)
+      → length ts < n → Says (Whole Action wants) ts (read action wants ts)
   wants_say Action action n is End ts small = end_says Action ts action
   wants_say Action action n is (One kind more) [] small = inl (one_begins Action is.some is.is_action kind more, λ whole. whole)
-  wants_say Action action n is (One kind more) (t ∷ ts) small = says_read_as (Whole Action (One kind more)) (Whole Action more) kind t ts (read action more ts) (said_as kind t) refl
-      (λ fit. record { less = λ us whole. whole.1; more = λ us whole. (fit, whole) }) (one_begins Action is.some is.is_action kind more) (inl (λ whole. whole)) (λ begins. begins.1.0) (wants_say Action action n is more ts (fewer t ts n small))
+  wants_say Action action n is (One kind more) (t ∷ ts) small =
+      says_read_as (Whole Action (One kind more)) (Whole Action more) kind t ts (read action more ts) (said_as kind t) refl
+      (λ fit. record { less = λ us whole. whole.1; more = λ us whole. (fit, whole) }) (one_begins Action is.some is.is_action kind more) (inl (λ whole. whole))
+      (λ begins. begins.1.0) (wants_say Action action n is more ts (fewer t ts n small))
   wants_say Action action n is (Pick rows) [] small = inl (pick_begins Action is.some is.is_action rows, λ whole. whole)
   wants_say Action action n is (Pick rows) (t ∷ ts) small = rows_say Action action n is rows (Whole Action (Pick rows)) t ts (fewer t ts n small) (record {
     behind = record { less = λ us whole. whole; more = λ us whole. whole };
@@ -436,6 +436,11 @@ mutual
   wants_say Action action n is (Pairs k kind) ts small = pairs_say k kind ts
   wants_say Action action n is Inner ts small = is.says ts small
 
-  pub rows_say : (Action : List Token → Type 0) (action : List Token → Reads) (n : ℕ) → IsActionOf Action action n → (rows : Rows) (L : List Token → Type 0) (t : Token) (ts : List Token) → length ts < n → Picks Action L rows t → Says L (t ∷ ts) (read_row action rows t ts)
-  rows_say Action action n is (LastRow word wants) L t ts small picks = last_row_by (is_word (spelling word) t) Action L action word wants t ts refl picks (wants_say Action action n is wants ts small)
-  rows_say Action action n is (Row word wants rows) L t ts small picks = row_by (is_word (spelling word) t) Action L action word wants rows t ts refl picks (wants_say Action action n is wants ts small) (λ p. rows_say Action action n is rows L t ts small p)
+  pub rows_say : (Action : List Token → Type 0) (action : List Token → Reads) (n : ℕ) → IsActionOf Action action n
+      → (rows : Rows) (L : List Token → Type 0) (t : Token) (ts : List Token) → length ts < n → Picks Action L rows t
+      → Says L (t ∷ ts) (read_row action rows t ts)
+  rows_say Action action n is (LastRow word wants) L t ts small picks =
+      last_row_by (is_word (spelling word) t) Action L action word wants t ts refl picks (wants_say Action action n is wants ts small)
+  rows_say Action action n is (Row word wants rows) L t ts small picks =
+      row_by (is_word (spelling word) t) Action L action word wants rows t ts refl picks (wants_say Action action n is wants ts small)
+      (λ p. rows_say Action action n is rows L t ts small p)

@@ -9,10 +9,12 @@ use Rattle.rule_grammar.specs.declared.read_as.ReadAs.{ReadAs}
 use Rattle.rule_grammar.specs.declared.read_as.ReadAs.TheVariants as read_as
 use Rattle.rule_grammar.specs.FixedWords.{keyword, spelling}
 use Rattle.rule_grammar.specs.Grammar.{said_as, Key, Wants, End, One, Pick, Keys, Maybe, Many, Pairs, Inner, Rows, LastRow, Row}
-use Rattle.rule_grammar.specs.Read.{Reads, then_read_as, no_keys, behind_key, read_keys, read_maybe, read_many, read_pairs, read, read_row, read_within, read_tokens}
+use Rattle.rule_grammar.specs.Read.{Reads, then_read_as, no_keys, behind_key, read_keys, read_maybe, read_many, read_pairs, read, read_row, read_within}
+use Rattle.rule_grammar.specs.Read.{read_tokens}
 use Rattle.rule_grammar.specs.Rows.{forms}
 use Rattle.rule_grammar.specs.Whole.{either}
-use Rattle.rule_grammar.specs.Spells.{Spelling, SpellNothing, SpellOne, SpellMarked, SpellBehind, SpellKeys, SpellMaybe, SpellMany, SpellPairs, Spell, SpellRow, SpellWithin, Spelled}
+use Rattle.rule_grammar.specs.Spells.{Spelling, SpellNothing, SpellOne, SpellMarked, SpellBehind, SpellKeys, SpellMaybe, SpellMany, SpellPairs, Spell, SpellRow}
+use Rattle.rule_grammar.specs.Spells.{SpellWithin, Spelled}
 use Rattle.rule_grammar.proofs.ReadLaws.{fewer}
 
 abbrev went : List ReadAs → Reads
@@ -24,21 +26,25 @@ nothing_spelled : (gs : List ReadAs) → went [] ≡ Ok gs → SpellNothing [] g
 nothing_spelled [] e = tt
 nothing_spelled (g ∷ gs) e = absurd cc
 
-marked_spelled : (mark : ReadAs) (Rest : Spelling) (ts : List Token) (r : Reads) (gs : List ReadAs) → ((hs : List ReadAs) → r ≡ Ok hs → Rest ts hs) → with_front (mark ∷ []) r ≡ Ok gs → SpellMarked mark Rest ts gs
+marked_spelled : (mark : ReadAs) (Rest : Spelling) (ts : List Token) (r : Reads) (gs : List ReadAs) → ((hs : List ReadAs) → r ≡ Ok hs → Rest ts hs)
+    → with_front (mark ∷ []) r ≡ Ok gs → SpellMarked mark Rest ts gs
 marked_spelled mark Rest ts (Err b) gs rest e = absurd cc
 marked_spelled mark Rest ts (Ok hs) [] rest e = absurd cc
 marked_spelled mark Rest ts (Ok hs) (g ∷ gs) rest e = let first : mark ≡ g = cc in let more : hs ≡ gs = cc in (first, subst (Rest ts) more (rest hs refl))
 
-one_spelled : (kind : Kind) (Rest : Spelling) (t : Token) (ts : List Token) (r : Reads) (gs : List ReadAs) → ((hs : List ReadAs) → r ≡ Ok hs → Rest ts hs) → then_read_as (said_as kind t) r ≡ Ok gs → SpellOne kind Rest (t ∷ ts) gs
+one_spelled : (kind : Kind) (Rest : Spelling) (t : Token) (ts : List Token) (r : Reads) (gs : List ReadAs) → ((hs : List ReadAs) → r ≡ Ok hs → Rest ts hs)
+    → then_read_as (said_as kind t) r ≡ Ok gs → SpellOne kind Rest (t ∷ ts) gs
 one_spelled kind Rest t ts r gs rest e = by (said_as kind t) refl r gs rest e
   where
-    by : (o : Option ReadAs) → said_as kind t ≡ o → (r : Reads) (gs : List ReadAs) → ((hs : List ReadAs) → r ≡ Ok hs → Rest ts hs) → then_read_as o r ≡ Ok gs → SpellOne kind Rest (t ∷ ts) gs
+    by : (o : Option ReadAs) → said_as kind t ≡ o → (r : Reads) (gs : List ReadAs) → ((hs : List ReadAs) → r ≡ Ok hs → Rest ts hs) → then_read_as o r ≡ Ok gs
+        → SpellOne kind Rest (t ∷ ts) gs
     by None is r gs rest e = absurd cc
     by (Some g) is (Err b) gs rest e = absurd cc
     by (Some g) is (Ok hs) [] rest e = absurd cc
     by (Some g) is (Ok hs) (h ∷ gs) rest e = let first : g ≡ h = cc in let more : hs ≡ gs = cc in (is ∙ ap Some first, subst (Rest ts) more (rest hs refl))
 
-behind_spelled : (operand : Option Kind) (Rest : Spelling) (action : List Token → Reads) (ts : List Token) (gs : List ReadAs) → ((us : List Token) (hs : List ReadAs) → action us ≡ Ok hs → Rest us hs) → behind_key operand action ts ≡ Ok gs → SpellBehind operand Rest ts gs
+behind_spelled : (operand : Option Kind) (Rest : Spelling) (action : List Token → Reads) (ts : List Token) (gs : List ReadAs)
+    → ((us : List Token) (hs : List ReadAs) → action us ≡ Ok hs → Rest us hs) → behind_key operand action ts ≡ Ok gs → SpellBehind operand Rest ts gs
 behind_spelled None Rest action ts gs rest e = marked_spelled read_as.There Rest ts (action ts) gs (rest ts) e
 behind_spelled (Some kind) Rest action [] gs rest e = absurd cc
 behind_spelled (Some kind) Rest action (t ∷ ts) gs rest e = one_spelled kind Rest t ts (action ts) gs (rest ts) e
@@ -75,15 +81,18 @@ pairs_spelled zero kind [] gs e = nothing_spelled gs e
 pairs_spelled (suc n) kind [] gs e = nothing_spelled gs e
 pairs_spelled zero kind (t ∷ ts) gs e = absurd cc
 pairs_spelled (suc n) kind (t ∷ []) gs e = one_spelled kind (SpellOne kind (SpellPairs n kind)) t [] (Err Arity) gs (λ hs same. absurd cc) e
-pairs_spelled (suc n) kind (t ∷ u ∷ ts) gs e = one_spelled kind (SpellOne kind (SpellPairs n kind)) t (u ∷ ts) (then_read_as (said_as kind u) (read_pairs n kind ts)) gs
+pairs_spelled (suc n) kind (t ∷ u ∷ ts) gs e =
+    one_spelled kind (SpellOne kind (SpellPairs n kind)) t (u ∷ ts) (then_read_as (said_as kind u) (read_pairs n kind ts)) gs
     (λ hs same. one_spelled kind (SpellPairs n kind) u ts (read_pairs n kind ts) hs (λ is more. pairs_spelled n kind ts is more) same) e
 
 mutual
-  wants_spelled : (Action : Spelling) (action : List Token → Reads) → ((us : List Token) (hs : List ReadAs) → action us ≡ Ok hs → Action us hs) → (wants : Wants) (ts : List Token) (gs : List ReadAs) → read action wants ts ≡ Ok gs → Spell Action wants ts gs
+  wants_spelled : (Action : Spelling) (action : List Token → Reads) → ((us : List Token) (hs : List ReadAs) → action us ≡ Ok hs → Action us hs)
+      → (wants : Wants) (ts : List Token) (gs : List ReadAs) → read action wants ts ≡ Ok gs → Spell Action wants ts gs
   wants_spelled Action action is End [] gs e = nothing_spelled gs e
   wants_spelled Action action is End (t ∷ ts) gs e = absurd cc
   wants_spelled Action action is (One kind more) [] gs e = absurd cc
-  wants_spelled Action action is (One kind more) (t ∷ ts) gs e = one_spelled kind (Spell Action more) t ts (read action more ts) gs (λ hs same. wants_spelled Action action is more ts hs same) e
+  wants_spelled Action action is (One kind more) (t ∷ ts) gs e =
+      one_spelled kind (Spell Action more) t ts (read action more ts) gs (λ hs same. wants_spelled Action action is more ts hs same) e
   wants_spelled Action action is (Pick rows) [] gs e = absurd cc
   wants_spelled Action action is (Pick rows) (t ∷ ts) gs e = row_spelled Action action is rows t ts gs e
   wants_spelled Action action is (Keys keys) ts gs e = keys_spelled keys ts gs e
@@ -92,9 +101,11 @@ mutual
   wants_spelled Action action is (Pairs n kind) ts gs e = pairs_spelled n kind ts gs e
   wants_spelled Action action is Inner ts gs e = is ts gs e
 
-  row_spelled : (Action : Spelling) (action : List Token → Reads) → ((us : List Token) (hs : List ReadAs) → action us ≡ Ok hs → Action us hs) → (rows : Rows) (t : Token) (ts : List Token) (gs : List ReadAs) → read_row action rows t ts ≡ Ok gs → SpellRow Action rows t ts gs
+  row_spelled : (Action : Spelling) (action : List Token → Reads) → ((us : List Token) (hs : List ReadAs) → action us ≡ Ok hs → Action us hs)
+      → (rows : Rows) (t : Token) (ts : List Token) (gs : List ReadAs) → read_row action rows t ts ≡ Ok gs → SpellRow Action rows t ts gs
   row_spelled Action action is (LastRow word wants) t ts gs e = either_spelled (is_word (spelling word) t) _ _ _ _ gs
-      (λ e. marked_spelled (read_as.Word word) (Spell Action wants) ts (read action wants ts) gs (λ hs same. wants_spelled Action action is wants ts hs same) e) (λ e. absurd cc) e
+      (λ e. marked_spelled (read_as.Word word) (Spell Action wants) ts (read action wants ts) gs (λ hs same. wants_spelled Action action is wants ts hs same) e)
+      (λ e. absurd cc) e
   row_spelled Action action is (Row word wants rows) t ts gs e = either_spelled (is_word (spelling word) t) _ _ _ _ gs
       (λ e. marked_spelled (read_as.Word word) (Spell Action wants) ts (read action wants ts) gs (λ hs same. wants_spelled Action action is wants ts hs same) e)
       (λ e. row_spelled Action action is rows t ts gs e) e
@@ -112,15 +123,18 @@ nothing_read : (gs : List ReadAs) → SpellNothing [] gs → went [] ≡ Ok gs
 nothing_read [] spelled = refl
 nothing_read (g ∷ gs) spelled = absurd spelled
 
-marked_read : (mark : ReadAs) (Rest : Spelling) (ts : List Token) (r : Reads) (gs : List ReadAs) → ((hs : List ReadAs) → Rest ts hs → r ≡ Ok hs) → SpellMarked mark Rest ts gs → with_front (mark ∷ []) r ≡ Ok gs
+marked_read : (mark : ReadAs) (Rest : Spelling) (ts : List Token) (r : Reads) (gs : List ReadAs) → ((hs : List ReadAs) → Rest ts hs → r ≡ Ok hs)
+    → SpellMarked mark Rest ts gs → with_front (mark ∷ []) r ≡ Ok gs
 marked_read mark Rest ts r [] rest spelled = absurd spelled
 marked_read mark Rest ts r (g ∷ gs) rest spelled = rw (rest gs spelled.1) (ap (λ (x : ReadAs). went (x ∷ gs)) spelled.0)
 
-one_read : (kind : Kind) (Rest : Spelling) (t : Token) (ts : List Token) (r : Reads) (gs : List ReadAs) → ((hs : List ReadAs) → Rest ts hs → r ≡ Ok hs) → SpellOne kind Rest (t ∷ ts) gs → then_read_as (said_as kind t) r ≡ Ok gs
+one_read : (kind : Kind) (Rest : Spelling) (t : Token) (ts : List Token) (r : Reads) (gs : List ReadAs) → ((hs : List ReadAs) → Rest ts hs → r ≡ Ok hs)
+    → SpellOne kind Rest (t ∷ ts) gs → then_read_as (said_as kind t) r ≡ Ok gs
 one_read kind Rest t ts r [] rest spelled = absurd spelled
 one_read kind Rest t ts r (g ∷ gs) rest spelled = rw (spelled.0, rest gs spelled.1) refl
 
-behind_read : (operand : Option Kind) (Rest : Spelling) (action : List Token → Reads) (ts : List Token) (gs : List ReadAs) → ((us : List Token) (hs : List ReadAs) → Rest us hs → action us ≡ Ok hs) → SpellBehind operand Rest ts gs → behind_key operand action ts ≡ Ok gs
+behind_read : (operand : Option Kind) (Rest : Spelling) (action : List Token → Reads) (ts : List Token) (gs : List ReadAs)
+    → ((us : List Token) (hs : List ReadAs) → Rest us hs → action us ≡ Ok hs) → SpellBehind operand Rest ts gs → behind_key operand action ts ≡ Ok gs
 behind_read None Rest action ts gs rest spelled = marked_read read_as.There Rest ts (action ts) gs (rest ts) spelled
 behind_read (Some kind) Rest action [] gs rest spelled = absurd spelled
 behind_read (Some kind) Rest action (t ∷ ts) gs rest spelled = one_read kind Rest t ts (action ts) gs (rest ts) spelled
@@ -157,7 +171,8 @@ pairs_read zero kind [] gs spelled = nothing_read gs spelled
 pairs_read (suc n) kind [] gs spelled = nothing_read gs spelled
 pairs_read zero kind (t ∷ ts) gs spelled = absurd spelled
 pairs_read (suc n) kind (t ∷ []) gs spelled = one_read kind (SpellOne kind (SpellPairs n kind)) t [] (Err Arity) gs (λ hs more. absurd more) spelled
-pairs_read (suc n) kind (t ∷ u ∷ ts) gs spelled = one_read kind (SpellOne kind (SpellPairs n kind)) t (u ∷ ts) (then_read_as (said_as kind u) (read_pairs n kind ts)) gs
+pairs_read (suc n) kind (t ∷ u ∷ ts) gs spelled =
+    one_read kind (SpellOne kind (SpellPairs n kind)) t (u ∷ ts) (then_read_as (said_as kind u) (read_pairs n kind ts)) gs
     (λ hs more. one_read kind (SpellPairs n kind) u ts (read_pairs n kind ts) hs (λ is rest. pairs_read n kind ts is rest) more) spelled
 
 -- an action of fewer than so many tokens that is spelled is read
@@ -165,11 +180,13 @@ abbrev ReadsBelow : ℕ → Spelling → (List Token → Reads) → Type 0
 ReadsBelow n Action action = (us : List Token) (hs : List ReadAs) → length us < n → Action us hs → action us ≡ Ok hs
 
 mutual
-  wants_read : (Action : Spelling) (action : List Token → Reads) (n : ℕ) → ReadsBelow n Action action → (wants : Wants) (ts : List Token) (gs : List ReadAs) → length ts < n → Spell Action wants ts gs → read action wants ts ≡ Ok gs
+  wants_read : (Action : Spelling) (action : List Token → Reads) (n : ℕ) → ReadsBelow n Action action → (wants : Wants) (ts : List Token) (gs : List ReadAs)
+      → length ts < n → Spell Action wants ts gs → read action wants ts ≡ Ok gs
   wants_read Action action n is End [] gs small spelled = nothing_read gs spelled
   wants_read Action action n is End (t ∷ ts) gs small spelled = absurd spelled
   wants_read Action action n is (One kind more) [] gs small spelled = absurd spelled
-  wants_read Action action n is (One kind more) (t ∷ ts) gs small spelled = one_read kind (Spell Action more) t ts (read action more ts) gs (λ hs rest. wants_read Action action n is more ts hs (fewer t ts n small) rest) spelled
+  wants_read Action action n is (One kind more) (t ∷ ts) gs small spelled =
+      one_read kind (Spell Action more) t ts (read action more ts) gs (λ hs rest. wants_read Action action n is more ts hs (fewer t ts n small) rest) spelled
   wants_read Action action n is (Pick rows) [] gs small spelled = absurd spelled
   wants_read Action action n is (Pick rows) (t ∷ ts) gs small spelled = row_read Action action n is rows t ts gs (fewer t ts n small) spelled
   wants_read Action action n is (Keys keys) ts gs small spelled = keys_read keys ts gs spelled
@@ -178,18 +195,22 @@ mutual
   wants_read Action action n is (Pairs k kind) ts gs small spelled = pairs_read k kind ts gs spelled
   wants_read Action action n is Inner ts gs small spelled = is ts gs small spelled
 
-  row_read : (Action : Spelling) (action : List Token → Reads) (n : ℕ) → ReadsBelow n Action action → (rows : Rows) (t : Token) (ts : List Token) (gs : List ReadAs) → length ts < n → SpellRow Action rows t ts gs → read_row action rows t ts ≡ Ok gs
+  row_read : (Action : Spelling) (action : List Token → Reads) (n : ℕ) → ReadsBelow n Action action
+      → (rows : Rows) (t : Token) (ts : List Token) (gs : List ReadAs) → length ts < n → SpellRow Action rows t ts gs → read_row action rows t ts ≡ Ok gs
   row_read Action action n is (LastRow word wants) t ts gs small spelled = either_read (is_word (spelling word) t) _ _ _ _ gs
-      (λ by. marked_read (read_as.Word word) (Spell Action wants) ts (read action wants ts) gs (λ hs rest. wants_read Action action n is wants ts hs small rest) by) (λ by. absurd by) spelled
+      (λ by. marked_read (read_as.Word word) (Spell Action wants) ts (read action wants ts) gs
+      (λ hs rest. wants_read Action action n is wants ts hs small rest) by) (λ by. absurd by) spelled
   row_read Action action n is (Row word wants rows) t ts gs small spelled = either_read (is_word (spelling word) t) _ _ _ _ gs
-      (λ by. marked_read (read_as.Word word) (Spell Action wants) ts (read action wants ts) gs (λ hs rest. wants_read Action action n is wants ts hs small rest) by)
+      (λ by. marked_read (read_as.Word word) (Spell Action wants) ts (read action wants ts) gs
+      (λ hs rest. wants_read Action action n is wants ts hs small rest) by)
       (λ by. row_read Action action n is rows t ts gs small by) spelled
 
 within_read : (depth n : ℕ) (ts : List Token) (gs : List ReadAs) → length ts < n → SpellWithin depth ts gs → read_within n ts ≡ Ok gs
 within_read zero n ts gs small spelled = absurd spelled
 within_read (suc depth) zero ts gs small spelled = absurd (omega (arith, small))
 within_read (suc depth) (suc n) [] gs small spelled = absurd spelled
-within_read (suc depth) (suc n) (t ∷ ts) gs small spelled = row_read (SpellWithin depth) (read_within n) n (λ us hs few inner. within_read depth n us hs few inner) forms t ts gs (omega (arith, small)) spelled
+within_read (suc depth) (suc n) (t ∷ ts) gs small spelled =
+    row_read (SpellWithin depth) (read_within n) n (λ us hs few inner. within_read depth n us hs few inner) forms t ts gs (omega (arith, small)) spelled
 
 pub spelled_is_read : (ts : List Token) (gs : List ReadAs) → Spelled ts gs → read_tokens ts ≡ Ok gs
 spelled_is_read ts gs (depth, spelled) = within_read depth (suc (length ts)) ts gs (omega arith) spelled

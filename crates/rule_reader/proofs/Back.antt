@@ -204,7 +204,8 @@ form_in other zero gs = form [] leaves.Super
 form_in other (suc n) gs = elim (word_in (at0 gs)) [
   | words.On ↦ around_form (wraps.On (class_in (at1 gs)) (callback_in (at2 gs))) (form_in other n (rest (rest (rest (rest gs)))))
   | words.Try ↦ around_form wraps.Try (form_in other n (rest gs))
-  | words.If ↦ around_form (wraps.If (is_equal (word_in (at1 gs))) (value_in (at2 gs)) (value_in (at3 gs))) (form_in other n (rest (rest (rest (rest (rest gs))))))
+  | words.If ↦ around_form (wraps.If (is_equal (word_in (at1 gs))) (value_in (at2 gs)) (value_in (at3 gs)))
+      (form_in other n (rest (rest (rest (rest (rest gs))))))
   | _ ↦ form [] (leaf_in other (word_in (at0 gs)) (rest gs))
 ]
 
@@ -302,7 +303,9 @@ alone other n (leaves.Both (ops.StateAdd target word)) = refl
 alone other n (leaves.Both (ops.StateDelete target word)) = refl
 alone other n (leaves.Both (ops.StateClear target)) = refl
 alone other n (leaves.Both (ops.FormList target entries)) = ap (λ (x : List Entry). form [] (leaves.Both (ops.FormList target x))) (entries_back entries)
-alone other n (leaves.Both (ops.Ask what target name)) = ap (λ (x : AskWord). form [] (leaves.Both (ops.Ask x target (named_in (named name))))) (asked_back what) ∙ ap (λ (x : Option (List ℕ)). form [] (leaves.Both (ops.Ask what target x))) (named_back name)
+alone other n (leaves.Both (ops.Ask what target name)) =
+    ap (λ (x : AskWord). form [] (leaves.Both (ops.Ask x target (named_in (named name))))) (asked_back what)
+    ∙ ap (λ (x : Option (List ℕ)). form [] (leaves.Both (ops.Ask what target x))) (named_back name)
 alone other n (leaves.Log vals) = ap (λ (x : List Val). form [] (leaves.Log x)) (values_back vals)
 alone other n (leaves.Observe class names) = ap (λ (x : List (List ℕ)). form [] (leaves.Observe class x)) (names_back names)
 alone other n (leaves.DisableShadow class) = refl
@@ -314,10 +317,13 @@ fewer w ws n small = omega (arith, small)
 back : (other : Flags) (n : ℕ) (ws : List Wrap) (leaf : Leaf) → length ws < n → form_in other n (wraps_as_read ws (leaf_as_read leaf)) ≡ form ws leaf
 back other zero ws leaf small = absurd (omega (arith, small))
 back other (suc n) [] leaf small = alone other n leaf
-back other (suc n) (wraps.On class call ∷ ws) leaf small = ap (around_form (wraps.On class call)) (back other n ws leaf (fewer (wraps.On class call) ws n small))
+back other (suc n) (wraps.On class call ∷ ws) leaf small =
+    ap (around_form (wraps.On class call)) (back other n ws leaf (fewer (wraps.On class call) ws n small))
 back other (suc n) (wraps.Try ∷ ws) leaf small = ap (around_form wraps.Try) (back other n ws leaf (fewer wraps.Try ws n small))
-back other (suc n) (wraps.If true left right ∷ ws) leaf small = ap (around_form (wraps.If true left right)) (back other n ws leaf (fewer (wraps.If true left right) ws n small))
-back other (suc n) (wraps.If false left right ∷ ws) leaf small = ap (around_form (wraps.If false left right)) (back other n ws leaf (fewer (wraps.If false left right) ws n small))
+back other (suc n) (wraps.If true left right ∷ ws) leaf small =
+    ap (around_form (wraps.If true left right)) (back other n ws leaf (fewer (wraps.If true left right) ws n small))
+back other (suc n) (wraps.If false left right ∷ ws) leaf small =
+    ap (around_form (wraps.If false left right)) (back other n ws leaf (fewer (wraps.If false left right) ws n small))
 
 -- any flags
 abbrev some_flags : Flags

@@ -6,11 +6,13 @@ use Rattle.rule_tokens.specs.declared.token.Token.{Token}
 use Rattle.rule_tokens.specs.Gives.{with_front}
 use Rattle.rule_reader.specs.Takes.{entries_up_to, entry_at}
 
-front_front : (front : List Entry) (e : Entry) (read : Result (List Entry) Bad) → with_front front (with_front (e ∷ []) read) ≡ with_front (front ++ e ∷ []) read
+front_front : (front : List Entry) (e : Entry) (read : Result (List Entry) Bad)
+    → with_front front (with_front (e ∷ []) read) ≡ with_front (front ++ e ∷ []) read
 front_front front e (Ok rest) = ap Ok (sym (append_assoc front (e ∷ []) rest))
 front_front front e (Err b) = refl
 
-pub one_more : (front : List Entry) (n : ℕ) (ts rest : List Token) (e : Entry) → 0 < n → entry_at ts ≡ Ok (e, rest) → with_front front (entries_up_to n ts) ≡ with_front (front ++ e ∷ []) (entries_up_to (n - 1) rest)
+pub one_more : (front : List Entry) (n : ℕ) (ts rest : List Token) (e : Entry) → 0 < n → entry_at ts ≡ Ok (e, rest)
+    → with_front front (entries_up_to n ts) ≡ with_front (front ++ e ∷ []) (entries_up_to (n - 1) rest)
 one_more front n [] rest e lt is = grind arith
 one_more front n (t ∷ []) rest e lt is = grind arith
 one_more front n (t ∷ u ∷ ts) rest e lt is = grind (arith, front_front)

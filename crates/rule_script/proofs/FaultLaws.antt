@@ -59,7 +59,8 @@ module _ (below : Below) (limit : ℕ) (bytes : List ℕ) (ts : List Token) (to 
 
   place_first : IsForm ts → IsMisplaced ts → RefusedFor limit bytes Place
   place_first form wrong =
-      behind_words Place (λ word. (below.apart ts).form_word form word) (inr (not_so (HasWrongNumber IsForm) (λ number. (below.apart ts).form_number form number), inl (refl, (ts, (to.says, wrong)))))
+      behind_words Place (λ word. (below.apart ts).form_word form word)
+      (inr (not_so (HasWrongNumber IsForm) (λ number. (below.apart ts).form_number form number), inl (refl, (ts, (to.says, wrong)))))
 
   -- the tokens are no form
   no_form : (b : Bad) → read_tokens ts ≡ Err b → RefusedFor limit bytes b
@@ -76,14 +77,17 @@ module _ (below : Below) (limit : ℕ) (bytes : List ℕ) (ts : List Token) (to 
 
   -- the tokens are a form
   is_form : (f : Form) → form_of ts ≡ Ok f → IsForm ts
-  is_form f is = let same : read_tokens ts ≡ Ok (form_as_read f) = below.table ts ∙ ap (λ (r : Result Form Bad). r >>= λ g. Ok (form_as_read g)) is in subst (IsAnswer ts) same (below.forms ts)
+  is_form f is = let same : read_tokens ts ≡ Ok (form_as_read f) =
+      below.table ts ∙ ap (λ (r : Result Form Bad). r >>= λ g. Ok (form_as_read g)) is in subst (IsAnswer ts) same (below.forms ts)
 
   misplaced : (f : Form) (b : Bad) → form_of ts ≡ Ok f → placed f ≡ Err b → RefusedFor limit bytes b
   misplaced f b is wrong = at (is_barred f) (said_of f) refl refl wrong
     where
       at : (barred : Bool) (o : Option Said) → is_barred f ≡ barred → said_of f ≡ o → cond barred (Err Place) (or_place o) ≡ Err b → RefusedFor limit bytes b
-      at true o barred says e = let same : Place ≡ b = cc in subst (RefusedFor limit bytes) same (place_first (is_form f is) (record { form = f; spelled = form_spelled below ts f is; wrong = inr barred }))
-      at false None barred says e = let same : Place ≡ b = cc in subst (RefusedFor limit bytes) same (place_first (is_form f is) (record { form = f; spelled = form_spelled below ts f is; wrong = inl says }))
+      at true o barred says e = let same : Place ≡ b =
+          cc in subst (RefusedFor limit bytes) same (place_first (is_form f is) (record { form = f; spelled = form_spelled below ts f is; wrong = inr barred }))
+      at false None barred says e = let same : Place ≡ b =
+          cc in subst (RefusedFor limit bytes) same (place_first (is_form f is) (record { form = f; spelled = form_spelled below ts f is; wrong = inl says }))
       at false (Some x) barred says e = absurd cc
 
   tokens_refused : (b : Bad) → (form_of ts >>= placed) ≡ Err b → RefusedFor limit bytes b
@@ -91,7 +95,8 @@ module _ (below : Below) (limit : ℕ) (bytes : List ℕ) (ts : List Token) (to 
     where
       at : (r : Result Form Bad) → form_of ts ≡ r → (r >>= placed) ≡ Err b → RefusedFor limit bytes b
       at (Ok f) is wrong = misplaced f b is wrong
-      at (Err c) is wrong = let same : c ≡ b = cc in no_form b (below.table ts ∙ (ap (λ (r : Result Form Bad). r >>= λ g. Ok (form_as_read g)) is ∙ ap (λ (x : Bad). failed x) same))
+      at (Err c) is wrong = let same : c ≡ b =
+          cc in no_form b (below.table ts ∙ (ap (λ (r : Result Form Bad). r >>= λ g. Ok (form_as_read g)) is ∙ ap (λ (x : Bad). failed x) same))
         where
           failed : Bad → Reads
           failed x = Err x
@@ -106,4 +111,5 @@ line_refused below bytes b e = at (tokens_of longest bytes) refl e
     at : (r : Result (Option (List Token)) Bad) → tokens_of longest bytes ≡ r → (r >>= said_by) ≡ Err b → RefusedFor longest bytes b
     at (Ok None) is wrong = absurd cc
     at (Ok (Some ts)) is wrong = tokens_refused below longest bytes ts (subst (LexicalAnswer longest bytes) is (below.answered longest bytes)) b wrong
-    at (Err c) is wrong = let same : c ≡ b = cc in subst (RefusedFor longest bytes) same (lexical_first longest bytes c (subst (LexicalAnswer longest bytes) is (below.answered longest bytes)))
+    at (Err c) is wrong = let same : c ≡ b =
+        cc in subst (RefusedFor longest bytes) same (lexical_first longest bytes c (subst (LexicalAnswer longest bytes) is (below.answered longest bytes)))

@@ -18,7 +18,8 @@ pub read_found : Below → (bytes : List ℕ) (r : Result Line LineRefused) → 
 read_found below bytes (Ok x) gives = found below bytes (line_of x) gives
 read_found below bytes (Err e) gives = tt
 
-pub read_only : Below → (bytes : List ℕ) (r : Result Line LineRefused) → GivesSeen line_of r (reading bytes) → (x : Said) → Spells longest bytes x → GivesSeen line_of r (Ok x)
+pub read_only : Below → (bytes : List ℕ) (r : Result Line LineRefused) → GivesSeen line_of r (reading bytes) → (x : Said) → Spells longest bytes x
+    → GivesSeen line_of r (Ok x)
 read_only below bytes r gives x spells = let P : Result Said Bad → Type 0 = λ read. GivesSeen line_of r read in subst P (only below bytes x spells) gives
 
 pub read_refusal : Below → (bytes : List ℕ) (r : Result Line LineRefused) → GivesSeen line_of r (reading bytes) → IfBad r (RefusedFor longest bytes)

@@ -24,7 +24,8 @@ place_then : {A B : Type 0} (o : Option A) (next : A → Option B) → or_place 
 place_then None next = refl
 place_then (Some a) next = refl
 
-pub body_placed : (w : Wrap) (ws : List Wrap) (o : Option Act) → or_place (option_and_then (said_of_body w ws) o) ≡ (or_place o >>= λ a. or_place (nested ws a) >>= λ b. or_place (declared w b))
+pub body_placed : (w : Wrap) (ws : List Wrap) (o : Option Act)
+    → or_place (option_and_then (said_of_body w ws) o) ≡ (or_place o >>= λ a. or_place (nested ws a) >>= λ b. or_place (declared w b))
 body_placed w ws None = refl
 body_placed w ws (Some a) = place_then (nested ws a) (declared w)
 

@@ -86,25 +86,33 @@ body_tokens (leaves.UserAutofill place val) a e = absurd cc
 body_tokens (leaves.UserPress place) a e = absurd cc
 
 -- an action that another one is put around
-around : (f : Act → Act) (w : Wrap) (o : Option Act) (b : Act) (inside : List Token) → ((a : Act) → act_tokens (f a) ≡ wrap_tokens w ++ act_tokens a) → ((a : Act) → o ≡ Some a → act_tokens a ≡ inside) → option_map f o ≡ Some b → act_tokens b ≡ wrap_tokens w ++ inside
+around : (f : Act → Act) (w : Wrap) (o : Option Act) (b : Act) (inside : List Token) → ((a : Act) → act_tokens (f a) ≡ wrap_tokens w ++ act_tokens a)
+    → ((a : Act) → o ≡ Some a → act_tokens a ≡ inside) → option_map f o ≡ Some b → act_tokens b ≡ wrap_tokens w ++ inside
 around f w None b inside outer inner e = absurd cc
 around f w (Some a) b inside outer inner e = same_act (f a) b _ (outer a ∙ ap (λ (ts : List Token). wrap_tokens w ++ ts) (inner a refl)) e
 
 nested_tokens : (ws : List Wrap) (a b : Act) (inside : List Token) → act_tokens a ≡ inside → nested ws a ≡ Some b → act_tokens b ≡ wraps_tokens ws inside
 nested_tokens [] a b inside is e = same_act a b inside is e
-nested_tokens (wraps.Try ∷ ws) a b inside is e = around acts.Try wraps.Try (nested ws a) b (wraps_tokens ws inside) (λ c. refl) (λ c same. nested_tokens ws a c inside is same) e
-nested_tokens (wraps.If equal left right ∷ ws) a b inside is e = around (acts.If equal left right) (wraps.If equal left right) (nested ws a) b (wraps_tokens ws inside) (λ c. refl) (λ c same. nested_tokens ws a c inside is same) e
+nested_tokens (wraps.Try ∷ ws) a b inside is e =
+    around acts.Try wraps.Try (nested ws a) b (wraps_tokens ws inside) (λ c. refl) (λ c same. nested_tokens ws a c inside is same) e
+nested_tokens (wraps.If equal left right ∷ ws) a b inside is e =
+    around (acts.If equal left right) (wraps.If equal left right) (nested ws a) b (wraps_tokens ws inside) (λ c. refl)
+    (λ c same. nested_tokens ws a c inside is same) e
 nested_tokens (wraps.On class call ∷ ws) a b inside is e = absurd cc
 
-declared_tokens : (w : Wrap) (o : Option Act) (x : Said) (inside : List Token) → ((a : Act) → o ≡ Some a → act_tokens a ≡ inside) → option_and_then (declared w) o ≡ Some x → said_tokens x ≡ wrap_tokens w ++ inside
+declared_tokens : (w : Wrap) (o : Option Act) (x : Said) (inside : List Token) → ((a : Act) → o ≡ Some a → act_tokens a ≡ inside)
+    → option_and_then (declared w) o ≡ Some x → said_tokens x ≡ wrap_tokens w ++ inside
 declared_tokens w None x inside is e = absurd cc
-declared_tokens (wraps.On class call) (Some a) x inside is e = same_said (Declares (acts.On class call a)) x _ (ap (λ (ts : List Token). wrap_tokens (wraps.On class call) ++ ts) (is a refl)) e
+declared_tokens (wraps.On class call) (Some a) x inside is e =
+    same_said (Declares (acts.On class call a)) x _ (ap (λ (ts : List Token). wrap_tokens (wraps.On class call) ++ ts) (is a refl)) e
 declared_tokens wraps.Try (Some a) x inside is e = absurd cc
 declared_tokens (wraps.If equal left right) (Some a) x inside is e = absurd cc
 
-within_tokens : (w : Wrap) (ws : List Wrap) (leaf : Leaf) (o : Option Act) (x : Said) → ((a : Act) → o ≡ Some a → act_tokens a ≡ leaf_tokens leaf) → option_and_then (said_of_body w ws) o ≡ Some x → said_tokens x ≡ wrap_tokens w ++ wraps_tokens ws (leaf_tokens leaf)
+within_tokens : (w : Wrap) (ws : List Wrap) (leaf : Leaf) (o : Option Act) (x : Said) → ((a : Act) → o ≡ Some a → act_tokens a ≡ leaf_tokens leaf)
+    → option_and_then (said_of_body w ws) o ≡ Some x → said_tokens x ≡ wrap_tokens w ++ wraps_tokens ws (leaf_tokens leaf)
 within_tokens w ws leaf None x is e = absurd cc
-within_tokens w ws leaf (Some a) x is e = declared_tokens w (nested ws a) x (wraps_tokens ws (leaf_tokens leaf)) (λ b same. nested_tokens ws a b (leaf_tokens leaf) (is a refl) same) e
+within_tokens w ws leaf (Some a) x is e =
+    declared_tokens w (nested ws a) x (wraps_tokens ws (leaf_tokens leaf)) (λ b same. nested_tokens ws a b (leaf_tokens leaf) (is a refl) same) e
 
 tokens_within : (ws : List Wrap) (leaf : Leaf) (x : Said) → said_within ws leaf ≡ Some x → said_tokens x ≡ wraps_tokens ws (leaf_tokens leaf)
 tokens_within [] leaf x e = top_tokens leaf x e
@@ -128,7 +136,8 @@ is_canonical below (Declares p) text is = λ f e. is ∙ ap as_line (canonical b
 nothing_reads : (limit : ℕ) → IsUtf8 [] → tokens_of limit [] ≡ Ok None
 nothing_reads limit utf8 = rw (le-ltb limit zero (omega arith), is_utf8-from_IsUtf8 [] utf8, encodes_same (chars []) [] (encodes-chars [] utf8)) refl
 
-form_spells : BelowWriting → (ts : List Token) (x : Said) → SpellsForm ts x → (text : List ℕ) → text ≡ as_line (said_tokens x) → IsUtf8 text → AreTexts (said_tokens x) → SpellsWithin x text
+form_spells : BelowWriting → (ts : List Token) (x : Said) → SpellsForm ts x → (text : List ℕ) → text ≡ as_line (said_tokens x) → IsUtf8 text
+    → AreTexts (said_tokens x) → SpellsWithin x text
 form_spells below ts x s text is utf8 texts limit short =
     let tokens = canon_tokens (form_as_read s.form) in
     let same : said_tokens x ≡ tokens = canonical below s.form x s.says in
@@ -151,16 +160,19 @@ blank_spells below x blank text is utf8 limit short =
       spelled = blank;
     }
 
-pub written_spells : BelowWriting → (x : Said) → CanBeSpelled x → (text : List ℕ) → text ≡ as_line (said_tokens x) → IsUtf8 text → AreTexts (said_tokens x) → SpellsWithin x text
+pub written_spells : BelowWriting → (x : Said) → CanBeSpelled x → (text : List ℕ) → text ≡ as_line (said_tokens x) → IsUtf8 text → AreTexts (said_tokens x)
+    → SpellsWithin x text
 written_spells below x (None, blank) text is utf8 texts = blank_spells below x blank text is utf8
 written_spells below x (Some ts, s) text is utf8 texts = form_spells below ts x s text is utf8 texts
 
-pub written_reads : BelowWriting → (x : Said) → CanBeSpelled x → (text : List ℕ) → text ≡ as_line (said_tokens x) → IsUtf8 text → AreTexts (said_tokens x) → ReadsAgain x text
+pub written_reads : BelowWriting → (x : Said) → CanBeSpelled x → (text : List ℕ) → text ≡ as_line (said_tokens x) → IsUtf8 text → AreTexts (said_tokens x)
+    → ReadsAgain x text
 written_reads below x spelled text is utf8 texts short = only below.read text x (written_spells below x spelled text is utf8 texts longest short)
 
 -- ---- what holds of each text that is written so
 
-pub each_text : {E : Type 0} (Q : List ℕ → Type 0) (x : Said) (r : Result (List ℕ) E) → ((text : List ℕ) → text ≡ as_line (said_tokens x) → IsUtf8 text → AreTexts (said_tokens x) → Q text)
+pub each_text : {E : Type 0} (Q : List ℕ → Type 0) (x : Said) (r : Result (List ℕ) E)
+    → ((text : List ℕ) → text ≡ as_line (said_tokens x) → IsUtf8 text → AreTexts (said_tokens x) → Q text)
     → IfOk r (λ t. t ≡ as_line (said_tokens x)) → IfOk r (λ t. IsUtf8 t) → OnOk r (AreTexts (said_tokens x)) → IfOk r Q
 each_text Q x (Ok text) holds is utf8 texts = holds text is utf8 texts
 each_text Q x (Err e) holds is utf8 texts = tt

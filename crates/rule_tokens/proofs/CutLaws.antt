@@ -1,5 +1,6 @@
 -- The tokens of a line are those of its layout, and a fault of its quotes is one of three.
-use Rattle.std.proofs.Common.{◌≡◌, ◌≢◌, ℕ, true, false, eqb, List, [], ◌∷◌, ◌++◌, Result, Ok, Err, refl, sym, ap, subst, ◌∙◌, append_assoc, append-nil, inl, inr, ◌⊎◌}
+use Rattle.std.proofs.Common.{◌≡◌, ◌≢◌, ℕ, true, false, eqb, List, [], ◌∷◌, ◌++◌, Result, Ok, Err, refl, sym, ap, subst, ◌∙◌, append_assoc, append-nil, inl}
+use Rattle.std.proofs.Common.{inr, ◌⊎◌}
 use Rattle.std.proofs.lemmas.Bool.Decides.{eqb_tells}
 use Rattle.rule_tokens.specs.declared.refused.Bad.{Bad}
 use Rattle.rule_tokens.specs.declared.refused.Bad.TheVariants.{Quote}
@@ -8,7 +9,8 @@ use Rattle.rule_tokens.specs.declared.cutting.Within.{Within}
 use Rattle.rule_tokens.specs.declared.cutting.Within.TheVariants.{Gap, Bare, Quoted, Protected, Closed}
 use Rattle.rule_tokens.specs.Cut.{cut, raw}
 use Rattle.rule_tokens.specs.Gives.{with_front}
-use Rattle.rule_tokens.specs.Layout.{Piece, Plain, Guarded, pieces, ArePieces, AreBare, IsBare, Item, Space, BareToken, QuotedToken, items_text, AreItems, raws, IsEnd, LaidOut, HasNoEnd, HasTextBehind, HasQuoteInside, EndsIn, IsMisquoted}
+use Rattle.rule_tokens.specs.Layout.{Piece, Plain, Guarded, pieces, ArePieces, AreBare, IsBare, Item, Space, BareToken, QuotedToken, items_text, AreItems, raws}
+use Rattle.rule_tokens.specs.Layout.{IsEnd, LaidOut, HasNoEnd, HasTextBehind, HasQuoteInside, EndsIn, IsMisquoted}
 
 -- ---- what a cut says of the line
 
@@ -24,22 +26,73 @@ cuts_as : (line line' : List ℕ) (r r' : Result (List Raw) Bad) → line ≡ li
 cuts_as line line' r r' p q cuts = subst (λ (x : List ℕ). Cuts x r') p (subst (λ (x : Result (List Raw) Bad). Cuts line x) q cuts)
 
 put_space : (line : List ℕ) (r : Result (List Raw) Bad) → Cuts line r → Cuts (32 ∷ line) r
-put_space line (Ok tokens) c = record { items = Space ∷ c.items; fit = c.fit; last = c.last; last_tokens = c.last_tokens; line_is = ap (λ (l : List ℕ). 32 ∷ l) c.line_is; tokens_are = c.tokens_are; is_last = c.is_last }
-put_space line (Err b) c = (c.0, record { items = Space ∷ c.1.items; fit = c.1.fit; last = c.1.last; line_is = ap (λ (l : List ℕ). 32 ∷ l) c.1.line_is; is = c.1.is })
+put_space line (Ok tokens) c =
+    record {
+      items = Space ∷ c.items;
+      fit = c.fit;
+      last = c.last;
+      last_tokens = c.last_tokens;
+      line_is = ap (λ (l : List ℕ). 32 ∷ l) c.line_is;
+      tokens_are = c.tokens_are;
+      is_last = c.is_last;
+    }
+put_space line (Err b) c = (
+  c.0,
+  record { items = Space ∷ c.1.items; fit = c.1.fit; last = c.1.last; line_is = ap (λ (l : List ℕ). 32 ∷ l) c.1.line_is; is = c.1.is },
+)
 
 bare_line : (w fs last line : List ℕ) → line ≡ fs ++ last → w ++ 32 ∷ line ≡ (w ++ 32 ∷ fs) ++ last
 bare_line w fs last line is = ap (λ (l : List ℕ). w ++ 32 ∷ l) is ∙ sym (append_assoc w (32 ∷ fs) last)
 
 put_bare : (w line : List ℕ) (r : Result (List Raw) Bad) → IsBare w → Cuts line r → Cuts (w ++ 32 ∷ line) (with_front (raw false w ∷ []) r)
-put_bare w line (Ok tokens) bare c = record { items = BareToken w ∷ c.items; fit = (bare, c.fit); last = c.last; last_tokens = c.last_tokens; line_is = bare_line w (items_text c.items) c.last line c.line_is; tokens_are = ap (λ (t : List Raw). raw false w ∷ t) c.tokens_are; is_last = c.is_last }
-put_bare w line (Err b) bare c = (c.0, record { items = BareToken w ∷ c.1.items; fit = (bare, c.1.fit); last = c.1.last; line_is = bare_line w (items_text c.1.items) c.1.last line c.1.line_is; is = c.1.is })
+put_bare w line (Ok tokens) bare c =
+    record {
+      items = BareToken w ∷ c.items;
+      fit = (bare, c.fit);
+      last = c.last;
+      last_tokens = c.last_tokens;
+      line_is = bare_line w (items_text c.items) c.last line c.line_is;
+      tokens_are = ap (λ (t : List Raw). raw false w ∷ t) c.tokens_are;
+      is_last = c.is_last;
+    }
+put_bare w line (Err b) bare c = (
+  c.0,
+  record {
+    items = BareToken w ∷ c.1.items;
+    fit = (bare, c.1.fit);
+    last = c.1.last;
+    line_is = bare_line w (items_text c.1.items) c.1.last line c.1.line_is;
+    is = c.1.is;
+  },
+)
 
 quoted_line : (inside fs last line : List ℕ) → line ≡ fs ++ last → 34 ∷ (inside ++ 34 ∷ 32 ∷ line) ≡ (34 ∷ (inside ++ 34 ∷ 32 ∷ fs)) ++ last
-quoted_line inside fs last line is = ap (λ (l : List ℕ). 34 ∷ (inside ++ 34 ∷ 32 ∷ l)) is ∙ ap (λ (l : List ℕ). 34 ∷ l) (sym (append_assoc inside (34 ∷ 32 ∷ fs) last))
+quoted_line inside fs last line is =
+    ap (λ (l : List ℕ). 34 ∷ (inside ++ 34 ∷ 32 ∷ l)) is ∙ ap (λ (l : List ℕ). 34 ∷ l) (sym (append_assoc inside (34 ∷ 32 ∷ fs) last))
 
-put_quoted : (ps : List Piece) (line : List ℕ) (r : Result (List Raw) Bad) → ArePieces ps → Cuts line r → Cuts (34 ∷ (pieces ps ++ 34 ∷ 32 ∷ line)) (with_front (raw true (pieces ps) ∷ []) r)
-put_quoted ps line (Ok tokens) fit c = record { items = QuotedToken ps ∷ c.items; fit = (fit, c.fit); last = c.last; last_tokens = c.last_tokens; line_is = quoted_line (pieces ps) (items_text c.items) c.last line c.line_is; tokens_are = ap (λ (t : List Raw). raw true (pieces ps) ∷ t) c.tokens_are; is_last = c.is_last }
-put_quoted ps line (Err b) fit c = (c.0, record { items = QuotedToken ps ∷ c.1.items; fit = (fit, c.1.fit); last = c.1.last; line_is = quoted_line (pieces ps) (items_text c.1.items) c.1.last line c.1.line_is; is = c.1.is })
+put_quoted : (ps : List Piece) (line : List ℕ) (r : Result (List Raw) Bad) → ArePieces ps → Cuts line r
+    → Cuts (34 ∷ (pieces ps ++ 34 ∷ 32 ∷ line)) (with_front (raw true (pieces ps) ∷ []) r)
+put_quoted ps line (Ok tokens) fit c =
+    record {
+      items = QuotedToken ps ∷ c.items;
+      fit = (fit, c.fit);
+      last = c.last;
+      last_tokens = c.last_tokens;
+      line_is = quoted_line (pieces ps) (items_text c.items) c.last line c.line_is;
+      tokens_are =
+          ap (λ (t : List Raw). raw true (pieces ps) ∷ t) c.tokens_are;
+      is_last = c.is_last;
+    }
+put_quoted ps line (Err b) fit c = (
+  c.0,
+  record {
+    items = QuotedToken ps ∷ c.1.items;
+    fit = (fit, c.1.fit);
+    last = c.1.last;
+    line_is = quoted_line (pieces ps) (items_text c.1.items) c.1.last line c.1.line_is;
+    is = c.1.is;
+  },
+)
 
 -- nothing stands in front of it
 at_end : (last : List ℕ) (tokens : List Raw) → IsEnd last tokens → Cuts last (Ok tokens)
@@ -77,7 +130,8 @@ Sees (Quoted w) cs = (ps : List Piece) → ArePieces ps → w ≡ pieces ps → 
 Sees (Protected w) cs = (ps : List Piece) → ArePieces ps → w ≡ pieces ps ++ 92 ∷ [] → Cuts (34 ∷ (w ++ cs)) (cut cs (Protected w))
 Sees Closed cs = (ps : List Piece) → ArePieces ps → Cuts (34 ∷ (pieces ps ++ 34 ∷ cs)) (with_front (raw true (pieces ps) ∷ []) (cut cs Closed))
 
-no_end : (w : List ℕ) (ps : List Piece) (tail : List ℕ) → ArePieces ps → (tail ≡ []) ⊎ (tail ≡ 92 ∷ []) → w ≡ pieces ps ++ tail → Cuts (34 ∷ (w ++ [])) (Err Quote)
+no_end : (w : List ℕ) (ps : List Piece) (tail : List ℕ) → ArePieces ps → (tail ≡ []) ⊎ (tail ≡ 92 ∷ []) → w ≡ pieces ps ++ tail
+    → Cuts (34 ∷ (w ++ [])) (Err Quote)
 no_end w ps tail fit is w_is = at_fault (34 ∷ (w ++ [])) (inl (ps, tail, (fit, is, ap (λ (l : List ℕ). 34 ∷ l) (append-nil w ∙ w_is))))
 
 -- a test of one character, with what it says
@@ -96,38 +150,56 @@ same_first c d w cs is = ap (λ (x : ℕ). w ++ x ∷ cs) (sym is)
 
 in_gap : (c : ℕ) (cs : List ℕ) → ((m : Within) → Sees m cs) → Tells c 32 → Tells c 34 → Sees Gap (c ∷ cs)
 unfolding cut
-in_gap c cs next (inl s) q = cuts_as (32 ∷ cs) (c ∷ cs) (cut cs Gap) (cut (c ∷ cs) Gap) (same_first c 32 [] cs s.1) (rw s.0 refl) (put_space cs (cut cs Gap) (next Gap))
-in_gap c cs next (inr s) (inl q) = cuts_as (34 ∷ cs) (c ∷ cs) (cut cs (Quoted [])) (cut (c ∷ cs) Gap) (same_first c 34 [] cs q.1) (rw (s.0, q.0) refl) (next (Quoted []) [] tt refl)
-in_gap c cs next (inr s) (inr q) = cuts_as (c ∷ cs) (c ∷ cs) (cut cs (Bare (c ∷ []))) (cut (c ∷ cs) Gap) refl (rw (s.0, q.0) refl) (next (Bare (c ∷ [])) ((s.1, q.1), tt))
+in_gap c cs next (inl s) q = cuts_as (32 ∷ cs) (c ∷ cs) (cut cs Gap) (cut (c ∷ cs) Gap) (same_first c 32 [] cs s.1) (rw s.0 refl)
+    (put_space cs (cut cs Gap) (next Gap))
+in_gap c cs next (inr s) (inl q) =
+    cuts_as (34 ∷ cs) (c ∷ cs) (cut cs (Quoted [])) (cut (c ∷ cs) Gap) (same_first c 34 [] cs q.1) (rw (s.0, q.0) refl) (next (Quoted []) [] tt refl)
+in_gap c cs next (inr s) (inr q) =
+    cuts_as (c ∷ cs) (c ∷ cs) (cut cs (Bare (c ∷ []))) (cut (c ∷ cs) Gap) refl (rw (s.0, q.0) refl) (next (Bare (c ∷ [])) ((s.1, q.1), tt))
 
 in_bare : (c : ℕ) (cs w : List ℕ) → ((m : Within) → Sees m cs) → Tells c 32 → Tells c 34 → Sees (Bare w) (c ∷ cs)
 unfolding cut
-in_bare c cs w next (inl s) q bare = cuts_as (w ++ 32 ∷ cs) (w ++ c ∷ cs) (with_front (raw false w ∷ []) (cut cs Gap)) (cut (c ∷ cs) (Bare w)) (same_first c 32 w cs s.1) (rw s.0 refl) (put_bare w cs (cut cs Gap) bare (next Gap))
-in_bare c cs w next (inr s) (inl q) bare = cuts_as (w ++ 34 ∷ cs) (w ++ c ∷ cs) (Err Quote) (cut (c ∷ cs) (Bare w)) (same_first c 34 w cs q.1) (rw (s.0, q.0) refl) (at_fault (w ++ 34 ∷ cs) (inr (inr (w, cs, (bare, refl)))))
-in_bare c cs w next (inr s) (inr q) bare = cuts_as ((w ++ c ∷ []) ++ cs) (w ++ c ∷ cs) (cut cs (Bare (w ++ c ∷ []))) (cut (c ∷ cs) (Bare w)) (append_assoc w (c ∷ []) cs) (rw (s.0, q.0) refl) (next (Bare (w ++ c ∷ [])) (bare_more w c bare s.1 q.1))
+in_bare c cs w next (inl s) q bare =
+    cuts_as (w ++ 32 ∷ cs) (w ++ c ∷ cs) (with_front (raw false w ∷ []) (cut cs Gap)) (cut (c ∷ cs) (Bare w)) (same_first c 32 w cs s.1) (rw s.0 refl)
+    (put_bare w cs (cut cs Gap) bare (next Gap))
+in_bare c cs w next (inr s) (inl q) bare =
+    cuts_as (w ++ 34 ∷ cs) (w ++ c ∷ cs) (Err Quote) (cut (c ∷ cs) (Bare w)) (same_first c 34 w cs q.1) (rw (s.0, q.0) refl)
+    (at_fault (w ++ 34 ∷ cs) (inr (inr (w, cs, (bare, refl)))))
+in_bare c cs w next (inr s) (inr q) bare =
+    cuts_as ((w ++ c ∷ []) ++ cs) (w ++ c ∷ cs) (cut cs (Bare (w ++ c ∷ []))) (cut (c ∷ cs) (Bare w)) (append_assoc w (c ∷ []) cs) (rw (s.0, q.0) refl)
+    (next (Bare (w ++ c ∷ [])) (bare_more w c bare s.1 q.1))
 
 more_inside : (c : ℕ) (cs w : List ℕ) → 34 ∷ ((w ++ c ∷ []) ++ cs) ≡ 34 ∷ (w ++ c ∷ cs)
 more_inside c cs w = ap (λ (l : List ℕ). 34 ∷ l) (append_assoc w (c ∷ []) cs)
 
 in_quoted : (c : ℕ) (cs w : List ℕ) → ((m : Within) → Sees m cs) → Tells c 34 → Tells c 92 → Sees (Quoted w) (c ∷ cs)
 unfolding cut
-in_quoted c cs w next (inl q) b ps fit is = cuts_as (34 ∷ (pieces ps ++ 34 ∷ cs)) (34 ∷ (w ++ c ∷ cs)) (with_front (raw true (pieces ps) ∷ []) (cut cs Closed)) (cut (c ∷ cs) (Quoted w))
+in_quoted c cs w next (inl q) b ps fit is =
+    cuts_as (34 ∷ (pieces ps ++ 34 ∷ cs)) (34 ∷ (w ++ c ∷ cs)) (with_front (raw true (pieces ps) ∷ []) (cut cs Closed)) (cut (c ∷ cs) (Quoted w))
     (ap (λ (l : List ℕ). 34 ∷ (l ++ 34 ∷ cs)) (sym is) ∙ ap (λ (l : List ℕ). 34 ∷ l) (same_first c 34 w cs q.1)) (rw (q.0, is) refl) (next Closed ps fit)
-in_quoted c cs w next (inr q) (inl b) ps fit is = cuts_as (34 ∷ ((w ++ c ∷ []) ++ cs)) (34 ∷ (w ++ c ∷ cs)) (cut cs (Protected (w ++ c ∷ []))) (cut (c ∷ cs) (Quoted w))
+in_quoted c cs w next (inr q) (inl b) ps fit is =
+    cuts_as (34 ∷ ((w ++ c ∷ []) ++ cs)) (34 ∷ (w ++ c ∷ cs)) (cut cs (Protected (w ++ c ∷ []))) (cut (c ∷ cs) (Quoted w))
     (more_inside c cs w) (rw (q.0, b.0) refl) (next (Protected (w ++ c ∷ [])) ps fit (ap (λ (x : ℕ). w ++ x ∷ []) b.1 ∙ ap (λ (l : List ℕ). l ++ 92 ∷ []) is))
-in_quoted c cs w next (inr q) (inr b) ps fit is = cuts_as (34 ∷ ((w ++ c ∷ []) ++ cs)) (34 ∷ (w ++ c ∷ cs)) (cut cs (Quoted (w ++ c ∷ []))) (cut (c ∷ cs) (Quoted w))
-    (more_inside c cs w) (rw (q.0, b.0) refl) (next (Quoted (w ++ c ∷ [])) (ps ++ Plain c ∷ []) (are_more ps (Plain c ∷ []) fit ((q.1, b.1), tt)) (ap (λ (l : List ℕ). l ++ c ∷ []) is ∙ sym (pieces_more ps (Plain c ∷ []))))
+in_quoted c cs w next (inr q) (inr b) ps fit is =
+    cuts_as (34 ∷ ((w ++ c ∷ []) ++ cs)) (34 ∷ (w ++ c ∷ cs)) (cut cs (Quoted (w ++ c ∷ []))) (cut (c ∷ cs) (Quoted w))
+    (more_inside c cs w) (rw (q.0, b.0) refl)
+    (next (Quoted (w ++ c ∷ [])) (ps ++ Plain c ∷ []) (are_more ps (Plain c ∷ []) fit ((q.1, b.1), tt))
+    (ap (λ (l : List ℕ). l ++ c ∷ []) is ∙ sym (pieces_more ps (Plain c ∷ []))))
 
 in_protected : (c : ℕ) (cs w : List ℕ) → ((m : Within) → Sees m cs) → Sees (Protected w) (c ∷ cs)
 unfolding cut
 in_protected c cs w next ps fit is = cuts_as (34 ∷ ((w ++ c ∷ []) ++ cs)) (34 ∷ (w ++ c ∷ cs)) (cut cs (Quoted (w ++ c ∷ []))) (cut (c ∷ cs) (Protected w))
-    (more_inside c cs w) refl (next (Quoted (w ++ c ∷ [])) (ps ++ Guarded c ∷ []) (are_more ps (Guarded c ∷ []) fit tt) (ap (λ (l : List ℕ). l ++ c ∷ []) is ∙ (append_assoc (pieces ps) (92 ∷ []) (c ∷ []) ∙ sym (pieces_more ps (Guarded c ∷ [])))))
+    (more_inside c cs w) refl (next (Quoted (w ++ c ∷ [])) (ps ++ Guarded c ∷ []) (are_more ps (Guarded c ∷ []) fit tt)
+    (ap (λ (l : List ℕ). l ++ c ∷ []) is ∙ (append_assoc (pieces ps) (92 ∷ []) (c ∷ []) ∙ sym (pieces_more ps (Guarded c ∷ [])))))
 
 behind_quote : (c : ℕ) (cs : List ℕ) → ((m : Within) → Sees m cs) → Tells c 32 → Sees Closed (c ∷ cs)
 unfolding cut
-behind_quote c cs next (inl s) ps fit = cuts_as (34 ∷ (pieces ps ++ 34 ∷ 32 ∷ cs)) (34 ∷ (pieces ps ++ 34 ∷ c ∷ cs)) (with_front (raw true (pieces ps) ∷ []) (cut cs Gap)) (with_front (raw true (pieces ps) ∷ []) (cut (c ∷ cs) Closed))
+behind_quote c cs next (inl s) ps fit =
+    cuts_as (34 ∷ (pieces ps ++ 34 ∷ 32 ∷ cs)) (34 ∷ (pieces ps ++ 34 ∷ c ∷ cs)) (with_front (raw true (pieces ps) ∷ []) (cut cs Gap))
+    (with_front (raw true (pieces ps) ∷ []) (cut (c ∷ cs) Closed))
     (ap (λ (x : ℕ). 34 ∷ (pieces ps ++ 34 ∷ x ∷ cs)) (sym s.1)) (rw s.0 refl) (put_quoted ps cs (cut cs Gap) fit (next Gap))
-behind_quote c cs next (inr s) ps fit = cuts_as (34 ∷ (pieces ps ++ 34 ∷ c ∷ cs)) (34 ∷ (pieces ps ++ 34 ∷ c ∷ cs)) (Err Quote) (with_front (raw true (pieces ps) ∷ []) (cut (c ∷ cs) Closed))
+behind_quote c cs next (inr s) ps fit =
+    cuts_as (34 ∷ (pieces ps ++ 34 ∷ c ∷ cs)) (34 ∷ (pieces ps ++ 34 ∷ c ∷ cs)) (Err Quote) (with_front (raw true (pieces ps) ∷ []) (cut (c ∷ cs) Closed))
     refl (rw s.0 refl) (at_fault (34 ∷ (pieces ps ++ 34 ∷ c ∷ cs)) (inr (inl (ps, c, cs, (fit, s.1, refl)))))
 
 sees_more : (c : ℕ) (cs : List ℕ) → ((m : Within) → Sees m cs) → (within : Within) → Sees within (c ∷ cs)
@@ -140,7 +212,8 @@ sees_more c cs next Closed = behind_quote c cs next (eqb_tells c 32)
 sees_none : (within : Within) → Sees within []
 unfolding cut
 sees_none Gap = at_end [] [] (inl (refl, refl))
-sees_none (Bare w) = λ bare. cuts_as w (w ++ []) (Ok (raw false w ∷ [])) (Ok (raw false w ∷ [])) (sym (append-nil w)) refl (at_end w (raw false w ∷ []) (inr (inl (bare, refl))))
+sees_none (Bare w) = λ bare. cuts_as w (w ++ []) (Ok (raw false w ∷ [])) (Ok (raw false w ∷ [])) (sym (append-nil w)) refl
+    (at_end w (raw false w ∷ []) (inr (inl (bare, refl))))
 sees_none (Quoted w) = λ ps fit is. no_end w ps [] fit (inl refl) (is ∙ sym (append-nil (pieces ps)))
 sees_none (Protected w) = λ ps fit is. no_end w ps (92 ∷ []) fit (inr refl) is
 sees_none Closed = λ ps fit. at_end (34 ∷ (pieces ps ++ 34 ∷ [])) (raw true (pieces ps) ∷ []) (inr (inr (ps, (fit, refl, refl))))
@@ -166,7 +239,9 @@ with_more xs ys (Err b) = refl
 over_bare : (v w rest : List ℕ) → AreBare v → cut (v ++ rest) (Bare w) ≡ cut rest (Bare (w ++ v))
 unfolding cut
 over_bare [] w rest bare = ap (λ (l : List ℕ). cut rest (Bare l)) (sym (append-nil w))
-over_bare (c ∷ v) w rest bare = rw (not_same c 32 bare.0.0, not_same c 34 bare.0.1) (over_bare v (w ++ c ∷ []) rest bare.1 ∙ ap (λ (l : List ℕ). cut rest (Bare l)) (append_assoc w (c ∷ []) v))
+over_bare (c ∷ v) w rest bare =
+    rw (not_same c 32 bare.0.0, not_same c 34 bare.0.1)
+    (over_bare v (w ++ c ∷ []) rest bare.1 ∙ ap (λ (l : List ℕ). cut rest (Bare l)) (append_assoc w (c ∷ []) v))
 
 over_token : (w rest : List ℕ) → IsBare w → cut (w ++ rest) Gap ≡ cut rest (Bare w)
 unfolding cut
@@ -176,8 +251,12 @@ over_token (c ∷ w) rest bare = rw (not_same c 32 bare.0.0, not_same c 34 bare.
 over_pieces : (ps : List Piece) (w rest : List ℕ) → ArePieces ps → cut (pieces ps ++ rest) (Quoted w) ≡ cut rest (Quoted (w ++ pieces ps))
 unfolding cut
 over_pieces [] w rest fit = ap (λ (l : List ℕ). cut rest (Quoted l)) (sym (append-nil w))
-over_pieces (Plain c ∷ ps) w rest fit = rw (not_same c 34 fit.0.0, not_same c 92 fit.0.1) (over_pieces ps (w ++ c ∷ []) rest fit.1 ∙ ap (λ (l : List ℕ). cut rest (Quoted l)) (append_assoc w (c ∷ []) (pieces ps)))
-over_pieces (Guarded c ∷ ps) w rest fit = over_pieces ps ((w ++ 92 ∷ []) ++ c ∷ []) rest fit ∙ ap (λ (l : List ℕ). cut rest (Quoted l)) (append_assoc (w ++ 92 ∷ []) (c ∷ []) (pieces ps) ∙ append_assoc w (92 ∷ []) (c ∷ pieces ps))
+over_pieces (Plain c ∷ ps) w rest fit =
+    rw (not_same c 34 fit.0.0, not_same c 92 fit.0.1)
+    (over_pieces ps (w ++ c ∷ []) rest fit.1 ∙ ap (λ (l : List ℕ). cut rest (Quoted l)) (append_assoc w (c ∷ []) (pieces ps)))
+over_pieces (Guarded c ∷ ps) w rest fit =
+    over_pieces ps ((w ++ 92 ∷ []) ++ c ∷ []) rest fit
+    ∙ ap (λ (l : List ℕ). cut rest (Quoted l)) (append_assoc (w ++ 92 ∷ []) (c ∷ []) (pieces ps) ∙ append_assoc w (92 ∷ []) (c ∷ pieces ps))
 
 over_inside : (ps : List Piece) (rest : List ℕ) → ArePieces ps → cut (34 ∷ (pieces ps ++ rest)) Gap ≡ cut rest (Quoted (pieces ps))
 unfolding cut

@@ -1,5 +1,6 @@
 -- What is read between quotes is what its signs say, and a fault is a backslash that begins no escape.
-use Rattle.std.proofs.Common.{◌≡◌, ◌≢◌, ℕ, ◌+◌, ◌*◌, Bool, true, false, cond, ◌&&◌, List, [], ◌∷◌, ◌++◌, length, Option, Some, None, Result, Ok, Err, refl, sym, ap, subst, ◌∙◌, append_assoc, append-nil, inl, inr}
+use Rattle.std.proofs.Common.{◌≡◌, ◌≢◌, ℕ, ◌+◌, ◌*◌, Bool, true, false, cond, ◌&&◌, List, [], ◌∷◌, ◌++◌, length, Option, Some, None, Result, Ok, Err, refl, sym}
+use Rattle.std.proofs.Common.{ap, subst, ◌∙◌, append_assoc, append-nil, inl, inr}
 use Rattle.std.specs.Prelude.{nat_lt, option_and_then}
 use Rattle.std.specs.Char.{digit_value}
 use Rattle.std.proofs.Math.Utf8.{scalar}
@@ -22,7 +23,8 @@ NoBrace (c ∷ cs) = (c ≢ 125) × NoBrace cs
 digit_no_brace : (c : ℕ) → nat_lt (digit_value c) 16 ≡ true → c ≢ 125
 digit_no_brace c small is = let brace : nat_lt (digit_value 125) 16 ≡ true = subst (λ (x : ℕ). nat_lt (digit_value x) 16 ≡ true) is small in absurd cc
 
-hex_step : (b : Bool) (n c : ℕ) (ds : List ℕ) (d : ℕ) → nat_lt (digit_value c) 16 ≡ b → cond b (hex_from (n * 16 + digit_value c) ds) None ≡ Some d → (hex_from (n * 16 + digit_value c) ds ≡ Some d → NoBrace ds) → NoBrace (c ∷ ds)
+hex_step : (b : Bool) (n c : ℕ) (ds : List ℕ) (d : ℕ) → nat_lt (digit_value c) 16 ≡ b → cond b (hex_from (n * 16 + digit_value c) ds) None ≡ Some d
+    → (hex_from (n * 16 + digit_value c) ds ≡ Some d → NoBrace ds) → NoBrace (c ∷ ds)
 hex_step true n c ds d small is others = (digit_no_brace c small, others is)
 hex_step false n c ds d big is others = absurd cc
 
@@ -43,7 +45,8 @@ named_no_brace : (ds : List ℕ) (d : ℕ) → named ds ≡ Some d → NoBrace d
 unfolding named
 named_no_brace ds d is =
     let scalar_of : ℕ → Option ℕ = λ n. cond (scalar n) (Some n) None in
-    let value = then_some scalar_of (hex_from 0 ds) d (if_some (nat_lt 0 (length ds) && nat_lt (length ds) 7) (option_and_then scalar_of (hex_from 0 ds)) d is) in
+    let value = then_some scalar_of (hex_from 0 ds) d (if_some (nat_lt 0 (length ds) && nat_lt (length ds) 7) (option_and_then scalar_of (hex_from 0 ds)) d is)
+    in
     hex_no_brace 0 ds value.0 value.1
 
 no_brace_more : (ds : List ℕ) (c : ℕ) → NoBrace ds → c ≢ 125 → NoBrace (ds ++ c ∷ [])
@@ -75,7 +78,9 @@ reads_as : (x x' : List ℕ) (r r' : Result (List ℕ) Bad) → x ≡ x' → r �
 reads_as x x' r r' p q reads = subst (λ (y : List ℕ). Reads y r') p (subst (λ (y : Result (List ℕ) Bad). Reads x y) q reads)
 
 -- one more sign in front
-put_sign : (s : Sign) (d : ℕ) (spelled inside : List ℕ) (r : Result (List ℕ) Bad) → SaysOne s d → ((ss : List Sign) (more : List ℕ) → signs (s ∷ ss) ++ more ≡ spelled ++ (signs ss ++ more)) → Reads inside r → Reads (spelled ++ inside) (with_front (d ∷ []) r)
+put_sign : (s : Sign) (d : ℕ) (spelled inside : List ℕ) (r : Result (List ℕ) Bad) → SaysOne s d
+    → ((ss : List Sign) (more : List ℕ) → signs (s ∷ ss) ++ more ≡ spelled ++ (signs ss ++ more)) → Reads inside r
+    → Reads (spelled ++ inside) (with_front (d ∷ []) r)
 put_sign s d spelled inside (Ok text) says spells (ss, read) =
     (s ∷ ss, (ap (λ (l : List ℕ). spelled ++ l) (read.0 ∙ sym (append-nil (signs ss))) ∙ (sym (spells ss []) ∙ append-nil (signs (s ∷ ss))), (says, read.1)))
 put_sign s d spelled inside (Err b) says spells (is, w) = (
@@ -139,37 +144,51 @@ ReadsIn (Digits ds) cs = NoBrace ds → Reads (92 ∷ 117 ∷ 123 ∷ (ds ++ cs)
 
 outside : (c : ℕ) (cs : List ℕ) → ((e : InEscape) → ReadsIn e cs) → Tells c 92 → ReadsIn Outside (c ∷ cs)
 unfolding unescape
-outside c cs next (inl b) = reads_as (92 ∷ cs) (c ∷ cs) (unescape cs AfterBackslash) (unescape (c ∷ cs) Outside) (ap (λ (x : ℕ). x ∷ cs) (sym b.1)) (rw b.0 refl) (next AfterBackslash)
+outside c cs next (inl b) = reads_as (92 ∷ cs) (c ∷ cs) (unescape cs AfterBackslash) (unescape (c ∷ cs) Outside) (ap (λ (x : ℕ). x ∷ cs) (sym b.1))
+    (rw b.0 refl) (next AfterBackslash)
 outside c cs next (inr b) = reads_as (c ∷ cs) (c ∷ cs) (with_front (c ∷ []) (unescape cs Outside)) (unescape (c ∷ cs) Outside) refl (rw b.0 refl)
     (put_sign (Itself c) c (c ∷ []) cs (unescape cs Outside) (b.1, refl) (λ ss more. refl) (next Outside))
 
-behind_letter : (c : ℕ) (cs : List ℕ) (o : Option ℕ) → short_escape c ≡ o → c ≢ 117 → Reads cs (unescape cs Outside) → Reads (92 ∷ c ∷ cs) (then_char o (unescape cs Outside))
+behind_letter : (c : ℕ) (cs : List ℕ) (o : Option ℕ) → short_escape c ≡ o → c ≢ 117 → Reads cs (unescape cs Outside)
+    → Reads (92 ∷ c ∷ cs) (then_char o (unescape cs Outside))
 behind_letter c cs None is differ reads = at_wrong (c ∷ cs) (no_letter c cs differ is)
 behind_letter c cs (Some d) is differ reads = put_sign (Letter c) d (92 ∷ c ∷ []) cs (unescape cs Outside) is (λ ss more. refl) reads
 
 behind_backslash : (c : ℕ) (cs : List ℕ) → ((e : InEscape) → ReadsIn e cs) → Tells c 117 → ReadsIn AfterBackslash (c ∷ cs)
 unfolding unescape
-behind_backslash c cs next (inl u) = reads_as (92 ∷ 117 ∷ cs) (92 ∷ c ∷ cs) (unescape cs AfterU) (unescape (c ∷ cs) AfterBackslash) (ap (λ (x : ℕ). 92 ∷ x ∷ cs) (sym u.1)) (rw u.0 refl) (next AfterU)
-behind_backslash c cs next (inr u) = reads_as (92 ∷ c ∷ cs) (92 ∷ c ∷ cs) (then_char (short_escape c) (unescape cs Outside)) (unescape (c ∷ cs) AfterBackslash) refl (rw u.0 refl) (behind_letter c cs (short_escape c) refl u.1 (next Outside))
+behind_backslash c cs next (inl u) =
+    reads_as (92 ∷ 117 ∷ cs) (92 ∷ c ∷ cs) (unescape cs AfterU) (unescape (c ∷ cs) AfterBackslash) (ap (λ (x : ℕ). 92 ∷ x ∷ cs) (sym u.1)) (rw u.0 refl)
+    (next AfterU)
+behind_backslash c cs next (inr u) =
+    reads_as (92 ∷ c ∷ cs) (92 ∷ c ∷ cs) (then_char (short_escape c) (unescape cs Outside)) (unescape (c ∷ cs) AfterBackslash) refl (rw u.0 refl)
+    (behind_letter c cs (short_escape c) refl u.1 (next Outside))
 
 behind_u : (c : ℕ) (cs : List ℕ) → ((e : InEscape) → ReadsIn e cs) → Tells c 123 → ReadsIn AfterU (c ∷ cs)
 unfolding unescape
-behind_u c cs next (inl b) = reads_as (92 ∷ 117 ∷ 123 ∷ cs) (92 ∷ 117 ∷ c ∷ cs) (unescape cs (Digits [])) (unescape (c ∷ cs) AfterU) (ap (λ (x : ℕ). 92 ∷ 117 ∷ x ∷ cs) (sym b.1)) (rw b.0 refl) (next (Digits []) tt)
-behind_u c cs next (inr b) = reads_as (92 ∷ 117 ∷ c ∷ cs) (92 ∷ 117 ∷ c ∷ cs) (Err Escape) (unescape (c ∷ cs) AfterU) refl (rw b.0 refl) (at_wrong (117 ∷ c ∷ cs) (no_brace_behind_u c cs b.1))
+behind_u c cs next (inl b) = reads_as (92 ∷ 117 ∷ 123 ∷ cs) (92 ∷ 117 ∷ c ∷ cs) (unescape cs (Digits [])) (unescape (c ∷ cs) AfterU)
+    (ap (λ (x : ℕ). 92 ∷ 117 ∷ x ∷ cs) (sym b.1)) (rw b.0 refl) (next (Digits []) tt)
+behind_u c cs next (inr b) = reads_as (92 ∷ 117 ∷ c ∷ cs) (92 ∷ 117 ∷ c ∷ cs) (Err Escape) (unescape (c ∷ cs) AfterU) refl (rw b.0 refl)
+    (at_wrong (117 ∷ c ∷ cs) (no_brace_behind_u c cs b.1))
 
 code_spelled : (ds : List ℕ) (ss : List Sign) (more : List ℕ) → signs (Code ds ∷ ss) ++ more ≡ (92 ∷ 117 ∷ 123 ∷ (ds ++ 125 ∷ [])) ++ (signs ss ++ more)
 code_spelled ds ss more = ap (λ (l : List ℕ). 92 ∷ 117 ∷ 123 ∷ l) (append_assoc ds (125 ∷ signs ss) more ∙ sym (append_assoc ds (125 ∷ []) (signs ss ++ more)))
 
-behind_code : (ds cs : List ℕ) (o : Option ℕ) → named ds ≡ o → NoBrace ds → Reads cs (unescape cs Outside) → Reads (92 ∷ 117 ∷ 123 ∷ (ds ++ 125 ∷ cs)) (then_char o (unescape cs Outside))
+behind_code : (ds cs : List ℕ) (o : Option ℕ) → named ds ≡ o → NoBrace ds → Reads cs (unescape cs Outside)
+    → Reads (92 ∷ 117 ∷ 123 ∷ (ds ++ 125 ∷ cs)) (then_char o (unescape cs Outside))
 behind_code ds cs None is none reads = at_wrong (117 ∷ 123 ∷ (ds ++ 125 ∷ cs)) (no_name ds cs none is)
-behind_code ds cs (Some d) is none reads = reads_as ((92 ∷ 117 ∷ 123 ∷ (ds ++ 125 ∷ [])) ++ cs) (92 ∷ 117 ∷ 123 ∷ (ds ++ 125 ∷ cs)) (with_front (d ∷ []) (unescape cs Outside)) (with_front (d ∷ []) (unescape cs Outside))
-    (ap (λ (l : List ℕ). 92 ∷ 117 ∷ 123 ∷ l) (append_assoc ds (125 ∷ []) cs)) refl (put_sign (Code ds) d (92 ∷ 117 ∷ 123 ∷ (ds ++ 125 ∷ [])) cs (unescape cs Outside) is (code_spelled ds) reads)
+behind_code ds cs (Some d) is none reads =
+    reads_as ((92 ∷ 117 ∷ 123 ∷ (ds ++ 125 ∷ [])) ++ cs) (92 ∷ 117 ∷ 123 ∷ (ds ++ 125 ∷ cs)) (with_front (d ∷ []) (unescape cs Outside))
+    (with_front (d ∷ []) (unescape cs Outside))
+    (ap (λ (l : List ℕ). 92 ∷ 117 ∷ 123 ∷ l) (append_assoc ds (125 ∷ []) cs)) refl
+    (put_sign (Code ds) d (92 ∷ 117 ∷ 123 ∷ (ds ++ 125 ∷ [])) cs (unescape cs Outside) is (code_spelled ds) reads)
 
 in_digits : (c : ℕ) (cs ds : List ℕ) → ((e : InEscape) → ReadsIn e cs) → Tells c 125 → ReadsIn (Digits ds) (c ∷ cs)
 unfolding unescape
-in_digits c cs ds next (inl b) none = reads_as (92 ∷ 117 ∷ 123 ∷ (ds ++ 125 ∷ cs)) (92 ∷ 117 ∷ 123 ∷ (ds ++ c ∷ cs)) (then_char (named ds) (unescape cs Outside)) (unescape (c ∷ cs) (Digits ds))
+in_digits c cs ds next (inl b) none =
+    reads_as (92 ∷ 117 ∷ 123 ∷ (ds ++ 125 ∷ cs)) (92 ∷ 117 ∷ 123 ∷ (ds ++ c ∷ cs)) (then_char (named ds) (unescape cs Outside)) (unescape (c ∷ cs) (Digits ds))
     (ap (λ (x : ℕ). 92 ∷ 117 ∷ 123 ∷ (ds ++ x ∷ cs)) (sym b.1)) (rw b.0 refl) (behind_code ds cs (named ds) refl none (next Outside))
-in_digits c cs ds next (inr b) none = reads_as (92 ∷ 117 ∷ 123 ∷ ((ds ++ c ∷ []) ++ cs)) (92 ∷ 117 ∷ 123 ∷ (ds ++ c ∷ cs)) (unescape cs (Digits (ds ++ c ∷ []))) (unescape (c ∷ cs) (Digits ds))
+in_digits c cs ds next (inr b) none =
+    reads_as (92 ∷ 117 ∷ 123 ∷ ((ds ++ c ∷ []) ++ cs)) (92 ∷ 117 ∷ 123 ∷ (ds ++ c ∷ cs)) (unescape cs (Digits (ds ++ c ∷ []))) (unescape (c ∷ cs) (Digits ds))
     (ap (λ (l : List ℕ). 92 ∷ 117 ∷ 123 ∷ l) (append_assoc ds (c ∷ []) cs)) (rw b.0 refl) (next (Digits (ds ++ c ∷ [])) (no_brace_more ds c none b.1))
 
 reads_more : (c : ℕ) (cs : List ℕ) → ((e : InEscape) → ReadsIn e cs) → (e : InEscape) → ReadsIn e (c ∷ cs)
@@ -183,7 +202,8 @@ unfolding unescape
 reads_none Outside = ([], (refl, tt))
 reads_none AfterBackslash = at_wrong [] nothing_behind
 reads_none AfterU = at_wrong (117 ∷ []) nothing_behind_u
-reads_none (Digits ds) = λ none. reads_as (92 ∷ 117 ∷ 123 ∷ ds) (92 ∷ 117 ∷ 123 ∷ (ds ++ [])) (Err Escape) (Err Escape) (ap (λ (l : List ℕ). 92 ∷ 117 ∷ 123 ∷ l) (sym (append-nil ds))) refl (at_wrong (117 ∷ 123 ∷ ds) (no_end ds none))
+reads_none (Digits ds) = λ none. reads_as (92 ∷ 117 ∷ 123 ∷ ds) (92 ∷ 117 ∷ 123 ∷ (ds ++ [])) (Err Escape) (Err Escape)
+    (ap (λ (l : List ℕ). 92 ∷ 117 ∷ 123 ∷ l) (sym (append-nil ds))) refl (at_wrong (117 ∷ 123 ∷ ds) (no_end ds none))
 
 reads_in : (cs : List ℕ) (e : InEscape) → ReadsIn e cs
 reads_in [] e = reads_none e
@@ -198,9 +218,11 @@ reads inside = reads_in inside Outside
 over_digits : (es ds rest : List ℕ) → NoBrace es → unescape (es ++ rest) (Digits ds) ≡ unescape rest (Digits (ds ++ es))
 unfolding unescape
 over_digits [] ds rest none = ap (λ (l : List ℕ). unescape rest (Digits l)) (sym (append-nil ds))
-over_digits (e ∷ es) ds rest none = rw (not_same e 125 none.0) (over_digits es (ds ++ e ∷ []) rest none.1 ∙ ap (λ (l : List ℕ). unescape rest (Digits l)) (append_assoc ds (e ∷ []) es))
+over_digits (e ∷ es) ds rest none =
+    rw (not_same e 125 none.0) (over_digits es (ds ++ e ∷ []) rest none.1 ∙ ap (λ (l : List ℕ). unescape rest (Digits l)) (append_assoc ds (e ∷ []) es))
 
-over_code : (ds : List ℕ) (d : ℕ) (rest : List ℕ) → named ds ≡ Some d → unescape (92 ∷ 117 ∷ 123 ∷ (ds ++ 125 ∷ rest)) Outside ≡ with_front (d ∷ []) (unescape rest Outside)
+over_code : (ds : List ℕ) (d : ℕ) (rest : List ℕ) → named ds ≡ Some d
+    → unescape (92 ∷ 117 ∷ 123 ∷ (ds ++ 125 ∷ rest)) Outside ≡ with_front (d ∷ []) (unescape rest Outside)
 unfolding unescape
 over_code ds d rest is = over_digits ds [] (125 ∷ rest) (named_no_brace ds d is) ∙ ap (λ (o : Option ℕ). then_char o (unescape rest Outside)) is
 
@@ -222,7 +244,8 @@ over_signs (s ∷ ss) [] rest say = absurd say
 over_signs (Itself c ∷ ss) (d ∷ text) rest say = over_itself c d (signs ss ++ rest) say.0 ∙ then_more d text _ _ (over_signs ss text rest say.1)
 over_signs (Letter l ∷ ss) (d ∷ text) rest say = over_letter l d (signs ss ++ rest) say.0 ∙ then_more d text _ _ (over_signs ss text rest say.1)
 over_signs (Code ds ∷ ss) (d ∷ text) rest say =
-    ap (λ (l : List ℕ). unescape (92 ∷ 117 ∷ 123 ∷ l) Outside) (append_assoc ds (125 ∷ signs ss) rest) ∙ (over_code ds d (signs ss ++ rest) say.0 ∙ then_more d text _ _ (over_signs ss text rest say.1))
+    ap (λ (l : List ℕ). unescape (92 ∷ 117 ∷ 123 ∷ l) Outside) (append_assoc ds (125 ∷ signs ss) rest)
+    ∙ (over_code ds d (signs ss ++ rest) say.0 ∙ then_more d text _ _ (over_signs ss text rest say.1))
 
 unescape_none : unescape [] Outside ≡ Ok []
 unfolding unescape
@@ -230,7 +253,8 @@ unescape_none = refl
 
 pub unescape_read : (inside text : List ℕ) → IsReadAs inside text → unescape inside Outside ≡ Ok text
 unescape_read inside text (ss, read) =
-    ap (λ (l : List ℕ). unescape l Outside) (read.0 ∙ sym (append-nil (signs ss))) ∙ (over_signs ss text [] read.1 ∙ (ap (with_front text) unescape_none ∙ ap Ok (append-nil text)))
+    ap (λ (l : List ℕ). unescape l Outside) (read.0 ∙ sym (append-nil (signs ss)))
+    ∙ (over_signs ss text [] read.1 ∙ (ap (with_front text) unescape_none ∙ ap Ok (append-nil text)))
 
 -- a backslash at the front of what is read begins an escape
 begins : (rest : List ℕ) (ss : List Sign) (text : List ℕ) → 92 ∷ rest ≡ signs ss → Say ss text → BeginsEscape rest
@@ -247,4 +271,5 @@ wrong_at rest (Err b) wrong (is, w) = ap Err is
 pub unescape_wrong : (inside : List ℕ) → WrongEscape inside → unescape inside Outside ≡ Err Escape
 unescape_wrong inside w =
     ap (λ (l : List ℕ). unescape l Outside) w.inside_is
-    ∙ (over_signs w.before w.text (92 ∷ w.rest) w.said ∙ ap (with_front w.text) (wrong_at w.rest (unescape (92 ∷ w.rest) Outside) w.wrong (reads (92 ∷ w.rest))))
+    ∙ (over_signs w.before w.text (92 ∷ w.rest) w.said
+    ∙ ap (with_front w.text) (wrong_at w.rest (unescape (92 ∷ w.rest) Outside) w.wrong (reads (92 ∷ w.rest))))

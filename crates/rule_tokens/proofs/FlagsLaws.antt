@@ -59,7 +59,8 @@ after_commas names = names_after (codes ",") names
 abbrev joined_or_none : List (List ℕ) → List ℕ
 joined_or_none names = names_joined (codes ",") (codes "none") names
 
-names_back : (name : List ℕ) (names : List (List ℕ)) → is_plain name ≡ true → list_all is_plain names ≡ true → slice_split is_comma (name ++ after_commas names) ≡ name ∷ names
+names_back : (name : List ℕ) (names : List (List ℕ)) → is_plain name ≡ true → list_all is_plain names ≡ true
+    → slice_split is_comma (name ++ after_commas names) ≡ name ∷ names
 names_back name [] is are = cut_at_end name (all_name_bytes name is)
 names_back name (other ∷ names) is are =
     let both = and_parts (is_plain other) (list_all is_plain names) are in
@@ -96,7 +97,8 @@ is_raised_name (name ∷ names) [] flag = refl
 is_raised_name (name ∷ names) (true ∷ fs) flag = rw (is_raised_name names fs flag) (or_is (bytes_eq flag name) (is_raised names fs flag))
 is_raised_name (name ∷ names) (false ∷ fs) flag = is_raised_name names fs flag ∙ same_else (bytes_eq flag name) (is_raised names fs flag)
 
-raised_ten : (a b c d e f g h i j : Bool) → raised (raised_names flag_names (a ∷ b ∷ c ∷ d ∷ e ∷ f ∷ g ∷ h ∷ i ∷ j ∷ [])) ≡ a ∷ b ∷ c ∷ d ∷ e ∷ f ∷ g ∷ h ∷ i ∷ j ∷ []
+raised_ten : (a b c d e f g h i j : Bool)
+    → raised (raised_names flag_names (a ∷ b ∷ c ∷ d ∷ e ∷ f ∷ g ∷ h ∷ i ∷ j ∷ [])) ≡ a ∷ b ∷ c ∷ d ∷ e ∷ f ∷ g ∷ h ∷ i ∷ j ∷ []
 raised_ten a b c d e f g h i j = simp (is_raised_name, or-false)
 
 pub raised_back : (fs : List Bool) → length fs ≡ 10 → raised (raised_names flag_names fs) ≡ fs
@@ -113,7 +115,8 @@ names_known fs = all_raised (is_one_of flag_names) flag_names fs refl
 
 -- ---- the laws
 
-names_read : (names : List (List ℕ)) → list_all is_plain names ≡ true → list_all (is_one_of flag_names) names ≡ true → flags (record { quoted = false; text = joined_or_none names }) ≡ Some (raised names)
+names_read : (names : List (List ℕ)) → list_all is_plain names ≡ true → list_all (is_one_of flag_names) names ≡ true
+    → flags (record { quoted = false; text = joined_or_none names }) ≡ Some (raised names)
 names_read [] plain known = refl
 names_read (name ∷ names) plain known =
     let both = and_parts (is_plain name) (list_all is_plain names) plain in
@@ -146,7 +149,8 @@ names_bare (name ∷ names) are =
 pub flags_bare : FlagsAreBare
 flags_bare fs is = names_bare (raised_names flag_names fs) (names_plain fs)
 
-ten_by : (quoted none known : Bool) (x y fs : List Bool) → length x ≡ 10 → length y ≡ 10 → (if quoted then None else (if none then Some x else (if known then Some y else None))) ≡ Some fs → length fs ≡ 10
+ten_by : (quoted none known : Bool) (x y fs : List Bool) → length x ≡ 10 → length y ≡ 10
+    → (if quoted then None else (if none then Some x else (if known then Some y else None))) ≡ Some fs → length fs ≡ 10
 ten_by true none known x y fs one other e = absurd cc
 ten_by false true known x y fs one other e = cc
 ten_by false false true x y fs one other e = cc

@@ -1,5 +1,6 @@
 -- A text in quotes is one token, which says the text.
-use Rattle.std.proofs.Common.{◌≡◌, ◌≢◌, ◌≤◌, ◌<◌, ℕ, ◌+◌, ◌*◌, ◌/◌, ◌%◌, Bool, true, false, cond, eqb, ◌||◌, List, [], ◌∷◌, ◌++◌, length, Option, Some, None, Result, Ok, Err, refl, sym, ap, ◌∙◌, append_assoc, inr, arith, subst}
+use Rattle.std.proofs.Common.{◌≡◌, ◌≢◌, ◌≤◌, ◌<◌, ℕ, ◌+◌, ◌*◌, ◌/◌, ◌%◌, Bool, true, false, cond, eqb, ◌||◌, List, [], ◌∷◌, ◌++◌, length, Option, Some, None}
+use Rattle.std.proofs.Common.{Result, Ok, Err, refl, sym, ap, ◌∙◌, append_assoc, inr, arith, subst}
 use Rattle.std.specs.Prelude.{nat_lt, encode_utf8_all, IfOk}
 use Rattle.std.specs.Char.{digit_char, is_ascii_control}
 use Rattle.std.specs.List.{list_any}
@@ -117,7 +118,8 @@ abbrev pub ArePiecesOf : List ℕ → Type 0
 ArePiecesOf inside = (ps : List Piece) × ((inside ≡ pieces ps) × ArePieces ps)
 
 pieces_both : (xs ys : List ℕ) → ArePiecesOf xs → ArePiecesOf ys → ArePiecesOf (xs ++ ys)
-pieces_both xs ys (ps, one) (qs, two) = (ps ++ qs, (ap (λ (l : List ℕ). l ++ ys) one.0 ∙ (ap (λ (l : List ℕ). pieces ps ++ l) two.0 ∙ sym (pieces_more ps qs)), are_more ps qs one.1 two.1))
+pieces_both xs ys (ps, one) (qs, two) =
+    (ps ++ qs, (ap (λ (l : List ℕ). l ++ ys) one.0 ∙ (ap (λ (l : List ℕ). pieces ps ++ l) two.0 ∙ sym (pieces_more ps qs)), are_more ps qs one.1 two.1))
 
 piece_plain : (c : ℕ) → eqb c 34 ≡ false → eqb c 92 ≡ false → ArePiecesOf (c ∷ [])
 piece_plain c quote backslash = (Plain c ∷ [], (refl, ((differs c 34 quote, differs c 92 backslash), tt)))
@@ -130,12 +132,14 @@ piece_digit d small = let plain = digit_plain d small in piece_plain (digit_char
 
 pieces_hex : (b : Bool) (c : ℕ) → c < 128 → ArePiecesOf (hex_by b c)
 pieces_hex true c small = piece_digit (c % 16) (omega arith)
-pieces_hex false c small = pieces_both (digit_char (c / 16) ∷ []) (digit_char (c % 16) ∷ []) (piece_digit (c / 16) (omega arith)) (piece_digit (c % 16) (omega arith))
+pieces_hex false c small = pieces_both (digit_char (c / 16) ∷ []) (digit_char (c % 16) ∷ []) (piece_digit (c / 16) (omega arith))
+    (piece_digit (c % 16) (omega arith))
 
 pieces_by : (o : Option ℕ) (b : Bool) (c : ℕ) → short_letter c ≡ o → is_ascii_control c ≡ b → ArePiecesOf (escape_by o c)
 pieces_by (Some d) b c is control = piece_guarded d
 pieces_by None true c is control = rw control (pieces_both (92 ∷ 117 ∷ []) (123 ∷ (hex c ++ 125 ∷ [])) (piece_guarded 117)
-    (pieces_both (123 ∷ []) (hex c ++ 125 ∷ []) (piece_plain 123 refl refl) (pieces_both (hex c) (125 ∷ []) (pieces_hex (nat_lt c 16) c (control_small c control)) (piece_plain 125 refl refl))))
+    (pieces_both (123 ∷ []) (hex c ++ 125 ∷ []) (piece_plain 123 refl refl)
+    (pieces_both (hex c) (125 ∷ []) (pieces_hex (nat_lt c 16) c (control_small c control)) (piece_plain 125 refl refl))))
 pieces_by None false c is control = rw control (piece_plain c (plain_quote c is) (plain_backslash c is))
 
 pub pieces_all : (cs : List ℕ) → ArePiecesOf (escapes cs)
@@ -208,7 +212,8 @@ quotes_are text =
     rw (encodes-append (escapes (chars text)) (34 ∷ []), encode_ascii 34 quote, escaped_is (chars text)) refl
 
 -- a text in quotes reads as one token, which says the text
-pub quoted_again : (text t : List ℕ) (limit : ℕ) → IsUtf8 text → IsUtf8 t → t ≡ in_quotes text → length t ≤ limit → tokens_of limit t ≡ Ok (Some (record { quoted = true; text = text } ∷ []))
+pub quoted_again : (text t : List ℕ) (limit : ℕ) → IsUtf8 text → IsUtf8 t → t ≡ in_quotes text → length t ≤ limit
+    → tokens_of limit t ≡ Ok (Some (record { quoted = true; text = text } ∷ []))
 quoted_again text t limit utf8 t_utf8 is short =
     let line : chars t ≡ quoted_line (chars text) = encodes_same (chars t) (quoted_line (chars text)) (encodes-chars t t_utf8 ∙ (is ∙ quotes_are text)) in
     rw (le-ltb limit (length t) short, is_utf8-from_IsUtf8 t t_utf8, line, quoted_tokens (chars text), encodes-chars text utf8) refl
@@ -216,6 +221,8 @@ quoted_again text t limit utf8 t_utf8 is short =
 as_read : (limit : ℕ) (t : List ℕ) (said : Option (List Token)) → tokens_of limit t ≡ Ok said → ReadsTo limit t said
 as_read limit t said is = let P : Result (Option (List Token)) Bad → Type 0 = λ x. IsAnswer limit t x in subst P is (lex_reads limit t)
 
-pub read_back : {E : Type 0} (text : List ℕ) (r : Result (List ℕ) E) → IsUtf8 text → IfOk r (λ t. t ≡ in_quotes text) → IfOk r (λ t. IsUtf8 t) → IfOk r (λ t. IsReadBack text t)
-read_back text (Ok t) utf8 is t_utf8 = λ limit short. as_read limit t (Some (record { quoted = true; text = text } ∷ [])) (quoted_again text t limit utf8 t_utf8 is short)
+pub read_back : {E : Type 0} (text : List ℕ) (r : Result (List ℕ) E) → IsUtf8 text → IfOk r (λ t. t ≡ in_quotes text) → IfOk r (λ t. IsUtf8 t)
+    → IfOk r (λ t. IsReadBack text t)
+read_back text (Ok t) utf8 is t_utf8 =
+    λ limit short. as_read limit t (Some (record { quoted = true; text = text } ∷ [])) (quoted_again text t limit utf8 t_utf8 is short)
 read_back text (Err e) utf8 is t_utf8 = tt

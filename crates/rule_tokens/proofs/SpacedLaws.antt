@@ -1,5 +1,6 @@
 -- Tokens that are written as a line are read again.
-use Rattle.std.proofs.Common.{◌≡◌, ◌≢◌, ◌<◌, ℕ, Bool, true, false, eqb, List, [], ◌∷◌, ◌++◌, length, Ok, refl, sym, ap, ◌∙◌, append_assoc, inl, inr, arith, subst}
+use Rattle.std.proofs.Common.{◌≡◌, ◌≢◌, ◌<◌, ℕ, Bool, true, false, eqb, List, [], ◌∷◌, ◌++◌, length, Ok, refl, sym, ap, ◌∙◌, append_assoc, inl, inr, arith}
+use Rattle.std.proofs.Common.{subst}
 use Rattle.std.proofs.lemmas.List.{append-nil}
 use Rattle.std.specs.Prelude.{encode_utf8_all}
 use Rattle.std.specs.Char.{is_ascii_control}
@@ -100,10 +101,12 @@ spaced_is : (ts : List Token) → AreClean ts → spaced ts ≡ encode_utf8_all 
 spaced_is [] clean = refl
 spaced_is (t ∷ ts) clean =
     let space : 32 < 128 = omega arith in
-    rw (encode_ascii 32 space, encodes-append (stands t) (all_spaced ts)) (ap (λ (l : List ℕ). 32 ∷ (l ++ spaced ts)) (written_is t clean.0) ∙ ap (λ (l : List ℕ). 32 ∷ (encode_utf8_all (stands t) ++ l)) (spaced_is ts clean.1))
+    rw (encode_ascii 32 space, encodes-append (stands t) (all_spaced ts))
+    (ap (λ (l : List ℕ). 32 ∷ (l ++ spaced ts)) (written_is t clean.0) ∙ ap (λ (l : List ℕ). 32 ∷ (encode_utf8_all (stands t) ++ l)) (spaced_is ts clean.1))
 
 line_is : (t : Token) (ts : List Token) → AreClean (t ∷ ts) → as_line (t ∷ ts) ≡ encode_utf8_all (all_stand t ts)
-line_is t ts clean = ap (λ (l : List ℕ). l ++ spaced ts) (written_is t clean.0) ∙ (ap (λ (l : List ℕ). encode_utf8_all (stands t) ++ l) (spaced_is ts clean.1) ∙ sym (encodes-append (stands t) (all_spaced ts)))
+line_is t ts clean = ap (λ (l : List ℕ). l ++ spaced ts) (written_is t clean.0)
+    ∙ (ap (λ (l : List ℕ). encode_utf8_all (stands t) ++ l) (spaced_is ts clean.1) ∙ sym (encodes-append (stands t) (all_spaced ts)))
 
 -- ---- laid out
 
@@ -125,7 +128,9 @@ more_laid true text rest rs clean laid =
       fit = (ps.1.1, laid.fit);
       last = laid.last;
       last_tokens = laid.last_tokens;
-      line_is = more_quoted (escapes (chars text)) rest ∙ (ap (λ (l : List ℕ). 34 ∷ (l ++ 34 ∷ 32 ∷ rest)) ps.1.0 ∙ (ap (λ (l : List ℕ). 34 ∷ (pieces ps.0 ++ 34 ∷ 32 ∷ l)) laid.line_is ∙ sym (ap (λ (l : List ℕ). 34 ∷ l) (append_assoc (pieces ps.0) _ laid.last))));
+      line_is = more_quoted (escapes (chars text)) rest
+          ∙ (ap (λ (l : List ℕ). 34 ∷ (l ++ 34 ∷ 32 ∷ rest)) ps.1.0
+          ∙ (ap (λ (l : List ℕ). 34 ∷ (pieces ps.0 ++ 34 ∷ 32 ∷ l)) laid.line_is ∙ sym (ap (λ (l : List ℕ). 34 ∷ l) (append_assoc (pieces ps.0) _ laid.last))));
       tokens_are = ap (λ (l : List ℕ). raw true l ∷ rs) ps.1.0 ∙ ap (λ (l : List Raw). raw true (pieces ps.0) ∷ l) laid.tokens_are;
       is_last = laid.is_last;
     }
@@ -182,7 +187,12 @@ no_backslash (t ∷ ts) clean = rw (no_backslash_by t.quoted t.text clean.0) (no
 
 line_read : (t : Token) (ts : List Token) → AreClean (t ∷ ts) → tokens_of_chars (all_stand t ts) ≡ Ok (t ∷ ts)
 unfolding tokens_of_chars
-line_read t ts clean = rw (cut_laid_out (all_stand t ts) (raws_of (t ∷ ts)) (laid_out t ts clean), tokens_read (t ∷ ts) clean, plain_line t ts clean, no_backslash (t ∷ ts) clean) refl
+line_read t ts clean = rw (
+  cut_laid_out (all_stand t ts) (raws_of (t ∷ ts)) (laid_out t ts clean),
+  tokens_read (t ∷ ts) clean,
+  plain_line t ts clean,
+  no_backslash (t ∷ ts) clean,
+) refl
 
 not_blank_by : (b : Bool) (text rest : List ℕ) → IsCleanBy b text → b ≡ false → is_comment text ≡ false → is_blank (stands_by b text ++ rest) ≡ false
 not_blank_by true text rest clean bare plain = absurd cc
@@ -192,6 +202,7 @@ not_blank_by false (c ∷ text) rest clean bare plain = let all = all_bare (c �
 pub written_is_read : WrittenIsRead
 written_is_read limit [] clean line utf8 short = absurd line
 written_is_read limit (t ∷ ts) clean line utf8 short =
-    let same : chars (as_line (t ∷ ts)) ≡ all_stand t ts = encodes_same (chars (as_line (t ∷ ts))) (all_stand t ts) (encodes-chars (as_line (t ∷ ts)) utf8 ∙ line_is t ts clean) in
+    let same : chars (as_line (t ∷ ts)) ≡ all_stand t ts =
+    encodes_same (chars (as_line (t ∷ ts))) (all_stand t ts) (encodes-chars (as_line (t ∷ ts)) utf8 ∙ line_is t ts clean) in
     let some : is_blank (all_stand t ts) ≡ false = not_blank_by t.quoted t.text (all_spaced ts) clean.0 line.0 line.1 in
     rw (le-ltb limit (length (as_line (t ∷ ts))) short, is_utf8-from_IsUtf8 (as_line (t ∷ ts)) utf8, same, some, line_read t ts clean) refl

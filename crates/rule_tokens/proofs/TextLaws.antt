@@ -45,7 +45,8 @@ hex_scalars false n small = rw (digit_scalar (n / 16) (omega arith), digit_scala
 control_small : (c : ℕ) → is_ascii_control c ≡ true → c < 256
 control_small c is = grind (arith, nat_tests)
 
-escape_scalars : (letter : Option ℕ) (control : Bool) (c : ℕ) → scalar c ≡ true → short_letter c ≡ letter → is_ascii_control c ≡ control → all_scalars (escape_by letter c) ≡ true
+escape_scalars : (letter : Option ℕ) (control : Bool) (c : ℕ) → scalar c ≡ true → short_letter c ≡ letter → is_ascii_control c ≡ control
+    → all_scalars (escape_by letter c) ≡ true
 escape_scalars (Some d) control c is letter_is control_is = rw (letter_scalar c d letter_is) refl
 escape_scalars None true c is letter_is control_is = rw control_is (hex_scalars (nat_lt c 16) c (control_small c control_is))
 escape_scalars None false c is letter_is control_is = rw (control_is, is) refl
@@ -61,7 +62,8 @@ escaped_text (c ∷ cs) are =
     IsUtf8-append (encode_utf8_all (escape c)) (escaped cs) (escape_text c both.0) (escaped_text cs both.1)
 
 quotes_text : (text : List ℕ) → IsUtf8 text → IsUtf8 (in_quotes text)
-quotes_text text utf8 = more_text 34 (escaped (chars text) ++ 34 ∷ []) (omega arith) (IsUtf8-append (escaped (chars text)) (34 ∷ []) (escaped_text (chars text) (scalars-chars text utf8)) (byte_text 34 (omega arith)))
+quotes_text text utf8 = more_text 34 (escaped (chars text) ++ 34 ∷ []) (omega arith)
+    (IsUtf8-append (escaped (chars text)) (34 ∷ []) (escaped_text (chars text) (scalars-chars text utf8)) (byte_text 34 (omega arith)))
 
 -- ---- tokens
 
@@ -71,7 +73,8 @@ by_text false text clean = bare_text text clean.1
 
 spaced_text : (ts : List Token) → AreClean ts → IsUtf8 (spaced ts)
 spaced_text [] clean = IsUtf8-nil
-spaced_text (t ∷ ts) clean = more_text 32 (written t ++ spaced ts) (omega arith) (IsUtf8-append (written t) (spaced ts) (by_text t.quoted t.text clean.0) (spaced_text ts clean.1))
+spaced_text (t ∷ ts) clean = more_text 32 (written t ++ spaced ts) (omega arith)
+    (IsUtf8-append (written t) (spaced ts) (by_text t.quoted t.text clean.0) (spaced_text ts clean.1))
 
 pub written_is_text : WrittenIsText
 written_is_text [] clean = IsUtf8-nil

@@ -104,11 +104,13 @@ long_enough [] ts same zero small = same zero
 long_enough (g ∷ gs) ts same zero small = absurd (omega (arith, small))
 long_enough gs ts same (suc n) small = same n
 
-wraps_canon : (ws : List Wrap) (leaf : Leaf) (n : ℕ) → length (wraps_as_read ws (leaf_as_read leaf)) ≤ n → canon_within n (wraps_as_read ws (leaf_as_read leaf)) ≡ wraps_tokens ws (leaf_tokens leaf)
+wraps_canon : (ws : List Wrap) (leaf : Leaf) (n : ℕ) → length (wraps_as_read ws (leaf_as_read leaf)) ≤ n
+    → canon_within n (wraps_as_read ws (leaf_as_read leaf)) ≡ wraps_tokens ws (leaf_tokens leaf)
 wraps_canon [] leaf n small = long_enough (leaf_as_read leaf) (leaf_tokens leaf) (λ m. leaf_canon m leaf) n small
 wraps_canon (w ∷ ws) leaf zero small = absurd (omega (arith, small, wrap_long w (wraps_as_read ws (leaf_as_read leaf))))
 wraps_canon (w ∷ ws) leaf (suc n) small =
-    wrap_canon n w (wraps_as_read ws (leaf_as_read leaf)) ∙ ap (λ (ts : List Token). wrap_tokens w ++ ts) (wraps_canon ws leaf n (omega (arith, small, wrap_long w (wraps_as_read ws (leaf_as_read leaf)))))
+    wrap_canon n w (wraps_as_read ws (leaf_as_read leaf))
+    ∙ ap (λ (ts : List Token). wrap_tokens w ++ ts) (wraps_canon ws leaf n (omega (arith, small, wrap_long w (wraps_as_read ws (leaf_as_read leaf)))))
 
 pub forms_canonical : FormsAreCanonical
 forms_canonical f = sym (wraps_canon f.wraps f.leaf (length (form_as_read f)) (omega arith))

@@ -1,5 +1,6 @@
 -- Counts of lines, where one more byte comes.
-use Rattle.std.proofs.Common.{◌≡◌, ◌≤◌, ◌+◌, ℕ, Bool, true, false, ◌==◌, ◌&&◌, cond, zero-add, List, [], ◌∷◌, ◌++◌, length, refl, sym, ap, ◌∙◌, add_assoc, arith}
+use Rattle.std.proofs.Common.{◌≡◌, ◌≤◌, ◌+◌, ℕ, Bool, true, false, ◌==◌, ◌&&◌, cond, zero-add, List, [], ◌∷◌, ◌++◌, length, refl, sym, ap, ◌∙◌, add_assoc}
+use Rattle.std.proofs.Common.{arith}
 use mir.Val.{bool_byte}
 use Rattle.std.specs.Prelude.{codes, count_by, nat_eq}
 use Rattle.std.specs.List.{slice_split, onto_first, starts_with}

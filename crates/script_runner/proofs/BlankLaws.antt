@@ -1,5 +1,6 @@
 -- Lines that say nothing.
-use Rattle.std.proofs.Common.{◌≡◌, ◌<◌, ◌≤◌, ℕ, Bool, true, false, ◌&&◌, Ok, List, [], ◌∷◌, nat_lt, length, get_or, encode_utf8, encode_utf8_all, refl, sym, ap, ◌∙◌, arith, inl, inr, length-append}
+use Rattle.std.proofs.Common.{◌≡◌, ◌<◌, ◌≤◌, ℕ, Bool, true, false, ◌&&◌, Ok, List, [], ◌∷◌, nat_lt, length, get_or, encode_utf8, encode_utf8_all, refl, sym, ap}
+use Rattle.std.proofs.Common.{◌∙◌, arith, inl, inr, length-append}
 use Rattle.std.proofs.lemmas.Bool.{cases_lt}
 use Rattle.std.proofs.lemmas.Bool.Decides.{nat_tests}
 use Rattle.std.proofs.lemmas.Str.{encodes-chars, encode_ascii, char_from_byte, length-encode, len_utf8_bounds, IsUtf8-from_is_utf8}
@@ -51,7 +52,8 @@ bytes_tell : (line : List ℕ) → by_tests (nat_le (length line) longest) (is_u
 unfolding by_tests
 bytes_tell line = go (is_utf8 line) refl
   where
-    go : (u : Bool) → is_utf8 line ≡ u → by_tests (nat_le (length line) longest) u (is_blank line) ≡ by_tests (nat_le (length line) longest) u (is_blank (chars line))
+    go : (u : Bool) → is_utf8 line ≡ u
+        → by_tests (nat_le (length line) longest) u (is_blank line) ≡ by_tests (nat_le (length line) longest) u (is_blank (chars line))
     go true e = ap (by_tests (nat_le (length line) longest) true) (sym (blank_chars line e))
     go false e = no_text (nat_le (length line) longest) (is_blank line) (is_blank (chars line))
 
@@ -71,10 +73,12 @@ unfolding by_tests
 too_long line long = ap (λ w. by_tests w (is_utf8 line) (is_blank line)) (sym long) ∙ bytes_tell line
 
 pub not_blank : (line : List ℕ) → is_blank line ≡ false → false ≡ says_nothing line
-not_blank line said = sym (no_blank_either (nat_le (length line) longest) (is_utf8 line)) ∙ ap (by_tests (nat_le (length line) longest) (is_utf8 line)) (sym said) ∙ bytes_tell line
+not_blank line said = sym (no_blank_either (nat_le (length line) longest) (is_utf8 line))
+    ∙ ap (by_tests (nat_le (length line) longest) (is_utf8 line)) (sym said) ∙ bytes_tell line
 
 pub blank_text : (line : List ℕ) → nat_le (length line) longest ≡ true → is_blank line ≡ true → is_utf8 line ≡ says_nothing line
-blank_text line short blank = sym (blank_either (is_utf8 line)) ∙ ap (λ w. by_tests w (is_utf8 line) true) (sym short) ∙ ap (by_tests (nat_le (length line) longest) (is_utf8 line)) (sym blank) ∙ bytes_tell line
+blank_text line short blank = sym (blank_either (is_utf8 line)) ∙ ap (λ w. by_tests w (is_utf8 line) true) (sym short)
+    ∙ ap (by_tests (nat_le (length line) longest) (is_utf8 line)) (sym blank) ∙ bytes_tell line
 
 -- ---- by its reading
 

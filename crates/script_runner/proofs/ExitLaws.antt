@@ -1,5 +1,6 @@
 -- What is true of a run at each of its ends.
-use Rattle.std.proofs.Common.{◌≡◌, ◌≤◌, ◌<◌, ◌+◌, ◌-◌, cond, ℕ, Bool, true, false, List, [], ◌++◌, length, take, refl, sym, ap, subst, ◌∙◌, append-nil, arith, length-append, inl, inr}
+use Rattle.std.proofs.Common.{◌≡◌, ◌≤◌, ◌<◌, ◌+◌, ◌-◌, cond, ℕ, Bool, true, false, List, [], ◌++◌, length, take, refl, sym, ap, subst, ◌∙◌, append-nil, arith}
+use Rattle.std.proofs.Common.{length-append, inl, inr}
 use Rattle.std.proofs.KnownBytes.{Appends-nil, Consumes-nil, Consumes-trans}
 use Rattle.std.specs.Io.KnownBytes.{Consumes, IsAtEnd}
 use Rattle.std.specs.declared.option.Option.{Option}
@@ -38,11 +39,13 @@ is_spent-behind events (Throws f s) = refl
 is_spent-behind events (Spent s) = refl
 
 -- the fuel is spent where the last line says so
-spends : (set : Options) (lines : List (List ℕ)) (end : End) (s : Sitting) (held held' : Option (List ℕ)) → Answered (fresh set) lines end s held held' → spends_all set lines ≡ is_spent (outcome_of end s.state)
+spends : (set : Options) (lines : List (List ℕ)) (end : End) (s : Sitting) (held held' : Option (List ℕ)) → Answered (fresh set) lines end s held held'
+    → spends_all set lines ≡ is_spent (outcome_of end s.state)
 spends set lines end s held held' done = ap is_spent done.ran.same ∙ is_spent-behind done.events (outcome_of end s.state)
 
 -- the text that was written is the transcript
-writes : (set : Options) (lines : List (List ℕ)) (end : End) (s : Sitting) (held held' : Option (List ℕ)) (done : Answered (fresh set) lines end s held held') → text set.trace done.events ≡ answers (fresh set) lines
+writes : (set : Options) (lines : List (List ℕ)) (end : End) (s : Sitting) (held held' : Option (List ℕ)) (done : Answered (fresh set) lines end s held held')
+    → text set.trace done.events ≡ answers (fresh set) lines
 writes set lines end s held held' done = sym (ran_answers (fresh set) s lines end done.events done.ran)
 
 -- the log of each session keeps the law of order
@@ -51,7 +54,8 @@ lawful set lines = session_lawful (settings set) (readings lines)
 
 -- ---- what was taken before the last piece
 
-needed_piece : (set : Options) (left left' held held' : Option (List ℕ)) (s : Sitting) (feed bytes : List ℕ) (n : ℕ) (before : Streamed set left left' held held' s feed n) → length bytes ≤ piece → TakesOnlyNeeded set (before.taken ++ bytes)
+needed_piece : (set : Options) (left left' held held' : Option (List ℕ)) (s : Sitting) (feed bytes : List ℕ) (n : ℕ)
+    (before : Streamed set left left' held held' s feed n) → length bytes ≤ piece → TakesOnlyNeeded set (before.taken ++ bytes)
 needed_piece set left left' held held' s feed bytes n before short = record {
   before = before.taken;
   last = bytes;
@@ -61,7 +65,8 @@ needed_piece set left left' held held' s feed bytes n before short = record {
   goes = spends set _ Replied s held held' before.done;
 }
 
-needed_nothing : (set : Options) (left left' held held' : Option (List ℕ)) (s : Sitting) (feed : List ℕ) (n : ℕ) (before : Streamed set left left' held held' s feed n) → TakesOnlyNeeded set before.taken
+needed_nothing : (set : Options) (left left' held held' : Option (List ℕ)) (s : Sitting) (feed : List ℕ) (n : ℕ)
+    (before : Streamed set left left' held held' s feed n) → TakesOnlyNeeded set before.taken
 needed_nothing set left left' held held' s feed n before =
     let P : List ℕ → Type 0 = λ l. TakesOnlyNeeded set l in
     subst P (append-nil before.taken) (needed_piece set left left' held held' s feed [] n before (omega arith))
@@ -72,7 +77,8 @@ rose_since first before now h rose = omega arith
 
 -- ---- a piece was taken
 
-pub meets_fuel : (set : Options) (left mid left' held held' held'' : Option (List ℕ)) (s t : Sitting) (end : End) (feed bytes front : List ℕ) (n sb sn kb kn : ℕ)
+pub meets_fuel : (set : Options) (left mid left' held held' held'' : Option (List ℕ)) (s t : Sitting) (end : End) (feed bytes front : List ℕ)
+    (n sb sn kb kn : ℕ)
     → Streamed set left mid held held' s feed n → Consumes mid left' bytes → length bytes ≤ piece → front ≡ take (limit - n) bytes
     → end ≡ FuelSpent → Answered s (whole_lines (feed ++ front)) end t held' held''
     → RunMeets (Script set) Fuel left left' held held'' false sb sn kb kn
@@ -94,7 +100,8 @@ meets_fuel set left mid left' held held' held'' s t end feed bytes front n sb sn
       );
     }
 
-pub meets_too_long : (set : Options) (left mid left' held held' held'' : Option (List ℕ)) (s t : Sitting) (end : End) (feed bytes front : List ℕ) (n sb sn kb kn : ℕ)
+pub meets_too_long : (set : Options) (left mid left' held held' held'' : Option (List ℕ)) (s t : Sitting) (end : End) (feed bytes front : List ℕ)
+    (n sb sn kb kn : ℕ)
     → Streamed set left mid held held' s feed n → Consumes mid left' bytes → length bytes ≤ piece → front ≡ take (limit - n) bytes → limit < n + length bytes
     → end ≡ Replied → Answered s (whole_lines (feed ++ front)) end t held' held''
     → RunMeets (Script set) TooLong left left' held held'' false sb sn kb kn
@@ -117,12 +124,15 @@ meets_too_long set left mid left' held held' held'' s t end feed bytes front n s
     }
 
 -- a stop: some front of the transcript was written
-stop_row : (stop : Stop) (set : Options) (taken written : List ℕ) (ended : Bool) (left : Option (List ℕ)) (sb sn kb kn : ℕ) → (stop ≡ StopWrite → Rose kb kn) → IsPrefix written (answers (fresh set) (counted ended taken))
-    → Row (status_of_stop stop) set (record { taken = taken; written = written; ended = ended; left = left; source_before = sb; source_now = sn; sink_before = kb; sink_now = kn })
+stop_row : (stop : Stop) (set : Options) (taken written : List ℕ) (ended : Bool) (left : Option (List ℕ)) (sb sn kb kn : ℕ) → (stop ≡ StopWrite → Rose kb kn)
+    → IsPrefix written (answers (fresh set) (counted ended taken))
+    → Row (status_of_stop stop) set
+    (record { taken = taken; written = written; ended = ended; left = left; source_before = sb; source_now = sn; sink_before = kb; sink_now = kn })
 stop_row StopMemory set taken written ended left sb sn kb kn cause front = front
 stop_row StopWrite set taken written ended left sb sn kb kn cause front = (cause refl, front)
 
-pub meets_stop : (stop : Stop) (set : Options) (left mid left' held held' held'' : Option (List ℕ)) (s : Sitting) (feed bytes front : List ℕ) (n sb sn kb kn : ℕ)
+pub meets_stop : (stop : Stop) (set : Options) (left mid left' held held' held'' : Option (List ℕ)) (s : Sitting) (feed bytes front : List ℕ)
+    (n sb sn kb kn : ℕ)
     → Streamed set left mid held held' s feed n → Consumes mid left' bytes → length bytes ≤ piece → front ≡ take (limit - n) bytes
     → AppendsPart held' held'' (answers s (whole_lines (feed ++ front))) → (stop ≡ StopWrite → Rose kb kn)
     → RunMeets (Script set) (status_of_stop stop) left left' held held'' false sb sn kb kn
@@ -133,7 +143,11 @@ meets_stop stop set left mid left' held held' held'' s feed bytes front n sb sn 
       written = part.0;
       took = Consumes-trans left mid left' before.taken bytes before.took took;
       wrote = part.2;
-      as_said = (stop_row stop set _ part.0 false left' sb sn kb kn cause part.1, needed_piece set left mid held held' s feed bytes n before short, lawful set (counted false (before.taken ++ bytes)));
+      as_said = (
+        stop_row stop set _ part.0 false left' sb sn kb kn cause part.1,
+        needed_piece set left mid held held' s feed bytes n before short,
+        lawful set (counted false (before.taken ++ bytes)),
+      );
     }
 
 -- ---- nothing was taken
@@ -152,14 +166,40 @@ meets_read_fault set left mid left' held held' s feed n sb sn kb kn before took 
       written = text set.trace all.events;
       took = took_none left mid left' before.taken before.took took;
       wrote = all.wrote;
-      as_said = ((rose, omega (arith, before.length_is, before.within), spends set _ Replied s held held' all, writes set _ Replied s held held' all), needed_nothing set left mid held held' s feed n before, lawful set (counted false before.taken));
+      as_said = (
+        (rose, omega (arith, before.length_is, before.within), spends set _ Replied s held held' all, writes set _ Replied s held held' all),
+        needed_nothing set left mid held held' s feed n before,
+        lawful set (counted false before.taken),
+      );
     }
 
-end_row : (set : Options) (end : End) (t : Sitting) (taken : List ℕ) (left held held' : Option (List ℕ)) (sb sn kb kn : ℕ) → IsAtEnd left → length taken ≤ limit → (all : Answered (fresh set) (counted true taken) end t held held')
-    → Row (status_at end t.bad) set (record { taken = taken; written = text set.trace all.events; ended = true; left = left; source_before = sb; source_now = sn; sink_before = kb; sink_now = kn })
-end_row set FuelSpent t taken left held held' sb sn kb kn at_end within all = (λ _. at_end, spends set _ FuelSpent t held held' all, writes set _ FuelSpent t held held' all)
+end_row : (set : Options) (end : End) (t : Sitting) (taken : List ℕ) (left held held' : Option (List ℕ)) (sb sn kb kn : ℕ) → IsAtEnd left
+    → length taken ≤ limit → (all : Answered (fresh set) (counted true taken) end t held held')
+    → Row (status_at end t.bad) set
+    (record {
+      taken = taken;
+      written = text set.trace all.events;
+      ended = true;
+      left = left;
+      source_before = sb;
+      source_now = sn;
+      sink_before = kb;
+      sink_now = kn;
+    })
+end_row set FuelSpent t taken left held held' sb sn kb kn at_end within all =
+    (λ _. at_end, spends set _ FuelSpent t held held' all, writes set _ FuelSpent t held held' all)
 end_row set Replied t taken left held held' sb sn kb kn at_end within all =
-    let call = λ (status : Status). Row status set (record { taken = taken; written = text set.trace all.events; ended = true; left = left; source_before = sb; source_now = sn; sink_before = kb; sink_now = kn }) in
+    let call = λ (status : Status).
+    Row status set (record {
+      taken = taken;
+      written = text set.trace all.events;
+      ended = true;
+      left = left;
+      source_before = sb;
+      source_now = sn;
+      sink_before = kb;
+      sink_now = kn;
+    }) in
     let goes = spends set _ Replied t held held' all in
     let wrote = writes set _ Replied t held held' all in
     (elim t.bad as (λ b. t.bad ≡ b → call (cond b BadLines Done)) [
@@ -177,11 +217,16 @@ meets_end set left mid left' held held' held'' s t end feed n sb sn kb kn before
       written = text set.trace all.events;
       took = took_none left mid left' before.taken before.took took;
       wrote = all.wrote;
-      as_said = (end_row set end t before.taken left' held held'' sb sn kb kn at_end (omega (arith, before.length_is, before.within)) all, needed_nothing set left mid held held' s feed n before, lawful set (counted true before.taken));
+      as_said = (
+        end_row set end t before.taken left' held held'' sb sn kb kn at_end (omega (arith, before.length_is, before.within)) all,
+        needed_nothing set left mid held held' s feed n before,
+        lawful set (counted true before.taken),
+      );
     }
 
 pub meets_end_stop : (stop : Stop) (set : Options) (left mid left' held held' held'' : Option (List ℕ)) (s : Sitting) (feed : List ℕ) (n sb sn kb kn : ℕ)
-    → Streamed set left mid held held' s feed n → Consumes mid left' [] → AppendsPart held' held'' (answers s (last_line feed)) → (stop ≡ StopWrite → Rose kb kn)
+    → Streamed set left mid held held' s feed n → Consumes mid left' [] → AppendsPart held' held'' (answers s (last_line feed))
+    → (stop ≡ StopWrite → Rose kb kn)
     → RunMeets (Script set) (status_of_stop stop) left left' held held'' true sb sn kb kn
 meets_end_stop stop set left mid left' held held' held'' s feed n sb sn kb kn before took more cause =
     let part = part_end set left mid held held' held'' s feed n before more in
@@ -190,7 +235,11 @@ meets_end_stop stop set left mid left' held held' held'' s feed n sb sn kb kn be
       written = part.0;
       took = took_none left mid left' before.taken before.took took;
       wrote = part.2;
-      as_said = (stop_row stop set _ part.0 true left' sb sn kb kn cause part.1, needed_nothing set left mid held held' s feed n before, lawful set (counted true before.taken));
+      as_said = (
+        stop_row stop set _ part.0 true left' sb sn kb kn cause part.1,
+        needed_nothing set left mid held held' s feed n before,
+        lawful set (counted true before.taken),
+      );
     }
 
 -- a run whose words are refused
@@ -199,7 +248,8 @@ meets_refused left held ended sb sn kb kn =
     record { taken = []; written = []; took = Consumes-nil left; wrote = Appends-nil held; as_said = (inl refl, refl, refl) }
 
 -- a run where memory was refused before its words were read
-pub meets_unread : (said : Meaning) (left held : Option (List ℕ)) (ended : Bool) (sb sn kb kn : ℕ) → RunMeets said NoMemory left left held held ended sb sn kb kn
+pub meets_unread : (said : Meaning) (left held : Option (List ℕ)) (ended : Bool) (sb sn kb kn : ℕ)
+    → RunMeets said NoMemory left left held held ended sb sn kb kn
 meets_unread Refused left held ended sb sn kb kn =
     record { taken = []; written = []; took = Consumes-nil left; wrote = Appends-nil held; as_said = (inr refl, refl, refl) }
 meets_unread (Script set) left held ended sb sn kb kn =
@@ -215,6 +265,7 @@ meets_unread (Made n set) left held ended sb sn kb kn =
     record { taken = []; written = []; took = Consumes-nil left; wrote = Appends-nil held; as_said = ((made_summary set n, refl), refl, lawful set (made n)) }
 
 -- a script that was made: nothing was taken
-pub meets_made : (set : Options) (n : ℕ) (status : Status) (left held held' : Option (List ℕ)) (ended : Bool) (sb sn kb kn : ℕ) → MadeMeets set n status held held' kb kn → RunMeets (Made n set) status left left held held' ended sb sn kb kn
+pub meets_made : (set : Options) (n : ℕ) (status : Status) (left held held' : Option (List ℕ)) (ended : Bool) (sb sn kb kn : ℕ)
+    → MadeMeets set n status held held' kb kn → RunMeets (Made n set) status left left held held' ended sb sn kb kn
 meets_made set n status left held held' ended sb sn kb kn meets =
     record { taken = []; written = meets.written; took = Consumes-nil left; wrote = meets.wrote; as_said = (meets.row, refl, lawful set (made n)) }

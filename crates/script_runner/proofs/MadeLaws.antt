@@ -54,7 +54,8 @@ pub record MadeOn (a s : Sitting) (all left : List (List ℕ)) (held held' : Opt
   pub done : Answered a lines Replied s held held'
   pub number : s.line + length left ≤ a.line + length all
 
-module _ (a s t : Sitting) (all left next : List (List ℕ)) (line : List ℕ) (held mid held' : Option (List ℕ)) (on : MadeOn a s all left held mid) (gives : left ≡ line ∷ next) where
+module _ (a s t : Sitting) (all left next : List (List ℕ)) (line : List ℕ) (held mid held' : Option (List ℕ)) (on : MadeOn a s all left held mid)
+    (gives : left ≡ line ∷ next) where
   pub made_room : s.line + length next + 1 ≤ a.line + length all
   made_room = omega (arith, on.number, ap length gives)
 
@@ -74,7 +75,8 @@ module _ (a s t : Sitting) (all left next : List (List ℕ)) (line : List ℕ) (
     pub made_spent : end ≡ FuelSpent → Answered a all FuelSpent t held held'
     made_spent spent =
         let rest = answered_spent s t (line ∷ []) next mid held' (subst (λ e. Answered s (line ∷ []) e t mid held') spent front) in
-        subst (λ v. Answered a v FuelSpent t held held') (sym (on.split ∙ ap (λ v. on.lines ++ v) gives)) (answered_more a s t on.lines (line ∷ next) FuelSpent held mid held' on.done rest)
+        subst (λ v. Answered a v FuelSpent t held held') (sym (on.split ∙ ap (λ v. on.lines ++ v) gives))
+        (answered_more a s t on.lines (line ∷ next) FuelSpent held mid held' on.done rest)
 
 -- ---- the whole of it
 
@@ -96,12 +98,14 @@ spent_at : (end : End) (s : State) → is_spent (outcome_of end s) ≡ says_spen
 spent_at Replied s = refl
 spent_at FuelSpent s = refl
 
-module _ (set : Options) (n : ℕ) (lt : n < 2 ^ 32) (t : Sitting) (end : End) (f : List ℕ) (done : Answered (fresh set) (made_lines n) end t (Some []) (Some f)) where
+module _ (set : Options) (n : ℕ) (lt : n < 2 ^ 32) (t : Sitting) (end : End) (f : List ℕ)
+    (done : Answered (fresh set) (made_lines n) end t (Some []) (Some f)) where
   outcome : made_session set n ≡ behind_in done.events (outcome_of end t.state)
   outcome = ap (session (settings set)) (lines_made n lt) ∙ done.ran.same
 
   pub made_text : f ≡ text set.trace (log_of (made_session set n))
-  made_text = done.wrote ∙ sym (ran_answers (fresh set) t (made_lines n) end done.events done.ran) ∙ ap (λ v. text set.trace (log_of (session (settings set) v))) (sym (lines_made n lt))
+  made_text = done.wrote ∙ sym (ran_answers (fresh set) t (made_lines n) end done.events done.ran)
+      ∙ ap (λ v. text set.trace (log_of (session (settings set) v))) (sym (lines_made n lt))
 
   pub made_fuel : t.state.fuel ≡ fuel_left (made_session set n)
   made_fuel = sym (ap fuel_left outcome ∙ fuel_behind done.events (outcome_of end t.state) ∙ fuel_at end t.state)

@@ -1,5 +1,6 @@
 -- What a run has done between two reads, and what a piece adds.
-use Rattle.std.proofs.Common.{◌≡◌, ◌≢◌, ◌≤◌, ◌+◌, ◌-◌, ◌⊎◌, min, nat_le, cond, inl, inr, ℕ, true, false, List, [], ◌++◌, length, take, drop, refl, sym, ap, subst, ◌∙◌, append-nil, arith, length-append, length-take-le, All}
+use Rattle.std.proofs.Common.{◌≡◌, ◌≢◌, ◌≤◌, ◌+◌, ◌-◌, ◌⊎◌, min, nat_le, cond, inl, inr, ℕ, true, false, List, [], ◌++◌, length, take, drop, refl, sym, ap}
+use Rattle.std.proofs.Common.{subst, ◌∙◌, append-nil, arith, length-append, length-take-le, All}
 use Rattle.std.proofs.KnownBytes.{Consumes-nil, Consumes-trans}
 use Rattle.std.proofs.lemmas.Grind.{common_steps}
 use Rattle.std.proofs.lemmas.List.{take-append-le, take-append-drop}
@@ -32,7 +33,8 @@ clean_nil : All (λ (b : ℕ). b ≢ 10) []
 clean_nil = grind (arith, common_steps)
 
 -- before the first piece
-pub streamed_first : (set : Options) (left held : Option (List ℕ)) (s : Sitting) (feed : List ℕ) → s ≡ fresh set → feed ≡ [] → Streamed set left left held held s feed 0
+pub streamed_first : (set : Options) (left held : Option (List ℕ)) (s : Sitting) (feed : List ℕ) → s ≡ fresh set → feed ≡ []
+    → Streamed set left left held held s feed 0
 streamed_first set left held s feed is none =
     let P : Sitting → List ℕ → Type 0 = λ t l. Streamed set left left held held t l 0 in
     let first : P (fresh set) [] = record {
@@ -61,7 +63,8 @@ pub counted-ended : (taken : List ℕ) → length taken ≤ limit → counted tr
 counted-ended taken h = ap (λ t. cond t (lines_of taken) (whole_lines (take limit taken))) (le_test (length taken) limit h)
 
 -- after bytes of which only those within the limit were run
-counted-piece : (set : Options) (left left' held held' : Option (List ℕ)) (s : Sitting) (feed bytes piece : List ℕ) (n : ℕ) (before : Streamed set left left' held held' s feed n)
+counted-piece : (set : Options) (left left' held held' : Option (List ℕ)) (s : Sitting) (feed bytes piece : List ℕ) (n : ℕ)
+    (before : Streamed set left left' held held' s feed n)
     → piece ≡ take (limit - n) bytes → counted false (before.taken ++ bytes) ≡ whole_lines before.taken ++ whole_lines (feed ++ piece)
 counted-piece set left left' held held' s feed bytes piece n before is =
     let sum : limit ≡ length before.taken + (limit - n) = omega (arith, before.length_is, before.within) in
@@ -70,7 +73,8 @@ counted-piece set left left' held held' s feed bytes piece n before is =
     ap whole_lines cut ∙ whole_lines-piece before.taken feed piece before.drained.part before.drained.clean
 
 -- at the end of the script
-counted-end : (set : Options) (left left' held held' : Option (List ℕ)) (s : Sitting) (feed : List ℕ) (n : ℕ) (before : Streamed set left left' held held' s feed n)
+counted-end : (set : Options) (left left' held held' : Option (List ℕ)) (s : Sitting) (feed : List ℕ) (n : ℕ)
+    (before : Streamed set left left' held held' s feed n)
     → counted true before.taken ≡ whole_lines before.taken ++ last_line feed
 counted-end set left left' held held' s feed n before =
     counted-ended before.taken (omega (arith, before.length_is, before.within)) ∙ ap (λ l. whole_lines before.taken ++ last_line l) (sym before.drained.part)
@@ -79,7 +83,8 @@ counted-end set left left' held held' s feed n before =
 
 pub streamed_piece : (set : Options) (left mid left' held held' held'' : Option (List ℕ)) (s t : Sitting) (feed feed' piece : List ℕ) (n count : ℕ)
     → Streamed set left mid held held' s feed n → Consumes mid left' piece → length piece ≡ count → n + count ≤ limit
-    → Answered s (whole_lines (feed ++ piece)) Replied t held' held'' → Drained (feed ++ piece) feed' → t.line + length feed' ≤ s.line + length feed + length piece
+    → Answered s (whole_lines (feed ++ piece)) Replied t held' held'' → Drained (feed ++ piece) feed'
+    → t.line + length feed' ≤ s.line + length feed + length piece
     → Streamed set left left' held held'' t feed' (n + count)
 streamed_piece set left mid left' held held' held'' s t feed feed' piece n count before took len room more drained number =
     let P : List (List ℕ) → Type 0 = λ l. Answered (fresh set) l Replied t held held'' in
@@ -94,32 +99,40 @@ streamed_piece set left mid left' held held' held'' s t feed feed' piece n count
       within = room;
     }
 
-pub answered_piece : (set : Options) (left left' held held' held'' : Option (List ℕ)) (s t : Sitting) (end : End) (feed bytes piece : List ℕ) (n : ℕ) (before : Streamed set left left' held held' s feed n)
-    → piece ≡ take (limit - n) bytes → Answered s (whole_lines (feed ++ piece)) end t held' held'' → Answered (fresh set) (counted false (before.taken ++ bytes)) end t held held''
+pub answered_piece : (set : Options) (left left' held held' held'' : Option (List ℕ)) (s t : Sitting) (end : End) (feed bytes piece : List ℕ) (n : ℕ)
+    (before : Streamed set left left' held held' s feed n)
+    → piece ≡ take (limit - n) bytes → Answered s (whole_lines (feed ++ piece)) end t held' held''
+    → Answered (fresh set) (counted false (before.taken ++ bytes)) end t held held''
 answered_piece set left left' held held' held'' s t end feed bytes piece n before is more =
     let P : List (List ℕ) → Type 0 = λ l. Answered (fresh set) l end t held held'' in
-    subst P (sym (counted-piece set left left' held held' s feed bytes piece n before is)) (answered_more (fresh set) s t _ _ end held held' held'' before.done more)
+    subst P (sym (counted-piece set left left' held held' s feed bytes piece n before is))
+    (answered_more (fresh set) s t _ _ end held held' held'' before.done more)
 
-pub part_piece : (set : Options) (left left' held held' held'' : Option (List ℕ)) (s : Sitting) (feed bytes piece : List ℕ) (n : ℕ) (before : Streamed set left left' held held' s feed n)
-    → piece ≡ take (limit - n) bytes → AppendsPart held' held'' (answers s (whole_lines (feed ++ piece))) → AppendsPart held held'' (answers (fresh set) (counted false (before.taken ++ bytes)))
+pub part_piece : (set : Options) (left left' held held' held'' : Option (List ℕ)) (s : Sitting) (feed bytes piece : List ℕ) (n : ℕ)
+    (before : Streamed set left left' held held' s feed n)
+    → piece ≡ take (limit - n) bytes → AppendsPart held' held'' (answers s (whole_lines (feed ++ piece)))
+    → AppendsPart held held'' (answers (fresh set) (counted false (before.taken ++ bytes)))
 part_piece set left left' held held' held'' s feed bytes piece n before is more =
     let P : List (List ℕ) → Type 0 = λ l. AppendsPart held held'' (answers (fresh set) l) in
     subst P (sym (counted-piece set left left' held held' s feed bytes piece n before is)) (answered_part (fresh set) s _ _ held held' held'' before.done more)
 
-pub answered_end : (set : Options) (left left' held held' held'' : Option (List ℕ)) (s t : Sitting) (end : End) (feed : List ℕ) (n : ℕ) (before : Streamed set left left' held held' s feed n)
+pub answered_end : (set : Options) (left left' held held' held'' : Option (List ℕ)) (s t : Sitting) (end : End) (feed : List ℕ) (n : ℕ)
+    (before : Streamed set left left' held held' s feed n)
     → Answered s (last_line feed) end t held' held'' → Answered (fresh set) (counted true before.taken) end t held held''
 answered_end set left left' held held' held'' s t end feed n before more =
     let P : List (List ℕ) → Type 0 = λ l. Answered (fresh set) l end t held held'' in
     subst P (sym (counted-end set left left' held held' s feed n before)) (answered_more (fresh set) s t _ _ end held held' held'' before.done more)
 
-pub part_end : (set : Options) (left left' held held' held'' : Option (List ℕ)) (s : Sitting) (feed : List ℕ) (n : ℕ) (before : Streamed set left left' held held' s feed n)
+pub part_end : (set : Options) (left left' held held' held'' : Option (List ℕ)) (s : Sitting) (feed : List ℕ) (n : ℕ)
+    (before : Streamed set left left' held held' s feed n)
     → AppendsPart held' held'' (answers s (last_line feed)) → AppendsPart held held'' (answers (fresh set) (counted true before.taken))
 part_end set left left' held held' held'' s feed n before more =
     let P : List (List ℕ) → Type 0 = λ l. AppendsPart held held'' (answers (fresh set) l) in
     subst P (sym (counted-end set left left' held held' s feed n before)) (answered_part (fresh set) s _ _ held held' held'' before.done more)
 
 -- nothing was taken
-pub answered_now : (set : Options) (left left' held held' : Option (List ℕ)) (s : Sitting) (feed : List ℕ) (n : ℕ) (before : Streamed set left left' held held' s feed n)
+pub answered_now : (set : Options) (left left' held held' : Option (List ℕ)) (s : Sitting) (feed : List ℕ) (n : ℕ)
+    (before : Streamed set left left' held held' s feed n)
     → Answered (fresh set) (counted false before.taken) Replied s held held'
 answered_now set left left' held held' s feed n before =
     let P : List (List ℕ) → Type 0 = λ l. Answered (fresh set) l Replied s held held' in

@@ -33,11 +33,13 @@ unfolding emptied all_dropped
 drops n s = refl
 
 -- the first one dropped leaves the rest to be dropped
-emptied_twice : (n number : ℕ) (ws : List (ℕ × Reaction)) (s s1 : State) → s1 ≡ record s { page = with_queues (with_waiting n ws) s.page } → emptied n (logged (Dropped number) s1) ≡ logged (Dropped number) (emptied n s)
+emptied_twice : (n number : ℕ) (ws : List (ℕ × Reaction)) (s s1 : State) → s1 ≡ record s { page = with_queues (with_waiting n ws) s.page }
+    → emptied n (logged (Dropped number) s1) ≡ logged (Dropped number) (emptied n s)
 unfolding emptied
 emptied_twice n number ws s s1 is =
     ap (λ (x : State). emptied n (logged (Dropped number) x)) is
-    ∙ ap (λ waiting. logged (Dropped number) (record s { page = with_queues (λ q. record q { waiting = waiting }) s.page })) (list_twice (n - 1) ws [] s.page.queues.waiting)
+    ∙ ap (λ waiting. logged (Dropped number) (record s { page = with_queues (λ q. record q { waiting = waiting }) s.page }))
+    (list_twice (n - 1) ws [] s.page.queues.waiting)
 
 pub dropped_one : (n number : ℕ) (s s1 : State) → DropsReaction s s1 n number → drop_reactions n (logged (Dropped number) s1) ≡ drop_reactions n s
 unfolding all_dropped
@@ -52,7 +54,10 @@ unfolding emptied all_dropped
 dropped_none n s none same = sym (drops n s ∙ (ap (λ ws. all_dropped ws (emptied n s)) none ∙ ap (λ (p : Page). Goes tt (record s { page = p })) same))
 
 -- what the page says where none waits, said of the state
-pub drop_first-none : (r : Option ℕ) (n : ℕ) (v s0 : State) (q : Page) → v ≡ s0 → MatchOption r (waiting_at v.page.queues n ≡ []) (λ number. DropsFirst v.page.queues q.queues n number) → MatchOption r (q ≡ v.page) (λ number. q ≡ with_queues (with_waiting n (waiting_at q.queues n)) v.page)
+pub drop_first-none : (r : Option ℕ) (n : ℕ) (v s0 : State) (q : Page) → v ≡ s0
+    → MatchOption r (waiting_at v.page.queues n ≡ []) (λ number. DropsFirst v.page.queues q.queues n number)
+    → MatchOption r (q ≡ v.page) (λ number. q ≡ with_queues (with_waiting n (waiting_at q.queues n)) v.page)
     → IfNone r (with_queues (with_waiting n []) v.page ≡ v.page) → IfNone r (Goes tt (record v { page = q }) ≡ drop_reactions n s0)
-drop_first-none None n v s0 q is none same empty = ap (λ (p : Page). Goes tt (record v { page = p })) same ∙ dropped_none n v none empty ∙ ap (drop_reactions n) is
+drop_first-none None n v s0 q is none same empty =
+    ap (λ (p : Page). Goes tt (record v { page = p })) same ∙ dropped_none n v none empty ∙ ap (drop_reactions n) is
 drop_first-none (Some number) n v s0 q is none same empty = tt

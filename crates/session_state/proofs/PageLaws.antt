@@ -10,7 +10,9 @@ use Rattle.ce_page.specs.declared.stop.PageStop.TheVariants.{Refused, FuelSpent,
 use Rattle.session_state.specs.Steps.{after_call, is_out_of_fuel}
 
 -- its notes were logged, and the line `fuel` where it found none
-pub page_ends : {A B : Type 0} (answer : A → B) (r : Result A PageStop) (step : Step Work B) (s t : State) (page : Page) (fuel : ℕ) → Ends answer r (work page fuel) (step (work_of s)) → t ≡ after_call (is_out_of_fuel r) (record s { page = page; fuel = fuel }) → Ends answer r t (on_page step s)
+pub page_ends : {A B : Type 0} (answer : A → B) (r : Result A PageStop) (step : Step Work B) (s t : State) (page : Page) (fuel : ℕ)
+    → Ends answer r (work page fuel) (step (work_of s)) → t ≡ after_call (is_out_of_fuel r) (record s { page = page; fuel = fuel })
+    → Ends answer r t (on_page step s)
 page_ends answer (Ok a) step s t page fuel e is = ap (Goes (answer a)) is ∙ ap (λ o. with_outcome o s) e
 page_ends answer (Err (Refused f)) step s t page fuel e is = ap (Throws f) is ∙ ap (λ o. with_outcome o s) e
 page_ends answer (Err FuelSpent) step s t page fuel e is = ap Spent is ∙ ap (λ o. with_outcome o s) e

@@ -19,18 +19,21 @@ use Rattle.session_state.specs.Taking.{Takes}
 use Rattle.frame_stack.proofs.ClassLaws.{behaviour_there}
 
 -- a step that reads nothing of the behaviours is taken on the whole state too
-pub blind_takes : (step : Step State (Unit {0})) (bs : List Behaviour) (s new : State) (r : Result (Unit {0}) Refused) → IsBlind step → Takes r new (step s) → Takes r (whole bs new) (step (whole bs s))
+pub blind_takes : (step : Step State (Unit {0})) (bs : List Behaviour) (s new : State) (r : Result (Unit {0}) Refused) → IsBlind step → Takes r new (step s)
+    → Takes r (whole bs new) (step (whole bs s))
 blind_takes step bs s new (Ok x) b e = ap (whole_in bs) e ∙ sym (b.same bs s)
 blind_takes step bs s new (Err (IsFault f)) b e = ap (whole_in bs) e ∙ sym (b.same bs s)
 blind_takes step bs s new (Err NoMemory) b e = tt
 
 -- a class comes, with its behaviour
 
-pub class_refused : (name : List ℕ) (bs : List Behaviour) (s new : State) (x : Refused) → Takes (Err x) new (add_class name s) → Takes (Err x) (whole bs new) (add_class name (whole bs s))
+pub class_refused : (name : List ℕ) (bs : List Behaviour) (s new : State) (x : Refused) → Takes (Err x) new (add_class name s)
+    → Takes (Err x) (whole bs new) (add_class name (whole bs s))
 class_refused name bs s new (IsFault f) e = sym (class_throws name bs s new f (sym e))
 class_refused name bs s new NoMemory e = tt
 
-pub class_taken : (name : List ℕ) (bs more : List Behaviour) (s new : State) → length s.classes ≡ length bs → Goes tt new ≡ add_class name s → more ≡ bs ++ new_behaviour ∷ []
+pub class_taken : (name : List ℕ) (bs more : List Behaviour) (s new : State) → length s.classes ≡ length bs → Goes tt new ≡ add_class name s
+    → more ≡ bs ++ new_behaviour ∷ []
     → Goes tt (whole more new) ≡ add_class name (whole bs s)
 class_taken name bs more s new each e is = ap (λ (l : List Behaviour). Goes tt (whole l new)) is ∙ sym (class_joined name bs s new (sym e) each)
 
@@ -40,7 +43,8 @@ pub action_refused : (name : List ℕ) (call : CallName) (action : Act) (bs : Li
     → Throws f (whole bs s) ≡ change_open name (with_body call action) (whole bs s)
 action_refused name call action bs s f e = sym (on_throws name call action bs s s f (sym e))
 
-pub action_taken : (name : List ℕ) (call : CallName) (action : Act) (bs more : List Behaviour) (s new : State) (k : ℕ) → length s.classes ≡ length bs → Goes k s ≡ open_class name s → k < length s.classes
+pub action_taken : (name : List ℕ) (call : CallName) (action : Act) (bs more : List Behaviour) (s new : State) (k : ℕ) → length s.classes ≡ length bs
+    → Goes k s ≡ open_class name s → k < length s.classes
     → new ≡ with_call_at k call s → more ≡ extended k call action bs → Goes tt (whole more new) ≡ change_open name (with_body call action) (whole bs s)
 action_taken name call action bs more s new k each e within is also =
     let h : k < length bs = omega (arith, within, each) in

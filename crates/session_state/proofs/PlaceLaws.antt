@@ -1,5 +1,6 @@
 -- How variables are found.
-use Rattle.std.proofs.Common.{◌≡◌, ◌<◌, ◌≤◌, ℕ, Bool, true, false, cond, Option, None, Some, String, List, [], ◌∷◌, ◌++◌, length, get_or, refl, sym, ap, subst, ◌∙◌, arith, not, string_bytes, length-append}
+use Rattle.std.proofs.Common.{◌≡◌, ◌<◌, ◌≤◌, ℕ, Bool, true, false, cond, Option, None, Some, String, List, [], ◌∷◌, ◌++◌, length, get_or, refl, sym, ap, subst}
+use Rattle.std.proofs.Common.{◌∙◌, arith, not, string_bytes, length-append}
 use Rattle.std.proofs.Math.ListN.{set}
 use Rattle.std.proofs.lemmas.Bool.Decides.{nat_tests}
 use Rattle.std.proofs.lemmas.List.{length-set}
@@ -41,10 +42,12 @@ value-there vs name i d e =
     ap (option_map (λ (b : List ℕ × ℕ). b.1)) (find_at (is_named name) vs ∙ ap (slice_get vs) at.0 ∙ slice_get-get_or vs i d at.1)
 
 pub value-absent : (vs : List (List ℕ × ℕ)) (name : List ℕ) → place name vs ≡ None → value_of vs name ≡ None
-value-absent vs name e = ap (option_map (λ (b : List ℕ × ℕ). b.1)) (find_at (is_named name) vs ∙ slice_get_past vs (position_or_len (is_named name) vs) (past_end (is_named name) vs e))
+value-absent vs name e = ap (option_map (λ (b : List ℕ × ℕ). b.1))
+    (find_at (is_named name) vs ∙ slice_get_past vs (position_or_len (is_named name) vs) (past_end (is_named name) vs e))
 
 -- a variable that is set again keeps its place, and each other
-pub finds-set : {Y : Type 0} (m : BTreeMap (String Y) ℕ) (vs : List (List ℕ × ℕ)) (name : List ℕ) (i n : ℕ) → Finds m vs → place name vs ≡ Some i → Finds m (set vs i (name, n))
+pub finds-set : {Y : Type 0} (m : BTreeMap (String Y) ℕ) (vs : List (List ℕ × ℕ)) (name : List ℕ) (i n : ℕ) → Finds m vs → place name vs ≡ Some i
+    → Finds m (set vs i (name, n))
 finds-set m vs name i n finds e q =
     let d : List ℕ × ℕ = (name, n) in
     let same : (get_or vs i d).0 ≡ name = (bytes_decides (get_or vs i d).0 name).0 (position-Some (is_named name) vs i d e).1 in
@@ -52,7 +55,8 @@ finds-set m vs name i n finds e q =
     finds q ∙ rw (stays, length-set vs i (name, n)) refl
 
 -- what stands at the place of a variable is one of the numbers
-pub made-there : (vs : List (List ℕ × ℕ)) (name : List ℕ) (i : ℕ) (d : List ℕ × ℕ) → ArePositive vs → place name vs ≡ Some i → (0 < (get_or vs i d).1) × ((get_or vs i d).1 ≤ highest vs)
+pub made-there : (vs : List (List ℕ × ℕ)) (name : List ℕ) (i : ℕ) (d : List ℕ × ℕ) → ArePositive vs → place name vs ≡ Some i
+    → (0 < (get_or vs i d).1) × ((get_or vs i d).1 ≤ highest vs)
 made-there vs name i d are e =
     let P : Option ℕ → Type 0 = λ o. IfSome o (λ n. (0 < n) × (n ≤ highest vs)) in
     subst P (value-there vs name i d e) (value_of-made vs name are)
@@ -62,7 +66,8 @@ pub finds-kept : {Y : Type 0} (m n : BTreeMap (String Y) ℕ) (vs : List (List �
 finds-kept m n vs finds same q = ap (lookup (is_at (λ t. slice_cmp nat_cmp q (string_bytes t)))) same ∙ finds q
 
 -- a new variable behind the others is found by its name, and the others as before
-pub finds-added : {Y : Type 0} (m n : BTreeMap (String Y) ℕ) (vs : List (List ℕ × ℕ)) (name : List ℕ) (v : ℕ) → Finds m vs → place name vs ≡ None → ((q : List ℕ) → get_by_text n q ≡ cond (bytes_eq name q) (Some (length vs)) (get_by_text m q)) → Finds n (vs ++ (name, v) ∷ [])
+pub finds-added : {Y : Type 0} (m n : BTreeMap (String Y) ℕ) (vs : List (List ℕ × ℕ)) (name : List ℕ) (v : ℕ) → Finds m vs → place name vs ≡ None
+    → ((q : List ℕ) → get_by_text n q ≡ cond (bytes_eq name q) (Some (length vs)) (get_by_text m q)) → Finds n (vs ++ (name, v) ∷ [])
 finds-added m n vs name v finds none sets q = sets q ∙ ap (cond (bytes_eq name q) (Some (length vs))) (finds q) ∙ go (bytes_eq name q) refl
   where
     go : (same : Bool) → bytes_eq name q ≡ same → cond same (Some (length vs)) (place q vs) ≡ place q (vs ++ (name, v) ∷ [])

@@ -32,10 +32,12 @@ unfolding found_in
 value_of-made [] v are = tt
 value_of-made (b ∷ bs) v are = go (bytes_eq b.0 v) (value_of-made bs v are.1)
   where
-    weaker : (o : Option (List ℕ × ℕ)) → IfSome (option_map (λ (b : List ℕ × ℕ). b.1) o) (λ n. (0 < n) × (n ≤ highest bs)) → IfSome (option_map (λ (b : List ℕ × ℕ). b.1) o) (λ n. (0 < n) × (n ≤ highest (b ∷ bs)))
+    weaker : (o : Option (List ℕ × ℕ)) → IfSome (option_map (λ (b : List ℕ × ℕ). b.1) o) (λ n. (0 < n) × (n ≤ highest bs))
+        → IfSome (option_map (λ (b : List ℕ × ℕ). b.1) o) (λ n. (0 < n) × (n ≤ highest (b ∷ bs)))
     weaker None h = tt
     weaker (Some a) h = (h.0, omega (arith, h.1))
 
-    go : (same : Bool) → IfSome (value_of bs v) (λ n. (0 < n) × (n ≤ highest bs)) → IfSome (found_in same b (find (λ (b : List ℕ × ℕ). bytes_eq b.0 v) bs)) (λ n. (0 < n) × (n ≤ highest (b ∷ bs)))
+    go : (same : Bool) → IfSome (value_of bs v) (λ n. (0 < n) × (n ≤ highest bs))
+        → IfSome (found_in same b (find (λ (b : List ℕ × ℕ). bytes_eq b.0 v) bs)) (λ n. (0 < n) × (n ≤ highest (b ∷ bs)))
     go true h = (are.0, omega arith)
     go false h = weaker (find (λ (b : List ℕ × ℕ). bytes_eq b.0 v) bs) h

@@ -34,7 +34,8 @@ start_newline p c text b bytes other is =
     (starts_not c 13 text (10 ∷ rest) other refl ∙ sym (starts_not c b text bytes other is))
     (starts_not c b text rest other is ∙ sym (starts_not c b text bytes other is))
 
-start_other : (p : Bool) (c : ℕ) (text : List ℕ) (b : ℕ) (bytes : List ℕ) → is_newline b ≡ false → SameStart false text bytes → SameStart p (c ∷ text) (b ∷ bytes)
+start_other : (p : Bool) (c : ℕ) (text : List ℕ) (b : ℕ) (bytes : List ℕ) → is_newline b ≡ false → SameStart false text bytes
+    → SameStart p (c ∷ text) (b ∷ bytes)
 start_other p c text b bytes other same =
     ap (λ l. starts_with nat_eq l (c ∷ text)) (full_from-other p b bytes other) ∙ ap (λ more. nat_eq c b && more) same
 
@@ -59,20 +60,24 @@ occurs-nothing (b ∷ bytes) = refl
 abbrev SamePlaces : Bool → List ℕ → List ℕ → Type 0
 SamePlaces p text bytes = occurs text (full_from p bytes) ≡ occurs text bytes
 
-occurs_newline : (p : Bool) (c : ℕ) (text : List ℕ) (b : ℕ) (bytes : List ℕ) → is_newline c ≡ false → is_newline b ≡ true → SamePlaces (nat_eq b 13) (c ∷ text) bytes → SamePlaces p (c ∷ text) (b ∷ bytes)
+occurs_newline : (p : Bool) (c : ℕ) (text : List ℕ) (b : ℕ) (bytes : List ℕ) → is_newline c ≡ false → is_newline b ≡ true
+    → SamePlaces (nat_eq b 13) (c ∷ text) bytes → SamePlaces p (c ∷ text) (b ∷ bytes)
 occurs_newline p c text b bytes other is same =
     let rest = full_from (nat_eq b 13) bytes in
     let here : occurs (c ∷ text) (b ∷ bytes) ≡ occurs (c ∷ text) bytes = ap (λ t. t || occurs (c ∷ text) bytes) (starts_not c b text bytes other is) in
     let return_and_feed : occurs (c ∷ text) (13 ∷ 10 ∷ rest) ≡ occurs (c ∷ text) rest =
-    ap (λ t. t || occurs (c ∷ text) (10 ∷ rest)) (starts_not c 13 text (10 ∷ rest) other refl) ∙ ap (λ t. t || occurs (c ∷ text) rest) (starts_not c 10 text rest other refl) in
+    ap (λ t. t || occurs (c ∷ text) (10 ∷ rest)) (starts_not c 13 text (10 ∷ rest) other refl)
+    ∙ ap (λ t. t || occurs (c ∷ text) rest) (starts_not c 10 text rest other refl) in
     full_newline (λ first. occurs (c ∷ text) (first ++ rest) ≡ occurs (c ∷ text) (b ∷ bytes)) p b bytes
     (return_and_feed ∙ (same ∙ sym here))
     (ap (λ t. t || occurs (c ∷ text) rest) (starts_not c b text rest other is) ∙ (same ∙ sym here))
 
-occurs_other : (p : Bool) (text : List ℕ) (b : ℕ) (bytes : List ℕ) → has_line_end text ≡ false → is_newline b ≡ false → SamePlaces false text bytes → SamePlaces p text (b ∷ bytes)
+occurs_other : (p : Bool) (text : List ℕ) (b : ℕ) (bytes : List ℕ) → has_line_end text ≡ false → is_newline b ≡ false → SamePlaces false text bytes
+    → SamePlaces p text (b ∷ bytes)
 occurs_other p text b bytes is other same =
     let start = ap (λ l. starts_with nat_eq l text) (sym (full_from-other p b bytes other)) ∙ starts_full p text (b ∷ bytes) is in
-    ap (occurs text) (full_from-other p b bytes other) ∙ (ap (λ t. t || occurs text (full_from false bytes)) start ∙ ap (λ t. starts_with nat_eq (b ∷ bytes) text || t) same)
+    ap (occurs text) (full_from-other p b bytes other)
+    ∙ (ap (λ t. t || occurs text (full_from false bytes)) start ∙ ap (λ t. starts_with nat_eq (b ∷ bytes) text || t) same)
 
 occurs_full : (p : Bool) (text bytes : List ℕ) → has_line_end text ≡ false → SamePlaces p text bytes
 occurs_full p [] bytes is = occurs-nothing (full_from p bytes) ∙ sym (occurs-nothing bytes)
@@ -88,7 +93,8 @@ occurs-with_full_newlines text bytes is = occurs_full false text bytes is
 
 -- ---- in no value
 
-pub no_value_holds : (entries : List Entry) (boundary : List ℕ) → has_line_end boundary ≡ false → is_broken_by entries boundary ≡ false → list_any (λ (e : Entry). occurs boundary (with_full_newlines e.value)) entries ≡ false
+pub no_value_holds : (entries : List Entry) (boundary : List ℕ) → has_line_end boundary ≡ false → is_broken_by entries boundary ≡ false
+    → list_any (λ (e : Entry). occurs boundary (with_full_newlines e.value)) entries ≡ false
 no_value_holds [] boundary is free = refl
 no_value_holds (e ∷ entries) boundary is free =
     let parts = or_parts (occurs boundary e.name || occurs boundary e.value) (is_broken_by entries boundary) free in

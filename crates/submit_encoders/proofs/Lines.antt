@@ -1,5 +1,6 @@
 -- A text that is cut at its first line end.
-use Rattle.std.proofs.Common.{◌≡◌, ◌+◌, ◌<◌, ◌≤◌, ℕ, Bool, true, false, ◌&&◌, cond, List, [], ◌∷◌, ◌++◌, Some, None, length, get_or, take, drop, refl, sym, ap, ◌∙◌, subst, arith, IsUtf8, length-take, length-drop, take-append-drop, append_assoc, append-nil}
+use Rattle.std.proofs.Common.{◌≡◌, ◌+◌, ◌<◌, ◌≤◌, ℕ, Bool, true, false, ◌&&◌, cond, List, [], ◌∷◌, ◌++◌, Some, None, length, get_or, take, drop, refl, sym, ap}
+use Rattle.std.proofs.Common.{◌∙◌, subst, arith, IsUtf8, length-take, length-drop, take-append-drop, append_assoc, append-nil}
 use Rattle.std.specs.Prelude.{nat_eq, nat_lt, position}
 use Rattle.std.specs.Str.{IsCharBoundary}
 use Rattle.std.specs.List.{starts_with, position_or_len}
@@ -143,17 +144,22 @@ ends_by (b ∷ rest) begins =
 pub cuts_line : (text line rest : List ℕ) (end : ℕ) → EndsLine text end → line ≡ take end text → rest ≡ past_line_end (drop end text) → CutsLine text line rest
 cuts_line text line rest end is same past =
     let parts : take end text ++ drop end text ≡ text = take-append-drop end text in
-    let one : with_full_newlines text ≡ take end text ++ with_full_newlines (drop end text) = ap with_full_newlines (sym parts) ∙ full_line (take end text) (drop end text) is.line in
+    let one : with_full_newlines text ≡ take end text ++ with_full_newlines (drop end text) =
+    ap with_full_newlines (sym parts) ∙ full_line (take end text) (drop end text) is.line in
     let behind = ends_by (drop end text) is.ends in
     record {
       is_line = rw same is.line;
-      sent = rw (same, past) (one ∙ (ap (λ more. take end text ++ more) (sent_past (drop end text) is.ends) ∙ sym (append_assoc (take end text) newline (with_full_newlines (past_line_end (drop end text))))));
+      sent = rw (same, past) (one ∙ (ap (λ more. take end text ++ more) (sent_past (drop end text) is.ends)
+          ∙ sym (append_assoc (take end text) newline (with_full_newlines (past_line_end (drop end text))))));
       shorter = rw (same, past) (omega (arith, behind.shorter, length-take end text, length-drop end text));
       full = λ long.
-          let long_behind : length (past_line_end (drop end text)) + 2 ≤ length (drop end text) = omega (arith, rw (same, past) at long, is.within, length-take end text, length-drop end text) in
-          rw (same, past) (sym parts ∙ (ap (λ more. take end text ++ more) (behind.full long_behind) ∙ sym (append_assoc (take end text) newline (past_line_end (drop end text)))));
+          let long_behind : length (past_line_end (drop end text)) + 2 ≤ length (drop end text) =
+          omega (arith, rw (same, past) at long, is.within, length-take end text, length-drop end text) in
+          rw (same, past) (sym parts ∙ (ap (λ more. take end text ++ more) (behind.full long_behind)
+          ∙ sym (append_assoc (take end text) newline (past_line_end (drop end text)))));
     }
 
 -- a text with a full line end is sent as it stands, where what follows that is
-pub full_behind : (text line rest : List ℕ) → CutsLine text line rest → length line + length rest + 2 ≤ length text → with_full_newlines rest ≡ rest → with_full_newlines text ≡ text
+pub full_behind : (text line rest : List ℕ) → CutsLine text line rest → length line + length rest + 2 ≤ length text → with_full_newlines rest ≡ rest
+    → with_full_newlines text ≡ text
 full_behind text line rest cut long is = cut.sent ∙ (ap (λ more. line ++ newline ++ more) is ∙ sym (cut.full long))

@@ -33,9 +33,11 @@ or_true false t is = is
 
 pub occurs_within : (front text rest : List ℕ) → occurs text (front ++ (text ++ rest)) ≡ true
 occurs_within [] text rest = occurs_at_front text (text ++ rest) (begins_with text rest)
-occurs_within (b ∷ front) text rest = or_true (starts_with nat_eq (b ∷ front ++ (text ++ rest)) text) (occurs text (front ++ (text ++ rest))) (occurs_within front text rest)
+occurs_within (b ∷ front) text rest =
+    or_true (starts_with nat_eq (b ∷ front ++ (text ++ rest)) text) (occurs text (front ++ (text ++ rest))) (occurs_within front text rest)
 
-found_first : (c : ℕ) (text : List ℕ) (b : ℕ) (bytes : List ℕ) → (occurs (c ∷ text) bytes ≡ true → HasSubslice bytes (c ∷ text)) → (first : Bool) → starts_with nat_eq (b ∷ bytes) (c ∷ text) ≡ first → (first || occurs (c ∷ text) bytes) ≡ true → HasSubslice (b ∷ bytes) (c ∷ text)
+found_first : (c : ℕ) (text : List ℕ) (b : ℕ) (bytes : List ℕ) → (occurs (c ∷ text) bytes ≡ true → HasSubslice bytes (c ∷ text)) → (first : Bool)
+    → starts_with nat_eq (b ∷ bytes) (c ∷ text) ≡ first → (first || occurs (c ∷ text) bytes) ≡ true → HasSubslice (b ∷ bytes) (c ∷ text)
 found_first c text b bytes later true first is = let rest = begins_from (c ∷ text) (b ∷ bytes) first in ([], rest.0, rest.1)
 found_first c text b bytes later false first is = let at = later is in (b ∷ at.0, at.1, ap (λ l. b ∷ l) at.2)
 

@@ -1,5 +1,6 @@
 -- A line of a name that is cut at its first quote, and what is written of it.
-use Rattle.std.proofs.Common.{◌≡◌, ◌≢◌, ◌<◌, ℕ, false, List, [], ◌∷◌, ◌++◌, Some, None, Option, length, get_or, refl, sym, ap, ◌∙◌, append_assoc, codes, Bor, MatchOption}
+use Rattle.std.proofs.Common.{◌≡◌, ◌≢◌, ◌<◌, ℕ, false, List, [], ◌∷◌, ◌++◌, Some, None, Option, length, get_or, refl, sym, ap, ◌∙◌, append_assoc, codes, Bor}
+use Rattle.std.proofs.Common.{MatchOption}
 use Rattle.std.specs.Prelude.{flat_map, nat_eq}
 use Rattle.std.proofs.lemmas.Bool.{ne_eqb, or_parts}
 use Rattle.std.proofs.lemmas.Grind.{flat_map-append}
@@ -13,7 +14,10 @@ use Rattle.submit_encoders.proofs.Lines.{full_one_line}
 no_quote_in : (text : List ℕ) → ((i : ℕ) → i < length text → get_or text i 0 ≢ 34) → has_quote text ≡ false
 no_quote_in text none = list_any_none is_quote text (All-from_get_or (λ b. is_quote b ≡ false) text 0 (λ i small. ne_eqb (get_or text i 0) 34 (none i small)))
 
-pub cuts_quote : (text : List ℕ) (cut : Option (Bor (List ℕ) × Bor (List ℕ))) → MatchOption cut ((i : ℕ) → i < length text → get_or text i 0 ≢ 34) (λ parts. (text ≡ parts.0.now ++ (34 ∷ parts.1.now)) × ((i : ℕ) → i < length parts.0.now → get_or parts.0.now i 0 ≢ 34)) → MatchOption cut (has_quote text ≡ false) (λ parts. CutsQuote text parts.0.now parts.1.now)
+pub cuts_quote : (text : List ℕ) (cut : Option (Bor (List ℕ) × Bor (List ℕ)))
+    → MatchOption cut ((i : ℕ) → i < length text → get_or text i 0 ≢ 34)
+    (λ parts. (text ≡ parts.0.now ++ (34 ∷ parts.1.now)) × ((i : ℕ) → i < length parts.0.now → get_or parts.0.now i 0 ≢ 34))
+    → MatchOption cut (has_quote text ≡ false) (λ parts. CutsQuote text parts.0.now parts.1.now)
 cuts_quote text None none = no_quote_in text none
 cuts_quote text (Some parts) (is, none) = record { no_quote = no_quote_in parts.0.now none; cut = is }
 
@@ -36,8 +40,12 @@ pub record EscapesQuote (line front rest : List ℕ) : Type 0 where
 
 pub escapes_quote : (line front rest : List ℕ) → has_line_end line ≡ false → CutsQuote line front rest → EscapesQuote line front rest
 escapes_quote line front rest is cut =
-    let parts = or_parts (has_line_end front) (has_line_end (34 ∷ rest)) (sym (list_any-append is_newline front (34 ∷ rest)) ∙ (ap has_line_end (sym cut.cut) ∙ is)) in
+    let parts = or_parts (has_line_end front) (has_line_end (34 ∷ rest))
+    (sym (list_any-append is_newline front (34 ∷ rest)) ∙ (ap has_line_end (sym cut.cut) ∙ is)) in
     record {
-      escapes = ap (flat_map escaped_byte) cut.cut ∙ (flat_map-append escaped_byte front (34 ∷ rest) ∙ (ap (λ first. first ++ flat_map escaped_byte (34 ∷ rest)) (escaped_as_it_stands front parts.0 cut.no_quote) ∙ sym (append_assoc front (codes "%22") (flat_map escaped_byte rest))));
+      escapes = ap (flat_map escaped_byte) cut.cut
+          ∙ (flat_map-append escaped_byte front (34 ∷ rest)
+          ∙ (ap (λ first. first ++ flat_map escaped_byte (34 ∷ rest)) (escaped_as_it_stands front parts.0 cut.no_quote)
+          ∙ sym (append_assoc front (codes "%22") (flat_map escaped_byte rest))));
       is_line = parts.1;
     }

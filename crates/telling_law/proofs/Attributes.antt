@@ -33,7 +33,8 @@ module _ (n : ℕ) (name : List ℕ) (was is : Option (List ℕ)) (change : Fact
   telling-tells =
       told-all w.page changed telling (size-with n change w.page.forest)
       (λ m low. tells_same (shares (due (now w.page changed)) m (form_changes w.page (now w.page changed)) [] (λ i. omega arith))
-      (tells_seq (quiet_where (λ v. is_custom v.page n) (quiet_callback n (Attribute name was is) refl)) (tells_others low (form_changes w.page (now w.page changed)) (all-positive w.page changed) [])))
+      (tells_seq (quiet_where (λ v. is_custom v.page n) (quiet_callback n (Attribute name was is) refl))
+      (tells_others low (form_changes w.page (now w.page changed)) (all-positive w.page changed) [])))
 
   attribute-exactly : (v : Work) → telling (record { page = now w.page changed; fuel = w.fuel }) ≡ Goes tt v → TellsExactly w.page v.page
   attribute-exactly v e = exactly w.page changed telling w.fuel v telling-tells e
@@ -57,7 +58,8 @@ module _ (n : ℕ) (name value : List ℕ) (w v : Work) where
 -- where nothing changes, nothing is told
 unchanged-exactly : (p : Page) → TellsExactly p p
 unchanged-exactly p = record {
-  told = λ n is. sym (ap (λ rs. told_at p n ++ rs) (due-nothing p (form_change (forms_of p) (forms_of p) n) (unchanged (forms_of p) n)) ∙ append-nil (told_at p n));
+  told = λ n is. sym (ap (λ rs. told_at p n ++ rs) (due-nothing p (form_change (forms_of p) (forms_of p) n) (unchanged (forms_of p) n))
+      ∙ append-nil (told_at p n));
 }
 
 module _ (n : ℕ) (name : List ℕ) (w v : Work) where

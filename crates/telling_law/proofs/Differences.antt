@@ -1,5 +1,6 @@
 -- The changes from one page to another: what they give to each node is what is due to it.
-use Rattle.std.proofs.Common.{◌≡◌, ℕ, zero, suc, ◌+◌, ◌<◌, ◌≤◌, Bool, true, false, ◌||◌, if◌then◌else◌, List, [], ◌∷◌, ◌++◌, map, filter, is_some, nat_eq, Option, Some, None, refl, ap, arith, inl, inr}
+use Rattle.std.proofs.Common.{◌≡◌, ℕ, zero, suc, ◌+◌, ◌<◌, ◌≤◌, Bool, true, false, ◌||◌, if◌then◌else◌, List, [], ◌∷◌, ◌++◌, map, filter, is_some, nat_eq}
+use Rattle.std.proofs.Common.{Option, Some, None, refl, ap, arith, inl, inr}
 use Rattle.std.specs.Bool.{beq}
 use Rattle.std.specs.List.{AllByRecursion, range_with_len}
 use Rattle.std.specs.Option.{option_eq}
@@ -56,7 +57,8 @@ module _ (old new : Forms) where
 
 -- nothing is due where nothing differs
 
-said-nothing : (owner : Option (Option ℕ)) (disabled : Option Bool) → (is_some owner || is_some disabled) ≡ false → said_of_owner owner ++ said_of_disabled disabled ≡ []
+said-nothing : (owner : Option (Option ℕ)) (disabled : Option Bool) → (is_some owner || is_some disabled) ≡ false
+    → said_of_owner owner ++ said_of_disabled disabled ≡ []
 said-nothing None None e = refl
 said-nothing None (Some disabled) e = absurd cc
 said-nothing (Some owner) disabled e = absurd cc
@@ -70,7 +72,8 @@ due-nothing p c none = by_test (is_custom_form_associated p c.node)
 
 pub due-of_changes : (p : Page) (old new : Forms) (n : ℕ) → IsNode new.forest n → all_to (due p) n (form_changes old new) ≡ due p (form_change old new n)
 due-of_changes p old new n is =
-    changes-give (due p) n (form_change old new) (differs old new) (λ m. refl) (λ m e. due-nothing p (form_change old new m) e) (numbers new.forest) (range-apart 1 (size new.forest))
+    changes-give (due p) n (form_change old new) (differs old new) (λ m. refl) (λ m e. due-nothing p (form_change old new m) e) (numbers new.forest)
+    (range-apart 1 (size new.forest))
     (range-among 1 (size new.forest) n is.low (omega (arith, is.high)))
 
 -- nothing differs from what is the same

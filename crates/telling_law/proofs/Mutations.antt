@@ -31,12 +31,14 @@ module _ (node : ℕ) (w : Work) (tidy : IsTidy w.page.forest) where
   abbrev removal : Step Work (Unit {0})
   removal =
       let changes = form_changes w.page (now w.page without_it) in
-      for_each (order_of without_it node) (removed changes (is_connected_parent w.page (parent_at w.page.forest node))) >> tell_others changes (order_of without_it node)
+      for_each (order_of without_it node) (removed changes (is_connected_parent w.page (parent_at w.page.forest node))) >> tell_others changes
+      (order_of without_it node)
 
   removal-tells : TellAll w.page without_it removal
   removal-tells =
       told-all w.page without_it removal (size-cut w.page.forest node tidy)
-      (λ n low. tells_removed low (form_changes w.page (now w.page without_it)) (all-positive w.page without_it) (order_of without_it node) (is_connected_parent w.page (parent_at w.page.forest node)) (order-apart node without_it cut-apart))
+      (λ n low. tells_removed low (form_changes w.page (now w.page without_it)) (all-positive w.page without_it) (order_of without_it node)
+      (is_connected_parent w.page (parent_at w.page.forest node)) (order-apart node without_it cut-apart))
 
   pub removal-exactly : (v : Work) → remove node w ≡ Goes tt v → TellsExactly w.page v.page
   removal-exactly v e = exactly w.page without_it removal w.fuel v removal-tells e
@@ -46,7 +48,8 @@ module _ (node : ℕ) (w : Work) (tidy : IsTidy w.page.forest) where
 
 -- an insertion
 
-module _ (parent node : ℕ) (before : Option ℕ) (w : Work) (tidy : IsTidy w.page.forest) (is : IsNode w.page.forest parent) (off : is_among node (path parent w.page.forest) ≡ false) where
+module _ (parent node : ℕ) (before : Option ℕ) (w : Work) (tidy : IsTidy w.page.forest) (is : IsNode w.page.forest parent)
+    (off : is_among node (path parent w.page.forest) ≡ false) where
   abbrev with_it : Trees
   with_it = graft w.page.forest parent node before
 
@@ -66,7 +69,8 @@ module _ (parent node : ℕ) (before : Option ℕ) (w : Work) (tidy : IsTidy w.p
   insertion-tells : TellAll w.page with_it insertion
   insertion-tells =
       told-all w.page with_it insertion (size-graft w.page.forest parent node before tidy is outside)
-      (λ n low. tells_inserted low (form_changes w.page (now w.page with_it)) (all-positive w.page with_it) (order_of with_it node) (order-apart node with_it graft-apart))
+      (λ n low. tells_inserted low (form_changes w.page (now w.page with_it)) (all-positive w.page with_it) (order_of with_it node)
+      (order-apart node with_it graft-apart))
 
   pub insertion-exactly : (v : Work) → put_in parent node before w ≡ Goes tt v → TellsExactly w.page v.page
   insertion-exactly v e = exactly w.page with_it insertion w.fuel v insertion-tells e

@@ -28,10 +28,12 @@ module _ (old : Page) (forest : Trees) where
   abbrev pub TellAll : Step Work (Unit {0}) → Type 0
   TellAll f = (n : ℕ) → IsNode old.forest n → Tells now n (due_at n) f
 
-  after : (f : Step Work (Unit {0})) (fuel : ℕ) (o : Outcome Work (Unit {0})) → TellAll f → f (record { page = now; fuel = fuel }) ≡ o → (n : ℕ) → IsNode old.forest n →
+  after : (f : Step Work (Unit {0})) (fuel : ℕ) (o : Outcome Work (Unit {0})) → TellAll f → f (record { page = now; fuel = fuel }) ≡ o → (n : ℕ)
+      → IsNode old.forest n →
       After now n (told_at old n) (due_at n) o
   after f fuel o tells e n is =
-      subst (After now n (told_at old n) (due_at n)) e ((tells n is).at (record { page = now; fuel = fuel }) (record { forest = refl; elements = refl; definitions = refl }))
+      subst (After now n (told_at old n) (due_at n)) e
+      ((tells n is).at (record { page = now; fuel = fuel }) (record { forest = refl; elements = refl; definitions = refl }))
 
   forms-stay : (v : Page) → Stays now v → forms_of v ≡ forms_of now
   forms-stay v s = λ i. forms_in (s.elements i) (s.definitions i) (s.forest i)
@@ -50,8 +52,11 @@ module _ (old : Page) (forest : Trees) where
   partly f fuel v tells e = record {
     told = λ n is.
         let a = after f fuel (Spent v) tells e n is in
-        let p = a.1 in
-        (length p.given, p.told ∙ ap (λ rs. told_at old n ++ rs) (sym (take_at p.given p.rest (length p.given) refl) ∙ ap (take (length p.given)) (p.parts ∙ due-there v.page n a.0)));
+        let p = a.1 in (
+          length p.given,
+          p.told ∙ ap (λ rs. told_at old n ++ rs)
+              (sym (take_at p.given p.rest (length p.given) refl) ∙ ap (take (length p.given)) (p.parts ∙ due-there v.page n a.0)),
+        );
   }
 
   -- where as many nodes are there, it is enough to give each all changes

@@ -1,5 +1,6 @@
 -- What a list of changes gives to one node, where some are given at the turns of a walk and the others after it: what all of them give.
-use Rattle.std.proofs.Common.{◌≡◌, ℕ, ◌==◌, Bool, true, false, if◌then◌else◌, not, List, [], ◌∷◌, ◌++◌, map, filter, flat_map, refl, ap, ◌∙◌, arith, inl, inr, append-nil}
+use Rattle.std.proofs.Common.{◌≡◌, ℕ, ◌==◌, Bool, true, false, if◌then◌else◌, not, List, [], ◌∷◌, ◌++◌, map, filter, flat_map, refl, ap, ◌∙◌, arith, inl, inr}
+use Rattle.std.proofs.Common.{append-nil}
 use Rattle.std.specs.List.{AllByRecursion}
 use Rattle.std.proofs.lemmas.Bool.Decides.{nat_tests}
 use Rattle.std.proofs.lemmas.Bool.{cases_eq}
@@ -64,7 +65,8 @@ module _ (give : Change → List Reaction) (j : ℕ) where
 
   pub shares : (cs : List Change) (walk : List ℕ) → AreApart walk → flat_map (at_turn cs) walk ++ to_others cs walk ≡ all_to cs
   shares cs walk apart =
-      ap (λ xs. xs ++ to_others cs walk) (flat_map-same (at_turn cs) (λ n. if n == j then all_to cs else []) (λ n. turn-gives n cs) walk ∙ once (all_to cs) walk apart)
+      ap (λ xs. xs ++ to_others cs walk) (flat_map-same (at_turn cs) (λ n. if n == j then all_to cs else []) (λ n. turn-gives n cs) walk
+      ∙ once (all_to cs) walk apart)
       ∙ ap (λ xs. (if is_among j walk then all_to cs else []) ++ xs) (others-give walk cs)
       ∙ by_test (is_among j walk) (all_to cs)
     where
@@ -73,7 +75,8 @@ module _ (give : Change → List Reaction) (j : ℕ) where
       by_test false xs = refl
 
   -- a change for each number that differs, where none is given for one that does not
-  module _ (change : ℕ → Change) (differs : ℕ → Bool) (node_is : (n : ℕ) → (change n).node ≡ n) (none : (n : ℕ) → differs n ≡ false → give (change n) ≡ []) where
+  module _ (change : ℕ → Change) (differs : ℕ → Bool) (node_is : (n : ℕ) → (change n).node ≡ n) (none : (n : ℕ) → differs n ≡ false
+      → give (change n) ≡ []) where
     each-gives : (ns : List ℕ) → all_to (map change (filter differs ns)) ≡ flat_map (λ n. if n == j then give (change j) else []) ns
     each-gives [] = refl
     each-gives (n ∷ ns) =

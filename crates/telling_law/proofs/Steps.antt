@@ -1,5 +1,6 @@
 -- Steps that tell a node of changes: a rule for each way to make a step.
-use Rattle.std.proofs.Common.{◌≡◌, ℕ, zero, suc, Bool, true, false, if◌then◌else◌, List, [], ◌∷◌, ◌++◌, flat_map, refl, sym, ap, ◌∙◌, subst, append_assoc, append-nil}
+use Rattle.std.proofs.Common.{◌≡◌, ℕ, zero, suc, Bool, true, false, if◌then◌else◌, List, [], ◌∷◌, ◌++◌, flat_map, refl, sym, ap, ◌∙◌, subst, append_assoc}
+use Rattle.std.proofs.Common.{append-nil}
 use Rattle.std.specs.List.{AllByRecursion}
 use Rattle.reaction_queue.specs.declared.reaction.Reaction.{Reaction}
 use Rattle.reaction_queue.specs.Queues.{enqueued}
@@ -56,7 +57,8 @@ module _ (q : Page) (j : ℕ) (had adds more : List Reaction) where
         },
       )
 
-  after_then : (o : Outcome Work (Unit {0})) (g : Step Work (Unit {0})) → After q j had adds o → Tells q j more g → After q j had (adds ++ more) (then_do o (λ _. g))
+  after_then : (o : Outcome Work (Unit {0})) (g : Step Work (Unit {0})) → After q j had adds o → Tells q j more g
+      → After q j had (adds ++ more) (then_do o (λ _. g))
   after_then (Goes a w) g h next = onward (told_at w.page j) (g w) h.1 (next.at w h.0)
   after_then (Throws f w) g h next = h
   after_then (Spent w) g h next =
@@ -70,10 +72,12 @@ module _ (q : Page) (j : ℕ) (had adds more : List Reaction) where
         },
       )
 
-pub tells_seq : {q : Page} {j : ℕ} {adds more : List Reaction} {f g : Step Work (Unit {0})} → Tells q j adds f → Tells q j more g → Tells q j (adds ++ more) (f >> g)
+pub tells_seq : {q : Page} {j : ℕ} {adds more : List Reaction} {f g : Step Work (Unit {0})} → Tells q j adds f → Tells q j more g
+    → Tells q j (adds ++ more) (f >> g)
 tells_seq {q} {j} {adds} {more} {f} {g} t next = record { at = λ w s. after_then q j (told_at w.page j) adds more (f w) g (t.at w s) next }
 
-pub tells_each : {A : Type 0} {q : Page} {j : ℕ} {f : A → Step Work (Unit {0})} (P : A → Type 0) (adds : A → List Reaction) → ((x : A) → P x → Tells q j (adds x) (f x)) →
+pub tells_each : {A : Type 0} {q : Page} {j : ℕ} {f : A → Step Work (Unit {0})} (P : A → Type 0) (adds : A → List Reaction)
+    → ((x : A) → P x → Tells q j (adds x) (f x)) →
     (xs : List A) → AllByRecursion P xs → Tells q j (flat_map adds xs) (for_each xs f)
 tells_each P adds t [] all = tells_done
 tells_each P adds t (x ∷ xs) all = tells_seq (t x all.0) (tells_each P adds t xs all.1)
@@ -84,7 +88,8 @@ tells_when : {q : Page} {j : ℕ} {adds : List Reaction} {f : Step Work (Unit {0
 tells_when true t = t
 tells_when false t = tells_done
 
-pub tells_where : {q : Page} {j : ℕ} {adds : List Reaction} {f : Step Work (Unit {0})} (test : Work → Bool) (b : Bool) → ((w : Work) → Stays q w.page → test w ≡ b) → Tells q j adds f →
+pub tells_where : {q : Page} {j : ℕ} {adds : List Reaction} {f : Step Work (Unit {0})} (test : Work → Bool) (b : Bool)
+    → ((w : Work) → Stays q w.page → test w ≡ b) → Tells q j adds f →
     Tells q j (if b then adds else []) (where_is test f)
 tells_where {q} {j} {adds} {f} test b same t = record {
   at = λ w s. subst (λ c. After q j (told_at w.page j) (if b then adds else []) (when c f w)) (sym (same w s)) ((tells_when b t).at w s);
@@ -103,12 +108,15 @@ custom_stays q p n s = λ i. is_custom_form_associated (record p { elements = s.
 pub tells_enqueue : {q : Page} {j : ℕ} (n : ℕ) (r : Reaction) → Tells q j (news n r j) (enqueue n r)
 tells_enqueue {q} {j} n r = record { at = λ w s. go w w.fuel s }
   where
-    go : (w : Work) (fuel : ℕ) → Stays q w.page → After q j (told_at w.page j) (news n r j) ((spend_from fuel >> (change_page (with_queues (enqueued n r)) >> change_page (noted n r))) w)
+    go : (w : Work) (fuel : ℕ) → Stays q w.page
+        → After q j (told_at w.page j) (news n r j) ((spend_from fuel >> (change_page (with_queues (enqueued n r)) >> change_page (noted n r))) w)
     go w zero s = (s, record { given = []; rest = news n r j; parts = refl; told = sym (append-nil (told_at w.page j)) })
     go w (suc fuel) s = (record { forest = s.forest; elements = s.elements; definitions = s.definitions }, enqueued_tells n r j w.page.queues)
 
-pub tells_callback : {q : Page} {j : ℕ} (n : ℕ) (r : Reaction) → Tells q j (if gives_reaction (definition_of q n) r then news n r j else []) (enqueue_callback n r)
-tells_callback {q} n r = tells_where (λ w. gives_reaction (definition_of w.page n) r) (gives_reaction (definition_of q n) r) (λ w s. ap (λ d. gives_reaction d r) (definition_stays q w.page n s)) (tells_enqueue n r)
+pub tells_callback : {q : Page} {j : ℕ} (n : ℕ) (r : Reaction)
+    → Tells q j (if gives_reaction (definition_of q n) r then news n r j else []) (enqueue_callback n r)
+tells_callback {q} n r = tells_where (λ w. gives_reaction (definition_of w.page n) r) (gives_reaction (definition_of q n) r)
+    (λ w s. ap (λ d. gives_reaction d r) (definition_stays q w.page n s)) (tells_enqueue n r)
 
 -- steps that tell of nothing
 
@@ -122,7 +130,8 @@ quiet_when false t = tells_done
 pub quiet_where : {q : Page} {j : ℕ} {f : Step Work (Unit {0})} (test : Work → Bool) → Tells q j [] f → Tells q j [] (where_is test f)
 quiet_where test t = record { at = λ w s. (quiet_when (test w) t).at w s }
 
-pub quiet_read : {q : Page} {j : ℕ} {A : Type 0} (answer : Page → A) (k : A → Step Work (Unit {0})) → ((a : A) → Tells q j [] (k a)) → Tells q j [] (read_page answer >>= k)
+pub quiet_read : {q : Page} {j : ℕ} {A : Type 0} (answer : Page → A) (k : A → Step Work (Unit {0})) → ((a : A) → Tells q j [] (k a))
+    → Tells q j [] (read_page answer >>= k)
 quiet_read answer k t = record { at = λ w s. (t (answer w.page)).at w s }
 
 pub quiet_callback : {q : Page} {j : ℕ} (n : ℕ) (r : Reaction) → is_form_reaction r ≡ false → Tells q j [] (enqueue_callback n r)

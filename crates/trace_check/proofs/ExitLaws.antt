@@ -1,5 +1,6 @@
 -- What is true of a check at each of its ends.
-use Rattle.std.proofs.Common.{◌≡◌, ◌≤◌, ℕ, Bool, true, List, [], ◌++◌, length, Some, None, Result, Ok, Err, refl, sym, ap, subst, ◌∙◌, append-nil, arith, length-append, inl, inr}
+use Rattle.std.proofs.Common.{◌≡◌, ◌≤◌, ℕ, Bool, true, List, [], ◌++◌, length, Some, None, Result, Ok, Err, refl, sym, ap, subst, ◌∙◌, append-nil, arith}
+use Rattle.std.proofs.Common.{length-append, inl, inr}
 use Rattle.std.specs.Io.KnownBytes.{Consumes, Appends, IsAtEnd}
 use Rattle.std.specs.declared.option.Option.{Option}
 use Rattle.ce_base.specs.Faults.{Rose}
@@ -17,7 +18,8 @@ use Rattle.trace_check.specs.declared.verdict.Verdict.{Verdict}
 use Rattle.trace_check.specs.declared.verdict.Verdict.TheVariants.{Yes, No}
 
 -- the trace was read to its end, and this is the verdict on it
-judges : (v : Verdict) (bytes : List ℕ) (call : Call) → bytes ≡ call.taken → call.ended ≡ true → IsAtEnd call.left → length call.taken ≤ limit → IsVerdict v (lines_of bytes)
+judges : (v : Verdict) (bytes : List ℕ) (call : Call) → bytes ≡ call.taken → call.ended ≡ true → IsAtEnd call.left → length call.taken ≤ limit
+    → IsVerdict v (lines_of bytes)
     → Judges v call
 judges v bytes call same ended end within is = (ended, end, within, subst (λ (t : List ℕ). IsVerdict v (lines_of t)) same is)
 
@@ -25,7 +27,16 @@ pub meets_whole : (bytes : List ℕ) (r : Result Verdict Stop) (left left' held 
     → ReadMeets limit (Ok (Whole bytes)) left left' ended sb sn → TellsVerdict (lines_of bytes) r held held' kb kn
     → CheckMeets (status_of r) left left' held held' ended sb sn kb kn
 meets_whole bytes (Ok (Yes n)) left left' held held' ended sb sn kb kn read told =
-    let call : Call = record { taken = read.taken; written = line_of (Yes n); ended = ended; left = left'; source_before = sb; source_now = sn; sink_before = kb; sink_now = kn } in
+    let call : Call = record {
+      taken = read.taken;
+      written = line_of (Yes n);
+      ended = ended;
+      left = left';
+      source_before = sb;
+      source_now = sn;
+      sink_before = kb;
+      sink_now = kn;
+    } in
     record {
       taken = read.taken;
       written = line_of (Yes n);
@@ -34,7 +45,16 @@ meets_whole bytes (Ok (Yes n)) left left' held held' ended sb sn kb kn read told
       row = (n, judges (Yes n) bytes call read.row.0 read.row.1 read.row.2 read.row.3 told.0, refl);
     }
 meets_whole bytes (Ok (No n)) left left' held held' ended sb sn kb kn read told =
-    let call : Call = record { taken = read.taken; written = line_of (No n); ended = ended; left = left'; source_before = sb; source_now = sn; sink_before = kb; sink_now = kn } in
+    let call : Call = record {
+      taken = read.taken;
+      written = line_of (No n);
+      ended = ended;
+      left = left';
+      source_before = sb;
+      source_now = sn;
+      sink_before = kb;
+      sink_now = kn;
+    } in
     record {
       taken = read.taken;
       written = line_of (No n);
@@ -45,7 +65,16 @@ meets_whole bytes (Ok (No n)) left left' held held' ended sb sn kb kn read told 
 meets_whole bytes (Err StopWrite) left left' held held' ended sb sn kb kn read told =
     let v = told.1.0 in
     let part = told.1.2 in
-    let call : Call = record { taken = read.taken; written = part.0; ended = ended; left = left'; source_before = sb; source_now = sn; sink_before = kb; sink_now = kn } in
+    let call : Call = record {
+      taken = read.taken;
+      written = part.0;
+      ended = ended;
+      left = left';
+      source_before = sb;
+      source_now = sn;
+      sink_before = kb;
+      sink_now = kn;
+    } in
     record {
       taken = read.taken;
       written = part.0;
@@ -58,7 +87,16 @@ meets_whole bytes (Err StopMemory) left left' held held' ended sb sn kb kn read 
 meets_whole bytes (Err StopMemory) left left' held held' ended sb sn kb kn read (inr told) =
     let v = told.0 in
     let part = told.2 in
-    let call : Call = record { taken = read.taken; written = part.0; ended = ended; left = left'; source_before = sb; source_now = sn; sink_before = kb; sink_now = kn } in
+    let call : Call = record {
+      taken = read.taken;
+      written = part.0;
+      ended = ended;
+      left = left';
+      source_before = sb;
+      source_now = sn;
+      sink_before = kb;
+      sink_now = kn;
+    } in
     record {
       taken = read.taken;
       written = part.0;
@@ -89,7 +127,16 @@ judged : (trace taken : List ℕ) (v : Verdict) → taken ≡ trace → IsVerdic
 judged trace taken v same is = subst (λ (t : List ℕ). IsVerdict v (lines_of t)) same is
 
 whole_row : (trace taken written : List ℕ) (status : CheckStatus) (left' held held' : Option (List ℕ)) (ended : Bool) (sb sn kb kn : ℕ)
-    → Row status (record { taken = taken; written = written; ended = ended; left = left'; source_before = sb; source_now = sn; sink_before = kb; sink_now = kn })
+    → Row status (record {
+      taken = taken;
+      written = written;
+      ended = ended;
+      left = left';
+      source_before = sb;
+      source_now = sn;
+      sink_before = kb;
+      sink_now = kn;
+    })
     → Consumes (Some trace) left' taken → Appends held held' written → (status ≡ Usage → ⊥) → length trace ≤ limit → (Rose sb sn → ⊥) → (Rose kb kn → ⊥)
     → ChecksWhole trace status held held'
 whole_row trace taken written Lawful left' held held' ended sb sn kb kn row took wrote read within calm_source calm_sink =
@@ -106,8 +153,10 @@ whole_row trace taken written TooLong left' held held' ended sb sn kb kn row too
     absurd (omega (arith, row.0, taken_within trace taken left' took))
 
 pub checks_whole : (trace : List ℕ) (status : CheckStatus) (left left' held held' : Option (List ℕ)) (ended : Bool) (sb sn kb kn : ℕ)
-    → CheckMeets status left left' held held' ended sb sn kb kn → (status ≡ Usage → ⊥) → left ≡ Some trace → length trace ≤ limit → (Rose sb sn → ⊥) → (Rose kb kn → ⊥)
+    → CheckMeets status left left' held held' ended sb sn kb kn → (status ≡ Usage → ⊥) → left ≡ Some trace → length trace ≤ limit → (Rose sb sn → ⊥)
+    → (Rose kb kn → ⊥)
     → ChecksWhole trace status held held'
 checks_whole trace status left left' held held' ended sb sn kb kn meets read known within calm_source calm_sink =
     let P : Option (List ℕ) → Type 0 = λ o. Consumes o left' meets.taken in
-    whole_row trace meets.taken meets.written status left' held held' ended sb sn kb kn meets.row (subst P known meets.took) meets.wrote read within calm_source calm_sink
+    whole_row trace meets.taken meets.written status left' held held' ended sb sn kb kn meets.row
+    (subst P known meets.took) meets.wrote read within calm_source calm_sink

@@ -1,5 +1,6 @@
 -- The first line of bytes, and those behind it.
-use Rattle.std.proofs.Common.{◌≡◌, ◌≢◌, ◌<◌, ◌+◌, ℕ, zero, suc, false, ◌==◌, length, List, [], ◌∷◌, ◌++◌, take, drop, get_or, refl, sym, ap, ◌∙◌, append_assoc, append-nil, arith, subst, drop-cons}
+use Rattle.std.proofs.Common.{◌≡◌, ◌≢◌, ◌<◌, ◌+◌, ℕ, zero, suc, false, ◌==◌, length, List, [], ◌∷◌, ◌++◌, take, drop, get_or, refl, sym, ap, ◌∙◌, append_assoc}
+use Rattle.std.proofs.Common.{append-nil, arith, subst, drop-cons}
 use Rattle.std.specs.List.{AllByRecursion}
 use Rattle.std.proofs.Math.Seq.{take-length}
 use Rattle.std.proofs.lemmas.Grind.{common_steps}
@@ -44,10 +45,12 @@ none_in_front (b ∷ bytes) zero none = tt
 none_in_front (b ∷ bytes) (suc i) none = ((λ e. none 0 (omega arith) e), none_in_front bytes i (λ k lt e. none (suc k) (omega arith) e))
 
 -- where a line feed stands first: the line before it, and the lines behind it
-pub cut_at : (bytes : List ℕ) (i : ℕ) → i < length bytes → get_or bytes i 0 ≡ 10 → NoneBefore bytes i → lines_of bytes ≡ take i bytes ∷ lines_of (drop (i + 1) bytes)
+pub cut_at : (bytes : List ℕ) (i : ℕ) → i < length bytes → get_or bytes i 0 ≡ 10 → NoneBefore bytes i
+    → lines_of bytes ≡ take i bytes ∷ lines_of (drop (i + 1) bytes)
 cut_at bytes i lt feed none =
     let next : suc i ≡ i + 1 = omega arith in
-    let behind : drop i bytes ≡ 10 ∷ drop (i + 1) bytes = drop-cons bytes i 0 lt ∙ (ap (λ (b : ℕ). b ∷ drop (suc i) bytes) feed ∙ ap (λ (k : ℕ). 10 ∷ drop k bytes) next) in
+    let behind : drop i bytes ≡ 10 ∷ drop (i + 1) bytes =
+    drop-cons bytes i 0 lt ∙ (ap (λ (b : ℕ). b ∷ drop (suc i) bytes) feed ∙ ap (λ (k : ℕ). 10 ∷ drop k bytes) next) in
     let split : bytes ≡ take i bytes ++ 10 ∷ drop (i + 1) bytes = sym (take-append-drop i bytes) ∙ ap (λ (l : List ℕ). take i bytes ++ l) behind in
     ap lines_of split ∙ lines_of-feed (take i bytes) (drop (i + 1) bytes) (none_in_front bytes i none)
 

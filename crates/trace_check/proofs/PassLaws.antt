@@ -28,7 +28,8 @@ pub nothing_read : (all : List ℕ) → HasRead all all 0 blank
 nothing_read all = record { lines = []; log = []; is_log = tt; split = refl; count_is = refl; law = refl; book = refl }
 
 -- one line more
-pub more_read : (all rest line behind : List ℕ) (count : ℕ) (b next : Book) → HasRead all rest count b → lines_of rest ≡ line ∷ lines_of behind → IsAfterLine b line (Some next) → HasRead all behind (count + 1) next
+pub more_read : (all rest line behind : List ℕ) (count : ℕ) (b next : Book) → HasRead all rest count b → lines_of rest ≡ line ∷ lines_of behind
+    → IsAfterLine b line (Some next) → HasRead all behind (count + 1) next
 more_read all rest line behind count b next has cut is = record {
   lines = has.lines ++ line ∷ [];
   log = has.log ++ is.0 ∷ [];
@@ -40,7 +41,8 @@ more_read all rest line behind count b next has cut is = record {
 }
 
 -- with this line they are those of no lawful log
-pub breaks_here : TextsTellSteps → (all rest line behind : List ℕ) (count : ℕ) (b : Book) → HasRead all rest count b → lines_of rest ≡ line ∷ lines_of behind → NoneMayCome b line → BreaksAt (count + 1) (lines_of all)
+pub breaks_here : TextsTellSteps → (all rest line behind : List ℕ) (count : ℕ) (b : Book) → HasRead all rest count b → lines_of rest ≡ line ∷ lines_of behind
+    → NoneMayCome b line → BreaksAt (count + 1) (lines_of all)
 breaks_here tell all rest line behind count b has cut none =
     let lines = has.lines in
     let all_is : lines_of all ≡ lines ++ line ∷ lines_of behind = sym has.split ∙ ap (λ (l : List (List ℕ)). lines ++ l) cut in
@@ -50,6 +52,8 @@ breaks_here tell all rest line behind count b has cut none =
       within = omega (arith, ap length all_is, length-append lines (line ∷ lines_of behind));
       lawful = subst AreLawful (sym (ap (take (length lines)) all_is ∙ take-append_seam lines (line ∷ lines_of behind))) (has.log, has.is_log, has.law);
       with_it = λ are.
-          let with_line : AreLawful (lines ++ line ∷ []) = subst AreLawful (ap (take (length lines + 1)) all_is ∙ take-append-add lines (line ∷ lines_of behind) 1) are in
-          none_goes_on tell blank lines line has.log with_line.0 has.is_log with_line.1 with_line.2 (subst (λ (c : Book). NoneMayCome c line) (sym has.book) none);
+          let with_line : AreLawful (lines ++ line ∷ []) =
+          subst AreLawful (ap (take (length lines + 1)) all_is ∙ take-append-add lines (line ∷ lines_of behind) 1) are in
+          none_goes_on tell blank lines line has.log with_line.0 has.is_log with_line.1 with_line.2
+          (subst (λ (c : Book). NoneMayCome c line) (sym has.book) none);
     }

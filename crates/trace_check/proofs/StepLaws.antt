@@ -4,7 +4,10 @@ use Rattle.rule_tokens.specs.declared.callback.CallName.{CallName}
 use Rattle.rule_tokens.specs.declared.callback.CallName.TheVariants as names
 use Rattle.reaction_queue.specs.declared.reaction.Mode.TheVariants.{Restore}
 use Rattle.ce_events.specs.declared.event.Event.{Event}
-use Rattle.ce_events.specs.declared.event.Event.TheVariants.{Construct, Connected, Disconnected, Adopted, Attribute, FormAssociated, FormDisabled, FormReset, FormStateRestore, Logged, Caught, Reported, Asked, SubmitGet, SubmitPost, SubmitBlocked, Fine, Gave, Answered, Ignored, Threw, WasBad, FuelLine, QueueOpened, Enqueued, DrainBegun, Started, Finished, Dropped, QueueClosed, UpgradeBegun, UpgradeDone, UpgradeThrew}
+use Rattle.ce_events.specs.declared.event.Event.TheVariants.{Construct, Connected, Disconnected, Adopted, Attribute, FormAssociated, FormDisabled, FormReset}
+use Rattle.ce_events.specs.declared.event.Event.TheVariants.{FormStateRestore, Logged, Caught, Reported, Asked, SubmitGet, SubmitPost, SubmitBlocked, Fine}
+use Rattle.ce_events.specs.declared.event.Event.TheVariants.{Gave, Answered, Ignored, Threw, WasBad, FuelLine, QueueOpened, Enqueued, DrainBegun, Started}
+use Rattle.ce_events.specs.declared.event.Event.TheVariants.{Finished, Dropped, QueueClosed, UpgradeBegun, UpgradeDone, UpgradeThrew}
 use Rattle.ce_events.specs.Step.{Step, Opens, Enqueues, Drains, Starts, Finishes, Drops, Closes, Begins, Ends, Throws, Calls, Replies, Spends, Says, step_of}
 use Rattle.order_law.specs.After.{after}
 use Rattle.order_law.specs.Book.{Book}

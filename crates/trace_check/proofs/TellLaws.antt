@@ -11,6 +11,7 @@ use Rattle.trace_check.specs.declared.verdict.Verdict.{Verdict}
 
 -- a front of the verdict's line was written
 pub told_part : (lines : List (List ℕ)) (v : Verdict) (line : List ℕ) (stop : Stop) (held held' : Option (List ℕ)) (before now : ℕ)
-    → IsVerdict v lines → line ≡ line_of v → AppendsPart held held' line → (stop ≡ WriteFault → Rose before now) → TellsVerdict lines (Err stop) held held' before now
+    → IsVerdict v lines → line ≡ line_of v → AppendsPart held held' line → (stop ≡ WriteFault → Rose before now)
+    → TellsVerdict lines (Err stop) held held' before now
 told_part lines v line WriteFault held held' before now is text part cause = (cause refl, (v, is, subst (AppendsPart held held') text part))
 told_part lines v line NoMemory held held' before now is text part cause = inr (v, is, subst (AppendsPart held held') text part)

@@ -17,7 +17,8 @@ use Rattle.trace_check.proofs.StepLaws.{after_by_step, may_come_by_step}
 
 -- one line more
 
-pub log-append : (lines : List (List ℕ)) (log : List Event) (line : List ℕ) (e : Event) → IsLog lines log → IsEvent e → event_text e ≡ line → IsLog (lines ++ line ∷ []) (log ++ e ∷ [])
+pub log-append : (lines : List (List ℕ)) (log : List Event) (line : List ℕ) (e : Event) → IsLog lines log → IsEvent e → event_text e ≡ line
+    → IsLog (lines ++ line ∷ []) (log ++ e ∷ [])
 log-append [] [] line e are is text = (is, text, tt)
 log-append [] (d ∷ log) line e are is text = absurd are
 log-append (l ∷ lines) [] line e are is text = absurd are
@@ -34,7 +35,8 @@ lawful-append b (d ∷ log) e law may =
     rw (parts.0, lawful-append (after b d) log e parts.1 may) refl
 
 -- where none may come with a line, no lawful log has it behind the lines of this one
-pub none_goes_on : TextsTellSteps → (b : Book) (lines : List (List ℕ)) (line : List ℕ) (log other : List Event) → IsLog lines log → IsLog (lines ++ line ∷ []) other → is_lawful b other ≡ true → NoneMayCome (read b log) line → ⊥
+pub none_goes_on : TextsTellSteps → (b : Book) (lines : List (List ℕ)) (line : List ℕ) (log other : List Event) → IsLog lines log
+    → IsLog (lines ++ line ∷ []) other → is_lawful b other ≡ true → NoneMayCome (read b log) line → ⊥
 none_goes_on tell b [] line [] [] are others law none = absurd others
 none_goes_on tell b [] line [] (e ∷ other) are others law none =
     let clash : true ≡ false = sym (and_parts (may_come b e) (is_lawful (after b e) other) law).0 ∙ none e others.0 others.1 in absurd cc
@@ -53,8 +55,10 @@ pub record HasFront (front : List (List ℕ)) (log : List Event) : Type 0 where
   pub split : log ≡ events ++ behind
   pub is_log : IsLog front events
 
-more_front : (line : List ℕ) (front : List (List ℕ)) (e : Event) (log : List Event) → IsEvent e → event_text e ≡ line → HasFront front log → HasFront (line ∷ front) (e ∷ log)
-more_front line front e log is text has = record { events = e ∷ has.events; behind = has.behind; split = ap (λ (l : List Event). e ∷ l) has.split; is_log = (is, text, has.is_log) }
+more_front : (line : List ℕ) (front : List (List ℕ)) (e : Event) (log : List Event) → IsEvent e → event_text e ≡ line → HasFront front log
+    → HasFront (line ∷ front) (e ∷ log)
+more_front line front e log is text has =
+    record { events = e ∷ has.events; behind = has.behind; split = ap (λ (l : List Event). e ∷ l) has.split; is_log = (is, text, has.is_log) }
 
 pub front_of : (front rest : List (List ℕ)) (log : List Event) → IsLog (front ++ rest) log → HasFront front log
 front_of [] rest log are = record { events = []; behind = log; split = refl; is_log = tt }
@@ -62,13 +66,15 @@ front_of (line ∷ front) rest [] are = absurd are
 front_of (line ∷ front) rest (e ∷ log) are = more_front line front e log are.0 are.1 (front_of front rest log are.2)
 
 -- each front of the lines of a lawful log is so
-pub front_lawful : ((front rest : List Event) → Lawful (front ++ rest) → Lawful front) → (front rest : List (List ℕ)) → AreLawful (front ++ rest) → AreLawful front
+pub front_lawful : ((front rest : List Event) → Lawful (front ++ rest) → Lawful front) → (front rest : List (List ℕ)) → AreLawful (front ++ rest)
+    → AreLawful front
 front_lawful each front rest are =
     let has = front_of front rest are.0 are.1 in
     (has.events, has.is_log, each has.events has.behind (ap (is_lawful blank) (sym has.split) ∙ are.2))
 
 -- the event that is read tells of each with its text
-pub after_text : TextsTellSteps → (b : Book) (line : List ℕ) (e : Event) → IsEvent e → event_text e ≡ line → (r : Result (Option Book) NoMemory) → IfOk r (λ next. IsAfterEvent b e next) → IfOk r (λ next. IsAfterLine b line next)
+pub after_text : TextsTellSteps → (b : Book) (line : List ℕ) (e : Event) → IsEvent e → event_text e ≡ line → (r : Result (Option Book) NoMemory)
+    → IfOk r (λ next. IsAfterEvent b e next) → IfOk r (λ next. IsAfterLine b line next)
 after_text tell b line e is text (Ok None) after = λ f f_is f_text. may_come_by_step b f e (tell f e f_is is (f_text ∙ sym text)) ∙ after
 after_text tell b line e is text (Ok (Some next)) after = (e, is, text, after.0, after.1)
 after_text tell b line e is text (Err refused) after = tt

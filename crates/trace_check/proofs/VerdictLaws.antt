@@ -1,5 +1,6 @@
 -- Lines have one verdict.
-use Rattle.std.proofs.Common.{◌≡◌, inl, inr, ◌<◌, ◌≤◌, ◌+◌, ℕ, zero, suc, List, [], ◌∷◌, ◌++◌, take, drop, length, Result, Ok, Err, refl, ap, sym, subst, ◌∙◌, arith}
+use Rattle.std.proofs.Common.{◌≡◌, inl, inr, ◌<◌, ◌≤◌, ◌+◌, ℕ, zero, suc, List, [], ◌∷◌, ◌++◌, take, drop, length, Result, Ok, Err, refl, ap, sym, subst, ◌∙◌}
+use Rattle.std.proofs.Common.{arith}
 use Rattle.std.specs.Prelude.{IfOk}
 use Rattle.std.proofs.lemmas.Bool.{cases_lt}
 use Rattle.std.proofs.lemmas.List.{take-append-drop}
@@ -34,7 +35,8 @@ shorter each lines k n le are =
 -- lawful lines break nowhere
 lawful_unbroken : EachFront → (lines : List (List ℕ)) (n : ℕ) → AreLawful lines → BreaksAt n lines → ⊥
 lawful_unbroken each lines n are breaks =
-    breaks.with_it (each (take (breaks.before + 1) lines) (drop (breaks.before + 1) lines) (subst AreLawful (sym (take-append-drop (breaks.before + 1) lines)) are))
+    breaks.with_it (each (take (breaks.before + 1) lines) (drop (breaks.before + 1) lines)
+    (subst AreLawful (sym (take-append-drop (breaks.before + 1) lines)) are))
 
 -- a break is not behind another
 not_behind : EachFront → (lines : List (List ℕ)) (m n : ℕ) (first : BreaksAt m lines) (second : BreaksAt n lines) → first.before < second.before → ⊥
@@ -59,10 +61,12 @@ one_verdict each lines (No n) (No m) a b = ap No (one_break each lines n m a b)
 abbrev pub OneVerdict : Type 0
 OneVerdict = (lines : List (List ℕ)) (v w : Verdict) → IsVerdict v lines → IsVerdict w lines → v ≡ w
 
-pub found_yes : OneVerdict → (lines : List (List ℕ)) (r : Result Verdict NoMemory) → IfOk r (λ v. IsVerdict v lines) → AreLawful lines → IfOk r (λ v. v ≡ Yes (length lines))
+pub found_yes : OneVerdict → (lines : List (List ℕ)) (r : Result Verdict NoMemory) → IfOk r (λ v. IsVerdict v lines) → AreLawful lines
+    → IfOk r (λ v. v ≡ Yes (length lines))
 found_yes one lines (Ok v) is are = one lines v (Yes (length lines)) is (refl, are)
 found_yes one lines (Err refused) is are = tt
 
-pub found_no : OneVerdict → (lines : List (List ℕ)) (r : Result Verdict NoMemory) → IfOk r (λ v. IsVerdict v lines) → (n : ℕ) → BreaksAt n lines → IfOk r (λ v. v ≡ No n)
+pub found_no : OneVerdict → (lines : List (List ℕ)) (r : Result Verdict NoMemory) → IfOk r (λ v. IsVerdict v lines) → (n : ℕ) → BreaksAt n lines
+    → IfOk r (λ v. v ≡ No n)
 found_no one lines (Ok v) is n breaks = one lines v (No n) is breaks
 found_no one lines (Err refused) is n breaks = tt

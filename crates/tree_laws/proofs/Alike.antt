@@ -44,7 +44,8 @@ module _ (n : ℕ) (f g : Trees) (alike : AreAlike n f g) where
   id-alike : (id : List ℕ) (i : ℕ) → has_id id (facts_at g i) ≡ has_id id (facts_at f i)
   id-alike id i = elim (cases_eq i n) [
     | inl e ↦ subst (λ v. has_id id (facts_at g v) ≡ has_id id (facts_at f v)) (sym e)
-        (ap (λ v. is_element (kind_at g n) && is_id id (value_in v (codes "id"))) (alike.attributes n ∙ ap (λ (y : Facts). y.attributes) absent) ∙ no-id id (is_element (kind_at g n)) ∙ sym (ap (has_id id) absent))
+        (ap (λ v. is_element (kind_at g n) && is_id id (value_in v (codes "id"))) (alike.attributes n ∙ ap (λ (y : Facts). y.attributes) absent)
+        ∙ no-id id (is_element (kind_at g n)) ∙ sym (ap (has_id id) absent))
     | inr ne ↦
         ap (λ v. is_element v && is_id id (value_in (facts_at g i).attributes (codes "id"))) (alike.kind i ne)
         ∙ ap (λ v. is_element (kind_at f i) && is_id id (value_in v (codes "id"))) (alike.attributes i)
@@ -53,7 +54,8 @@ module _ (n : ℕ) (f g : Trees) (alike : AreAlike n f g) where
   pub root-alike : (i : ℕ) → i ≢ n → root_at g i ≡ root_at f i
   root-alike i ne =
       ap (λ xs. or_number (find (λ m. not (has_parent g m)) (reverse xs)) i) (alike.path_is i ne)
-      ∙ ap (λ o. or_number o i) (find-same (λ m. not (has_parent g m)) (λ m. not (has_parent f m)) (reverse (path i f)) (λ m. ap (λ o. not (is_some o)) (alike.parent m)))
+      ∙ ap (λ o. or_number o i) (find-same (λ m. not (has_parent g m)) (λ m. not (has_parent f m)) (reverse (path i f))
+      (λ m. ap (λ o. not (is_some o)) (alike.parent m)))
 
   pub named-alike : (id : List ℕ) (i : ℕ) → i ≢ n → first_with_id g i id ≡ first_with_id f i id
   named-alike id i ne =

@@ -39,32 +39,39 @@ not_top_test a b c d e g k h = grind arith
 
 module _ (f : Trees) (p n : ℕ) (b : Option ℕ) (may : may_insert f p n b ≡ None) where
   pub no_text : is_text (kind_at f p) ≡ false
-  no_text = no_text_test (is_text (kind_at f p)) (is_among n (path p f)) (is_child_or_none f p b) (is_document (kind_at f n) || is_shadow_root (kind_at f n)) (is_text (kind_at f n)) (is_document (kind_at f p)) (has_element_child f p) may
+  no_text = no_text_test (is_text (kind_at f p)) (is_among n (path p f)) (is_child_or_none f p b) (is_document (kind_at f n) || is_shadow_root (kind_at f n))
+      (is_text (kind_at f n)) (is_document (kind_at f p)) (has_element_child f p) may
 
   pub not_top : (is_document (kind_at f n) || is_shadow_root (kind_at f n)) ≡ false
-  not_top = not_top_test (is_text (kind_at f p)) (is_among n (path p f)) (is_child_or_none f p b) (is_document (kind_at f n) || is_shadow_root (kind_at f n)) (is_text (kind_at f n)) (is_document (kind_at f p)) (has_element_child f p) may
+  not_top = not_top_test (is_text (kind_at f p)) (is_among n (path p f)) (is_child_or_none f p b) (is_document (kind_at f n) || is_shadow_root (kind_at f n))
+      (is_text (kind_at f n)) (is_document (kind_at f p)) (has_element_child f p) may
 
   pub not_inside : is_among n (path p f) ≡ false
-  not_inside = not_inside_test (is_text (kind_at f p)) (is_among n (path p f)) (is_child_or_none f p b) (is_document (kind_at f n) || is_shadow_root (kind_at f n)) (is_text (kind_at f n)) (is_document (kind_at f p)) (has_element_child f p) may
+  not_inside = not_inside_test (is_text (kind_at f p)) (is_among n (path p f)) (is_child_or_none f p b)
+      (is_document (kind_at f n) || is_shadow_root (kind_at f n)) (is_text (kind_at f n)) (is_document (kind_at f p)) (has_element_child f p) may
 
   pub is_sibling : is_child_or_none f p b ≡ true
-  is_sibling = is_sibling_test (is_text (kind_at f p)) (is_among n (path p f)) (is_child_or_none f p b) (is_document (kind_at f n) || is_shadow_root (kind_at f n)) (is_text (kind_at f n)) (is_document (kind_at f p)) (has_element_child f p) may
+  is_sibling = is_sibling_test (is_text (kind_at f p)) (is_among n (path p f)) (is_child_or_none f p b)
+      (is_document (kind_at f n) || is_shadow_root (kind_at f n)) (is_text (kind_at f n)) (is_document (kind_at f p)) (has_element_child f p) may
 
 -- a sibling may be another, and an element child may be gone
 weaker : (a b c c' d e g k k' : Bool) → tested a b c d e g k ≡ None → c' ≡ true → (k ≡ false → k' ≡ false) → tested a b c' d e g k' ≡ None
 weaker a b c c' d e g true k' h s w = grind arith
 weaker a b c c' d e g false k' h s w = let gone = w refl in grind (arith, gone)
 
-same_tests : (a a' b b' c c' d d' e e' g g' k k' : Bool) → a ≡ a' → b ≡ b' → c ≡ c' → d ≡ d' → e ≡ e' → g ≡ g' → k ≡ k' → tested a b c d e g k ≡ tested a' b' c' d' e' g' k'
+same_tests : (a a' b b' c c' d d' e e' g g' k k' : Bool) → a ≡ a' → b ≡ b' → c ≡ c' → d ≡ d' → e ≡ e' → g ≡ g' → k ≡ k'
+    → tested a b c d e g k ≡ tested a' b' c' d' e' g' k'
 same_tests a a' b b' c c' d d' e e' g g' k k' ea eb ec ed ee eg ek = cc
 
 -- other trees where the tests say the same, but for another sibling and for an element child that may be gone
-pub may_insert-still : (f g : Trees) (p n : ℕ) (b a : Option ℕ) → may_insert f p n b ≡ None → kind_at g p ≡ kind_at f p → kind_at g n ≡ kind_at f n → is_among n (path p g) ≡ is_among n (path p f)
+pub may_insert-still : (f g : Trees) (p n : ℕ) (b a : Option ℕ) → may_insert f p n b ≡ None → kind_at g p ≡ kind_at f p → kind_at g n ≡ kind_at f n
+    → is_among n (path p g) ≡ is_among n (path p f)
     → is_child_or_none g p a ≡ true → (has_element_child f p ≡ false → has_element_child g p ≡ false) → may_insert g p n a ≡ None
 may_insert-still f g p n b a may of_p of_n among child fewer =
     same_tests _ _ _ _ (is_child_or_none g p a) (is_child_or_none g p a) _ _ _ _ _ _ (has_element_child g p) (has_element_child g p)
     (ap is_text of_p) among refl (ap (λ v. is_document v || is_shadow_root v) of_n) (ap is_text of_n) (ap is_document of_p) refl
-    ∙ weaker (is_text (kind_at f p)) (is_among n (path p f)) (is_child_or_none f p b) (is_child_or_none g p a) (is_document (kind_at f n) || is_shadow_root (kind_at f n))
+    ∙ weaker (is_text (kind_at f p)) (is_among n (path p f)) (is_child_or_none f p b) (is_child_or_none g p a)
+    (is_document (kind_at f n) || is_shadow_root (kind_at f n))
     (is_text (kind_at f n)) (is_document (kind_at f p)) (has_element_child f p) (has_element_child g p) may child fewer
 
 -- ---- a change of a node's facts that keeps its kind says nothing of where nodes may stand

@@ -23,13 +23,15 @@ module _ (f : Trees) (p n : ℕ) (b : Option ℕ) (tidy : IsTidy f) (node : IsNo
   no-more : has_element_child f p ≡ false → has_element_child (cut f n) p ≡ false
   no-more h =
       ap (list_any (λ c. is_element (kind_at (cut f n) c))) (children_at-cut-outside f n tidy node p parent-outside)
-      ∙ any-same (λ c. is_element (kind_at (cut f n) c)) (λ c. is_element (kind_at f c)) (λ c. ap is_element (kind_at-cut f n tidy node c)) (lacking n (children_at f p))
+      ∙ any-same (λ c. is_element (kind_at (cut f n) c)) (λ c. is_element (kind_at f c)) (λ c. ap is_element (kind_at-cut f n tidy node c))
+      (lacking n (children_at f p))
       ∙ any-lacking (λ c. is_element (kind_at f c)) n (children_at f p) h
 
   -- before any child that is there
   pub may_insert-cut-before : (a : Option ℕ) → is_child_or_none (cut f n) p a ≡ true → may_insert (cut f n) p n a ≡ None
   may_insert-cut-before a child =
-      may_insert-still f (cut f n) p n b a may (kind_at-cut f n tidy node p) (kind_at-cut f n tidy node n) (ap (is_among n) (path-cut-outside f n tidy node p parent-outside)) child no-more
+      may_insert-still f (cut f n) p n b a may (kind_at-cut f n tidy node p) (kind_at-cut f n tidy node n)
+      (ap (is_among n) (path-cut-outside f n tidy node p parent-outside)) child no-more
 
   -- before the same child, which is not the node
   pub may_insert-cut : b ≢ Some n → may_insert (cut f n) p n b ≡ None
@@ -47,7 +49,8 @@ number-is None p h = absurd cc
 number-is (Some m) p h = let e : m ≡ p = grind (arith, nat_tests) in ap Some e
 
 -- before the node's next sibling, where it was to go before itself
-pub may_insert-cut-itself : (f : Trees) (p n : ℕ) → IsTidy f → IsNode f p → IsNode f n → may_insert f p n (Some n) ≡ None → may_insert (cut f n) p n (next_sibling_at f n) ≡ None
+pub may_insert-cut-itself : (f : Trees) (p n : ℕ) → IsTidy f → IsNode f p → IsNode f n → may_insert f p n (Some n) ≡ None
+    → may_insert (cut f n) p n (next_sibling_at f n) ≡ None
 may_insert-cut-itself f p n tidy node_p node may =
     let up : parent_at f n ≡ Some p = number-is (parent_at f n) p (is_sibling f p n (Some n) may) in
     let next : next_sibling_at f n ≡ after n (children_at f p) = ap (next_among f n) up in

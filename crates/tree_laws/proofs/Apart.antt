@@ -29,7 +29,8 @@ connected-root f m is = ap (λ xs. is_document (kind_at f (or_number (first_of x
 pub connected-above : (f : Trees) (m q : ℕ) → IsTidy f → IsAbove f q m → connected f m ≡ connected f q
 connected-above f m q tidy a =
     let long = path-long q f (node_stands f q tidy a.is_node) in
-    ap (λ v. is_document (kind_at f v)) (sym (same_first (path q f) (path m f) q m long (sym (ap first_of a.path_is ∙ first_of-append (path q f) (m ∷ []) long))))
+    ap (λ v. is_document (kind_at f v))
+    (sym (same_first (path q f) (path m f) q m long (sym (ap first_of a.path_is ∙ first_of-append (path q f) (m ∷ []) long))))
 
 -- what is not connected is a node
 apart-node : (f : Trees) (m : ℕ) → IsTidy f → connected f m ≡ false → IsNode f m
@@ -68,13 +69,16 @@ module _ (f g : Trees) (tidy_f : IsTidy f) (tidy_g : IsTidy g) (more : size f �
   abbrev Below : ℕ → Type 0
   Below k = (q : ℕ) → length (path q g) ≤ k → IsNode f q → connected f q ≡ false → connected g q ≡ false
 
-  above_parent : (k m q : ℕ) → Below k → length (path q g) ≤ k → IsNode f m → connected f m ≡ false → parent_at g m ≡ Some q → UpIn f g m → connected g q ≡ false
-  above_parent k m q below short at apart e (moved p is node_p apart_p) = let same : p ≡ q = cc in subst (λ v. length (path v g) ≤ k → connected g v ≡ false) same (λ short. below p short node_p apart_p) short
+  above_parent : (k m q : ℕ) → Below k → length (path q g) ≤ k → IsNode f m → connected f m ≡ false → parent_at g m ≡ Some q → UpIn f g m
+      → connected g q ≡ false
+  above_parent k m q below short at apart e (moved p is node_p apart_p) = let same : p ≡ q =
+      cc in subst (λ v. length (path v g) ≤ k → connected g v ≡ false) same (λ short. below p short node_p apart_p) short
   above_parent k m q below short at apart e (alike parent host kind) =
       let a = parent-above f m q tidy_f at (sym parent ∙ e) in
       below q short a.is_node (sym (connected-above f m q tidy_f a) ∙ apart)
 
-  above_host : (k m q : ℕ) → Below k → length (path q g) ≤ k → IsNode f m → connected f m ≡ false → parent_at g m ≡ None → host_at g m ≡ Some q → UpIn f g m → connected g q ≡ false
+  above_host : (k m q : ℕ) → Below k → length (path q g) ≤ k → IsNode f m → connected f m ≡ false → parent_at g m ≡ None → host_at g m ≡ Some q → UpIn f g m
+      → connected g q ≡ false
   above_host k m q below short at apart e o (moved p is node_p apart_p) = absurd cc
   above_host k m q below short at apart e o (alike parent host kind) =
       let st = node_spot f m tidy_f at in
@@ -97,8 +101,10 @@ module _ (f g : Trees) (tidy_f : IsTidy f) (tidy_g : IsTidy g) (more : size f �
       let host_is = host_at-is g m st.row st.is in
       elim (row_above g m st.row tidy_g (node_in m at) st.is) [
         | nothing e o z ↦ connected-root g m z ∙ root-apart m at apart (parent_is ∙ e) (host_is ∙ o) (up m at apart)
-        | a_parent q e o a ↦ connected-above g m q tidy_g a ∙ above_parent k m q (climb k) (let near = a.nearer in omega (arith, near, short)) at apart (parent_is ∙ e) (up m at apart)
-        | a_host q e o a ↦ connected-above g m q tidy_g a ∙ above_host k m q (climb k) (let near = a.nearer in omega (arith, near, short)) at apart (parent_is ∙ e) (host_is ∙ o) (up m at apart)
+        | a_parent q e o a ↦ connected-above g m q tidy_g a
+            ∙ above_parent k m q (climb k) (let near = a.nearer in omega (arith, near, short)) at apart (parent_is ∙ e) (up m at apart)
+        | a_host q e o a ↦ connected-above g m q tidy_g a
+            ∙ above_host k m q (climb k) (let near = a.nearer in omega (arith, near, short)) at apart (parent_is ∙ e) (host_is ∙ o) (up m at apart)
       ]
 
   stays-apart : KeepsApart f g
@@ -109,13 +115,16 @@ pub apart-new : (n : ℕ) (x : Facts) (f g : Trees) → IsTidy f → IsTidy g �
 apart-new n x f g tidy_f tidy_g is =
     let more = size-with_node n x f in
     let still = λ (m : ℕ) (at : IsNode f m). ap (λ v. spot_at v m) is ∙ spot_at-new n x f m tidy_f at in
-    stays-apart f g tidy_f tidy_g (omega (arith, more, ap size is)) (λ m at apart. alike (ap (λ (s : Spot). s.parent) (still m at)) (ap (λ (s : Spot). s.host) (still m at)) (ap (λ (s : Spot). s.facts.kind) (still m at)))
+    stays-apart f g tidy_f tidy_g (omega (arith, more, ap size is))
+    (λ m at apart. alike (ap (λ (s : Spot). s.parent) (still m at)) (ap (λ (s : Spot). s.host) (still m at)) (ap (λ (s : Spot). s.facts.kind) (still m at)))
 
-pub row_written : (rows rows' : List Spot) (m n : ℕ) (it new : Spot) → m ≡ n → row_of_node rows m ≡ Some it → (row_of_node rows n ≡ Some it → row_of_node rows' n ≡ Some new) → row_of_node rows' m ≡ Some new
+pub row_written : (rows rows' : List Spot) (m n : ℕ) (it new : Spot) → m ≡ n → row_of_node rows m ≡ Some it
+    → (row_of_node rows n ≡ Some it → row_of_node rows' n ≡ Some new) → row_of_node rows' m ≡ Some new
 row_written rows rows' m n it new e at f = subst (λ v. row_of_node rows' v ≡ Some new) (sym e) (f (subst (λ v. row_of_node rows v ≡ Some it) e at))
 
 -- a node put below one that is not connected
-pub apart-grafted : (rows rows' : List Spot) (f g : Trees) (p n : ℕ) (b : Option ℕ) → IsForest rows f → IsForest rows' g → Grafted rows rows' p n b → IsNode f p → connected f p ≡ false → KeepsApart f g
+pub apart-grafted : (rows rows' : List Spot) (f g : Trees) (p n : ℕ) (b : Option ℕ) → IsForest rows f → IsForest rows' g → Grafted rows rows' p n b
+    → IsNode f p → connected f p ≡ false → KeepsApart f g
 apart-grafted rows rows' f g p n b a a' w node_p apart_p =
     let more : size f ≤ size g = omega (arith, a.counted, a'.counted, w.length_is) in
     stays-apart f g a.tidy a'.tidy more (λ m at apart.
@@ -131,9 +140,12 @@ apart-grafted rows rows' f g p n b a a' w node_p apart_p =
           moved p (parent_at-is g m _ (row_is rows' g m _ a' still there)) node_p apart_p
       | inr ne ↦ elim (cases_eq m p) [
         | inl e ↦
-            let there : row_of_node rows' m ≡ Some (record it { children = insert_number b n it.children }) = row_written rows rows' m p it _ e st.row (w.there it) in
+            let there : row_of_node rows' m ≡ Some (record it { children = insert_number b n it.children }) =
+            row_written rows rows' m p it _ e st.row (w.there it) in
             let new = spot_at-is g m _ (row_is rows' g m _ a' still there) in
-            alike (ap (λ (s : Spot). s.parent) new ∙ sym (ap (λ (s : Spot). s.parent) old)) (ap (λ (s : Spot). s.host) new ∙ sym (ap (λ (s : Spot). s.host) old)) (ap (λ (s : Spot). s.facts.kind) new ∙ sym (ap (λ (s : Spot). s.facts.kind) old))
+            alike (ap (λ (s : Spot). s.parent) new ∙ sym (ap (λ (s : Spot). s.parent) old))
+            (ap (λ (s : Spot). s.host) new ∙ sym (ap (λ (s : Spot). s.host) old))
+            (ap (λ (s : Spot). s.facts.kind) new ∙ sym (ap (λ (s : Spot). s.facts.kind) old))
         | inr ne_p ↦
             let same = spot_at-is g m _ (row_is rows' g m _ a' still (w.others m low ne ne_p ∙ st.row)) ∙ sym old in
             alike (ap (λ (s : Spot). s.parent) same) (ap (λ (s : Spot). s.host) same) (ap (λ (s : Spot). s.facts.kind) same)

@@ -2,7 +2,8 @@
 use Rattle.std.proofs.Common.{◌≡◌, ℕ, ◌<◌, Some, None, ap, arith}
 use Rattle.node_trees.specs.Trees.{Trees}
 use Rattle.node_trees.specs.Nodes.{times, IsNode, IsTidy}
-use Rattle.node_trees.specs.Spots.{Spot, spot_of, spot, spot_at, facts_at, parent_at, host_at, children_at, first_of, first_child_at, next_sibling_at, after, or_no_spot}
+use Rattle.node_trees.specs.Spots.{Spot, spot_of, spot, spot_at, facts_at, parent_at, host_at, children_at, first_of, first_child_at, next_sibling_at, after}
+use Rattle.node_trees.specs.Spots.{or_no_spot}
 use Rattle.tree_laws.proofs.Sums.{tidy-apart}
 use Rattle.tree_laws.proofs.Inside.{found}
 

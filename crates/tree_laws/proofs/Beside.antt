@@ -42,7 +42,8 @@ pub first-insert : (b : Option ℕ) (n : ℕ) (ms : List ℕ) → first_of (inse
 first-insert b n [] = refl
 first-insert b n (k ∷ ms) = grind (arith, before-some k b ms)
 
-pub last-insert : (a b : Option ℕ) (n : ℕ) (ms : List ℕ) → is_in b ms ≡ true → before_from a None (insert_number b n ms) ≡ cond (is_no_number b) (Some n) (before_from a None ms)
+pub last-insert : (a b : Option ℕ) (n : ℕ) (ms : List ℕ) → is_in b ms ≡ true
+    → before_from a None (insert_number b n ms) ≡ cond (is_no_number b) (Some n) (before_from a None ms)
 last-insert a None n [] h = refl
 last-insert a None n (k ∷ ms) h = last-insert (Some k) None n ms refl
 last-insert a (Some b) n [] h = absurd cc
@@ -59,7 +60,8 @@ before-inserted a b n [] z = grind (arith, nat_tests)
 before-inserted a b n (k ∷ ms) z = grind (arith, nat_tests, before-inserted (Some k) b n ms)
 
 -- what comes first, and so follows m before the list
-first-behind : (b : Option ℕ) (n m : ℕ) (ms : List ℕ) → count m ms ≡ 0 → is_in b ms ≡ true → first_of (insert_number b n ms) ≡ cond (is_number (before_from (Some m) b ms) m) (Some n) (first_of ms)
+first-behind : (b : Option ℕ) (n m : ℕ) (ms : List ℕ) → count m ms ≡ 0 → is_in b ms ≡ true
+    → first_of (insert_number b n ms) ≡ cond (is_number (before_from (Some m) b ms) m) (Some n) (first_of ms)
 first-behind None n m [] z h = grind (arith, nat_tests)
 first-behind None n m (k ∷ ms) z h = grind (arith, nat_tests, before-other m k None ms (grind (arith, nat_tests)) (grind (arith, nat_tests)))
 first-behind (Some b) n m [] z h = absurd cc
@@ -77,23 +79,27 @@ after-insert a (Some b) n m (k ∷ ms) ne other apart h =
     let on = λ (d : k ≢ m). after-insert (Some k) (Some b) n m ms ne (grind (arith, nat_tests)) (λ i. omega (arith, apart i)) in
     grind (arith, nat_tests, on, first-behind (Some b) n m ms)
 
-pub before-insert : (a b : Option ℕ) (n m : ℕ) (ms : List ℕ) → m ≢ n → is_among m ms ≡ true → before_from a (Some m) (insert_number b n ms) ≡ cond (is_number b m) (Some n) (before_from a (Some m) ms)
+pub before-insert : (a b : Option ℕ) (n m : ℕ) (ms : List ℕ) → m ≢ n → is_among m ms ≡ true
+    → before_from a (Some m) (insert_number b n ms) ≡ cond (is_number b m) (Some n) (before_from a (Some m) ms)
 before-insert a b n m [] ne h = absurd cc
 before-insert a None n m (k ∷ ms) ne h = grind (arith, nat_tests, before-insert (Some k) None n m ms)
 before-insert a (Some b) n m (k ∷ ms) ne h = grind (arith, nat_tests, before-insert (Some k) (Some b) n m ms)
 
 -- ---- n taken out
 
-pub first-remove : (n : ℕ) (ms : List ℕ) → is_among n ms ≡ true → first_of (remove_number n ms) ≡ cond (is_no_number (before (Some n) ms)) (after n ms) (first_of ms)
+pub first-remove : (n : ℕ) (ms : List ℕ) → is_among n ms ≡ true
+    → first_of (remove_number n ms) ≡ cond (is_no_number (before (Some n) ms)) (after n ms) (first_of ms)
 first-remove n [] h = absurd cc
 first-remove n (k ∷ ms) h = grind (arith, nat_tests, before-some k (Some n) ms)
 
-pub last-remove : (a : Option ℕ) (n : ℕ) (ms : List ℕ) → is_among n ms ≡ true → before_from a None (remove_number n ms) ≡ cond (is_no_number (after n ms)) (before_from a (Some n) ms) (before_from a None ms)
+pub last-remove : (a : Option ℕ) (n : ℕ) (ms : List ℕ) → is_among n ms ≡ true
+    → before_from a None (remove_number n ms) ≡ cond (is_no_number (after n ms)) (before_from a (Some n) ms) (before_from a None ms)
 last-remove a n [] h = absurd cc
 last-remove a n (k ∷ []) h = grind (arith, nat_tests)
 last-remove a n (k ∷ j ∷ ms) h = grind (arith, nat_tests, last-remove (Some k) n (j ∷ ms))
 
-first-without : (n m : ℕ) (ms : List ℕ) → count m ms ≡ 0 → is_among n ms ≡ true → first_of (remove_number n ms) ≡ cond (is_number (before_from (Some m) (Some n) ms) m) (after n ms) (first_of ms)
+first-without : (n m : ℕ) (ms : List ℕ) → count m ms ≡ 0 → is_among n ms ≡ true
+    → first_of (remove_number n ms) ≡ cond (is_number (before_from (Some m) (Some n) ms) m) (after n ms) (first_of ms)
 first-without n m [] z h = absurd cc
 first-without n m (k ∷ ms) z h = grind (arith, nat_tests, before-other m k (Some n) ms (grind (arith, nat_tests)) (grind (arith, nat_tests)))
 

@@ -36,7 +36,15 @@ module _ (n : ℕ) (c : Facts → Facts) where
   pub spot-with-other : (p h : Option ℕ) (i : ℕ) (f : Trees) → i ≢ n → spot_in p h i (with_facts n c f) ≡ spot_in p h i f
   spot-with-other p h i none ne = refl
   spot-with-other p h i (tree m x s k r) ne =
-      grind (arith, nat_tests, roots-with n c s, roots-with n c k, spot-with-other None (Some m) i s ne, spot-with-other (Some m) None i k ne, spot-with-other p h i r ne)
+      grind (
+        arith,
+        nat_tests,
+        roots-with n c s,
+        roots-with n c k,
+        spot-with-other None (Some m) i s ne,
+        spot-with-other (Some m) None i k ne,
+        spot-with-other p h i r ne,
+      )
 
   pub spot-with-here : (p h : Option ℕ) (f : Trees) → spot_in p h n (with_facts n c f) ≡ changed c (spot_in p h n f)
   spot-with-here p h none = refl

@@ -7,13 +7,15 @@ use Rattle.node_trees.specs.Trees.{Trees, with_facts}
 use Rattle.node_trees.specs.Spots.{Spot, spot, spot_at, or_no_spot, kind_at, parent_at, children_at}
 use Rattle.tree_laws.proofs.Changed.{changed, spot-with-other, spot-with-here}
 
-changed-keeps : (A : Type 0) (g : Spot → A) (c : Facts → Facts) → ((s : Spot) → g (record s { facts = c s.facts }) ≡ g s) → (o : Option Spot) → g (or_no_spot (changed c o)) ≡ g (or_no_spot o)
+changed-keeps : (A : Type 0) (g : Spot → A) (c : Facts → Facts) → ((s : Spot) → g (record s { facts = c s.facts }) ≡ g s) → (o : Option Spot)
+    → g (or_no_spot (changed c o)) ≡ g (or_no_spot o)
 changed-keeps A g c keeps None = refl
 changed-keeps A g c keeps (Some s) = keeps s
 
 module _ (n : ℕ) (c : Facts → Facts) (f : Trees) where
   -- a read that takes no heed of the change
-  pub read-with : (A : Type 0) (g : Spot → A) → ((s : Spot) → g (record s { facts = c s.facts }) ≡ g s) → (i : ℕ) → g (spot_at (with_facts n c f) i) ≡ g (spot_at f i)
+  pub read-with : (A : Type 0) (g : Spot → A) → ((s : Spot) → g (record s { facts = c s.facts }) ≡ g s) → (i : ℕ)
+      → g (spot_at (with_facts n c f) i) ≡ g (spot_at f i)
   read-with A g keeps i = elim (cases_eq i n) [
     | inl e ↦ subst (λ v. g (spot_at (with_facts n c f) v) ≡ g (spot_at f v)) (sym e)
         (ap (λ o. g (or_no_spot o)) (spot-with-here n c None None f) ∙ changed-keeps A g c keeps (spot f n))

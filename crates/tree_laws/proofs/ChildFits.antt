@@ -21,22 +21,25 @@ pub unless-true : (b : Bool) → unless b ≡ 0 → b ≡ true
 unless-true true h = refl
 unless-true false h = absurd (omega arith)
 
-pub stance : (p h : Option ℕ) (at : Place) (n : ℕ) (f : Trees) (row : Spot) → IsApart f → 0 < times n f → misfits at f ≡ 0 → spot_in p h n f ≡ Some row → Stance p h at row
+pub stance : (p h : Option ℕ) (at : Place) (n : ℕ) (f : Trees) (row : Spot) → IsApart f → 0 < times n f → misfits at f ≡ 0 → spot_in p h n f ≡ Some row
+    → Stance p h at row
 stance p h at n none row apart pos z is = absurd (omega arith)
 stance p h at n (tree m x s k r) row apart pos z is = elim (stands_where n m x s k r apart pos) [
   | here e _ _ _ ↦
       let same : spot_of x p h s k ≡ row = let it = spot-here p h n m x s k r e in cc in
       subst (Stance p h at) same (at_root refl refl (unless-true (fits at x.kind) (omega arith)))
-  | in_shadow ne a b c ↦ elim (stance None (Some m) InShadow n s row (apart-shadow m x s k r apart) a (omega arith) (sym (spot-shadow p h n m x s k r ne b c) ∙ is)) [
-    | at_root e o fit ↦ hosted e fit
-    | hosted e fit ↦ hosted e fit
-    | child fit ↦ child fit
-  ]
-  | in_children ne a b c ↦ elim (stance (Some m) None AsChild n k row (apart-children m x s k r apart) b (omega arith) (sym (spot-children p h n m x s k r ne a c) ∙ is)) [
-    | at_root e o fit ↦ child fit
-    | hosted e fit ↦ hosted e fit
-    | child fit ↦ child fit
-  ]
+  | in_shadow ne a b c ↦ elim (stance None (Some m) InShadow n s row (apart-shadow m x s k r apart) a (omega arith)
+      (sym (spot-shadow p h n m x s k r ne b c) ∙ is)) [
+        | at_root e o fit ↦ hosted e fit
+        | hosted e fit ↦ hosted e fit
+        | child fit ↦ child fit
+      ]
+  | in_children ne a b c ↦ elim (stance (Some m) None AsChild n k row (apart-children m x s k r apart) b (omega arith)
+      (sym (spot-children p h n m x s k r ne a c) ∙ is)) [
+        | at_root e o fit ↦ child fit
+        | hosted e fit ↦ hosted e fit
+        | child fit ↦ child fit
+      ]
   | in_rest ne a b c ↦ stance p h at n r row (apart-rest m x s k r apart) c (omega arith) (sym (spot-rest p h n m x s k r ne a b) ∙ is)
 ]
 

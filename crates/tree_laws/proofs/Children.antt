@@ -71,14 +71,21 @@ root-inside c (tree m x s k r) among = grind (arith, nat_tests, root-inside c r)
 pub root-stands : (p h : Option ℕ) (c : ℕ) (f : Trees) → IsApart f → is_among c (roots f) ≡ true → StandsUnder p h c f p h
 root-stands p h c none apart among = absurd cc
 root-stands p h c (tree m x s k r) apart among = elim (stands_where c m x s k r apart (root-inside c (tree m x s k r) among)) [
-  | here e _ _ _ ↦ record { row = spot_of x p h s k; inside = grind (arith, nat_tests); spot_is = spot-here p h c m x s k r e; parent_is = refl; host_is = refl }
+  | here e _ _ _ ↦ record {
+    row = spot_of x p h s k;
+    inside = grind (arith, nat_tests);
+    spot_is = spot-here p h c m x s k r e;
+    parent_is = refl;
+    host_is = refl;
+  }
   | in_shadow ne a b z ↦ absurd (grind (arith, nat_tests, root-inside c r))
   | in_children ne a b z ↦ absurd (grind (arith, nat_tests, root-inside c r))
   | in_rest ne a b low ↦ under_rest p h c m x s k r p h apart (root-stands p h c r (apart-rest m x s k r apart) (grind (arith, nat_tests)))
 ]
 
 -- a child of q stands under q
-pub child-stands : (p h : Option ℕ) (q c : ℕ) (f : Trees) (up : Spot) → IsApart f → 0 < times q f → spot_in p h q f ≡ Some up → is_among c up.children ≡ true → StandsUnder p h c f (Some q) None
+pub child-stands : (p h : Option ℕ) (q c : ℕ) (f : Trees) (up : Spot) → IsApart f → 0 < times q f → spot_in p h q f ≡ Some up → is_among c up.children ≡ true
+    → StandsUnder p h c f (Some q) None
 child-stands p h q c none up apart pos is among = absurd (omega arith)
 child-stands p h q c (tree m x s k r) up apart pos is among = elim (stands_where q m x s k r apart pos) [
   | here e _ _ _ ↦
@@ -115,13 +122,15 @@ module _ (f : Trees) (q : ℕ) (tidy : IsTidy f) (node : IsNode f q) where
   pub child-parent : (c : ℕ) → is_among c (children_at f q) ≡ true → parent_at f c ≡ Some q
   child-parent c among =
       let st = node_spot f q tidy node in
-      let u = child-stands None None q c f st.row (tidy-apart f tidy) (node_stands f q tidy node) st.is (sym (ap (is_among c) (children_at-is f q st.row st.is)) ∙ among) in
+      let u = child-stands None None q c f st.row (tidy-apart f tidy) (node_stands f q tidy node) st.is
+      (sym (ap (is_among c) (children_at-is f q st.row st.is)) ∙ among) in
       parent_at-is f c u.row u.spot_is ∙ u.parent_is
 
   pub child-node : (c : ℕ) → is_among c (children_at f q) ≡ true → IsNode f c
   child-node c among =
       let st = node_spot f q tidy node in
-      let u = child-stands None None q c f st.row (tidy-apart f tidy) (node_stands f q tidy node) st.is (sym (ap (is_among c) (children_at-is f q st.row st.is)) ∙ among) in
+      let u = child-stands None None q c f st.row (tidy-apart f tidy) (node_stands f q tidy node) st.is
+      (sym (ap (is_among c) (children_at-is f q st.row st.is)) ∙ among) in
       tidy.only c u.inside
 
   pub children_at-apart : AreApart (children_at f q)

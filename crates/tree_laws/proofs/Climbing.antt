@@ -38,8 +38,10 @@ test-same at root h = grind (arith, nat_tests)
 
 module _ (f : Trees) (root n : ℕ) (tidy : IsTidy f) (is : IsNode f root) where
   -- a first child follows
-  pub climb-child : (child : Option ℕ) → is_among n (tree_order_of f root) ≡ true → child ≡ first_child_at f n → is_some child ≡ true → child ≡ after n (tree_order_of f root)
-  climb-child child among e some = sym (after-is f root tidy is n among ∙ ap (λ v. or_else v (beyond_in f root n)) (sym e) ∙ or_else-some child (beyond_in f root n) some)
+  pub climb-child : (child : Option ℕ) → is_among n (tree_order_of f root) ≡ true → child ≡ first_child_at f n → is_some child ≡ true
+      → child ≡ after n (tree_order_of f root)
+  climb-child child among e some =
+      sym (after-is f root tidy is n among ∙ ap (λ v. or_else v (beyond_in f root n)) (sym e) ∙ or_else-some child (beyond_in f root n) some)
 
   pub climb-start : (child : Option ℕ) → is_among n (tree_order_of f root) ≡ true → child ≡ first_child_at f n → is_some child ≡ false → Climbing f root n n
   climb-start child among e gone = record {

@@ -1,5 +1,6 @@
 -- Whether nodes are connected, where the trees differ in where one node stands.
-use Rattle.std.proofs.Common.{◌≡◌, ◌≢◌, ℕ, zero, suc, ◌≤◌, ◌+◌, Bool, true, false, List, [], ◌∷◌, ◌++◌, Option, Some, None, ap, sym, ◌∙◌, arith, inl, inr, length, refl}
+use Rattle.std.proofs.Common.{◌≡◌, ◌≢◌, ℕ, zero, suc, ◌≤◌, ◌+◌, Bool, true, false, List, [], ◌∷◌, ◌++◌, Option, Some, None, ap, sym, ◌∙◌, arith, inl, inr}
+use Rattle.std.proofs.Common.{length, refl}
 use Rattle.std.specs.Prelude.{⊤}
 use Rattle.std.proofs.lemmas.Bool.{cases_eq}
 use Rattle.std.proofs.lemmas.Bool.Decides.{nat_tests}
@@ -54,7 +55,8 @@ same_above : (f g : Trees) (m : ℕ) → SameAbove f g m → above_at g m ≡ ab
 same_above f g m same = ap (λ o. parent_or o (host_at g m)) same.parent ∙ ap (λ o. parent_or (parent_at f m) o) same.host
 
 -- nodes with the same above them, all the way up, are as connected as they were
-module _ (f g : Trees) (tidy_f : IsTidy f) (tidy_g : IsTidy g) (Here : ℕ → Type 0) (up : (q m : ℕ) → IsAbove f q m → Here m → Here q) (over : (m : ℕ) → IsNode f m → IsNode g m) (alike : (m : ℕ) → IsNode f m → Here m → SameAbove f g m) where
+module _ (f g : Trees) (tidy_f : IsTidy f) (tidy_g : IsTidy g) (Here : ℕ → Type 0) (up : (q m : ℕ) → IsAbove f q m → Here m → Here q) (over : (m : ℕ)
+    → IsNode f m → IsNode g m) (alike : (m : ℕ) → IsNode f m → Here m → SameAbove f g m) where
   climb : (k m : ℕ) → length (path m f) ≤ k → IsNode f m → Here m → connected g m ≡ connected f m
   climb zero m short at here = absurd (omega (arith, short, path-long m f (node_stands f m tidy_f at)))
   climb (suc k) m short at here =
@@ -70,7 +72,8 @@ module _ (f g : Trees) (tidy_f : IsTidy f) (tidy_g : IsTidy g) (Here : ℕ → T
           | below q' e' a' ↦
               let one : q' ≡ q = cc in
               let near = a.nearer in
-              connected-above g m q' tidy_g a' ∙ ap (connected g) one ∙ climb k q (omega (arith, near, short)) a.is_node (up q m a here) ∙ sym (connected-above f m q tidy_f a)
+              connected-above g m q' tidy_g a' ∙ ap (connected g) one ∙ climb k q (omega (arith, near, short)) a.is_node (up q m a here)
+              ∙ sym (connected-above f m q tidy_f a)
         ]
       ]
 
@@ -99,7 +102,8 @@ outside-path f n i tidy z = by_test (is_among n (path i f)) refl
   where
     by_test : (b : Bool) → is_among n (path i f) ≡ b → b ≡ false
     by_test false e = refl
-    by_test true e = let low = count-among i (order_of f n) (walked f n i tidy ∙ e) in let count = count-order i (tree_of n f) in absurd (omega (arith, low, count, z))
+    by_test true e = let low = count-among i (order_of f n) (walked f n i tidy ∙ e) in let count =
+        count-order i (tree_of n f) in absurd (omega (arith, low, count, z))
 
 module _ (f g : Trees) (n : ℕ) (moved : IsMoved f g n) where
   over : (m : ℕ) → IsNode g m → IsNode f m
@@ -113,7 +117,8 @@ module _ (f g : Trees) (n : ℕ) (moved : IsMoved f g n) where
 
   -- what n is not above
   pub connected-outside : (m : ℕ) → IsNode g m → is_among n (path m g) ≡ false → connected f m ≡ connected g m
-  connected-outside = connected-same g f moved.tidy_now moved.tidy_before (λ m. is_among n (path m g) ≡ false) (λ q m a off. off_path n m (path q g) (ap (is_among n) (sym a.path_is) ∙ off)) over (λ m at off. moved.alike m at (differs m at off))
+  connected-outside = connected-same g f moved.tidy_now moved.tidy_before (λ m. is_among n (path m g) ≡ false)
+      (λ q m a off. off_path n m (path q g) (ap (is_among n) (sym a.path_is) ∙ off)) over (λ m at off. moved.alike m at (differs m at off))
 
   inside : (k m : ℕ) → length (path m g) ≤ k → IsNode g m → is_among n (path m g) ≡ true → connected f m ≡ connected f n
   inside zero m short at on = absurd (omega (arith, short, path-long m g (node_stands g m moved.tidy_now at)))
@@ -128,7 +133,8 @@ module _ (f g : Trees) (n : ℕ) (moved : IsMoved f g n) where
             | below q' e' a' ↦
                 let one : q' ≡ q = cc in
                 let near = a.nearer in
-                connected-above f m q' moved.tidy_before a' ∙ ap (connected f) one ∙ inside k q (omega (arith, near, short)) a.is_node (on_path n m (path q g) (ap (is_among n) (sym a.path_is) ∙ on) ne)
+                connected-above f m q' moved.tidy_before a' ∙ ap (connected f) one
+                ∙ inside k q (omega (arith, near, short)) a.is_node (on_path n m (path q g) (ap (is_among n) (sym a.path_is) ∙ on) ne)
           ]
         ]
   ]
@@ -144,7 +150,8 @@ module _ (f g : Trees) (n : ℕ) (moved : IsMoved f g n) where
       connected-above g n p moved.tidy_now a ∙ sym (connected-outside p a.is_node (outside-path g n p moved.tidy_now a.outside))
 
 -- a node put below another
-pub moved-grafted : (rows rows' : List Spot) (f g : Trees) (p n : ℕ) (b : Option ℕ) → IsForest rows f → IsForest rows' g → Grafted rows rows' p n b → IsMoved f g n
+pub moved-grafted : (rows rows' : List Spot) (f g : Trees) (p n : ℕ) (b : Option ℕ) → IsForest rows f → IsForest rows' g → Grafted rows rows' p n b
+    → IsMoved f g n
 moved-grafted rows rows' f g p n b a a' w = record {
   tidy_before = a.tidy;
   tidy_now = a'.tidy;
@@ -158,7 +165,8 @@ moved-grafted rows rows' f g p n b a a' w = record {
       let it = spot_of st.it.facts st.it.parent st.it.host st.it.shadow st.it.children in
       elim (cases_eq m p) [
         | inl e ↦
-            let there : row_of_node rows' m ≡ Some (record it { children = insert_number b n it.children }) = row_written rows rows' m p it _ e st.row (w.there it) in
+            let there : row_of_node rows' m ≡ Some (record it { children = insert_number b n it.children }) =
+            row_written rows rows' m p it _ e st.row (w.there it) in
             let new = spot_at-is g m _ (row_is rows' g m _ a' still there) in
             record {
               parent = ap (λ (s : Spot). s.parent) old ∙ sym (ap (λ (s : Spot). s.parent) new);
@@ -171,7 +179,8 @@ moved-grafted rows rows' f g p n b a a' w = record {
       ];
 }
 
-pub parent-grafted : (rows rows' : List Spot) (f g : Trees) (p n : ℕ) (b : Option ℕ) → IsForest rows f → IsForest rows' g → Grafted rows rows' p n b → IsNode f n → parent_at g n ≡ Some p
+pub parent-grafted : (rows rows' : List Spot) (f g : Trees) (p n : ℕ) (b : Option ℕ) → IsForest rows f → IsForest rows' g → Grafted rows rows' p n b
+    → IsNode f n → parent_at g n ≡ Some p
 parent-grafted rows rows' f g p n b a a' w at =
     let low = at.low in
     let high = at.high in
@@ -197,11 +206,17 @@ pub connected-new : (n : ℕ) (x : Facts) (f g : Trees) → IsTidy f → IsTidy 
 connected-new n x f g tidy_f tidy_g is m at =
     let more = size-with_node n x f in
     let still = λ (k : ℕ) (at : IsNode f k). ap (λ v. spot_at v k) is ∙ spot_at-new n x f k tidy_f at in
-    connected-same f g tidy_f tidy_g (λ k. ⊤) (λ q k a here. here) (λ k at. let low = at.low in let high = at.high in record { low = low; high = omega (arith, high, more, ap size is) })
-    (λ k at here. record { parent = ap (λ (s : Spot). s.parent) (still k at); host = ap (λ (s : Spot). s.host) (still k at); kind = ap (λ (s : Spot). s.facts.kind) (still k at) }) m at tt
+    connected-same f g tidy_f tidy_g (λ k. ⊤) (λ q k a here. here)
+    (λ k at. let low = at.low in let high = at.high in record { low = low; high = omega (arith, high, more, ap size is) })
+    (λ k at here. record {
+      parent = ap (λ (s : Spot). s.parent) (still k at);
+      host = ap (λ (s : Spot). s.host) (still k at);
+      kind = ap (λ (s : Spot). s.facts.kind) (still k at);
+    }) m at tt
 
 -- a shadow root that was made at its host
-pub connected-attached : (rows rows' : List Spot) (f g : Trees) (h n : ℕ) (x : Facts) → IsForest rows f → IsForest rows' g → n ≡ length rows + 1 → Attached rows rows' h n x → (m : ℕ) → IsNode f m → connected g m ≡ connected f m
+pub connected-attached : (rows rows' : List Spot) (f g : Trees) (h n : ℕ) (x : Facts) → IsForest rows f → IsForest rows' g → n ≡ length rows + 1
+    → Attached rows rows' h n x → (m : ℕ) → IsNode f m → connected g m ≡ connected f m
 connected-attached rows rows' f g h n x a a' last w m at =
     connected-same f g a.tidy a'.tidy (λ k. ⊤) (λ q k up here. here) over (λ k at here.
     let low = at.low in
@@ -219,7 +234,8 @@ connected-attached rows rows' f g h n x a a' last w m at =
             kind = ap (λ (s : Spot). s.facts.kind) new ∙ sym (ap (λ (s : Spot). s.facts.kind) old);
           }
       | inr ne ↦
-          let same = spot_at-is g k _ (row_is rows' g k _ a' (over k at) (w.others k low (λ e. omega (arith, e, last, high, a.counted)) ne ∙ st.row)) ∙ sym old in
+          let same = spot_at-is g k _ (row_is rows' g k _ a' (over k at) (w.others k low (λ e. omega (arith, e, last, high, a.counted)) ne ∙ st.row))
+          ∙ sym old in
           record { parent = ap (λ (s : Spot). s.parent) same; host = ap (λ (s : Spot). s.host) same; kind = ap (λ (s : Spot). s.facts.kind) same }
     ]) m at tt
   where

@@ -78,6 +78,8 @@ module _ (f : Trees) (n : ℕ) (tidy : IsTidy f) (node : IsNode f n) where
   connected-order = all_in_order (λ m. connected f m ≡ connected f n) (tree_of n f) connected-below
 
 -- the same of the nodes that a walk has put out, which knows the forest to be tidy where it has put out one
-pub all_connected : (f : Trees) (n : ℕ) (out : List ℕ) → IsNode f n → (0 < length out → IsTidy f) → out ≡ order_of f n → All (λ m. connected f m ≡ connected f n) out
+pub all_connected : (f : Trees) (n : ℕ) (out : List ℕ) → IsNode f n → (0 < length out → IsTidy f) → out ≡ order_of f n
+    → All (λ m. connected f m ≡ connected f n) out
 all_connected f n [] node tidy is = All-nil (λ m. connected f m ≡ connected f n)
-all_connected f n (m ∷ ms) node tidy is = All-same (λ m. connected f m ≡ connected f n) (m ∷ ms) (order_of f n) is (connected-order f n (tidy (omega arith)) node)
+all_connected f n (m ∷ ms) node tidy is =
+    All-same (λ m. connected f m ≡ connected f n) (m ∷ ms) (order_of f n) is (connected-order f n (tidy (omega arith)) node)

@@ -44,13 +44,15 @@ module _ (f : Trees) (n : ℕ) (tidy : IsTidy f) (node : IsNode f n) where
   pub spot-cut-below : (i : ℕ) → i ≢ n → 0 < times i (tree_of n f) → spot (cut f n) i ≡ spot f i
   spot-cut-below i ne low =
       let same : spot_in None None i (tree_of n f) ≡ spot_in it.parent it.host i (tree_of n f) =
-      subst (λ t. spot_in None None i t ≡ spot_in it.parent it.host i t) (sym it.tree_is) (below-same None None it.parent it.host i n it.facts it.shadow it.children ne) in
+      subst (λ t. spot_in None None i t ≡ spot_in it.parent it.host i t) (sym it.tree_is)
+      (below-same None None it.parent it.host i n it.facts it.shadow it.children ne) in
       spot-place-in None None i n (tree_of n f) (without n f) (not-left i low) ∙ same ∙ sym (it.inside i low)
 
   pub spot-cut-here : spot (cut f n) n ≡ spot_at_top (spot f n)
   spot-cut-here =
       let top : spot_in None None n (tree_of n f) ≡ spot_at_top (spot_in it.parent it.host n (tree_of n f)) =
-      subst (λ t. spot_in None None n t ≡ spot_at_top (spot_in it.parent it.host n t)) (sym it.tree_is) (root-top it.parent it.host n it.facts it.shadow it.children) in
+      subst (λ t. spot_in None None n t ≡ spot_at_top (spot_in it.parent it.host n t)) (sym it.tree_is)
+      (root-top it.parent it.host n it.facts it.shadow it.children) in
       spot-place-in None None n n (tree_of n f) (without n f) (not-left n in-tree) ∙ top ∙ ap spot_at_top (sym (it.inside n in-tree))
 
   -- ---- paths
@@ -58,17 +60,20 @@ module _ (f : Trees) (n : ℕ) (tidy : IsTidy f) (node : IsNode f n) where
   pub path-cut-outside : (i : ℕ) → times i (tree_of n f) ≡ 0 → path i (cut f n) ≡ path i f
   path-cut-outside i z = path-place-out i n (tree_of n f) (without n f) z ∙ path-without i n f (tidy-apart f tidy) z
 
-pub lacking-read : (A : Type 0) (g : Spot → A) (n : ℕ) → ((s : Spot) (ns ms : List ℕ) → g (record s { shadow = ns; children = ms }) ≡ g s) → (o : Option Spot) → g (or_no_spot (spot_lacking n o)) ≡ g (or_no_spot o)
+pub lacking-read : (A : Type 0) (g : Spot → A) (n : ℕ) → ((s : Spot) (ns ms : List ℕ) → g (record s { shadow = ns; children = ms }) ≡ g s) → (o : Option Spot)
+    → g (or_no_spot (spot_lacking n o)) ≡ g (or_no_spot o)
 lacking-read A g n keeps None = refl
 lacking-read A g n keeps (Some s) = keeps s (lacking n s.shadow) (lacking n s.children)
 
-top-read : (A : Type 0) (g : Spot → A) → ((s : Spot) (p h : Option ℕ) → g (record s { parent = p; host = h }) ≡ g s) → (o : Option Spot) → g (or_no_spot (spot_at_top o)) ≡ g (or_no_spot o)
+top-read : (A : Type 0) (g : Spot → A) → ((s : Spot) (p h : Option ℕ) → g (record s { parent = p; host = h }) ≡ g s) → (o : Option Spot)
+    → g (or_no_spot (spot_at_top o)) ≡ g (or_no_spot o)
 top-read A g keeps None = refl
 top-read A g keeps (Some s) = keeps s None None
 
 module _ (f : Trees) (n : ℕ) (tidy : IsTidy f) (node : IsNode f n) where
   -- a read that takes no heed of the shadow tree and the children: the same of each node but n
-  read-other : (A : Type 0) (g : Spot → A) → ((s : Spot) (ns ms : List ℕ) → g (record s { shadow = ns; children = ms }) ≡ g s) → (i : ℕ) → i ≢ n → g (spot_at (cut f n) i) ≡ g (spot_at f i)
+  read-other : (A : Type 0) (g : Spot → A) → ((s : Spot) (ns ms : List ℕ) → g (record s { shadow = ns; children = ms }) ≡ g s) → (i : ℕ) → i ≢ n
+      → g (spot_at (cut f n) i) ≡ g (spot_at f i)
   read-other A g keeps i ne = elim (cases_lt 0 (times i (tree_of n f))) [
     | inl low ↦ ap (λ o. g (or_no_spot o)) (spot-cut-below f n tidy node i ne low)
     | inr out ↦ ap (λ o. g (or_no_spot o)) (spot-cut-outside f n tidy node i (omega arith)) ∙ lacking-read A g n keeps (spot f i)
@@ -81,7 +86,8 @@ module _ (f : Trees) (n : ℕ) (tidy : IsTidy f) (node : IsNode f n) where
   host_at-cut = read-other (Option ℕ) (λ s. s.host) (λ s ns ms. refl)
 
   pub parent_at-cut-here : parent_at (cut f n) n ≡ None
-  parent_at-cut-here = ap (λ o. (or_no_spot o).parent) (spot-cut-here f n tidy node ∙ ap spot_at_top (found None None n f (tidy-apart f tidy) (node_stands f n tidy node)).spot_is)
+  parent_at-cut-here = ap (λ o. (or_no_spot o).parent)
+      (spot-cut-here f n tidy node ∙ ap spot_at_top (found None None n f (tidy-apart f tidy) (node_stands f n tidy node)).spot_is)
 
   -- the facts of each stay
   pub facts_at-cut : (i : ℕ) → facts_at (cut f n) i ≡ facts_at f i

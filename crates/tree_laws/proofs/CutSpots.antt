@@ -67,12 +67,14 @@ lacking-or n None b = refl
 lacking-or n (Some a) b = refl
 
 -- what is in the tree of n is in one of the three parts
-tree_of-parts : (i n m : ℕ) (x : Facts) (s k r : Trees) → m ≢ n → times i (tree_of n (tree m x s k r)) ≡ times i (tree_of n s) + (times i (tree_of n k) + times i (tree_of n r))
+tree_of-parts : (i n m : ℕ) (x : Facts) (s k r : Trees) → m ≢ n
+    → times i (tree_of n (tree m x s k r)) ≡ times i (tree_of n s) + (times i (tree_of n k) + times i (tree_of n r))
 tree_of-parts i n m x s k r ne =
     grind (arith, nat_tests, times-join i (tree_of n s) (join (tree_of n k) (tree_of n r)), times-join i (tree_of n k) (tree_of n r))
 
 -- what stands beside the tree of n loses n from its children, or from its shadow tree
-pub spot-without : (p h : Option ℕ) (i n : ℕ) (f : Trees) → IsApart f → times i (tree_of n f) ≡ 0 → spot_in p h i (without n f) ≡ spot_lacking n (spot_in p h i f)
+pub spot-without : (p h : Option ℕ) (i n : ℕ) (f : Trees) → IsApart f → times i (tree_of n f) ≡ 0
+    → spot_in p h i (without n f) ≡ spot_lacking n (spot_in p h i f)
 spot-without p h i n none apart z = refl
 spot-without p h i n (tree m x s k r) apart z =
     let one = apart n in

@@ -83,7 +83,8 @@ misfits-without at n (tree m x s k r) = elim (cases_eq m n) [
 ]
 
 -- of the tree of n only n itself may stand amiss
-pub misfits-tree_of : (at to : Place) (p h : Option ℕ) (n : ℕ) (f : Trees) (row : Spot) → IsApart f → 0 < times n f → misfits at f ≡ 0 → spot_in p h n f ≡ Some row → misfits to (tree_of n f) ≡ unless (fits to row.facts.kind)
+pub misfits-tree_of : (at to : Place) (p h : Option ℕ) (n : ℕ) (f : Trees) (row : Spot) → IsApart f → 0 < times n f → misfits at f ≡ 0
+    → spot_in p h n f ≡ Some row → misfits to (tree_of n f) ≡ unless (fits to row.facts.kind)
 misfits-tree_of at to p h n none row apart pos z is = absurd (omega arith)
 misfits-tree_of at to p h n (tree m x s k r) row apart pos z is = elim (stands_where n m x s k r apart pos) [
   | here e a b c ↦

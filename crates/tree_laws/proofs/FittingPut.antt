@@ -32,7 +32,8 @@ abbrev pub element_is : Facts → ℕ
 element_is x = unless (is_element x.kind)
 
 -- p is no text, and what is put among its children fits there
-pub misfits-put : (at : Place) (p : ℕ) (b : Option ℕ) (t f : Trees) → misfits at f ≡ 0 → misfits AsChild t ≡ 0 → weight (only_at p text_is) f ≡ 0 → misfits at (put p b t f) ≡ 0
+pub misfits-put : (at : Place) (p : ℕ) (b : Option ℕ) (t f : Trees) → misfits at f ≡ 0 → misfits AsChild t ≡ 0 → weight (only_at p text_is) f ≡ 0
+    → misfits at (put p b t f) ≡ 0
 misfits-put at p b t none z fit ok = refl
 misfits-put at p b t (tree m x s k r) z fit ok = elim (cases_eq m p) [
   | inl e ↦
@@ -43,11 +44,19 @@ misfits-put at p b t (tree m x s k r) z fit ok = elim (cases_eq m p) [
       let is : put p b t (tree m x s k r) ≡ tree m x (put p b t s) (put p b t k) (put p b t r) = grind (arith, nat_tests) in
       let same_s = ap (λ v. unless (v || is_element x.kind)) (none-put p b t s) in
       let same_k = ap (λ v. unless (v || not (is_text x.kind))) (none-put p b t k) in
-      rw is (omega (arith, same_s, same_k, misfits-put InShadow p b t s (omega arith) fit (omega arith), misfits-put AsChild p b t k (omega arith) fit (omega arith), misfits-put at p b t r (omega arith) fit (omega arith)))
+      rw is (omega (
+        arith,
+        same_s,
+        same_k,
+        misfits-put InShadow p b t s (omega arith) fit (omega arith),
+        misfits-put AsChild p b t k (omega arith) fit (omega arith),
+        misfits-put at p b t r (omega arith) fit (omega arith),
+      ))
 ]
 
 -- the host is an element, and what is attached fits there
-pub misfits-shadow : (at : Place) (q : ℕ) (t f : Trees) → misfits at f ≡ 0 → misfits InShadow t ≡ 0 → weight (only_at q element_is) f ≡ 0 → misfits at (with_shadow q t f) ≡ 0
+pub misfits-shadow : (at : Place) (q : ℕ) (t f : Trees) → misfits at f ≡ 0 → misfits InShadow t ≡ 0 → weight (only_at q element_is) f ≡ 0
+    → misfits at (with_shadow q t f) ≡ 0
 misfits-shadow at q t none z fit ok = refl
 misfits-shadow at q t (tree m x s k r) z fit ok = elim (cases_eq m q) [
   | inl e ↦
@@ -58,7 +67,14 @@ misfits-shadow at q t (tree m x s k r) z fit ok = elim (cases_eq m q) [
       let is : with_shadow q t (tree m x s k r) ≡ tree m x (with_shadow q t s) (with_shadow q t k) (with_shadow q t r) = grind (arith, nat_tests) in
       let same_s = ap (λ v. unless (v || is_element x.kind)) (none-shadow q t s) in
       let same_k = ap (λ v. unless (v || not (is_text x.kind))) (none-shadow q t k) in
-      rw is (omega (arith, same_s, same_k, misfits-shadow InShadow q t s (omega arith) fit (omega arith), misfits-shadow AsChild q t k (omega arith) fit (omega arith), misfits-shadow at q t r (omega arith) fit (omega arith)))
+      rw is (omega (
+        arith,
+        same_s,
+        same_k,
+        misfits-shadow InShadow q t s (omega arith) fit (omega arith),
+        misfits-shadow AsChild q t k (omega arith) fit (omega arith),
+        misfits-shadow at q t r (omega arith) fit (omega arith),
+      ))
 ]
 
 pub misfits-with : (n : ℕ) (c : Facts → Facts) → ((x : Facts) → (c x).kind ≡ x.kind) → (at : Place) (f : Trees) → misfits at (with_facts n c f) ≡ misfits at f

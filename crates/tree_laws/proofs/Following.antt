@@ -53,8 +53,10 @@ module _ (f : Trees) (root : ℕ) (tidy : IsTidy f) (is : IsNode f root) where
       let here = found_root.inside n low ∙ it.spot_is in
       let e = found_root.tree_is in
       let b : Below found_root.parent found_root.host n (tree_of root f) row =
-      subst (λ (t : Trees). IsApart t → is_among n (tree_order t) ≡ true → spot_in found_root.parent found_root.host n t ≡ Some row → Below found_root.parent found_root.host n t row) (sym e)
-      (λ a o w. climb_tree found_root.parent found_root.host n root found_root.facts found_root.shadow found_root.children row a (λ v. ne (sym v)) o w) apart among it.spot_is in
+      subst (λ (t : Trees). IsApart t → is_among n (tree_order t) ≡ true → spot_in found_root.parent found_root.host n t ≡ Some row
+      → Below found_root.parent found_root.host n t row) (sym e)
+      (λ a o w. climb_tree found_root.parent found_root.host n root found_root.facts found_root.shadow found_root.children row a (λ v. ne (sym v)) o w) apart
+      among it.spot_is in
       let parent_is = parent_at-is f n row here ∙ b.parent_is in
       let above = found_root.inside b.parent (order-inside b.parent (tree_of root f) b.among) ∙ b.spot_is in
       record {
@@ -66,7 +68,8 @@ module _ (f : Trees) (root : ℕ) (tidy : IsTidy f) (is : IsNode f root) where
 
   -- the steps of the walk
 
-  pub beyond-parent : (n p : ℕ) → n ≢ root → is_among n (tree_order_of f root) ≡ true → next_sibling_at f n ≡ None → parent_at f n ≡ Some p → beyond_in f root n ≡ beyond_in f root p
+  pub beyond-parent : (n p : ℕ) → n ≢ root → is_among n (tree_order_of f root) ≡ true → next_sibling_at f n ≡ None → parent_at f n ≡ Some p
+      → beyond_in f root n ≡ beyond_in f root p
   beyond-parent n p ne among next up =
       let b = beyond-is n ne among in
       let e = b.parent_is in

@@ -1,5 +1,6 @@
 -- A tidy forest stands in its own rows.
-use Rattle.std.proofs.Common.{◌≡◌, ℕ, zero, suc, ◌-◌, ◌<◌, ◌≤◌, List, [], ◌∷◌, Option, Some, None, refl, ap, sym, subst, ◌∙◌, arith, inl, inr, length, length-append}
+use Rattle.std.proofs.Common.{◌≡◌, ℕ, zero, suc, ◌-◌, ◌<◌, ◌≤◌, List, [], ◌∷◌, Option, Some, None, refl, ap, sym, subst, ◌∙◌, arith, inl, inr, length}
+use Rattle.std.proofs.Common.{length-append}
 use Rattle.std.proofs.lemmas.Bool.{cases_lt}
 use Rattle.std.proofs.lemmas.Bool.Decides.{nat_tests}
 use Rattle.node_trees.specs.Trees.{Trees, none, tree}
@@ -26,7 +27,8 @@ rows_to-at f (suc k) n low high =
     elim (cases_lt k n) [
       | inl last ↦
           let e : n ≡ suc k = omega arith in
-          subst (λ v. row_of_node (rows_to f (suc k)) v ≡ Some (spot_at f v)) (sym e) (slice_get-append_end (rows_to f k) (spot_at f (suc k)) (suc k - 1) (omega arith))
+          subst (λ v. row_of_node (rows_to f (suc k)) v ≡ Some (spot_at f v)) (sym e)
+          (slice_get-append_end (rows_to f k) (spot_at f (suc k)) (suc k - 1) (omega arith))
       | inr front ↦ slice_get-append_front (rows_to f k) (spot_at f (suc k) ∷ []) (n - 1) (omega arith) ∙ rows_to-at f k n low (omega arith)
     ]
 
@@ -40,9 +42,15 @@ module _ (rows : List Spot) where
       let it = at m (grind (arith, nat_tests)) in (
         it.0,
         it.1 ∙ spot-here p h m m x s k r refl,
-        stand_in None (Some m) s (apart-shadow m x s k r apart) (λ i low. let one = apart i in let on = at i (omega (arith, low)) in (on.0, on.1 ∙ spot-shadow p h i m x s k r (grind (arith, nat_tests)) (grind (arith, nat_tests)) (grind (arith, nat_tests)))),
-        stand_in (Some m) None k (apart-children m x s k r apart) (λ i low. let one = apart i in let on = at i (omega (arith, low)) in (on.0, on.1 ∙ spot-children p h i m x s k r (grind (arith, nat_tests)) (grind (arith, nat_tests)) (grind (arith, nat_tests)))),
-        stand_in p h r (apart-rest m x s k r apart) (λ i low. let one = apart i in let on = at i (omega (arith, low)) in (on.0, on.1 ∙ spot-rest p h i m x s k r (grind (arith, nat_tests)) (grind (arith, nat_tests)) (grind (arith, nat_tests)))),
+        stand_in None (Some m) s (apart-shadow m x s k r apart)
+            (λ i low. let one = apart i in let on = at i (omega (arith, low)) in
+            (on.0, on.1 ∙ spot-shadow p h i m x s k r (grind (arith, nat_tests)) (grind (arith, nat_tests)) (grind (arith, nat_tests)))),
+        stand_in (Some m) None k (apart-children m x s k r apart)
+            (λ i low. let one = apart i in let on = at i (omega (arith, low)) in
+            (on.0, on.1 ∙ spot-children p h i m x s k r (grind (arith, nat_tests)) (grind (arith, nat_tests)) (grind (arith, nat_tests)))),
+        stand_in p h r (apart-rest m x s k r apart)
+            (λ i low. let one = apart i in let on = at i (omega (arith, low)) in
+            (on.0, on.1 ∙ spot-rest p h i m x s k r (grind (arith, nat_tests)) (grind (arith, nat_tests)) (grind (arith, nat_tests)))),
       )
 
 pub rows_of-forest : (f : Trees) → IsTidy f → IsForest (rows_of f) f

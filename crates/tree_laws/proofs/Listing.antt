@@ -28,5 +28,6 @@ module _ (f : Trees) (root : ℕ) (tidy : IsTidy f) (node : IsNode f root) where
     pub list-on : (d : ℕ) → Some d ≡ after at (tree_order_of f root) → Listing f root d (out ++ at ∷ [])
     list-on d e = record {
       among = after-among at d (tree_order_of f root) (sym e);
-      is = append_assoc out (at ∷ []) (onward d (tree_order_of f root)) ∙ ap (λ v. out ++ v) (sym (onward-step at d (tree_order_of f root) (tree_order-apart f root tidy) (sym e))) ∙ l.is;
+      is = append_assoc out (at ∷ []) (onward d (tree_order_of f root))
+          ∙ ap (λ v. out ++ v) (sym (onward-step at d (tree_order_of f root) (tree_order-apart f root tidy) (sym e))) ∙ l.is;
     }

@@ -23,10 +23,12 @@ module _ (rows : List Spot) (p n : ℕ) (u v : Spot) (low_p : 0 < p) (high_p : p
   both-n = slice_get-set_same (set rows (p - 1) u) (n - 1) v (omega (arith, length-set rows (p - 1) u))
 
   both-p : row_of_node both p ≡ Some u
-  both-p = slice_get-set_other (set rows (p - 1) u) (n - 1) (p - 1) v (λ e. ne (omega (arith, e, low_p, low_n))) ∙ slice_get-set_same rows (p - 1) u (omega arith)
+  both-p = slice_get-set_other (set rows (p - 1) u) (n - 1) (p - 1) v (λ e. ne (omega (arith, e, low_p, low_n)))
+      ∙ slice_get-set_same rows (p - 1) u (omega arith)
 
   both-other : (m : ℕ) → 0 < m → m ≢ n → m ≢ p → row_of_node both m ≡ row_of_node rows m
-  both-other m low m_n m_p = slice_get-set_other (set rows (p - 1) u) (n - 1) (m - 1) v (λ e. m_n (omega (arith, e, low, low_n))) ∙ slice_get-set_other rows (p - 1) (m - 1) u (λ e. m_p (omega (arith, e, low, low_p)))
+  both-other m low m_n m_p = slice_get-set_other (set rows (p - 1) u) (n - 1) (m - 1) v (λ e. m_n (omega (arith, e, low, low_n)))
+      ∙ slice_get-set_other rows (p - 1) (m - 1) u (λ e. m_p (omega (arith, e, low, low_p)))
 
 -- g is f but for the parent of n and the children of p
 pub record Moved (f g : Trees) (p n : ℕ) (parent : Option ℕ) (children : List ℕ) : Type 0 where
@@ -45,7 +47,8 @@ module _ (f : Trees) (tidy : IsTidy f) (p n : ℕ) (is_p : IsNode f p) (is_n : I
 
   module _ (parent : Option ℕ) (children : List ℕ) where
     abbrev pub written : List Spot
-    written = both (rows_of f) p n (record (spot_at f p) { children = children }) (record (spot_at f n) { parent = parent }) is_p.low (within p is_p) is_n.low (within n is_n) ne
+    written = both (rows_of f) p n (record (spot_at f p) { children = children }) (record (spot_at f n) { parent = parent }) is_p.low (within p is_p) is_n.low
+        (within n is_n) ne
 
     written-length : length written ≡ length (rows_of f)
     written-length = both-length (rows_of f) p n _ _ is_p.low (within p is_p) is_n.low (within n is_n) ne
@@ -79,8 +82,10 @@ module _ (f : Trees) (tidy : IsTidy f) (p n : ℕ) (is_p : IsNode f p) (is_n : I
     pub graft_writes : Grafted (rows_of f) graft_rows p n b
     graft_writes = record {
       length_is = written-length (Some p) (insert_number b n (children_at f p));
-      moved = λ row is. written-n (Some p) (insert_number b n (children_at f p)) ∙ ap (λ (r : Spot). Some (record r { parent = Some p })) (own_row n row is_n is);
-      there = λ row is. written-p (Some p) (insert_number b n (children_at f p)) ∙ ap (λ (r : Spot). Some (record r { children = insert_number b n r.children })) (own_row p row is_p is);
+      moved = λ row is. written-n (Some p) (insert_number b n (children_at f p))
+          ∙ ap (λ (r : Spot). Some (record r { parent = Some p })) (own_row n row is_n is);
+      there = λ row is. written-p (Some p) (insert_number b n (children_at f p))
+          ∙ ap (λ (r : Spot). Some (record r { children = insert_number b n r.children })) (own_row p row is_p is);
       others = written-other (Some p) (insert_number b n (children_at f p));
     }
 
@@ -99,7 +104,8 @@ module _ (f : Trees) (tidy : IsTidy f) (p n : ℕ) (is_p : IsNode f p) (is_n : I
     cut_writes = record {
       length_is = written-length None (remove_number n (children_at f p));
       moved = λ row is. written-n None (remove_number n (children_at f p)) ∙ ap (λ (r : Spot). Some (record r { parent = None })) (own_row n row is_n is);
-      there = λ row is. written-p None (remove_number n (children_at f p)) ∙ ap (λ (r : Spot). Some (record r { children = remove_number n r.children })) (own_row p row is_p is);
+      there = λ row is. written-p None (remove_number n (children_at f p))
+          ∙ ap (λ (r : Spot). Some (record r { children = remove_number n r.children })) (own_row p row is_p is);
       others = written-other None (remove_number n (children_at f p));
     }
 

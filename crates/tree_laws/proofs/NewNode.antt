@@ -69,7 +69,8 @@ module _ (i n q : ℕ) (x : Facts) (ne : i ≢ n) where
         c,
         roots-hung q (single n x) k,
         spot-beside i n x ne None (Some m) s,
-        unshadowed-or (spot_in None (Some m) i (with_shadow q (single n x) s)) (or_spot (spot_in (Some m) None i (with_shadow q (single n x) k)) (spot_in p h i (with_shadow q (single n x) r))),
+        unshadowed-or (spot_in None (Some m) i (with_shadow q (single n x) s))
+            (or_spot (spot_in (Some m) None i (with_shadow q (single n x) k)) (spot_in p h i (with_shadow q (single n x) r))),
         unshadowed-or (spot_in (Some m) None i (with_shadow q (single n x) k)) (spot_in p h i (with_shadow q (single n x) r)),
         unshadowed-or (spot_in None (Some m) i s) (or_spot (spot_in (Some m) None i k) (spot_in p h i r)),
         unshadowed-or (spot_in (Some m) None i k) (spot_in p h i r),
@@ -111,20 +112,26 @@ hung n q x p h (tree m y s k r) z = elim (cases_eq m q) [
       let here = spot-new n x None (Some m) s (omega arith) in
       inr (grind (arith, nat_tests, here))
   | inr ne ↦
-      let all = hung-or x q (spot_in None (Some m) n (with_shadow q (single n x) s)) (or_spot (spot_in (Some m) None n (with_shadow q (single n x) k)) (spot_in p h n (with_shadow q (single n x) r)))
+      let all = hung-or x q (spot_in None (Some m) n (with_shadow q (single n x) s))
+      (or_spot (spot_in (Some m) None n (with_shadow q (single n x) k)) (spot_in p h n (with_shadow q (single n x) r)))
       (hung n q x None (Some m) s (omega arith))
-      (hung-or x q (spot_in (Some m) None n (with_shadow q (single n x) k)) (spot_in p h n (with_shadow q (single n x) r)) (hung n q x (Some m) None k (omega arith)) (hung n q x p h r (omega arith))) in
-      let is : spot_in p h n (with_shadow q (single n x) (tree m y s k r)) ≡ or_spot (spot_in None (Some m) n (with_shadow q (single n x) s)) (or_spot (spot_in (Some m) None n (with_shadow q (single n x) k)) (spot_in p h n (with_shadow q (single n x) r))) = grind (arith, nat_tests) in
+      (hung-or x q (spot_in (Some m) None n (with_shadow q (single n x) k)) (spot_in p h n (with_shadow q (single n x) r))
+      (hung n q x (Some m) None k (omega arith)) (hung n q x p h r (omega arith))) in
+      let is : spot_in p h n (with_shadow q (single n x) (tree m y s k r))
+      ≡ or_spot (spot_in None (Some m) n (with_shadow q (single n x) s))
+      (or_spot (spot_in (Some m) None n (with_shadow q (single n x) k)) (spot_in p h n (with_shadow q (single n x) r))) = grind (arith, nat_tests) in
       subst (IsHung x q) (sym is) all
 ]
 
 -- what is read of both
 
 module _ (n : ℕ) (x : Facts) (f : Trees) (free : times n f ≡ 0) where
-  read-new : {A : Type 0} (read : Spot → A) (i : ℕ) → i ≢ n → read (or_no_spot (spot_in None None i (join f (single n x)))) ≡ read (or_no_spot (spot_in None None i f))
+  read-new : {A : Type 0} (read : Spot → A) (i : ℕ) → i ≢ n
+      → read (or_no_spot (spot_in None None i (join f (single n x)))) ≡ read (or_no_spot (spot_in None None i f))
   read-new read i ne = ap (λ o. read (or_no_spot o)) (spot-beside i n x ne None None f)
 
-  read-new-all : {A : Type 0} (read : Spot → A) → read (spot_of x None None none none) ≡ read (or_no_spot None) → (i : ℕ) → read (or_no_spot (spot_in None None i (join f (single n x)))) ≡ read (or_no_spot (spot_in None None i f))
+  read-new-all : {A : Type 0} (read : Spot → A) → read (spot_of x None None none none) ≡ read (or_no_spot None) → (i : ℕ)
+      → read (or_no_spot (spot_in None None i (join f (single n x)))) ≡ read (or_no_spot (spot_in None None i f))
   read-new-all read same i = elim (cases_eq i n) [
     | inl e ↦
         subst (λ v. read (or_no_spot (spot_in None None v (join f (single n x)))) ≡ read (or_no_spot (spot_in None None v f))) (sym e)
@@ -145,19 +152,24 @@ module _ (n : ℕ) (x : Facts) (f : Trees) (free : times n f ≡ 0) where
   }
 
   module _ (q : ℕ) where
-    read-hung : {A : Type 0} (read : Spot → A) → ((s : Spot) → read (record s { shadow = [] }) ≡ read s) → (i : ℕ) → i ≢ n → read (or_no_spot (spot_in None None i (with_shadow q (single n x) f))) ≡ read (or_no_spot (spot_in None None i f))
+    read-hung : {A : Type 0} (read : Spot → A) → ((s : Spot) → read (record s { shadow = [] }) ≡ read s) → (i : ℕ) → i ≢ n
+        → read (or_no_spot (spot_in None None i (with_shadow q (single n x) f))) ≡ read (or_no_spot (spot_in None None i f))
     read-hung read heedless i ne =
-        sym (without (spot_in None None i (with_shadow q (single n x) f))) ∙ ap (λ o. read (or_no_spot o)) (spot-hung i n q x ne None None f) ∙ without (spot_in None None i f)
+        sym (without (spot_in None None i (with_shadow q (single n x) f))) ∙ ap (λ o. read (or_no_spot o)) (spot-hung i n q x ne None None f)
+        ∙ without (spot_in None None i f)
       where
         without : (o : Option Spot) → read (or_no_spot (unshadowed o)) ≡ read (or_no_spot o)
         without None = refl
         without (Some s) = heedless s
 
-    read-hung-all : {A : Type 0} (read : Spot → A) → ((s : Spot) → read (record s { shadow = [] }) ≡ read s) → read (spot_of x None (Some q) none none) ≡ read (or_no_spot None) → (i : ℕ) → read (or_no_spot (spot_in None None i (with_shadow q (single n x) f))) ≡ read (or_no_spot (spot_in None None i f))
+    read-hung-all : {A : Type 0} (read : Spot → A) → ((s : Spot) → read (record s { shadow = [] }) ≡ read s)
+        → read (spot_of x None (Some q) none none) ≡ read (or_no_spot None) → (i : ℕ)
+        → read (or_no_spot (spot_in None None i (with_shadow q (single n x) f))) ≡ read (or_no_spot (spot_in None None i f))
     read-hung-all read heedless same i = elim (cases_eq i n) [
       | inl e ↦
           subst (λ v. read (or_no_spot (spot_in None None v (with_shadow q (single n x) f))) ≡ read (or_no_spot (spot_in None None v f))) (sym e)
-          (there (spot_in None None n (with_shadow q (single n x) f)) (hung n q x None None f free) ∙ sym (ap (λ o. read (or_no_spot o)) (spot-absent None None n f free)))
+          (there (spot_in None None n (with_shadow q (single n x) f)) (hung n q x None None f free)
+          ∙ sym (ap (λ o. read (or_no_spot o)) (spot-absent None None n f free)))
       | inr ne ↦ read-hung read heedless i ne
     ]
       where

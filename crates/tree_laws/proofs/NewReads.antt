@@ -12,4 +12,5 @@ use Rattle.node_trees.proofs.Absent.{spot-absent}
 
 module _ (n : ℕ) (x : Facts) (f : Trees) where
   pub spot-new-here : times n f ≡ 0 → spot (with_node n x f) n ≡ Some (spot_of x None None none none)
-  spot-new-here z = spot-join None None n f (single n x) ∙ ap (λ v. or_spot v (spot_in None None n (single n x))) (spot-absent None None n f z) ∙ grind (arith, nat_tests)
+  spot-new-here z = spot-join None None n f (single n x) ∙ ap (λ v. or_spot v (spot_in None None n (single n x))) (spot-absent None None n f z)
+      ∙ grind (arith, nat_tests)

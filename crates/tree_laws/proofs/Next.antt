@@ -99,7 +99,8 @@ pub data Climb (p h : Option ℕ) (n : ℕ) (f : Trees) (row : Spot) : Type 0 wh
   at_root : row.parent ≡ p → row.host ≡ h → beyond n f ≡ after n (roots f) → Climb p h n f row
   to_parent : Below p h n f row → Climb p h n f row
 
-climb_children : (p h : Option ℕ) (n m : ℕ) (x : Facts) (s k r : Trees) (row : Spot) → IsApart (tree m x s k r) → m ≢ n → is_among n (tree_order k) ≡ true → Climb (Some m) None n k row
+climb_children : (p h : Option ℕ) (n m : ℕ) (x : Facts) (s k r : Trees) (row : Spot) → IsApart (tree m x s k r) → m ≢ n → is_among n (tree_order k) ≡ true
+    → Climb (Some m) None n k row
     → Below p h n (tree m x s k r) row
 climb_children p h n m x s k r row apart ne among on = elim on [
   | at_root e o z ↦ record {
@@ -125,7 +126,8 @@ climb_children p h n m x s k r row apart ne among on = elim on [
       }
 ]
 
-climb_rest : (p h : Option ℕ) (n m : ℕ) (x : Facts) (s k r : Trees) (row : Spot) → IsApart (tree m x s k r) → m ≢ n → times n k ≡ 0 → Climb p h n r row → Climb p h n (tree m x s k r) row
+climb_rest : (p h : Option ℕ) (n m : ℕ) (x : Facts) (s k r : Trees) (row : Spot) → IsApart (tree m x s k r) → m ≢ n → times n k ≡ 0 → Climb p h n r row
+    → Climb p h n (tree m x s k r) row
 climb_rest p h n m x s k r row apart ne no_k on = elim on [
   | at_root e o z ↦ at_root e o (grind (arith, nat_tests, order-absent n k no_k))
   | to_parent b ↦
@@ -150,15 +152,18 @@ climb p h n (tree m x s k r) row apart among is = elim (ordered n m x s k r apar
   | first e ↦
       let same : spot_of x p h s k ≡ row = let it = spot-here p h n m x s k r e in cc in
       at_root (sym (ap (λ (v : Spot). v.parent) same)) (sym (ap (λ (v : Spot). v.host) same)) (grind (arith, nat_tests))
-  | below ne a b c ↦ to_parent (climb_children p h n m x s k r row apart ne b (climb (Some m) None n k row (apart-children m x s k r apart) b (sym (spot-children p h n m x s k r ne a c) ∙ is)))
+  | below ne a b c ↦ to_parent (climb_children p h n m x s k r row apart ne b
+      (climb (Some m) None n k row (apart-children m x s k r apart) b (sym (spot-children p h n m x s k r ne a c) ∙ is)))
   | later ne a b c ↦ climb_rest p h n m x s k r row apart ne b (climb p h n r row (apart-rest m x s k r apart) c (sym (spot-rest p h n m x s k r ne a b) ∙ is))
 ]
 
 -- in one tree a node that is not its root has a parent there
-pub climb_tree : (p h : Option ℕ) (n m : ℕ) (x : Facts) (s k : Trees) (row : Spot) → IsApart (tree m x s k none) → m ≢ n → is_among n (tree_order (tree m x s k none)) ≡ true
+pub climb_tree : (p h : Option ℕ) (n m : ℕ) (x : Facts) (s k : Trees) (row : Spot) → IsApart (tree m x s k none) → m ≢ n
+    → is_among n (tree_order (tree m x s k none)) ≡ true
     → spot_in p h n (tree m x s k none) ≡ Some row → Below p h n (tree m x s k none) row
 climb_tree p h n m x s k row apart ne among is = elim (ordered n m x s k none apart among) [
   | first e ↦ absurd (ne e)
-  | below _ a b c ↦ climb_children p h n m x s k none row apart ne b (climb (Some m) None n k row (apart-children m x s k none apart) b (sym (spot-children p h n m x s k none ne a c) ∙ is))
+  | below _ a b c ↦ climb_children p h n m x s k none row apart ne b
+      (climb (Some m) None n k row (apart-children m x s k none apart) b (sym (spot-children p h n m x s k none ne a c) ∙ is))
   | later _ a b c ↦ absurd (cc)
 ]

@@ -32,7 +32,8 @@ pub kinds-cut : (f g : Trees) (n : ℕ) → IsTidy f → IsNode f n → g ≡ cu
 kinds-cut f g n tidy node e = rw e (record { nodes = omega (arith, size-cut f n tidy); kinds = λ i at. kind_at-cut f n tidy node i })
 
 pub kinds-new : (n : ℕ) (x : Facts) (f g : Trees) → IsTidy f → g ≡ with_node n x f → KeepsKinds f g
-kinds-new n x f g tidy e = rw e (record { nodes = omega (arith, size-with_node n x f); kinds = λ i at. ap (λ (s : Spot). s.facts.kind) (spot_at-new n x f i tidy at) })
+kinds-new n x f g tidy e = rw e
+    (record { nodes = omega (arith, size-with_node n x f); kinds = λ i at. ap (λ (s : Spot). s.facts.kind) (spot_at-new n x f i tidy at) })
 
 -- the new root is a node of its kind
 pub kind-new : (x : Facts) (f g : Trees) (n : ℕ) → IsTidy f → g ≡ with_node (size f + 1) x f → n ≡ size f + 1 → IsNode g n × (kind_at g n ≡ x.kind)
@@ -47,7 +48,8 @@ kind-new x f g n tidy e is =
 -- each row that was there is there, with the same kind
 record KeepsRows (rows rows' : List Spot) : Type 0 where
   longer : length rows ≤ length rows'
-  kept : (m : ℕ) (it : Spot) → 0 < m → m ≤ length rows → row_of_node rows m ≡ Some it → (new : Spot) × (row_of_node rows' m ≡ Some new) × (new.facts.kind ≡ it.facts.kind)
+  kept : (m : ℕ) (it : Spot) → 0 < m → m ≤ length rows → row_of_node rows m ≡ Some it
+      → (new : Spot) × (row_of_node rows' m ≡ Some new) × (new.facts.kind ≡ it.facts.kind)
 
 kinds-rows : (rows rows' : List Spot) (f g : Trees) → IsForest rows f → IsForest rows' g → KeepsRows rows rows' → KeepsKinds f g
 kinds-rows rows rows' f g a b keeps = record {
@@ -61,7 +63,8 @@ kinds-rows rows rows' f g a b keeps = record {
       ap (λ (s : Spot). s.facts.kind) there ∙ new.2 ∙ ap (λ (s : Spot). s.facts.kind) (sym here);
 }
 
-pub kinds-grafted : (rows rows' : List Spot) (f g : Trees) (p n : ℕ) (b : Option ℕ) → IsForest rows f → IsForest rows' g → Grafted rows rows' p n b → KeepsKinds f g
+pub kinds-grafted : (rows rows' : List Spot) (f g : Trees) (p n : ℕ) (b : Option ℕ) → IsForest rows f → IsForest rows' g → Grafted rows rows' p n b
+    → KeepsKinds f g
 kinds-grafted rows rows' f g p n b a a' w =
     kinds-rows rows rows' f g a a' (record {
       longer = omega (arith, w.length_is);
@@ -75,7 +78,8 @@ kinds-grafted rows rows' f g p n b a a' w =
           ];
     })
 
-pub kinds-attached : (rows rows' : List Spot) (f g : Trees) (h n : ℕ) (x : Facts) → IsForest rows f → IsForest rows' g → n ≡ length rows + 1 → Attached rows rows' h n x → KeepsKinds f g
+pub kinds-attached : (rows rows' : List Spot) (f g : Trees) (h n : ℕ) (x : Facts) → IsForest rows f → IsForest rows' g → n ≡ length rows + 1
+    → Attached rows rows' h n x → KeepsKinds f g
 kinds-attached rows rows' f g h n x a a' last w =
     kinds-rows rows rows' f g a a' (record {
       longer = omega (arith, w.length_is);

@@ -16,7 +16,8 @@ use Rattle.node_trees.proofs.Weights.{IsApart}
 
 pub orders-append : (f : Trees) (ms ns : List ℕ) → orders f (ms ++ ns) ≡ orders f ms ++ orders f ns
 orders-append f [] ns = refl
-orders-append f (m ∷ ms) ns = ap (λ xs. order (tree_of m f) ++ xs) (orders-append f ms ns) ∙ sym (append_assoc (order (tree_of m f)) (orders f ms) (orders f ns))
+orders-append f (m ∷ ms) ns = ap (λ xs. order (tree_of m f) ++ xs) (orders-append f ms ns)
+    ∙ sym (append_assoc (order (tree_of m f)) (orders f ms) (orders f ns))
 
 module _ (f : Trees) (m : ℕ) (x : Facts) (s k r : Trees) (apart : IsApart (tree m x s k r)) (part : IsPart f (tree m x s k r)) where
   pub part_shadow : IsPart f s
@@ -67,8 +68,10 @@ pub order_step : (f : Trees) (n : ℕ) (sp : Spot) → IsTidy f → IsNode f n �
 order_step f n sp a at is =
     let it = found None None n f (tidy-apart f a) (node_stands f n a at) in
     let b = below f n it a at in
-    let in_s = order_part f it.shadow (apart-shadow n it.facts it.shadow it.children none b.whole) (part_shadow f n it.facts it.shadow it.children none b.whole b.part) in
-    let in_k = order_part f it.children (apart-children n it.facts it.shadow it.children none b.whole) (part_children f n it.facts it.shadow it.children none b.whole b.part) in
+    let in_s = order_part f it.shadow (apart-shadow n it.facts it.shadow it.children none b.whole)
+    (part_shadow f n it.facts it.shadow it.children none b.whole b.part) in
+    let in_k = order_part f it.children (apart-children n it.facts it.shadow it.children none b.whole)
+    (part_children f n it.facts it.shadow it.children none b.whole b.part) in
     let same = same_spot f n sp it is in
     rw (same, it.tree_is, orders-append f (roots it.shadow) (roots it.children), sym in_s, sym in_k, append-nil (order it.children)) refl
 
@@ -86,4 +89,5 @@ links_are f n sp a at is =
     let it = found None None n f (tidy-apart f a) (node_stands f n a at) in
     let b = below f n it a at in
     let same = same_spot f n sp it is in
-    rw same (nodes-append f (roots it.shadow) (roots it.children) (roots_are f it.shadow a (λ i pos. b.inside i (omega arith))) (roots_are f it.children a (λ i pos. b.inside i (omega arith))))
+    rw same (nodes-append f (roots it.shadow) (roots it.children) (roots_are f it.shadow a (λ i pos. b.inside i (omega arith)))
+    (roots_are f it.children a (λ i pos. b.inside i (omega arith))))

@@ -89,13 +89,15 @@ module _ (f : Trees) (root n : ℕ) (tidy : IsTidy f) (is : IsNode f root) where
 
           -- it has one shadow root
           module _ (lone : (m : ℕ) → after m (spot_at f h).shadow ≡ None) where
-            past_host : (0 < times h (tree_of root f)) × (length (path h f) < length (path up f)) × (after n (order_of f root) ≡ or_else (first_child_at f h) (past_in f root h))
+            past_host : (0 < times h (tree_of root f)) × (length (path h f) < length (path up f))
+                × (after n (order_of f root) ≡ or_else (first_child_at f h) (past_in f root h))
             past_host = elim it [
               | of_parent q p there a z ↦ absurd cc
               | of_host q p o there a z ↦
                   let same : q ≡ h = cc in
                   let gone : after up (spot_at f q).shadow ≡ None = rw same (lone up) in
-                  subst (λ v. (0 < times v (tree_of root f)) × (length (path v f) < length (path up f)) × (after n (order_of f root) ≡ or_else (first_child_at f v) (past_in f root v))) same
+                  subst (λ v. (0 < times v (tree_of root f)) × (length (path v f) < length (path up f))
+                  × (after n (order_of f root) ≡ or_else (first_child_at f v) (past_in f root v))) same
                   (there, a.nearer, c.is ∙ z ∙ ap (λ v. or_else v (or_else (first_child_at f q) (past_in f root q))) gone)
             ]
 

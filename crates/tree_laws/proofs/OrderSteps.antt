@@ -22,17 +22,20 @@ tree_of-inside n i (tree m x s k r) apart pos low =
           let is = tree_of-shadow n m x s k r ne b c in
           let low : 0 < times i (tree_of n s) = rw is at low in
           let less = times-without i n s (omega arith) in
-          rw is (tree_of-shadow i m x s k r (grind (arith, nat_tests)) (grind (arith, nat_tests)) (grind (arith, nat_tests)) ∙ tree_of-inside n i s (apart-shadow m x s k r apart) a low)
+          rw is (tree_of-shadow i m x s k r (grind (arith, nat_tests)) (grind (arith, nat_tests)) (grind (arith, nat_tests))
+          ∙ tree_of-inside n i s (apart-shadow m x s k r apart) a low)
       | in_children ne a b c ↦
           let is = tree_of-children n m x s k r ne a c in
           let low : 0 < times i (tree_of n k) = rw is at low in
           let less = times-without i n k (omega arith) in
-          rw is (tree_of-children i m x s k r (grind (arith, nat_tests)) (grind (arith, nat_tests)) (grind (arith, nat_tests)) ∙ tree_of-inside n i k (apart-children m x s k r apart) b low)
+          rw is (tree_of-children i m x s k r (grind (arith, nat_tests)) (grind (arith, nat_tests)) (grind (arith, nat_tests))
+          ∙ tree_of-inside n i k (apart-children m x s k r apart) b low)
       | in_rest ne a b c ↦
           let is = tree_of-rest n m x s k r ne a b in
           let low : 0 < times i (tree_of n r) = rw is at low in
           let less = times-without i n r (omega arith) in
-          rw is (tree_of-rest i m x s k r (grind (arith, nat_tests)) (grind (arith, nat_tests)) (grind (arith, nat_tests)) ∙ tree_of-inside n i r (apart-rest m x s k r apart) c low)
+          rw is (tree_of-rest i m x s k r (grind (arith, nat_tests)) (grind (arith, nat_tests)) (grind (arith, nat_tests))
+          ∙ tree_of-inside n i r (apart-rest m x s k r apart) c low)
     ]
 
 -- the trees in g are those of f

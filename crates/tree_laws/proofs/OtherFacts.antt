@@ -32,7 +32,8 @@ module _ (n : ℕ) (c : Facts → Facts) where
       )
 
   -- free is any number that no node has
-  pub alike_facts : (f : Trees) (free : ℕ) → times free f ≡ 0 → ((x : Facts) → (c x).local ≡ x.local) → ((x : Facts) → (c x).kind ≡ x.kind) → ((x : Facts) → (c x).attributes ≡ x.attributes) → AreAlike free f (with_facts n c f)
+  pub alike_facts : (f : Trees) (free : ℕ) → times free f ≡ 0 → ((x : Facts) → (c x).local ≡ x.local) → ((x : Facts) → (c x).kind ≡ x.kind)
+      → ((x : Facts) → (c x).attributes ≡ x.attributes) → AreAlike free f (with_facts n c f)
   alike_facts f free z local kind attributes = record {
     free = z;
     local = λ i ne. read-with n c f (List ℕ) (λ s. s.facts.local) (λ s. local s.facts) i;

@@ -29,7 +29,8 @@ spot_at-new n x f i tidy at =
 none-stands : (f : Trees) (m : ℕ) → times m f ≡ 0 → spot f m ≡ None
 none-stands f m z = spot-absent None None m f z
 
-pub spots-grafted : (rows rows' : List Spot) (f g : Trees) (p n : ℕ) (b : Option ℕ) → IsForest rows f → IsForest rows' g → Grafted rows rows' p n b → KeepsSpots p n f g
+pub spots-grafted : (rows rows' : List Spot) (f g : Trees) (p n : ℕ) (b : Option ℕ) → IsForest rows f → IsForest rows' g → Grafted rows rows' p n b
+    → KeepsSpots p n f g
 spots-grafted rows rows' f g p n b a a' w m ne_p ne_n =
     elim (cases_lt 0 (times m f)) [
       | inl low ↦

@@ -18,7 +18,8 @@ data ChildOf (p h : Option ℕ) (c q : ℕ) (f : Trees) : Type 0 where
   a_root : p ≡ Some q → is_among c (roots f) ≡ true → ChildOf p h c q f
   a_child : (up : Spot) → 0 < times q f → spot_in p h q f ≡ Some up → is_among c up.children ≡ true → ChildOf p h c q f
 
-child_of : (p h : Option ℕ) (c q : ℕ) (f : Trees) (row : Spot) → IsApart f → 0 < times c f → spot_in p h c f ≡ Some row → row.parent ≡ Some q → ChildOf p h c q f
+child_of : (p h : Option ℕ) (c q : ℕ) (f : Trees) (row : Spot) → IsApart f → 0 < times c f → spot_in p h c f ≡ Some row → row.parent ≡ Some q
+    → ChildOf p h c q f
 child_of p h c q none row apart there is e = absurd (omega arith)
 child_of p h c q (tree m x s k r) row apart there is e =
     let one = apart q in
@@ -28,17 +29,20 @@ child_of p h c q (tree m x s k r) row apart there is e =
           a_root (ap (λ (v : Spot). v.parent) same ∙ e) (grind (arith, nat_tests))
       | in_shadow ne a b z ↦ elim (child_of None (Some m) c q s row (apart-shadow m x s k r apart) a (sym (spot-shadow p h c m x s k r ne b z) ∙ is) e) [
         | a_root up i ↦ absurd cc
-        | a_child up low at i ↦ a_child up (omega (arith, low)) (spot-shadow p h q m x s k r (grind (arith, nat_tests)) (grind (arith, nat_tests)) (grind (arith, nat_tests)) ∙ at) i
+        | a_child up low at i ↦ a_child up (omega (arith, low))
+            (spot-shadow p h q m x s k r (grind (arith, nat_tests)) (grind (arith, nat_tests)) (grind (arith, nat_tests)) ∙ at) i
       ]
       | in_children ne a b z ↦ elim (child_of (Some m) None c q k row (apart-children m x s k r apart) b (sym (spot-children p h c m x s k r ne a z) ∙ is) e) [
         | a_root up i ↦
             let same : m ≡ q = cc in
             a_child (spot_of x p h s k) (grind (arith, nat_tests)) (spot-here p h q m x s k r same) i
-        | a_child up low at i ↦ a_child up (omega (arith, low)) (spot-children p h q m x s k r (grind (arith, nat_tests)) (grind (arith, nat_tests)) (grind (arith, nat_tests)) ∙ at) i
+        | a_child up low at i ↦ a_child up (omega (arith, low))
+            (spot-children p h q m x s k r (grind (arith, nat_tests)) (grind (arith, nat_tests)) (grind (arith, nat_tests)) ∙ at) i
       ]
       | in_rest ne a b z ↦ elim (child_of p h c q r row (apart-rest m x s k r apart) z (sym (spot-rest p h c m x s k r ne a b) ∙ is) e) [
         | a_root up i ↦ a_root up (grind (arith, nat_tests))
-        | a_child up low at i ↦ a_child up (omega (arith, low)) (spot-rest p h q m x s k r (grind (arith, nat_tests)) (grind (arith, nat_tests)) (grind (arith, nat_tests)) ∙ at) i
+        | a_child up low at i ↦ a_child up (omega (arith, low))
+            (spot-rest p h q m x s k r (grind (arith, nat_tests)) (grind (arith, nat_tests)) (grind (arith, nat_tests)) ∙ at) i
       ]
     ]
 

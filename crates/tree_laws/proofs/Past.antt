@@ -58,7 +58,8 @@ module _ (n m : ℕ) (x : Facts) (s k r : Trees) where
 
   -- the order behind the first node
   behind_it : first_of (order s ++ (order k ++ order r)) ≡ or_else (first_of (roots s)) (or_else (first_of (roots k)) (first_of (roots r)))
-  behind_it = first_of-append (order s) (order k ++ order r) ∙ cc (first_of-append (order k) (order r), order-begins_with s, order-begins_with k, order-begins_with r)
+  behind_it = first_of-append (order s) (order k ++ order r)
+      ∙ cc (first_of-append (order k) (order r), order-begins_with s, order-begins_with k, order-begins_with r)
 
 -- next is the shadow root, or else the first child, or else what is past all below
 pub next_is : (p h : Option ℕ) (n : ℕ) (f : Trees) (row : Spot) → IsApart f → 0 < times n f → spot_in p h n f ≡ Some row
@@ -73,15 +74,21 @@ next_is p h n (tree m x s k r) row apart there is = elim (stands_where n m x s k
   | in_shadow ne a b c ↦
       let on = next_is None (Some m) n s row (apart-shadow m x s k r apart) a (sym (spot-shadow p h n m x s k r ne b c) ∙ is) in
       let start : after n (order (tree m x s k r)) ≡ after n (order s ++ (order k ++ order r)) = grind (arith, nat_tests) in
-      let later : first_of (order k ++ order r) ≡ or_else (first_of (roots k)) (first_of (roots r)) = first_of-append (order k) (order r) ∙ cc (order-begins_with k, order-begins_with r) in
-      start ∙ after-left n (order s) (order k ++ order r) (order-has n s a) ∙ cc (on, later) ∙ or_else-assoc (first_of row.shadow) (or_else (first_of row.children) (past n s)) _
-      ∙ ap (or_else (first_of row.shadow)) (or_else-assoc (first_of row.children) (past n s) _ ∙ ap (or_else (first_of row.children)) (sym (past-shadow n m x s k r ne a)))
+      let later : first_of (order k ++ order r) ≡ or_else (first_of (roots k)) (first_of (roots r)) =
+      first_of-append (order k) (order r) ∙ cc (order-begins_with k, order-begins_with r) in
+      start ∙ after-left n (order s) (order k ++ order r) (order-has n s a) ∙ cc (on, later)
+      ∙ or_else-assoc (first_of row.shadow) (or_else (first_of row.children) (past n s)) _
+      ∙ ap (or_else (first_of row.shadow))
+      (or_else-assoc (first_of row.children) (past n s) _ ∙ ap (or_else (first_of row.children)) (sym (past-shadow n m x s k r ne a)))
   | in_children ne a b c ↦
       let on = next_is (Some m) None n k row (apart-children m x s k r apart) b (sym (spot-children p h n m x s k r ne a c) ∙ is) in
       let start : after n (order (tree m x s k r)) ≡ after n (order s ++ (order k ++ order r)) = grind (arith, nat_tests) in
-      start ∙ after-right n (order s) (order k ++ order r) (order-lacks n s a) ∙ after-left n (order k) (order r) (order-has n k b) ∙ cc (on, order-begins_with r)
+      start ∙ after-right n (order s) (order k ++ order r) (order-lacks n s a) ∙ after-left n (order k) (order r) (order-has n k b)
+      ∙ cc (on, order-begins_with r)
       ∙ or_else-assoc (first_of row.shadow) (or_else (first_of row.children) (past n k)) (first_of (roots r))
-      ∙ ap (or_else (first_of row.shadow)) (or_else-assoc (first_of row.children) (past n k) (first_of (roots r)) ∙ ap (or_else (first_of row.children)) (sym (past-children n m x s k r ne a b)))
+      ∙ ap (or_else (first_of row.shadow))
+      (or_else-assoc (first_of row.children) (past n k) (first_of (roots r))
+      ∙ ap (or_else (first_of row.children)) (sym (past-children n m x s k r ne a b)))
   | in_rest ne a b c ↦
       let on = next_is p h n r row (apart-rest m x s k r apart) c (sym (spot-rest p h n m x s k r ne a b) ∙ is) in
       let start : after n (order (tree m x s k r)) ≡ after n (order s ++ (order k ++ order r)) = grind (arith, nat_tests) in
@@ -93,8 +100,10 @@ next_is p h n (tree m x s k r) row apart there is = elim (stands_where n m x s k
 
 -- n stands below q, a node of the list: what is past n is told by its place among q's children, or as q's shadow root
 pub data Up (p h : Option ℕ) (n : ℕ) (f : Trees) (row : Spot) : Type 0 where
-  by_parent : (q : ℕ) (up : Spot) → row.parent ≡ Some q → row.host ≡ None → 0 < times q f → spot_in p h q f ≡ Some up → past n f ≡ or_else (after n up.children) (past q f) → Up p h n f row
-  by_host : (q : ℕ) (up : Spot) → row.parent ≡ None → row.host ≡ Some q → 0 < times q f → spot_in p h q f ≡ Some up → past n f ≡ or_else (after n up.shadow) (or_else (first_of up.children) (past q f)) → Up p h n f row
+  by_parent : (q : ℕ) (up : Spot) → row.parent ≡ Some q → row.host ≡ None → 0 < times q f → spot_in p h q f ≡ Some up
+      → past n f ≡ or_else (after n up.children) (past q f) → Up p h n f row
+  by_host : (q : ℕ) (up : Spot) → row.parent ≡ None → row.host ≡ Some q → 0 < times q f → spot_in p h q f ≡ Some up
+      → past n f ≡ or_else (after n up.shadow) (or_else (first_of up.children) (past q f)) → Up p h n f row
 
 -- or n is a root of the list
 data Climb (p h : Option ℕ) (n : ℕ) (f : Trees) (row : Spot) : Type 0 where
@@ -102,17 +111,20 @@ data Climb (p h : Option ℕ) (n : ℕ) (f : Trees) (row : Spot) : Type 0 where
   inner : Up p h n f row → Climb p h n f row
 
 -- from a part of the trees to the whole: past a node of the part is what is past it there, or else `rest`
-module _ (p h p' h' : Option ℕ) (n : ℕ) (f part : Trees) (row : Spot) (rest : Option ℕ) (lift : (q : ℕ) → 0 < times q part → (0 < times q f) × (spot_in p h q f ≡ spot_in p' h' q part) × (past q f ≡ or_else (past q part) rest)) (low : 0 < times n part) where
+module _ (p h p' h' : Option ℕ) (n : ℕ) (f part : Trees) (row : Spot) (rest : Option ℕ) (lift : (q : ℕ) → 0 < times q part
+    → (0 < times q f) × (spot_in p h q f ≡ spot_in p' h' q part) × (past q f ≡ or_else (past q part) rest)) (low : 0 < times n part) where
   up_whole : Up p' h' n part row → Up p h n f row
   up_whole u =
       let start = (lift n low).2 in
       elim u [
         | by_parent q up e o there is z ↦
             let w = lift q there in
-            by_parent q up e o w.0 (w.1 ∙ is) (start ∙ ap (λ v. or_else v rest) z ∙ or_else-assoc (after n up.children) (past q part) rest ∙ ap (or_else (after n up.children)) (sym w.2))
+            by_parent q up e o w.0 (w.1 ∙ is) (start ∙ ap (λ v. or_else v rest) z ∙ or_else-assoc (after n up.children) (past q part) rest
+            ∙ ap (or_else (after n up.children)) (sym w.2))
         | by_host q up e o there is z ↦
             let w = lift q there in
-            by_host q up e o w.0 (w.1 ∙ is) (start ∙ ap (λ v. or_else v rest) z ∙ or_else-assoc (after n up.shadow) (or_else (first_of up.children) (past q part)) rest
+            by_host q up e o w.0 (w.1 ∙ is)
+            (start ∙ ap (λ v. or_else v rest) z ∙ or_else-assoc (after n up.shadow) (or_else (first_of up.children) (past q part)) rest
             ∙ ap (or_else (after n up.shadow)) (or_else-assoc (first_of up.children) (past q part) rest ∙ ap (or_else (first_of up.children)) (sym w.2)))
       ]
 
@@ -129,24 +141,38 @@ module _ (p h : Option ℕ) (n m : ℕ) (x : Facts) (s k r : Trees) (row : Spot)
       let rest = or_else (first_of (roots k)) (first_of (roots r)) in
       elim on [
         | at_root e o z ↦ by_host m (spot_of x p h s k) e o (grind (arith, nat_tests)) (spot-here p h m m x s k r refl)
-            (past-shadow n m x s k r ne low ∙ ap (λ v. or_else v rest) z ∙ ap (λ v. or_else (after n (roots s)) (or_else (first_of (roots k)) v)) (sym (past-here m m x s k r refl)))
+            (past-shadow n m x s k r ne low ∙ ap (λ v. or_else v rest) z
+            ∙ ap (λ v. or_else (after n (roots s)) (or_else (first_of (roots k)) v)) (sym (past-here m m x s k r refl)))
         | inner u ↦ up_whole p h None (Some m) n all s row rest
-            (λ q there. let one = apart q in (omega (arith, there), spot-shadow p h q m x s k r (grind (arith, nat_tests)) (grind (arith, nat_tests)) (grind (arith, nat_tests)), past-shadow q m x s k r (grind (arith, nat_tests)) there)) low u
+            (λ q there. let one = apart q in (
+              omega (arith, there),
+              spot-shadow p h q m x s k r (grind (arith, nat_tests)) (grind (arith, nat_tests)) (grind (arith, nat_tests)),
+              past-shadow q m x s k r (grind (arith, nat_tests)) there,
+            )) low u
       ]
 
   from_children : times n s ≡ 0 → 0 < times n k → Climb (Some m) None n k row → Up p h n all row
   from_children out low on = elim on [
     | at_root e o z ↦ by_parent m (spot_of x p h s k) e o (grind (arith, nat_tests)) (spot-here p h m m x s k r refl)
-        (past-children n m x s k r ne out low ∙ ap (λ v. or_else v (first_of (roots r))) z ∙ ap (or_else (after n (roots k))) (sym (past-here m m x s k r refl)))
+        (past-children n m x s k r ne out low ∙ ap (λ v. or_else v (first_of (roots r))) z
+        ∙ ap (or_else (after n (roots k))) (sym (past-here m m x s k r refl)))
     | inner u ↦ up_whole p h (Some m) None n all k row (first_of (roots r))
-        (λ q there. let one = apart q in (omega (arith, there), spot-children p h q m x s k r (grind (arith, nat_tests)) (grind (arith, nat_tests)) (grind (arith, nat_tests)), past-children q m x s k r (grind (arith, nat_tests)) (grind (arith, nat_tests)) there)) low u
+        (λ q there. let one = apart q in (
+          omega (arith, there),
+          spot-children p h q m x s k r (grind (arith, nat_tests)) (grind (arith, nat_tests)) (grind (arith, nat_tests)),
+          past-children q m x s k r (grind (arith, nat_tests)) (grind (arith, nat_tests)) there,
+        )) low u
   ]
 
   from_rest : times n s ≡ 0 → times n k ≡ 0 → 0 < times n r → Climb p h n r row → Climb p h n all row
   from_rest out gone low on = elim on [
     | at_root e o z ↦ at_root e o (past-rest n m x s k r ne out gone ∙ z ∙ grind (arith, nat_tests))
     | inner u ↦ inner (up_whole p h p h n all r row None
-        (λ q there. let one = apart q in (omega (arith, there), spot-rest p h q m x s k r (grind (arith, nat_tests)) (grind (arith, nat_tests)) (grind (arith, nat_tests)), past-rest q m x s k r (grind (arith, nat_tests)) (grind (arith, nat_tests)) (grind (arith, nat_tests)) ∙ sym (or_else-none (past q r)))) low u)
+        (λ q there. let one = apart q in (
+          omega (arith, there),
+          spot-rest p h q m x s k r (grind (arith, nat_tests)) (grind (arith, nat_tests)) (grind (arith, nat_tests)),
+          past-rest q m x s k r (grind (arith, nat_tests)) (grind (arith, nat_tests)) (grind (arith, nat_tests)) ∙ sym (or_else-none (past q r)),
+        )) low u)
   ]
 
 climb : (p h : Option ℕ) (n : ℕ) (f : Trees) (row : Spot) → IsApart f → 0 < times n f → spot_in p h n f ≡ Some row → Climb p h n f row
@@ -155,16 +181,23 @@ climb p h n (tree m x s k r) row apart there is = elim (stands_where n m x s k r
   | here e _ _ _ ↦
       let same : spot_of x p h s k ≡ row = let it = spot-here p h n m x s k r e in cc in
       at_root (sym (ap (λ (v : Spot). v.parent) same)) (sym (ap (λ (v : Spot). v.host) same)) (grind (arith, nat_tests))
-  | in_shadow ne a b c ↦ inner (from_shadow p h n m x s k r row apart ne a (climb None (Some m) n s row (apart-shadow m x s k r apart) a (sym (spot-shadow p h n m x s k r ne b c) ∙ is)))
-  | in_children ne a b c ↦ inner (from_children p h n m x s k r row apart ne a b (climb (Some m) None n k row (apart-children m x s k r apart) b (sym (spot-children p h n m x s k r ne a c) ∙ is)))
-  | in_rest ne a b c ↦ from_rest p h n m x s k r row apart ne a b c (climb p h n r row (apart-rest m x s k r apart) c (sym (spot-rest p h n m x s k r ne a b) ∙ is))
+  | in_shadow ne a b c ↦ inner (from_shadow p h n m x s k r row apart ne a
+      (climb None (Some m) n s row (apart-shadow m x s k r apart) a (sym (spot-shadow p h n m x s k r ne b c) ∙ is)))
+  | in_children ne a b c ↦ inner
+      (from_children p h n m x s k r row apart ne a b
+      (climb (Some m) None n k row (apart-children m x s k r apart) b (sym (spot-children p h n m x s k r ne a c) ∙ is)))
+  | in_rest ne a b c ↦ from_rest p h n m x s k r row apart ne a b c
+      (climb p h n r row (apart-rest m x s k r apart) c (sym (spot-rest p h n m x s k r ne a b) ∙ is))
 ]
 
 -- in one tree a node that is not its root stands below another
-pub climb_tree : (p h : Option ℕ) (n m : ℕ) (x : Facts) (s k : Trees) (row : Spot) → IsApart (tree m x s k none) → m ≢ n → 0 < times n (tree m x s k none) → spot_in p h n (tree m x s k none) ≡ Some row → Up p h n (tree m x s k none) row
+pub climb_tree : (p h : Option ℕ) (n m : ℕ) (x : Facts) (s k : Trees) (row : Spot) → IsApart (tree m x s k none) → m ≢ n → 0 < times n (tree m x s k none)
+    → spot_in p h n (tree m x s k none) ≡ Some row → Up p h n (tree m x s k none) row
 climb_tree p h n m x s k row apart ne there is = elim (stands_where n m x s k none apart there) [
   | here e _ _ _ ↦ absurd (ne e)
-  | in_shadow _ a b c ↦ from_shadow p h n m x s k none row apart ne a (climb None (Some m) n s row (apart-shadow m x s k none apart) a (sym (spot-shadow p h n m x s k none ne b c) ∙ is))
-  | in_children _ a b c ↦ from_children p h n m x s k none row apart ne a b (climb (Some m) None n k row (apart-children m x s k none apart) b (sym (spot-children p h n m x s k none ne a c) ∙ is))
+  | in_shadow _ a b c ↦ from_shadow p h n m x s k none row apart ne a
+      (climb None (Some m) n s row (apart-shadow m x s k none apart) a (sym (spot-shadow p h n m x s k none ne b c) ∙ is))
+  | in_children _ a b c ↦ from_children p h n m x s k none row apart ne a b
+      (climb (Some m) None n k row (apart-children m x s k none apart) b (sym (spot-children p h n m x s k none ne a c) ∙ is))
   | in_rest _ a b c ↦ absurd (omega (arith, c))
 ]

@@ -18,8 +18,10 @@ past_in f root n = past n (tree_of root f)
 
 -- n stands below q, which is in the tree too
 pub data Past (f : Trees) (root n : ℕ) : Type 0 where
-  of_parent : (q : ℕ) → parent_at f n ≡ Some q → 0 < times q (tree_of root f) → IsAbove f q n → past_in f root n ≡ or_else (next_sibling_at f n) (past_in f root q) → Past f root n
-  of_host : (q : ℕ) → parent_at f n ≡ None → host_at f n ≡ Some q → 0 < times q (tree_of root f) → IsAbove f q n → past_in f root n ≡ or_else (after n (spot_at f q).shadow) (or_else (first_child_at f q) (past_in f root q)) → Past f root n
+  of_parent : (q : ℕ) → parent_at f n ≡ Some q → 0 < times q (tree_of root f) → IsAbove f q n
+      → past_in f root n ≡ or_else (next_sibling_at f n) (past_in f root q) → Past f root n
+  of_host : (q : ℕ) → parent_at f n ≡ None → host_at f n ≡ Some q → 0 < times q (tree_of root f) → IsAbove f q n
+      → past_in f root n ≡ or_else (after n (spot_at f q).shadow) (or_else (first_child_at f q) (past_in f root q)) → Past f root n
 
 module _ (f : Trees) (root : ℕ) (tidy : IsTidy f) (is : IsNode f root) where
   pub its_tree : Found None None root f
@@ -55,8 +57,10 @@ module _ (f : Trees) (root : ℕ) (tidy : IsTidy f) (is : IsNode f root) where
       let above = row_above f n row.0 tidy (inside-node n low) row.1 in
       let e = its_tree.tree_is in
       let on : Up its_tree.parent its_tree.host n (tree_of root f) row.0 =
-      subst (λ (t : Trees). IsApart t → 0 < times n t → spot_in its_tree.parent its_tree.host n t ≡ Some row.0 → Up its_tree.parent its_tree.host n t row.0) (sym e)
-      (λ a o w. climb_tree its_tree.parent its_tree.host n root its_tree.facts its_tree.shadow its_tree.children row.0 a (λ v. ne (sym v)) o w) (tree_apart root f (tidy-apart f tidy)) low row.2 in
+      subst (λ (t : Trees). IsApart t → 0 < times n t → spot_in its_tree.parent its_tree.host n t ≡ Some row.0 → Up its_tree.parent its_tree.host n t row.0)
+      (sym e)
+      (λ a o w. climb_tree its_tree.parent its_tree.host n root its_tree.facts its_tree.shadow its_tree.children row.0 a (λ v. ne (sym v)) o w)
+      (tree_apart root f (tidy-apart f tidy)) low row.2 in
       elim on [
         | by_parent q up p o there at z ↦
             let parent : parent_at f n ≡ Some q = ap (λ (s : Spot). s.parent) here ∙ p in
@@ -73,5 +77,6 @@ module _ (f : Trees) (root : ℕ) (tidy : IsTidy f) (is : IsNode f root) where
               | a_host q2 p2 o2 u2 ↦ let same : q2 ≡ q = cc in subst (λ v. IsAbove f v n) same u2
             ] in
             let up_is = spot_at-is f q up (its_tree.inside q there ∙ at) in
-            of_host q (ap (λ (s : Spot). s.parent) here ∙ p) (ap (λ (s : Spot). s.host) here ∙ o) there over (z ∙ ap (λ (s : Spot). or_else (after n s.shadow) (or_else (first_of s.children) (past_in f root q))) (sym up_is))
+            of_host q (ap (λ (s : Spot). s.parent) here ∙ p) (ap (λ (s : Spot). s.host) here ∙ o) there over
+            (z ∙ ap (λ (s : Spot). or_else (after n s.shadow) (or_else (first_of s.children) (past_in f root q))) (sym up_is))
       ]

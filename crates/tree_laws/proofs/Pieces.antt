@@ -92,7 +92,15 @@ path-here n m x s k r e = grind (arith, nat_tests)
 
 module _ (n m : ℕ) (x : Facts) (s k r : Trees) (ne : m ≢ n) where
   pub path-shadow : 0 < times n s → times n k ≡ 0 → times n r ≡ 0 → path n (tree m x s k r) ≡ m ∷ path n s
-  path-shadow a b c = grind (arith, nat_tests, path-absent n k b, path-absent n r c, append-nil (path n s), append-nil (m ∷ path n s), under-long m (path n s) (path-long n s a))
+  path-shadow a b c = grind (
+    arith,
+    nat_tests,
+    path-absent n k b,
+    path-absent n r c,
+    append-nil (path n s),
+    append-nil (m ∷ path n s),
+    under-long m (path n s) (path-long n s a),
+  )
 
   pub path-children : times n s ≡ 0 → 0 < times n k → times n r ≡ 0 → path n (tree m x s k r) ≡ m ∷ path n k
   path-children a b c = grind (arith, nat_tests, path-absent n s a, path-absent n r c, append-nil (m ∷ path n k), under-long m (path n k) (path-long n k b))

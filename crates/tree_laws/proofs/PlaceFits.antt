@@ -15,7 +15,8 @@ place_of (Some p) h = AsChild
 place_of None (Some h) = InShadow
 place_of None None = AtTop
 
-place-fits : (p h : Option ℕ) (n : ℕ) (f : Trees) (row : Spot) → IsApart f → 0 < times n f → misfits (place_of p h) f ≡ 0 → spot_in p h n f ≡ Some row → fits (place_of row.parent row.host) row.facts.kind ≡ true
+place-fits : (p h : Option ℕ) (n : ℕ) (f : Trees) (row : Spot) → IsApart f → 0 < times n f → misfits (place_of p h) f ≡ 0 → spot_in p h n f ≡ Some row
+    → fits (place_of row.parent row.host) row.facts.kind ≡ true
 place-fits p h n none row apart pos z is = absurd (omega arith)
 place-fits p h n (tree m x s k r) row apart pos z is = elim (stands_where n m x s k r apart pos) [
   | here e _ _ _ ↦
@@ -27,9 +28,11 @@ place-fits p h n (tree m x s k r) row apart pos z is = elim (stands_where n m x 
 ]
 
 -- a node that may be a child and has no parent has no host
-pub free-host : (f : Trees) (n : ℕ) (row : Spot) → IsTidy f → IsNode f n → spot f n ≡ Some row → row.parent ≡ None → fits AsChild (kind_at f n) ≡ true → row.host ≡ None
+pub free-host : (f : Trees) (n : ℕ) (row : Spot) → IsTidy f → IsNode f n → spot f n ≡ Some row → row.parent ≡ None → fits AsChild (kind_at f n) ≡ true
+    → row.host ≡ None
 free-host f n row tidy node is free fit =
-    let there : fits (place_of None row.host) row.facts.kind ≡ true = rw free at (place-fits None None n f row (tidy-apart f tidy) (node_stands f n tidy node) tidy.kinds is) in
+    let there : fits (place_of None row.host) row.facts.kind ≡ true =
+    rw free at (place-fits None None n f row (tidy-apart f tidy) (node_stands f n tidy node) tidy.kinds is) in
     let child : fits AsChild row.facts.kind ≡ true = ap (λ x. fits AsChild x.kind) (sym (facts_at-is f n row is)) ∙ fit in
     let no_root = child-no_root row.facts.kind child in
     elim row.host as (λ v. fits (place_of None v) row.facts.kind ≡ true → v ≡ None) [

@@ -28,7 +28,8 @@ text ShadowRoot e f = absurd cc
 -- a child that is no element has no children
 leaf : (m : ℕ) (x : Facts) (s k r : Trees) → misfits AsChild (tree m x s k r) ≡ 0 → is_element x.kind ≡ false → k ≡ none
 leaf m x s k r fit other =
-    empty k (is_text x.kind) (text x.kind other (unless-true (fits AsChild x.kind) (omega arith))) (unless-true (is_none k || not (is_text x.kind)) (omega arith))
+    empty k (is_text x.kind) (text x.kind other (unless-true (fits AsChild x.kind) (omega arith)))
+    (unless-true (is_none k || not (is_text x.kind)) (omega arith))
 
 read : (f : Trees) (q : ℕ) (g : Trees) → IsPart f (Some q) None g → misfits AsChild g ≡ 0 → AreRead f g
 read f q none part fit = tt
@@ -52,7 +53,8 @@ module _ (f : Trees) (n : ℕ) (tidy : IsTidy f) (node : IsNode f n) where
 
   -- of a node's tree nothing stands amiss but, at most, the node itself
   fitting : misfits AsChild (tree n it.facts it.shadow it.children none) ≡ unless (fits AsChild it.facts.kind)
-  fitting = ap (misfits AsChild) (sym it.tree_is) ∙ misfits-tree_of _ AsChild None None n f _ (tidy-apart f tidy) (node_stands f n tidy node) tidy.kinds it.spot_is
+  fitting = ap (misfits AsChild) (sym it.tree_is)
+      ∙ misfits-tree_of _ AsChild None None n f _ (tidy-apart f tidy) (node_stands f n tidy node) tidy.kinds it.spot_is
 
   pub read_below : AreRead f (below (tree_of n f))
   read_below = rw it.tree_is (read f n it.children (children_part f n tidy it) (let e = fitting in omega (arith, e)))
@@ -63,4 +65,5 @@ module _ (f : Trees) (n : ℕ) (tidy : IsTidy f) (node : IsNode f n) where
   pub none_below : is_text (kind_at f n) ≡ true → below (tree_of n f) ≡ none
   none_below is =
       let kind : is_text it.facts.kind ≡ true = ap (λ (x : Facts). is_text x.kind) (sym (facts_at-is f n _ it.spot_is)) ∙ is in
-      rw it.tree_is (empty it.children (is_text it.facts.kind) kind (unless-true (is_none it.children || not (is_text it.facts.kind)) (let e = fitting in omega (arith, e))))
+      rw it.tree_is (empty it.children (is_text it.facts.kind) kind
+      (unless-true (is_none it.children || not (is_text it.facts.kind)) (let e = fitting in omega (arith, e))))

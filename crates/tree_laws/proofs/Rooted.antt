@@ -1,5 +1,6 @@
 -- The root of a node's tree is a node.
-use Rattle.std.proofs.Common.{◌≡◌, ℕ, ◌<◌, ◌==◌, ◌⊎◌, Bool, true, false, not, cond, List, [], ◌∷◌, ◌++◌, Option, Some, None, refl, sym, ap, ◌∙◌, arith, inl, inr}
+use Rattle.std.proofs.Common.{◌≡◌, ℕ, ◌<◌, ◌==◌, ◌⊎◌, Bool, true, false, not, cond, List, [], ◌∷◌, ◌++◌, Option, Some, None, refl, sym, ap, ◌∙◌, arith, inl}
+use Rattle.std.proofs.Common.{inr}
 use Rattle.std.specs.Prelude.{find, reverse, ◌||◌}
 use Rattle.std.proofs.lemmas.Bool.{cases_eq}
 use Rattle.std.proofs.lemmas.List.{reverse-append}
@@ -36,7 +37,8 @@ path-inside k n (tree m x s c r) h =
       | inr ne ↦
           let is : path n (tree m x s c r) ≡ under m (path n s ++ path n c) ++ path n r = grind (arith, nat_tests) in
           let all : is_among k (under m (path n s ++ path n c) ++ path n r) ≡ true = rw is at h in
-          elim (either (is_among k (under m (path n s ++ path n c))) (is_among k (path n r)) (sym (is_among-append k (under m (path n s ++ path n c)) (path n r)) ∙ all)) [
+          elim (either (is_among k (under m (path n s ++ path n c))) (is_among k (path n r))
+          (sym (is_among-append k (under m (path n s ++ path n c)) (path n r)) ∙ all)) [
             | inl u ↦ elim (among-under k m (path n s ++ path n c) u) [
               | inl e ↦ grind (arith, nat_tests)
               | inr v ↦ elim (either (is_among k (path n s)) (is_among k (path n c)) (sym (is_among-append k (path n s) (path n c)) ∙ v)) [

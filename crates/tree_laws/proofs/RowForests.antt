@@ -18,7 +18,8 @@ use Rattle.tree_laws.proofs.Sizes.{size-with_shadow, size-cut, new-absent}
 use Rattle.tree_laws.proofs.Tidy.{tidy-with_shadow}
 use Rattle.tree_laws.proofs.PlaceFits.{free-host}
 use Rattle.tree_laws.proofs.AllowedGraft.{allowed-fits, allowed-size, allowed-tidy, tidy-cut-child}
-use Rattle.tree_laws.proofs.Stands.{Standing, standing, Unlinked, Linked, Stands-without, Stands-put, Stands-frame, Stands-place, Stands-untouched, Stands-with_shadow}
+use Rattle.tree_laws.proofs.Stands.{Standing, standing, Unlinked, Linked, Stands-without, Stands-put, Stands-frame, Stands-place, Stands-untouched}
+use Rattle.tree_laws.proofs.Stands.{Stands-with_shadow}
 
 -- the row of a node is what stands at it
 pub stands_at : (rows : List Spot) (f : Trees) (n : ℕ) → IsForest rows f → IsNode f n → Standing rows n f
@@ -28,11 +29,13 @@ pub row_is : (rows : List Spot) (f : Trees) (n : ℕ) (row : Spot) → IsForest 
 row_is rows f n row a at is = let st = stands_at rows f n a at in cc (st.row, st.it.spot_is, is)
 
 -- a shadow root
-pub attach_forest : (rows rows' : List Spot) (f : Trees) (h : ℕ) (x : Facts) (it : Spot) → IsForest rows f → IsNode f h → spot f h ≡ Some it → is_element (kind_at f h) ≡ true → it.shadow ≡ [] → is_shadow_root x.kind ≡ true → surplus_at x ≡ 0
+pub attach_forest : (rows rows' : List Spot) (f : Trees) (h : ℕ) (x : Facts) (it : Spot) → IsForest rows f → IsNode f h → spot f h ≡ Some it
+    → is_element (kind_at f h) ≡ true → it.shadow ≡ [] → is_shadow_root x.kind ≡ true → surplus_at x ≡ 0
     → Attached rows rows' h (size f + 1) x → IsForest rows' (with_shadow h (single (size f + 1) x) f)
 attach_forest rows rows' f h x it a at is element bare fit own w =
     let one = a.tidy.once h at in
-    let empty : (row : Spot) → row_of_node rows h ≡ Some row → row.shadow ≡ [] = λ row here. let same : row ≡ it = cc (row_is rows f h row a at here, is) in cc (same, bare) in
+    let empty : (row : Spot) → row_of_node rows h ≡ Some row → row.shadow ≡ [] = λ row here. let same : row ≡ it =
+    cc (row_is rows f h row a at here, is) in cc (same, bare) in
     record {
       stands = Stands-with_shadow rows rows' h (size f + 1) x w (omega arith) empty None None f (new-absent f a.tidy) (omega (arith, one)) a.stands;
       tidy = tidy-with_shadow f h x a.tidy at element fit own;
@@ -41,7 +44,8 @@ attach_forest rows rows' f h x it a at is element bare fit own w =
 
 -- children of others
 
-not_in_children : (rows : List Spot) (n m : ℕ) (k : Trees) → ((row : Spot) → row_of_node rows n ≡ Some row → row.parent ≢ Some m) → Stands rows (Some m) None k → remove_number n (roots k) ≡ roots k
+not_in_children : (rows : List Spot) (n m : ℕ) (k : Trees) → ((row : Spot) → row_of_node rows n ≡ Some row → row.parent ≢ Some m) → Stands rows (Some m) None k
+    → remove_number n (roots k) ≡ roots k
 not_in_children rows n m none other st = refl
 not_in_children rows n m (tree j x s k r) other st =
     elim (cases_eq j n) [
@@ -49,7 +53,8 @@ not_in_children rows n m (tree j x s k r) other st =
       | inr ne ↦ grind (arith, nat_tests, not_in_children rows n m r other st.4)
     ]
 
-children_lack : (rows : List Spot) (f : Trees) (n m : ℕ) (row : Spot) → IsForest rows f → ((row : Spot) → row_of_node rows n ≡ Some row → row.parent ≢ Some m) → 0 < m → row_of_node rows m ≡ Some row
+children_lack : (rows : List Spot) (f : Trees) (n m : ℕ) (row : Spot) → IsForest rows f → ((row : Spot) → row_of_node rows n ≡ Some row → row.parent ≢ Some m)
+    → 0 < m → row_of_node rows m ≡ Some row
     → remove_number n row.children ≡ row.children
 children_lack rows f n m row a other pos is =
     let st = stands_at rows f m a (node_of_row rows f m row a pos is) in
@@ -83,11 +88,13 @@ parted rows n f a at =
       shadow_lacks = omega (arith, split, here, one);
       children_lack = omega (arith, split, here, one);
       all = λ i. times-without i n f (omega (arith, one));
-      lacks = λ i out. let whole : times i (tree n it.facts it.shadow it.children none) ≡ 0 = ap (times i) (sym it.tree_is) ∙ out in (omega (arith, whole), omega (arith, whole));
+      lacks = λ i out. let whole : times i (tree n it.facts it.shadow it.children none) ≡ 0 =
+          ap (times i) (sym it.tree_is) ∙ out in (omega (arith, whole), omega (arith, whole));
     }
 
 -- an insertion
-pub graft_forest : (rows rows' : List Spot) (f : Trees) (p n : ℕ) (b : Option ℕ) → IsForest rows f → IsNode f p → IsNode f n → may_insert f p n b ≡ None → parent_at f n ≡ None → Grafted rows rows' p n b → IsForest rows' (graft f p n b)
+pub graft_forest : (rows rows' : List Spot) (f : Trees) (p n : ℕ) (b : Option ℕ) → IsForest rows f → IsNode f p → IsNode f n → may_insert f p n b ≡ None
+    → parent_at f n ≡ None → Grafted rows rows' p n b → IsForest rows' (graft f p n b)
 graft_forest rows rows' f p n b a ip at is loose g =
     let parts = parted rows n f a at in
     let it = parts.st.it in
@@ -98,24 +105,28 @@ graft_forest rows rows' f p n b a ip at is loose g =
     let clear = parts.lacks p out_p in
     let its_row : (row : Spot) → row_of_node rows n ≡ Some row → row ≡ it_spot = λ row here. cc (here, parts.st.row) in
     let unlinked : Unlinked rows rows n = record {
-      others = λ m row pos ne here. let lack = children_lack rows f n m row a (λ other there same. let e = its_row other there in cc (e, same)) pos here in rw lack here;
+      others = λ m row pos ne here. let lack =
+          children_lack rows f n m row a (λ other there same. let e = its_row other there in cc (e, same)) pos here in rw lack here;
       no_host = λ row here. let e = its_row row here in cc (e, no_host);
     } in
     let rest : Stands rows None None (without n f) = Stands-without rows rows None None n f unlinked a.stands (omega (arith, parts.one)) in
     let linked : Linked rows rows' p n b = record { there = g.there; others = g.others } in
     let root : row_of_node rows' n ≡ Some (spot_of it.facts (Some p) None it.shadow it.children) = rw no_host at (g.moved _ parts.st.row) in
-    let under = λ (up h : Option ℕ) (t : Trees) (lacks_n : times n t ≡ 0) (lacks_p : times p t ≡ 0) (st : Stands rows up h t). Stands-untouched rows rows' p n b up h t linked lacks_n lacks_p st in
+    let under = λ (up h : Option ℕ) (t : Trees) (lacks_n : times n t ≡ 0) (lacks_p : times p t ≡ 0) (st : Stands rows up h t).
+    Stands-untouched rows rows' p n b up h t linked lacks_n lacks_p st in
     let top : Stands rows' (Some p) None (tree n it.facts it.shadow it.children none) =
     (at.low, root, under _ _ _ parts.shadow_lacks clear.0 parts.st.in_shadow, under _ _ _ parts.children_lack clear.1 parts.st.in_children, tt) in
     let one_rest : times p (without n f) ≡ 1 = omega (arith, parts.all p, out_p, a.tidy.once p ip) in
     record {
-      stands = rw it.tree_is (Stands-put rows rows' p n b it.facts it.shadow it.children None None (without n f) linked parts.rest_lacks (omega (arith, one_rest)) top rest);
+      stands = rw it.tree_is (Stands-put rows rows' p n b it.facts it.shadow it.children None None (without n f) linked parts.rest_lacks
+          (omega (arith, one_rest)) top rest);
       tidy = allowed-tidy f p n b a.tidy ip at is;
       counted = omega (arith, allowed-size f p n b a.tidy ip at is, a.counted, g.length_is);
     }
 
 -- a removal
-pub cut_forest : (rows rows' : List Spot) (f : Trees) (p n : ℕ) → IsForest rows f → IsNode f n → parent_at f n ≡ Some p → Severed rows rows' p n → IsForest rows' (cut f n)
+pub cut_forest : (rows rows' : List Spot) (f : Trees) (p n : ℕ) → IsForest rows f → IsNode f n → parent_at f n ≡ Some p → Severed rows rows' p n
+    → IsForest rows' (cut f n)
 cut_forest rows rows' f p n a at child g =
     let parts = parted rows n f a at in
     let it = parts.st.it in
@@ -130,7 +141,8 @@ cut_forest rows rows' f p n a at child g =
       others = λ m row lo ne is. elim (cases_eq m p) [
         | inl e ↦ rw (sym e) at (g.there row (rw (sym e) is))
         | inr ne_p ↦
-            let lack = children_lack rows f n m row a (λ other here claim. let e = its_row other here in let twice : Some m ≡ Some p = cc (e, claim, its_parent) in ne_p (cc)) lo is in
+            let lack = children_lack rows f n m row a
+            (λ other here claim. let e = its_row other here in let twice : Some m ≡ Some p = cc (e, claim, its_parent) in ne_p (cc)) lo is in
             rw lack (g.others m lo ne ne_p ∙ is)
       ];
       no_host = λ row here. let e = its_row row here in cc (e, no_host);

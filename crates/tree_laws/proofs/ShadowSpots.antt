@@ -11,7 +11,8 @@ use Rattle.tree_laws.proofs.ByIndex.{slice_get-append_end, slice_get-append_othe
 use Rattle.tree_laws.proofs.ForestRows.{rows_of-forest, rows_of-at, rows_of-length}
 use Rattle.tree_laws.proofs.RowForests.{attach_forest, row_is}
 
-module _ (f : Trees) (tidy : IsTidy f) (h : ℕ) (at : IsNode f h) (x : Facts) (element : is_element (kind_at f h) ≡ true) (bare : (spot_at f h).shadow ≡ []) (fit : is_shadow_root x.kind ≡ true) (own : surplus_at x ≡ 0) where
+module _ (f : Trees) (tidy : IsTidy f) (h : ℕ) (at : IsNode f h) (x : Facts) (element : is_element (kind_at f h) ≡ true) (bare : (spot_at f h).shadow ≡ [])
+    (fit : is_shadow_root x.kind ≡ true) (own : surplus_at x ≡ 0) where
   abbrev pub new_root : ℕ
   new_root = size f + 1
 
@@ -31,7 +32,8 @@ module _ (f : Trees) (tidy : IsTidy f) (h : ℕ) (at : IsNode f h) (x : Facts) (
   long = omega (arith, rows_of-length f, length-append (rows_of f) (root_spot ∷ []))
 
   row-root : row_of_node attached_rows new_root ≡ Some root_spot
-  row-root = slice_get-set_other (rows_of f ++ root_spot ∷ []) (h - 1) (new_root - 1) host_spot (λ e. omega (arith, e, at.low, at.high)) ∙ slice_get-append_end (rows_of f) root_spot (new_root - 1) (omega (arith, rows_of-length f))
+  row-root = slice_get-set_other (rows_of f ++ root_spot ∷ []) (h - 1) (new_root - 1) host_spot (λ e. omega (arith, e, at.low, at.high))
+      ∙ slice_get-append_end (rows_of f) root_spot (new_root - 1) (omega (arith, rows_of-length f))
 
   row-host : row_of_node attached_rows h ≡ Some host_spot
   row-host = slice_get-set_same (rows_of f ++ root_spot ∷ []) (h - 1) host_spot (omega (arith, long, at.low, at.high))
@@ -45,7 +47,8 @@ module _ (f : Trees) (tidy : IsTidy f) (h : ℕ) (at : IsNode f h) (x : Facts) (
   attach_writes = record {
     length_is = length-set (rows_of f ++ root_spot ∷ []) (h - 1) host_spot ∙ length-append (rows_of f) (root_spot ∷ []);
     made = row-root;
-    there = λ row here. let same = rows_of-at f h at in let e : spot_at f h ≡ row = cc in row-host ∙ ap (λ (s : Spot). Some (record s { shadow = new_root ∷ [] })) e;
+    there = λ row here. let same = rows_of-at f h at in let e : spot_at f h ≡ row =
+        cc in row-host ∙ ap (λ (s : Spot). Some (record s { shadow = new_root ∷ [] })) e;
     others = row-other;
   }
 
@@ -59,7 +62,8 @@ module _ (f : Trees) (tidy : IsTidy f) (h : ℕ) (at : IsNode f h) (x : Facts) (
   attached-size = omega (arith, attach_is.counted, attach_writes.length_is, rows_of-length f)
 
   spot-of_row : (m : ℕ) (row : Spot) → 0 < m → m ≤ size f + 1 → row_of_node attached_rows m ≡ Some row → spot_at with_root m ≡ row
-  spot-of_row m row low high e = spot_at-is with_root m row (row_is attached_rows with_root m row attach_is (record { low = low; high = omega (arith, high, attached-size) }) e)
+  spot-of_row m row low high e =
+      spot_at-is with_root m row (row_is attached_rows with_root m row attach_is (record { low = low; high = omega (arith, high, attached-size) }) e)
 
   pub spot-root : spot_at with_root new_root ≡ root_spot
   spot-root = spot-of_row new_root root_spot (omega arith) (omega arith) row-root
@@ -68,4 +72,5 @@ module _ (f : Trees) (tidy : IsTidy f) (h : ℕ) (at : IsNode f h) (x : Facts) (
   spot-host = spot-of_row h host_spot at.low (omega (arith, at.high)) row-host
 
   pub spot-others : (m : ℕ) → IsNode f m → m ≢ h → spot_at with_root m ≡ spot_at f m
-  spot-others m node m_h = spot-of_row m (spot_at f m) node.low (omega (arith, node.high)) (row-other m node.low (λ e. omega (arith, e, node.high)) m_h ∙ rows_of-at f m node)
+  spot-others m node m_h = spot-of_row m (spot_at f m) node.low (omega (arith, node.high))
+      (row-other m node.low (λ e. omega (arith, e, node.high)) m_h ∙ rows_of-at f m node)

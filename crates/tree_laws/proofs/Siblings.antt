@@ -1,5 +1,6 @@
 -- The loops over the children of a node, from the first on by the next sibling.
-use Rattle.std.proofs.Common.{◌≡◌, ℕ, Bool, true, false, ◌<◌, List, [], ◌∷◌, ◌++◌, Option, Some, None, refl, ap, sym, ◌∙◌, subst, arith, length, append_assoc, append-nil}
+use Rattle.std.proofs.Common.{◌≡◌, ℕ, Bool, true, false, ◌<◌, List, [], ◌∷◌, ◌++◌, Option, Some, None, refl, ap, sym, ◌∙◌, subst, arith, length, append_assoc}
+use Rattle.std.proofs.Common.{append-nil}
 use Rattle.std.specs.List.{list_any}
 use Rattle.std.proofs.lemmas.Bool.Decides.{nat_tests}
 use Rattle.node_trees.specs.Facts.{is_element}
@@ -61,7 +62,8 @@ module _ (f : Trees) (p : ℕ) (tidy : IsTidy f) (is : IsNode f p) where
       child-next node = record { node = node; among = λ b some. after-among c b (children_at f p) (sym (e ∙ next-is) ∙ some) }
 
       pub children-split : children_from f p at ≡ c ∷ children_from f p d
-      children-split = ap (children_from f p) here ∙ from-step c (children_at f p) (children_at-apart f p tidy is) (child.among c here) ∙ ap (λ o. c ∷ children_from f p o) (sym (e ∙ next-is))
+      children-split = ap (children_from f p) here ∙ from-step c (children_at f p) (children_at-apart f p tidy is) (child.among c here)
+          ∙ ap (λ o. c ∷ children_from f p o) (sym (e ∙ next-is))
 
       pub children-less : length (children_from f p d) < length (children_from f p at)
       children-less = omega (arith, ap length children-split)
@@ -77,10 +79,12 @@ module _ (f : Trees) (p : ℕ) (tidy : IsTidy f) (is : IsNode f p) where
   pub list-start : (at : Option ℕ) → at ≡ first_child_at f p → IsNodeOrNone f at → Listing f p at []
   list-start at e node = record { child = child-first f p tidy is at e node; is = children-first f p tidy is at e }
 
-  pub list-on : (at : Option ℕ) (c : ℕ) (out out' : List ℕ) (d : Option ℕ) → at ≡ Some c → Listing f p at out → d ≡ next_sibling_at f c → IsNodeOrNone f d → out' ≡ out ++ c ∷ [] → Listing f p d out'
+  pub list-on : (at : Option ℕ) (c : ℕ) (out out' : List ℕ) (d : Option ℕ) → at ≡ Some c → Listing f p at out → d ≡ next_sibling_at f c → IsNodeOrNone f d
+      → out' ≡ out ++ c ∷ [] → Listing f p d out'
   list-on at c out out' d here l e node grown = record {
     child = child-next f p tidy is at c here l.child d e node;
-    is = ap (λ xs. xs ++ children_from f p d) grown ∙ append_assoc out (c ∷ []) (children_from f p d) ∙ ap (λ xs. out ++ xs) (sym (children-split f p tidy is at c here l.child d e)) ∙ l.is;
+    is = ap (λ xs. xs ++ children_from f p d) grown ∙ append_assoc out (c ∷ []) (children_from f p d)
+        ∙ ap (λ xs. out ++ xs) (sym (children-split f p tidy is at c here l.child d e)) ∙ l.is;
   }
 
   pub list-end : (at : Option ℕ) (out : List ℕ) → at ≡ None → Listing f p at out → out ≡ children_at f p

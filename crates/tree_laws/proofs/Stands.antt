@@ -17,7 +17,8 @@ use Rattle.node_trees.proofs.Weights.{IsApart}
 use Rattle.node_trees.proofs.Absent.{without-absent}
 
 -- rows that agree on the numbers of the trees
-pub Stands-frame : (rows rows' : List Spot) (p h : Option ℕ) (f : Trees) → Stands rows p h f → ((m : ℕ) → 0 < m → 0 < times m f → row_of_node rows' m ≡ row_of_node rows m) → Stands rows' p h f
+pub Stands-frame : (rows rows' : List Spot) (p h : Option ℕ) (f : Trees) → Stands rows p h f
+    → ((m : ℕ) → 0 < m → 0 < times m f → row_of_node rows' m ≡ row_of_node rows m) → Stands rows' p h f
 Stands-frame rows rows' p h none st same = tt
 Stands-frame rows rows' p h (tree m x s k r) st same = (
   st.0,
@@ -32,7 +33,8 @@ Stands-join rows p h none g a b = b
 Stands-join rows p h (tree m x s k r) g a b = (a.0, a.1, a.2, a.3, Stands-join rows p h r g a.4 b)
 
 -- the tree of a node, under what is above the node
-pub Stands-tree_of : (rows : List Spot) (p h : Option ℕ) (n : ℕ) (f : Trees) (it : Spot) → Stands rows p h f → times n f ≡ 1 → spot_in p h n f ≡ Some it → Stands rows it.parent it.host (tree_of n f)
+pub Stands-tree_of : (rows : List Spot) (p h : Option ℕ) (n : ℕ) (f : Trees) (it : Spot) → Stands rows p h f → times n f ≡ 1 → spot_in p h n f ≡ Some it
+    → Stands rows it.parent it.host (tree_of n f)
 Stands-tree_of rows p h n none it st one is = absurd (omega arith)
 Stands-tree_of rows p h n (tree m x s k r) it st one is =
     elim (cases_eq m n) [
@@ -45,14 +47,16 @@ Stands-tree_of rows p h n (tree m x s k r) it st one is =
             let here : times n s ≡ 1 = grind (arith, nat_tests) in
             let no_k : times n k ≡ 0 = grind (arith, nat_tests) in
             let no_r : times n r ≡ 0 = grind (arith, nat_tests) in
-            rw (tree_of-shadow n m x s k r ne no_k no_r) (Stands-tree_of rows None (Some m) n s it st.2 here (cc (is, spot-shadow p h n m x s k r ne no_k no_r)))
+            rw (tree_of-shadow n m x s k r ne no_k no_r)
+            (Stands-tree_of rows None (Some m) n s it st.2 here (cc (is, spot-shadow p h n m x s k r ne no_k no_r)))
         | inr out ↦
             let no_s : times n s ≡ 0 = omega arith in
             elim (cases_lt 0 (times n k)) [
               | inl a ↦
                   let here : times n k ≡ 1 = grind (arith, nat_tests) in
                   let no_r : times n r ≡ 0 = grind (arith, nat_tests) in
-                  rw (tree_of-children n m x s k r ne no_s no_r) (Stands-tree_of rows (Some m) None n k it st.3 here (cc (is, spot-children p h n m x s k r ne no_s no_r)))
+                  rw (tree_of-children n m x s k r ne no_s no_r)
+                  (Stands-tree_of rows (Some m) None n k it st.3 here (cc (is, spot-children p h n m x s k r ne no_s no_r)))
               | inr off ↦
                   let no_k : times n k ≡ 0 = omega arith in
                   let here : times n r ≡ 1 = grind (arith, nat_tests) in
@@ -71,17 +75,21 @@ pub record Standing (rows : List Spot) (n : ℕ) (f : Trees) : Type 0 where
 pub standing : (rows : List Spot) (n : ℕ) (f : Trees) → Stands rows None None f → IsApart f → times n f ≡ 1 → Standing rows n f
 standing rows n f st apart one =
     let it = found None None n f apart (omega (arith, one)) in
-    let whole : Stands rows it.parent it.host (tree n it.facts it.shadow it.children none) = subst (Stands rows it.parent it.host) it.tree_is (Stands-tree_of rows None None n f (spot_of it.facts it.parent it.host it.shadow it.children) st one it.spot_is) in
+    let whole : Stands rows it.parent it.host (tree n it.facts it.shadow it.children none) =
+    subst (Stands rows it.parent it.host) it.tree_is
+    (Stands-tree_of rows None None n f (spot_of it.facts it.parent it.host it.shadow it.children) st one it.spot_is) in
     record { it = it; row = whole.1; in_shadow = whole.2; in_children = whole.3 }
 
 -- the children without one
 
 -- n is taken from the children of all others, and is no shadow root
 pub record Unlinked (rows rows' : List Spot) (n : ℕ) : Type 0 where
-  pub others : (m : ℕ) (row : Spot) → 0 < m → m ≢ n → row_of_node rows m ≡ Some row → row_of_node rows' m ≡ Some (record row { children = remove_number n row.children })
+  pub others : (m : ℕ) (row : Spot) → 0 < m → m ≢ n → row_of_node rows m ≡ Some row
+      → row_of_node rows' m ≡ Some (record row { children = remove_number n row.children })
   pub no_host : (row : Spot) → row_of_node rows n ≡ Some row → row.host ≡ None
 
-not_in_shadow : (rows : List Spot) (n m : ℕ) (s : Trees) → ((row : Spot) → row_of_node rows n ≡ Some row → row.host ≡ None) → Stands rows None (Some m) s → remove_number n (roots s) ≡ roots s
+not_in_shadow : (rows : List Spot) (n m : ℕ) (s : Trees) → ((row : Spot) → row_of_node rows n ≡ Some row → row.host ≡ None) → Stands rows None (Some m) s
+    → remove_number n (roots s) ≡ roots s
 not_in_shadow rows n m none no_host st = refl
 not_in_shadow rows n m (tree j x s k r) no_host st =
     elim (cases_eq j n) [
@@ -89,7 +97,8 @@ not_in_shadow rows n m (tree j x s k r) no_host st =
       | inr ne ↦ grind (arith, nat_tests, not_in_shadow rows n m r no_host st.4)
     ]
 
-pub Stands-without : (rows rows' : List Spot) (p h : Option ℕ) (n : ℕ) (f : Trees) → Unlinked rows rows' n → Stands rows p h f → times n f ≤ 1 → Stands rows' p h (without n f)
+pub Stands-without : (rows rows' : List Spot) (p h : Option ℕ) (n : ℕ) (f : Trees) → Unlinked rows rows' n → Stands rows p h f → times n f ≤ 1
+    → Stands rows' p h (without n f)
 Stands-without rows rows' p h n none un st one = tt
 Stands-without rows rows' p h n (tree m x s k r) un st one =
     elim (cases_eq m n) [
@@ -125,7 +134,8 @@ pub record Linked (rows rows' : List Spot) (p n : ℕ) (b : Option ℕ) : Type 0
   pub there : (row : Spot) → row_of_node rows p ≡ Some row → row_of_node rows' p ≡ Some (record row { children = insert_number b n row.children })
   pub others : (m : ℕ) → 0 < m → m ≢ n → m ≢ p → row_of_node rows' m ≡ row_of_node rows m
 
-pub Stands-untouched : (rows rows' : List Spot) (p n : ℕ) (b : Option ℕ) (up h : Option ℕ) (f : Trees) → Linked rows rows' p n b → times n f ≡ 0 → times p f ≡ 0 → Stands rows up h f → Stands rows' up h f
+pub Stands-untouched : (rows rows' : List Spot) (p n : ℕ) (b : Option ℕ) (up h : Option ℕ) (f : Trees) → Linked rows rows' p n b → times n f ≡ 0
+    → times p f ≡ 0 → Stands rows up h f → Stands rows' up h f
 Stands-untouched rows rows' p n b up h f li out away st =
     Stands-frame rows rows' up h f st (λ i lo pos. li.others i lo (λ j. omega (arith, ap (λ v. times v f) j)) (λ j. omega (arith, ap (λ v. times v f) j)))
 
@@ -137,7 +147,8 @@ Stands-before rows p h b t (tree m x s k r) new st =
       | false ↦ (st.0, st.1, st.2, st.3, Stands-before rows p h b t r new st.4)
     ]
 
-pub Stands-put : (rows rows' : List Spot) (p n : ℕ) (b : Option ℕ) (y : Facts) (t l : Trees) (up h : Option ℕ) (f : Trees) → Linked rows rows' p n b → times n f ≡ 0 → times p f ≤ 1
+pub Stands-put : (rows rows' : List Spot) (p n : ℕ) (b : Option ℕ) (y : Facts) (t l : Trees) (up h : Option ℕ) (f : Trees) → Linked rows rows' p n b
+    → times n f ≡ 0 → times p f ≤ 1
     → Stands rows' (Some p) None (tree n y t l none) → Stands rows up h f → Stands rows' up h (put p b (tree n y t l none) f)
 Stands-put rows rows' p n b y t l up h none li out one new st = tt
 Stands-put rows rows' p n b y t l up h (tree m x s k r) li out one new st =
@@ -154,11 +165,13 @@ Stands-put rows rows' p n b y t l up h (tree m x s k r) li out one new st =
             st.0,
             here,
             Stands-untouched rows rows' p n b None (Some m) s li (omega arith) away_s st.2,
-            Stands-before rows' (Some m) None b (tree n y t l none) k (rw e new) (Stands-untouched rows rows' p n b (Some m) None k li (omega arith) away_k st.3),
+            Stands-before rows' (Some m) None b (tree n y t l none) k (rw e new)
+                (Stands-untouched rows rows' p n b (Some m) None k li (omega arith) away_k st.3),
             Stands-untouched rows rows' p n b up h r li (omega arith) away_r st.4,
           )
       | inr ne ↦
-          let is : put p b (tree n y t l none) (tree m x s k r) ≡ tree m x (put p b (tree n y t l none) s) (put p b (tree n y t l none) k) (put p b (tree n y t l none) r) = grind (arith, nat_tests) in
+          let is : put p b (tree n y t l none) (tree m x s k r)
+          ≡ tree m x (put p b (tree n y t l none) s) (put p b (tree n y t l none) k) (put p b (tree n y t l none) r) = grind (arith, nat_tests) in
           let here = li.others m st.0 apart ne in
           subst (Stands rows' up h) (sym is) (
             st.0,
@@ -175,9 +188,11 @@ roots-none : (f : Trees) → roots f ≡ [] → f ≡ none
 roots-none none e = refl
 roots-none (tree m x s k r) e = cc
 
-module _ (rows rows' : List Spot) (h n : ℕ) (y : Facts) (at : Attached rows rows' h n y) (pos : 0 < n) (bare : (row : Spot) → row_of_node rows h ≡ Some row → row.shadow ≡ []) where
+module _ (rows rows' : List Spot) (h n : ℕ) (y : Facts) (at : Attached rows rows' h n y) (pos : 0 < n) (bare : (row : Spot) → row_of_node rows h ≡ Some row
+    → row.shadow ≡ []) where
   aside : (p q : Option ℕ) (f : Trees) → times n f ≡ 0 → times h f ≡ 0 → Stands rows p q f → Stands rows' p q f
-  aside p q f out away st = Stands-frame rows rows' p q f st (λ i lo in_f. at.others i lo (λ j. omega (arith, ap (λ v. times v f) j)) (λ j. omega (arith, ap (λ v. times v f) j)))
+  aside p q f out away st = Stands-frame rows rows' p q f st
+      (λ i lo in_f. at.others i lo (λ j. omega (arith, ap (λ v. times v f) j)) (λ j. omega (arith, ap (λ v. times v f) j)))
 
   pub Stands-with_shadow : (p q : Option ℕ) (f : Trees) → times n f ≡ 0 → times h f ≤ 1 → Stands rows p q f → Stands rows' p q (with_shadow h (single n y) f)
   Stands-with_shadow p q none out one st = tt
@@ -200,7 +215,8 @@ module _ (rows rows' : List Spot) (h n : ℕ) (y : Facts) (at : Attached rows ro
               aside p q r (omega arith) away_r st.4,
             )
         | inr ne ↦
-            let is : with_shadow h (single n y) (tree m x s k r) ≡ tree m x (with_shadow h (single n y) s) (with_shadow h (single n y) k) (with_shadow h (single n y) r) = grind (arith, nat_tests) in
+            let is : with_shadow h (single n y) (tree m x s k r)
+            ≡ tree m x (with_shadow h (single n y) s) (with_shadow h (single n y) k) (with_shadow h (single n y) r) = grind (arith, nat_tests) in
             let here = at.others m st.0 apart ne in
             subst (Stands rows' p q) (sym is) (
               st.0,

@@ -50,7 +50,8 @@ left-out true p q z h = absurd cc
 left-out false p q z h = omega arith
 
 element-parts : (x : Facts) → surplus_at x ≡ 0 → is_element x.kind ≡ false → length x.local + (length (option_to_list x.is_value) + length x.attributes) ≡ 0
-element-parts x z h = left-out (is_element x.kind) (length x.local + (length (option_to_list x.is_value) + length x.attributes)) (if is_text x.kind then 0 else length x.chars) z h
+element-parts x z h = left-out (is_element x.kind) (length x.local + (length (option_to_list x.is_value) + length x.attributes))
+    (if is_text x.kind then 0 else length x.chars) z h
 
 text-parts : (x : Facts) → surplus_at x ≡ 0 → is_text x.kind ≡ false → length x.chars ≡ 0
 text-parts x z h = left-out (is_text x.kind) (length x.chars) 0 (omega (arith, z)) h
@@ -82,10 +83,12 @@ pub keeps-document : (f : Trees) (n d : ℕ) → IsTidy f → IsNode f n → Kee
 keeps-document f n d tidy node = record { kind = λ x. refl; own = surplus-at f n tidy node }
 
 -- attributes are an element's
-set-attributes : (x : Facts) (attributes : List (List ℕ × List ℕ)) → is_element x.kind ≡ true → surplus_at x ≡ 0 → surplus_at (record x { attributes = attributes }) ≡ 0
+set-attributes : (x : Facts) (attributes : List (List ℕ × List ℕ)) → is_element x.kind ≡ true → surplus_at x ≡ 0
+    → surplus_at (record x { attributes = attributes }) ≡ 0
 set-attributes x attributes h z = rw h (rw h at z)
 
-pub keeps-attributes : (f : Trees) (n : ℕ) (change : List (List ℕ × List ℕ) → List (List ℕ × List ℕ)) → IsTidy f → IsNode f n → kind_at f n ≡ Element → KeepsKind f n (λ x. record x { attributes = change x.attributes })
+pub keeps-attributes : (f : Trees) (n : ℕ) (change : List (List ℕ × List ℕ) → List (List ℕ × List ℕ)) → IsTidy f → IsNode f n → kind_at f n ≡ Element
+    → KeepsKind f n (λ x. record x { attributes = change x.attributes })
 keeps-attributes f n change tidy node element = record {
   kind = λ x. refl;
   own = set-attributes (facts_at f n) (change (facts_at f n).attributes) (ap is_element element) (surplus-at f n tidy node);

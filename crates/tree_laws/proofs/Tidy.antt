@@ -13,7 +13,8 @@ use Rattle.tree_laws.proofs.CutReads.{in-tree, not-left}
 use Rattle.tree_laws.proofs.Changed.{roots-with, size-with, times-with}
 use Rattle.tree_laws.proofs.PutSpots.{roots-put}
 use Rattle.tree_laws.proofs.ShadowReads.{roots-shadow}
-use Rattle.tree_laws.proofs.Sizes.{weight-cut, weight-graft, weight-with_node, weight-with_shadow, size-cut, size-graft, size-with_node, size-with_shadow, new-absent}
+use Rattle.tree_laws.proofs.Sizes.{weight-cut, weight-graft, weight-with_node, weight-with_shadow, size-cut, size-graft, size-with_node, size-with_shadow}
+use Rattle.tree_laws.proofs.Sizes.{new-absent}
 use Rattle.tree_laws.proofs.Rising.{rises-same, rises-without, rises-place, rises-new}
 use Rattle.tree_laws.proofs.Fitting.{only_at, only-there, misfits-join, misfits-place, misfits-without, misfits-tree_of}
 use Rattle.tree_laws.proofs.Surplus.{KeepsKind, surplus-with}
@@ -33,7 +34,8 @@ tidy-still f g tidy same_size same_times rises kinds parts = record {
 }
 
 -- one more, with the next number
-tidy-more : (f g : Trees) → IsTidy f → size g ≡ size f + 1 → ((i : ℕ) → times i g ≡ times i f + (if size f + 1 == i then 1 else 0)) → Rises 0 g → misfits AtTop g ≡ 0 → surplus g ≡ 0 → IsTidy g
+tidy-more : (f g : Trees) → IsTidy f → size g ≡ size f + 1 → ((i : ℕ) → times i g ≡ times i f + (if size f + 1 == i then 1 else 0)) → Rises 0 g
+    → misfits AtTop g ≡ 0 → surplus g ≡ 0 → IsTidy g
 tidy-more f g tidy more_size more_times rises kinds parts = record {
   once = λ i node. elim (cases_eq (size f + 1) i) [
     | inl e ↦
@@ -84,12 +86,14 @@ module _ (f : Trees) (n : ℕ) (tidy : IsTidy f) (node : IsNode f n) where
   tidy-cut h =
       let it = found None None n f (tidy-apart f tidy) (node_stands f n tidy node) in
       let rising : Rises 0 (place n (tree_of n f) (without n f)) =
-      subst (λ t. Rises 0 (place n t (without n f))) (sym it.tree_is) (rises-place 0 n it.facts it.shadow it.children (without n f) node.low n-left (rises-without 0 n f tidy.rises)) in
+      subst (λ t. Rises 0 (place n t (without n f))) (sym it.tree_is)
+      (rises-place 0 n it.facts it.shadow it.children (without n f) node.low n-left (rises-without 0 n f tidy.rises)) in
       tidy-still f (cut f n) tidy (size-cut f n tidy) (λ i. weight-cut (one_at i) f n tidy) rising
       (misfits-place AtTop n (tree_of n f) (without n f) ∙ omega (arith, rest-fits, tree-fits AtTop (ap not h))) (weight-cut (λ m x. surplus_at x) f n tidy)
 
   -- an element or a text put among the children of a node that is no text
-  pub tidy-graft : (p : ℕ) (b : Option ℕ) → IsNode f p → times p (tree_of n f) ≡ 0 → is_text (kind_at f p) ≡ false → fits AsChild (kind_at f n) ≡ true → IsTidy (graft f p n b)
+  pub tidy-graft : (p : ℕ) (b : Option ℕ) → IsNode f p → times p (tree_of n f) ≡ 0 → is_text (kind_at f p) ≡ false → fits AsChild (kind_at f n) ≡ true
+      → IsTidy (graft f p n b)
   tidy-graft p b node_p outside h fit =
       let st = node_spot f p tidy node_p in
       let all = only-there p text_is None None f st.row (tidy-apart f tidy) (node_stands f p tidy node_p) st.is in
@@ -109,7 +113,8 @@ tidy-with_node f x tidy h own =
     (misfits-join AtTop f (single (size f + 1) x) ∙ omega (arith, tidy.kinds, ap (λ v. unless (not v)) h))
     (weight-with_node (λ m y. surplus_at y) (size f + 1) x f ∙ omega (arith, tidy.parts, own))
 
-pub tidy-with_shadow : (f : Trees) (q : ℕ) (x : Facts) → IsTidy f → IsNode f q → is_element (kind_at f q) ≡ true → is_shadow_root x.kind ≡ true → surplus_at x ≡ 0 → IsTidy (with_shadow q (single (size f + 1) x) f)
+pub tidy-with_shadow : (f : Trees) (q : ℕ) (x : Facts) → IsTidy f → IsNode f q → is_element (kind_at f q) ≡ true → is_shadow_root x.kind ≡ true
+    → surplus_at x ≡ 0 → IsTidy (with_shadow q (single (size f + 1) x) f)
 tidy-with_shadow f q x tidy node h fit own =
     let st = node_spot f q tidy node in
     let all = only-there q element_is None None f st.row (tidy-apart f tidy) (node_stands f q tidy node) st.is in

@@ -24,7 +24,8 @@ root-among c none h = absurd cc
 root-among c (tree m x s k r) h = grind (arith, nat_tests, root-among c r, is_among-append c (tree_order k) (tree_order r))
 
 -- a child of a node of the order is in it too
-child-among : (p h : Option ℕ) (q c : ℕ) (f : Trees) (up : Spot) → IsApart f → is_among q (tree_order f) ≡ true → spot_in p h q f ≡ Some up → is_among c up.children ≡ true → is_among c (tree_order f) ≡ true
+child-among : (p h : Option ℕ) (q c : ℕ) (f : Trees) (up : Spot) → IsApart f → is_among q (tree_order f) ≡ true → spot_in p h q f ≡ Some up
+    → is_among c up.children ≡ true → is_among c (tree_order f) ≡ true
 child-among p h q c none up apart among is child = absurd cc
 child-among p h q c (tree m x s k r) up apart among is child = elim (stands_where q m x s k r apart (order-inside q (tree m x s k r) among)) [
   | here e a b z ↦
@@ -56,7 +57,8 @@ module _ (f : Trees) (root : ℕ) (tidy : IsTidy f) (is : IsNode f root) (n : �
     member-none gone = both-ways false (is_among n (tree_order_of f root)) (λ h. absurd cc) (λ h. absurd (parent-there f root tidy is n ne h (sym gone)))
 
     pub member-parent : (p : ℕ) → Some p ≡ parent_at f n → is_among n (tree_order_of f root) ≡ is_among p (tree_order_of f root)
-    member-parent p up = both-ways (is_among n (tree_order_of f root)) (is_among p (tree_order_of f root)) (λ h. among-parent f root tidy is n p ne h (sym up)) (λ among.
+    member-parent p up = both-ways (is_among n (tree_order_of f root)) (is_among p (tree_order_of f root)) (λ h. among-parent f root tidy is n p ne h (sym up))
+        (λ among.
         let its_tree = found None None root f (tidy-apart f tidy) (node_stands f root tidy is) in
         let low = order-inside p (tree_of root f) among in
         let it = found its_tree.parent its_tree.host p (tree_of root f) (tree_apart root f (tidy-apart f tidy)) low in

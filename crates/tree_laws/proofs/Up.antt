@@ -7,7 +7,8 @@ use Rattle.node_trees.specs.Nodes.{times}
 use Rattle.node_trees.specs.Spots.{Spot, spot_of, spot_in}
 use Rattle.node_trees.specs.Paths.{path}
 use Rattle.tree_laws.proofs.Sums.{apart-shadow, apart-children, apart-rest, here, in_shadow, in_children, in_rest, stands_where, times-without}
-use Rattle.tree_laws.proofs.Pieces.{spot-here, spot-shadow, spot-children, spot-rest, tree_of-shadow, tree_of-children, tree_of-rest, path-here, path-shadow, path-children, path-rest}
+use Rattle.tree_laws.proofs.Pieces.{spot-here, spot-shadow, spot-children, spot-rest, tree_of-shadow, tree_of-children, tree_of-rest, path-here, path-shadow}
+use Rattle.tree_laws.proofs.Pieces.{path-children, path-rest}
 use Rattle.node_trees.proofs.Weights.{IsApart}
 
 -- n stands under q: as its child, or as the root of its shadow tree

@@ -1,5 +1,6 @@
 -- The shadow-including order of a node's tree: who is in it, and that it names nobody twice.
-use Rattle.std.proofs.Common.{◌≡◌, ◌≢◌, ℕ, Bool, true, false, ◌+◌, ◌<◌, ◌||◌, List, [], ◌∷◌, ◌++◌, refl, sym, ap, ◌∙◌, subst, arith, inl, inr, length, length-append, append_assoc}
+use Rattle.std.proofs.Common.{◌≡◌, ◌≢◌, ℕ, Bool, true, false, ◌+◌, ◌<◌, ◌||◌, List, [], ◌∷◌, ◌++◌, refl, sym, ap, ◌∙◌, subst, arith, inl, inr, length}
+use Rattle.std.proofs.Common.{length-append, append_assoc}
 use Rattle.std.proofs.lemmas.Bool.Decides.{nat_tests}
 use Rattle.std.proofs.lemmas.Bool.{cases_eq, cases_lt}
 use Rattle.node_trees.specs.Facts.{Facts}
@@ -16,7 +17,8 @@ use Rattle.tree_laws.proofs.Sums.{tidy-apart, apart-shadow, apart-children, apar
 
 pub order-join : (f g : Trees) → order (join f g) ≡ order f ++ order g
 order-join none g = refl
-order-join (tree m x s k r) g = ap (λ xs. m ∷ xs) (rw (order-join r g, append_assoc (order s) (order k ++ order r) (order g), append_assoc (order k) (order r) (order g)) refl)
+order-join (tree m x s k r) g =
+    ap (λ xs. m ∷ xs) (rw (order-join r g, append_assoc (order s) (order k ++ order r) (order g), append_assoc (order k) (order r) (order g)) refl)
 
 -- each node is in the order as often as in the trees
 
@@ -73,8 +75,10 @@ module _ (n i m : ℕ) (x : Facts) (s k r : Trees) (apart : IsApart (tree m x s 
         let one = apart n in
         elim (cases_lt 0 (times i s + times i k)) [
           | inl low ↦
-              let first : is_among n (under m (path i s ++ path i k)) ≡ true = subst (λ v. is_among v (under m (path i s ++ path i k)) ≡ true) e (under-first m (path i s ++ path i k) (long-below i s k low)) in
-              rw (path-parts ne) (order-there i (tree m x s k none) (omega arith) ∙ sym (is_among-append n (under m (path i s ++ path i k)) (path i r) ∙ ap (λ b. b || is_among n (path i r)) first))
+              let first : is_among n (under m (path i s ++ path i k)) ≡ true =
+              subst (λ v. is_among v (under m (path i s ++ path i k)) ≡ true) e (under-first m (path i s ++ path i k) (long-below i s k low)) in
+              rw (path-parts ne) (order-there i (tree m x s k none) (omega arith)
+              ∙ sym (is_among-append n (under m (path i s ++ path i k)) (path i r) ∙ ap (λ b. b || is_among n (path i r)) first))
           | inr z ↦
               let beside : is_among n (path i r) ≡ false = off-path n i r (grind (arith, nat_tests)) in
               rw (path-rest i m x s k r ne (omega arith) (omega arith)) (order-absent i (tree m x s k none) (grind (arith, nat_tests)) ∙ sym beside)
@@ -82,7 +86,8 @@ module _ (n i m : ℕ) (x : Facts) (s k r : Trees) (apart : IsApart (tree m x s 
   ]
 
   -- n is another
-  walked-other : m ≢ n → is_among i (order_of s n) ≡ is_among n (path i s) → is_among i (order_of k n) ≡ is_among n (path i k) → is_among i (order_of r n) ≡ is_among n (path i r)
+  walked-other : m ≢ n → is_among i (order_of s n) ≡ is_among n (path i s) → is_among i (order_of k n) ≡ is_among n (path i k)
+      → is_among i (order_of r n) ≡ is_among n (path i r)
       → is_among i (order_of (tree m x s k r) n) ≡ is_among n (path i (tree m x s k r))
   walked-other other in_s in_k in_r = elim (cases_eq m i) [
     | inl at ↦
@@ -92,8 +97,14 @@ module _ (n i m : ℕ) (x : Facts) (s k r : Trees) (apart : IsApart (tree m x s 
         let out_r : is_among n (path i r) ≡ false = ap (is_among n) (path-absent i r (grind (arith, nat_tests))) in
         rw (path-here i m x s k r at) (parts ∙ grind (arith, nat_tests))
     | inr ne ↦
-        let above : is_among n (under m (path i s ++ path i k)) ≡ (is_among n (path i s) || is_among n (path i k)) = under-other n m (path i s ++ path i k) other ∙ is_among-append n (path i s) (path i k) in
-        rw (path-parts ne, is_among-append n (under m (path i s ++ path i k)) (path i r), above, or-assoc (is_among n (path i s)) (is_among n (path i k)) (is_among n (path i r))) parts
+        let above : is_among n (under m (path i s ++ path i k)) ≡ (is_among n (path i s) || is_among n (path i k)) =
+        under-other n m (path i s ++ path i k) other ∙ is_among-append n (path i s) (path i k) in
+        rw (
+          path-parts ne,
+          is_among-append n (under m (path i s ++ path i k)) (path i r),
+          above,
+          or-assoc (is_among n (path i s)) (is_among n (path i k)) (is_among n (path i r)),
+        ) parts
   ]
     where
       tree_is : tree_of n (tree m x s k r) ≡ join (tree_of n s) (join (tree_of n k) (tree_of n r))
@@ -108,7 +119,8 @@ walked-apart : (n i : ℕ) (f : Trees) → IsApart f → is_among i (order (tree
 walked-apart n i none apart = refl
 walked-apart n i (tree m x s k r) apart = elim (cases_eq m n) [
   | inl e ↦ rw (tree_of-here n m x s k r e) (walked-here n i m x s k r apart e)
-  | inr ne ↦ walked-other n i m x s k r apart ne (walked-apart n i s (apart-shadow m x s k r apart)) (walked-apart n i k (apart-children m x s k r apart)) (walked-apart n i r (apart-rest m x s k r apart))
+  | inr ne ↦ walked-other n i m x s k r apart ne (walked-apart n i s (apart-shadow m x s k r apart)) (walked-apart n i k (apart-children m x s k r apart))
+      (walked-apart n i r (apart-rest m x s k r apart))
 ]
 
 pub walked : (f : Trees) (n i : ℕ) → IsTidy f → is_among i (order_of f n) ≡ is_among n (path i f)

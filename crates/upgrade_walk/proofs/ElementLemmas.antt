@@ -21,5 +21,6 @@ pub element_is : (forest : Trees) (n : ℕ) → is_element (kind_at forest n) �
 element_is forest n is node = record { node = node; kind = element_kind (kind_at forest n) is }
 
 -- a node that a definition may upgrade
-pub candidate_is : (local : List ℕ) (value : Option (List ℕ)) (forest : Trees) (n : ℕ) → is_candidate local value (facts_at forest n) ≡ true → IsNode forest n → IsElement forest n
+pub candidate_is : (local : List ℕ) (value : Option (List ℕ)) (forest : Trees) (n : ℕ) → is_candidate local value (facts_at forest n) ≡ true → IsNode forest n
+    → IsElement forest n
 candidate_is local value forest n is = element_is forest n (candidate_element local value (facts_at forest n) is)

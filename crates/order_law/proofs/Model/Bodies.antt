@@ -33,7 +33,8 @@ use Rattle.order_law.proofs.Model.Hands.{with_hands, IsHeld, all_rows, all_under
 use Rattle.order_law.proofs.Model.Ending.{spent_lawful}
 use Rattle.order_law.proofs.Model.Lines.{Plain, plain_holds, construct_plain, caught_plain, asked_plain}
 use Rattle.order_law.proofs.Model.Steps.{Keeps, keeps_bind, keeps_seq, keeps_throw}
-use Rattle.order_law.proofs.Model.Giving.{one, maybe, given_nodes, Gives, gives_bind, gives_after, gives_seq, gives_give, gives_throw, gives_if, gives_catch, gives_look, gives_keeps, gives_page, FoundRows}
+use Rattle.order_law.proofs.Model.Giving.{one, maybe, given_nodes, Gives, gives_bind, gives_after, gives_seq, gives_give, gives_throw, gives_if, gives_catch}
+use Rattle.order_law.proofs.Model.Giving.{gives_look, gives_keeps, gives_page, FoundRows}
 use Rattle.order_law.proofs.Model.Nodes.{base_gives}
 use Rattle.order_law.proofs.Model.Draining.{KeepsLaw, ConstructsKeep, BodiesKeep}
 
@@ -101,7 +102,8 @@ first_row h s k = let some = k.rest.sound.some in record { low = omega arith; hi
 -- in a view of a state
 pub view_row : (h : List Hold) (this : Option ℕ) (operand : Operand) (s : State) → All (λ n. IsHeld n h) (maybe this) → HoldsIn h s →
     FoundRows one (length s.page.elements) (node (view this s) operand)
-view_row h this operand s held k = node_row (length s.page.elements) (view this s) operand (first_row h s k) (all_rows (maybe this) h s.log s.page held k.holds) k.rest.named
+view_row h this operand s held k =
+    node_row (length s.page.elements) (view this s) operand (first_row h s k) (all_rows (maybe this) h s.log s.page held k.holds) k.rest.named
 
 abbrev pub flow_nodes : Flow → List ℕ
 flow_nodes (Next this) = maybe this
@@ -109,7 +111,8 @@ flow_nodes (Ended result) = maybe result
 
 returned_gives : (h : List Hold) (this : Option ℕ) (o : Option Operand) → All (λ n. IsHeld n h) (maybe this) → Gives flow_nodes h (returned this o)
 returned_gives h this None held = gives_give (Ended this) held
-returned_gives h this (Some operand) held = gives_bind {nodes = one} (gives_look this (λ v. node v operand) (λ s k. view_row h this operand s held k)) (λ n. gives_give (Ended (Some n)) (inl refl, tt))
+returned_gives h this (Some operand) held =
+    gives_bind {nodes = one} (gives_look this (λ v. node v operand) (λ s k. view_row h this operand s held k)) (λ n. gives_give (Ended (Some n)) (inl refl, tt))
 
 -- a constructor under an upgrade begins
 
@@ -125,7 +128,8 @@ precustomized_holds n h l p k =
       dropping = k.dropping;
       queues = k.queues;
       elements = says_row b (InUpgrade n ∷ h) p n e k.elements.ongoing.0 (record {
-        defined = each_map (λ w. fits w.what (definition_of p w.element) ≡ true) (λ w. w.element ≡ n → fits w.what (option_and_then (slice_get p.definitions) e.definition) ≡ true) b.waiting
+        defined = each_map (λ w. fits w.what (definition_of p w.element) ≡ true) (λ w. w.element ≡ n
+            → fits w.what (option_and_then (slice_get p.definitions) e.definition) ≡ true) b.waiting
             (λ w f is. sym (ap (λ m. fits w.what (definition_of p m)) is) ∙ f) k.elements.defined;
         unset = λ x. absurd (let y : false ≡ true = x in cc);
         upgraded = λ _. refl;
@@ -134,35 +138,51 @@ precustomized_holds n h l p k =
     }
 
 precustomized : (n : ℕ) (h : List Hold) → Keeps (InUpgrade n ∷ h) (change_page (with_state n Precustomized))
-precustomized n h = record { at = λ s k. record { holds = precustomized_holds n h s.log s.page k.holds; notes = k.notes; rest = rest_row n (record (element_of s.page n) { state = Precustomized }) s k.rest } }
+precustomized n h = record {
+  at =
+      λ s k. record {
+        holds = precustomized_holds n h s.log s.page k.holds;
+        notes = k.notes;
+        rest = rest_row n (record (element_of s.page n) { state = Precustomized }) s k.rest;
+      };
+}
 
 base : (class : ℕ) (h : List Hold) → Gives one h (on_page (base_call class))
 base class h = gives_page (λ vs l. base_gives class)
 
 module _ (again : Again) (keeps : KeepsLaw again) where
-  act_gives : (class : ℕ) (args : Args) (this : Option ℕ) (a : Act) (h : List Hold) → All (λ n. IsHeld n h) (maybe this) → Gives flow_nodes h (act again class args this a)
+  act_gives : (class : ℕ) (args : Args) (this : Option ℕ) (a : Act) (h : List Hold) → All (λ n. IsHeld n h) (maybe this)
+      → Gives flow_nodes h (act again class args this a)
   act_gives class args this (Both op) h held =
       gives_after (keeps_read (λ s. (class_of s class).memory)) (λ memory. gives_bind (keeps.operates this (fixed memory args op) h held)
       (λ given. gives_seq (keeps_told given) (gives_give (Next this) (all_under (given_nodes given) (maybe this) h held))))
   act_gives class args this (Log vals) h held =
-      gives_after (keeps_read (λ s. (class_of s class).memory)) (λ memory. gives_seq (keeps_plain (Logged (map (text_of memory args) vals)) (logged_plain (map (text_of memory args) vals))) (gives_give (Next this) held))
-  act_gives class args this Super h held = gives_bind (base class h) (λ n. gives_seq (keeps_throw_if (is_some this) ReferenceError) (gives_give (Next (Some n)) (inl refl, tt)))
+      gives_after (keeps_read (λ s. (class_of s class).memory))
+      (λ memory. gives_seq (keeps_plain (Logged (map (text_of memory args) vals)) (logged_plain (map (text_of memory args) vals)))
+      (gives_give (Next this) held))
+  act_gives class args this Super h held =
+      gives_bind (base class h) (λ n. gives_seq (keeps_throw_if (is_some this) ReferenceError) (gives_give (Next (Some n)) (inl refl, tt)))
   act_gives class args this (Return operand) h held = returned_gives h this operand held
-  act_gives class args this (Throw val) h held = gives_after (keeps_read (λ s. (class_of s class).memory)) (λ memory. gives_throw (UserThrow (text_of memory args val)))
-  act_gives class args this Bump h held = gives_seq (keeps_class class (λ c. record c { memory = record (c.memory) { count = bumped (c.memory).count } })) (gives_give (Next this) held)
+  act_gives class args this (Throw val) h held =
+      gives_after (keeps_read (λ s. (class_of s class).memory)) (λ memory. gives_throw (UserThrow (text_of memory args val)))
+  act_gives class args this Bump h held =
+      gives_seq (keeps_class class (λ c. record c { memory = record (c.memory) { count = bumped (c.memory).count } })) (gives_give (Next this) held)
   act_gives class args this (Keep val) h held =
       gives_after (keeps_read (λ s. (class_of s class).memory))
       (λ memory. gives_seq (keeps_class class (λ c. record c { memory = record (c.memory) { kept = text_of memory args val } })) (gives_give (Next this) held))
   act_gives class args this (Try action) h held =
-      gives_catch (gives_seq keeps_spend (act_gives class args this action h held)) (λ f. gives_seq (keeps_plain (Caught f) (caught_plain f)) (gives_give (Next this) held))
+      gives_catch (gives_seq keeps_spend (act_gives class args this action h held))
+      (λ f. gives_seq (keeps_plain (Caught f) (caught_plain f)) (gives_give (Next this) held))
   act_gives class args this (If equal left right action) h held =
       gives_after (keeps_read (λ s. (class_of s class).memory))
-      (λ memory. gives_if (holds equal (text_of memory args left) (text_of memory args right)) (gives_seq keeps_spend (act_gives class args this action h held)) (gives_give (Next this) held))
+      (λ memory. gives_if (holds equal (text_of memory args left) (text_of memory args right))
+      (gives_seq keeps_spend (act_gives class args this action h held)) (gives_give (Next this) held))
 
   body_gives : (class : ℕ) (args : Args) (this : Option ℕ) (actions : List Act) (h : List Hold) → All (λ n. IsHeld n h) (maybe this) →
       Gives maybe h (body again class args this actions)
   body_gives class args this [] h held = gives_give this held
-  body_gives class args this (a ∷ rest) h held = gives_seq keeps_spend (gives_bind (act_gives class args this a h held) (λ flow. flows flow (λ next g held. body_gives class args next rest g held)))
+  body_gives class args this (a ∷ rest) h held =
+      gives_seq keeps_spend (gives_bind (act_gives class args this a h held) (λ flow. flows flow (λ next g held. body_gives class args next rest g held)))
     where
       flows : (flow : Flow) →
           ((next : Option ℕ) (g : List Hold) → All (λ n. IsHeld n g) (maybe next) → Gives maybe g (body again class args next rest)) →
@@ -181,7 +201,8 @@ module _ (again : Again) (keeps : KeepsLaw again) where
   construct_of : (class : ℕ) (k : Class) (h : List Hold) →
       Gives one h (log (Construct k.name) >> (constructor_body again class k >>= (λ result. found result ReferenceError)))
   construct_of class k h = gives_seq (keeps_plain (Construct k.name) (construct_plain k.name))
-      (gives_bind {nodes = maybe} (gives_if (has_call Constructor k.facts.calls) (body_gives class no_args None (actions_of Constructor k.bodies) h tt) (alone_gives class h))
+      (gives_bind {nodes = maybe} (gives_if (has_call Constructor k.facts.calls) (body_gives class no_args None (actions_of Constructor k.bodies) h tt)
+      (alone_gives class h))
       (λ result. result_gives (with_hands (maybe result) h) result (all_taken (maybe result) h)))
 
   pub construct_gives : (class : ℕ) (h : List Hold) → Gives one h (construct again class)
@@ -193,7 +214,8 @@ module _ (again : Again) (keeps : KeepsLaw again) where
   construct_class_keeps : (n d : ℕ) (h : List Hold) → Keeps (InUpgrade n ∷ h) (construct_class again n d)
   construct_class_keeps n d h =
       keeps_seq (keeps_throw_where (λ (s : State). is_shadow_refused s.page n d) NotSupportedError)
-      (keeps_seq (precustomized n h) (keeps_bind (keeps_read_page (λ p. (definition_at p d).class)) (λ class. gives_keeps (construct_gives class (InUpgrade n ∷ h)))))
+      (keeps_seq (precustomized n h)
+      (keeps_bind (keeps_read_page (λ p. (definition_at p d).class)) (λ class. gives_keeps (construct_gives class (InUpgrade n ∷ h)))))
 
   pub construct_for_keeps : ConstructsKeep again
   construct_for_keeps n d h = keeps_bind (construct_class_keeps n d h) (λ result. keeps_throw_if (not (result == n)) TypeError)

@@ -1,5 +1,6 @@
 -- A reaction is enqueued; a queue is closed; the checkpoint; lines that change no queue.
-use Rattle.std.proofs.Common.{◌≡◌, ℕ, suc, ◌+◌, ◌<◌, ◌≤◌, Bool, true, false, List, [], ◌∷◌, ◌++◌, map, None, refl, sym, ap, ◌∙◌, subst, arith, ⊎_elim, inl, inr, append-nil}
+use Rattle.std.proofs.Common.{◌≡◌, ℕ, suc, ◌+◌, ◌<◌, ◌≤◌, Bool, true, false, List, [], ◌∷◌, ◌++◌, map, None, refl, sym, ap, ◌∙◌, subst, arith, ⊎_elim, inl, inr}
+use Rattle.std.proofs.Common.{append-nil}
 use Rattle.std.specs.Option.{option_and_then}
 use Rattle.std.specs.Prelude.{slice_get, ◌==◌, ◌||◌, ◌&&◌, not}
 use Rattle.std.proofs.lemmas.Bool.{eqb-true, eq-eqb, or_left}
@@ -16,7 +17,8 @@ use Rattle.order_law.specs.Book.{Entry, Book, blank}
 use Rattle.order_law.specs.Reads.{current, is_one_of, is_callback}
 use Rattle.order_law.specs.Clauses.{goes_on}
 use Rattle.order_law.proofs.Model.Reading.{Reads, tested, reads_append, reads_one, told_at, Each, each_map, each_append, add_if}
-use Rattle.order_law.proofs.Model.Invariant.{Hold, InSteps, InDrain, InReaction, InUpgrade, InHand, brackets_of, fillings_of, Falling, IsIn, IsPlaced, is_checkpoint, has_any, told, SaysQueues, Known, fits, SaysElements, Holds}
+use Rattle.order_law.proofs.Model.Invariant.{Hold, InSteps, InDrain, InReaction, InUpgrade, InHand, brackets_of, fillings_of, Falling, IsIn, IsPlaced}
+use Rattle.order_law.proofs.Model.Invariant.{is_checkpoint, has_any, told, SaysQueues, Known, fits, SaysElements, Holds}
 use Rattle.order_law.proofs.Model.Rows.{waits_same, waits_other}
 use Rattle.ce_base.proofs.Places.{each_number}
 use Rattle.order_law.proofs.Entries.{Rising}
@@ -27,7 +29,8 @@ current_of_holds : (h : List Hold) (os : List Open) → map (λ (o : Open). o.nu
 current_of_holds [] [] e = refl
 current_of_holds [] (o ∷ os) e = absurd (let x : ◌≡◌ {A = List ℕ} (o.number ∷ map (λ (o : Open). o.number) os) [] = e in cc)
 current_of_holds (InSteps q ∷ h) [] e = absurd (let x : ◌≡◌ {A = List ℕ} [] (q ∷ fillings_of h) = e in cc)
-current_of_holds (InSteps q ∷ h) (o ∷ os) e = let x : ◌≡◌ {A = List ℕ} (o.number ∷ map (λ (o : Open). o.number) os) (q ∷ fillings_of h) = e in let y : o.number ≡ q = cc in sym y
+current_of_holds (InSteps q ∷ h) (o ∷ os) e = let x : ◌≡◌ {A = List ℕ} (o.number ∷ map (λ (o : Open). o.number) os) (q ∷ fillings_of h) =
+    e in let y : o.number ≡ q = cc in sym y
 current_of_holds (InDrain q ns ∷ h) os e = current_of_holds h os e
 current_of_holds (InReaction w called ∷ h) os e = current_of_holds h os e
 current_of_holds (InUpgrade n ∷ h) os e = current_of_holds h os e
@@ -99,24 +102,28 @@ enqueued_holds n x h l p known fitting k = go p.queues.stack refl
     loud : (what : CallOrUpgrade) → fits what (definition_of p n) ≡ true → (t : Bool) → is_one_of n b.thrown ≡ t → is_callback what && t ≡ false
     loud IsUpgrade fit t m = refl
     loud (Call name) fit false m = refl
-    loud (Call name) fit true m = absurd (let d = (k.elements.thrown n m).1 in let y : false ≡ true = sym (ap (λ o. fits (Call name) (option_and_then (slice_get p.definitions) o)) d) ∙ fit in cc)
+    loud (Call name) fit true m = absurd
+        (let d = (k.elements.thrown n m).1 in let y : false ≡ true = sym (ap (λ o. fits (Call name) (option_and_then (slice_get p.definitions) o)) d)
+        ∙ fit in cc)
 
     reads : (os : List Open) → p.queues.stack ≡ os → Reads blank (l ++ Enqueued r n (what_of x) (number_of os) ∷ []) (next (number_of os))
-    reads os e = reads_append blank l (Enqueued r n (what_of x) (number_of os) ∷ []) b (next (number_of os)) k.reads (reads_one b (Enqueued r n (what_of x) (number_of os)) (tested b (Enqueued r n (what_of x) (number_of os)) (record {
-      counts = ap (λ t. t && (number_of os == current b.brackets)) (eq-eqb r (b.numbers + 1) (ap (λ m. m + 1) (sym s.numbers))) ∙ eq-eqb (number_of os) (current b.brackets) (ap number_of (sym e) ∙ sym (current_of_holds h p.queues.stack s.opens) ∙ ap current (sym s.brackets));
-      starts = refl;
-      calls = refl;
-      order = refl;
-      throws = refl;
-      together = ap (λ o. goes_on o None) k.dropping;
-      closes = refl;
-      nested = refl;
-      paid = refl;
-      upgrades = refl;
-      quiet = ap not (loud (what_of x) fitting (is_one_of n b.thrown) refl);
-      rest = refl;
-      last = ap not k.over;
-    })))
+    reads os e = reads_append blank l (Enqueued r n (what_of x) (number_of os) ∷ []) b (next (number_of os)) k.reads
+        (reads_one b (Enqueued r n (what_of x) (number_of os)) (tested b (Enqueued r n (what_of x) (number_of os)) (record {
+          counts = ap (λ t. t && (number_of os == current b.brackets)) (eq-eqb r (b.numbers + 1) (ap (λ m. m + 1) (sym s.numbers)))
+              ∙ eq-eqb (number_of os) (current b.brackets) (ap number_of (sym e) ∙ sym (current_of_holds h p.queues.stack s.opens) ∙ ap current (sym s.brackets));
+          starts = refl;
+          calls = refl;
+          order = refl;
+          throws = refl;
+          together = ap (λ o. goes_on o None) k.dropping;
+          closes = refl;
+          nested = refl;
+          paid = refl;
+          upgrades = refl;
+          quiet = ap not (loud (what_of x) fitting (is_one_of n b.thrown) refl);
+          rest = refl;
+          last = ap not k.over;
+        })))
 
     elements : (q : ℕ) → SaysElements (next q) h p
     elements q = let e = k.elements in record {
@@ -134,16 +141,20 @@ enqueued_holds n x h l p known fitting k = go p.queues.stack refl
 
     waits : (q : ℕ) (m : ℕ) → told_at m (b.waiting ++ entry q ∷ []) ≡ map told (waiting_at (with_reaction n x (counted p.queues)) m)
     waits q = each_number (λ m. told_at m (b.waiting ++ entry q ∷ []) ≡ map told (waiting_at (with_reaction n x (counted p.queues)) m)) n
-        (told_append n b.waiting (entry q ∷ []) ∙ ap (λ t. told_at n b.waiting ++ add_if t (r, what_of x) []) (eq-eqb n n refl) ∙ ap (λ l. l ++ (r, what_of x) ∷ []) (s.waits n)
-        ∙ sym (map-append told (waiting_at p.queues n) ((r, x) ∷ [])) ∙ sym (ap (map told) (waits_same n (waiting_at (counted p.queues) n ++ (r, x) ∷ []) (counted p.queues))))
-        (λ m o. told_append m b.waiting (entry q ∷ []) ∙ ap (λ t. told_at m b.waiting ++ add_if t (r, what_of x) []) o ∙ append-nil (told_at m b.waiting) ∙ s.waits m
+        (told_append n b.waiting (entry q ∷ []) ∙ ap (λ t. told_at n b.waiting ++ add_if t (r, what_of x) []) (eq-eqb n n refl)
+        ∙ ap (λ l. l ++ (r, what_of x) ∷ []) (s.waits n)
+        ∙ sym (map-append told (waiting_at p.queues n) ((r, x) ∷ []))
+        ∙ sym (ap (map told) (waits_same n (waiting_at (counted p.queues) n ++ (r, x) ∷ []) (counted p.queues))))
+        (λ m o. told_append m b.waiting (entry q ∷ []) ∙ ap (λ t. told_at m b.waiting ++ add_if t (r, what_of x) []) o ∙ append-nil (told_at m b.waiting)
+        ∙ s.waits m
         ∙ sym (ap (map told) (waits_other n m (waiting_at (counted p.queues) n ++ (r, x) ∷ []) (counted p.queues) known.low o)))
 
     rising : (q : ℕ) → Rising 0 (b.waiting ++ entry q ∷ [])
     rising q = rising_append 0 b.numbers b.waiting (entry q) s.rising s.below (let e = s.numbers in omega (arith, e)) (omega arith)
 
     below : (q : ℕ) → Each (λ w. w.number ≤ r) (b.waiting ++ entry q ∷ [])
-    below q = each_append (λ w. w.number ≤ r) b.waiting (entry q ∷ []) (each_map (λ w. w.number ≤ b.numbers) (λ w. w.number ≤ r) b.waiting (λ w le. let e = s.numbers in omega (arith, le, e)) s.below) (omega arith, tt)
+    below q = each_append (λ w. w.number ≤ r) b.waiting (entry q ∷ [])
+        (each_map (λ w. w.number ≤ b.numbers) (λ w. w.number ≤ r) b.waiting (λ w le. let e = s.numbers in omega (arith, le, e)) s.below) (omega arith, tt)
 
     go : (os : List Open) → p.queues.stack ≡ os →
         Holds h (l ++ Enqueued r n (what_of x) (number_of os) ∷ []) (with_queues (λ q. appended_to os n (with_reaction n x (counted q))) p)
@@ -152,7 +163,16 @@ enqueued_holds n x h l p known fitting k = go p.queues.stack refl
       reads = reads [] e;
       over = k.over;
       dropping = refl;
-      elements = let t = elements 0 in record { known = t.known; defined = t.defined; unset = t.unset; upgraded = t.upgraded; thrown = t.thrown; document = t.document; ongoing = t.ongoing };
+      elements = let t = elements 0 in
+          record {
+            known = t.known;
+            defined = t.defined;
+            unset = t.unset;
+            upgraded = t.upgraded;
+            thrown = t.thrown;
+            document = t.document;
+            ongoing = t.ongoing;
+          };
       queues = record {
         numbers = refl;
         queues = s.queues;
@@ -178,7 +198,16 @@ enqueued_holds n x h l p known fitting k = go p.queues.stack refl
       reads = reads (o ∷ os) e;
       over = k.over;
       dropping = refl;
-      elements = let t = elements o.number in record { known = t.known; defined = t.defined; unset = t.unset; upgraded = t.upgraded; thrown = t.thrown; document = t.document; ongoing = t.ongoing };
+      elements = let t = elements o.number in
+          record {
+            known = t.known;
+            defined = t.defined;
+            unset = t.unset;
+            upgraded = t.upgraded;
+            thrown = t.thrown;
+            document = t.document;
+            ongoing = t.ongoing;
+          };
       queues = record {
         numbers = refl;
         queues = s.queues;
@@ -189,9 +218,12 @@ enqueued_holds n x h l p known fitting k = go p.queues.stack refl
         opens = ap (map (λ (o : Open). o.number)) (sym e) ∙ s.opens;
         falls = s.falls;
         placed = each_append (IsPlaced (fuller ∷ os) p.queues.backup h) b.waiting (entry o.number ∷ [])
-            (each_map (IsPlaced p.queues.stack p.queues.backup h) (IsPlaced (fuller ∷ os) p.queues.backup h) b.waiting (λ w i. later w (subst (λ t. IsPlaced t p.queues.backup h w) e i)) s.placed)
+            (each_map (IsPlaced p.queues.stack p.queues.backup h) (IsPlaced (fuller ∷ os) p.queues.backup h) b.waiting
+            (λ w i. later w (subst (λ t. IsPlaced t p.queues.backup h w) e i)) s.placed)
             (inl (inl (refl, is_in_last n o.elements)), tt);
-        owed = ⊎_elim (λ f. inl (ap (λ t. t || (o.number == 0)) f ∙ zero_not o.number (filling_high o.number (suc p.queues.pushed) (map (λ (o : Open). o.number) os) h s.falls (ap (map (λ (o : Open). o.number)) (sym e) ∙ s.opens)))) (λ t. inr t) s.owed;
+        owed = ⊎_elim (λ f. inl (ap (λ t. t || (o.number == 0)) f
+            ∙ zero_not o.number (filling_high o.number (suc p.queues.pushed) (map (λ (o : Open). o.number) os) h s.falls
+            (ap (map (λ (o : Open). o.number)) (sym e) ∙ s.opens)))) (λ t. inr t) s.owed;
       };
     }
       where

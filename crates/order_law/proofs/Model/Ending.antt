@@ -15,7 +15,8 @@ use Rattle.order_law.specs.After.{after}
 use Rattle.order_law.specs.Law.{Lawful}
 use Rattle.order_law.specs.Reads.{around as outer_of}
 use Rattle.order_law.proofs.Model.Reading.{Reads, tested, reads_append, reads_one, told_at, Each, each_map, add_if}
-use Rattle.order_law.proofs.Model.Invariant.{Hold, InSteps, InDrain, InReaction, InUpgrade, InHand, brackets_of, fillings_of, Falling, IsIn, IsOpen, IsLeft, IsPlaced, is_checkpoint, has_any, told, SaysQueues, Holds}
+use Rattle.order_law.proofs.Model.Invariant.{Hold, InSteps, InDrain, InReaction, InUpgrade, InHand, brackets_of, fillings_of, Falling, IsIn, IsOpen, IsLeft}
+use Rattle.order_law.proofs.Model.Invariant.{IsPlaced, is_checkpoint, has_any, told, SaysQueues, Holds}
 use Rattle.order_law.proofs.Model.Reactions.{falling_le}
 
 -- the close
@@ -70,7 +71,9 @@ closing : (m : ℕ) (h : List Hold) (l : List Event) (p : Page) (k : Holds (InDr
     Reads blank (l ++ QueueClosed m ∷ []) (record (k.book) { brackets = brackets_of h; owed = k.book.owed && not (m == 0); dropping = None })
 closing m h l p k out =
     let b = k.book in
-    reads_append blank l (QueueClosed m ∷ []) b _ k.reads (subst (λ bs. Reads b (QueueClosed m ∷ []) (record b { brackets = bs; owed = b.owed && not (m == 0); dropping = None })) (ap outer_of k.queues.brackets) (reads_one b (QueueClosed m) (tested b (QueueClosed m) (record {
+    reads_append blank l (QueueClosed m ∷ []) b _ k.reads
+    (subst (λ bs. Reads b (QueueClosed m ∷ []) (record b { brackets = bs; owed = b.owed && not (m == 0); dropping = None }))
+    (ap outer_of k.queues.brackets) (reads_one b (QueueClosed m) (tested b (QueueClosed m) (record {
       counts = refl;
       starts = refl;
       calls = refl;
@@ -102,10 +105,13 @@ closed_holds m h l p high k = record {
     brackets = refl;
     opens = s.opens;
     falls = falling_le m (suc p.queues.pushed) h (let lt : m ≤ suc p.queues.pushed = omega (arith, s.falls.0) in lt) s.falls.1;
-    placed = each_map (IsPlaced p.queues.stack p.queues.backup (InDrain m [] ∷ h)) (IsPlaced p.queues.stack p.queues.backup h) k.book.waiting (λ w i. other w i) s.placed;
-    owed = ⊎_elim (λ f. inl (ap (λ t. t && not (m == 0)) f)) (λ t. inr (sym (ap (λ z. has_any p.queues.backup || (z || is_checkpoint h)) (not_zero)) ∙ t)) s.owed;
+    placed = each_map (IsPlaced p.queues.stack p.queues.backup (InDrain m [] ∷ h)) (IsPlaced p.queues.stack p.queues.backup h) k.book.waiting
+        (λ w i. other w i) s.placed;
+    owed = ⊎_elim (λ f. inl (ap (λ t. t && not (m == 0)) f))
+        (λ t. inr (sym (ap (λ z. has_any p.queues.backup || (z || is_checkpoint h)) (not_zero)) ∙ t)) s.owed;
   };
-  elements = let e = k.elements in record { known = e.known; defined = e.defined; unset = e.unset; upgraded = e.upgraded; thrown = e.thrown; document = e.document; ongoing = e.ongoing };
+  elements = let e = k.elements in
+      record { known = e.known; defined = e.defined; unset = e.unset; upgraded = e.upgraded; thrown = e.thrown; document = e.document; ongoing = e.ongoing };
 }
   where
     s : SaysQueues k.book (InDrain m [] ∷ h) p.queues
@@ -138,21 +144,23 @@ checkpoint_holds l p k =
     let s = k.queues in
     record {
       book = record b { brackets = Draining 0 ∷ []; dropping = None };
-      reads = reads_append blank l (DrainBegun 0 ∷ []) b _ k.reads (subst (λ bs. Reads b (DrainBegun 0 ∷ []) (record b { brackets = Draining 0 ∷ bs; dropping = None })) (ap outer_of s.brackets) (reads_one b (DrainBegun 0) (tested b (DrainBegun 0) (record {
-        counts = refl;
-        starts = refl;
-        calls = refl;
-        order = refl;
-        throws = refl;
-        together = ap (λ o. goes_on o None) k.dropping;
-        closes = refl;
-        nested = ap (begins_drain 0) s.brackets;
-        paid = refl;
-        upgrades = refl;
-        quiet = refl;
-        rest = refl;
-        last = ap not k.over;
-      }))));
+      reads = reads_append blank l (DrainBegun 0 ∷ []) b _ k.reads
+          (subst (λ bs. Reads b (DrainBegun 0 ∷ []) (record b { brackets = Draining 0 ∷ bs; dropping = None })) (ap outer_of s.brackets)
+          (reads_one b (DrainBegun 0) (tested b (DrainBegun 0) (record {
+            counts = refl;
+            starts = refl;
+            calls = refl;
+            order = refl;
+            throws = refl;
+            together = ap (λ o. goes_on o None) k.dropping;
+            closes = refl;
+            nested = ap (begins_drain 0) s.brackets;
+            paid = refl;
+            upgrades = refl;
+            quiet = refl;
+            rest = refl;
+            last = ap not k.over;
+          }))));
       over = k.over;
       dropping = refl;
       queues = record {
@@ -164,10 +172,20 @@ checkpoint_holds l p k =
         brackets = refl;
         opens = s.opens;
         falls = (omega arith, tt);
-        placed = each_map (IsPlaced p.queues.stack p.queues.backup []) (IsPlaced p.queues.stack p.queues.backup (InDrain 0 [] ∷ [])) b.waiting (λ w i. ⊎_elim (λ x. inl x) (λ x. inr (⊎_elim (λ y. absurd y) (λ y. inr y) x)) i) s.placed;
+        placed = each_map (IsPlaced p.queues.stack p.queues.backup []) (IsPlaced p.queues.stack p.queues.backup (InDrain 0 [] ∷ [])) b.waiting
+            (λ w i. ⊎_elim (λ x. inl x) (λ x. inr (⊎_elim (λ y. absurd y) (λ y. inr y) x)) i) s.placed;
         owed = inr (or_true (has_any p.queues.backup));
       };
-      elements = let e = k.elements in record { known = e.known; defined = e.defined; unset = e.unset; upgraded = e.upgraded; thrown = e.thrown; document = e.document; ongoing = e.ongoing };
+      elements = let e = k.elements in
+          record {
+            known = e.known;
+            defined = e.defined;
+            unset = e.unset;
+            upgraded = e.upgraded;
+            thrown = e.thrown;
+            document = e.document;
+            ongoing = e.ongoing;
+          };
     }
   where
     or_true : (a : Bool) → a || true ≡ true
@@ -193,10 +211,20 @@ taken_holds n ns l p is k =
         brackets = s.brackets;
         opens = s.opens;
         falls = s.falls;
-        placed = each_map (IsPlaced p.queues.stack p.queues.backup (InDrain 0 [] ∷ [])) (IsPlaced p.queues.stack ns (InDrain 0 (n ∷ []) ∷ [])) k.book.waiting (λ w i. one w (subst (λ t. IsPlaced p.queues.stack t (InDrain 0 [] ∷ []) w) is i)) s.placed;
+        placed = each_map (IsPlaced p.queues.stack p.queues.backup (InDrain 0 [] ∷ [])) (IsPlaced p.queues.stack ns (InDrain 0 (n ∷ []) ∷ [])) k.book.waiting
+            (λ w i. one w (subst (λ t. IsPlaced p.queues.stack t (InDrain 0 [] ∷ []) w) is i)) s.placed;
         owed = inr (or_true (has_any ns));
       };
-      elements = let e = k.elements in record { known = e.known; defined = e.defined; unset = e.unset; upgraded = e.upgraded; thrown = e.thrown; document = e.document; ongoing = e.ongoing };
+      elements = let e = k.elements in
+          record {
+            known = e.known;
+            defined = e.defined;
+            unset = e.unset;
+            upgraded = e.upgraded;
+            thrown = e.thrown;
+            document = e.document;
+            ongoing = e.ongoing;
+          };
     }
   where
     or_true : (a : Bool) → a || true ≡ true
@@ -213,7 +241,8 @@ taken_holds n ns l p is k =
 pub checkpoint_closed : (l : List Event) (p : Page) → p.queues.backup ≡ [] → Holds (InDrain 0 [] ∷ []) l p → Holds [] (l ++ QueueClosed 0 ∷ []) p
 checkpoint_closed l p is k = record {
   book = record (k.book) { brackets = []; owed = k.book.owed && false; dropping = None };
-  reads = closing 0 [] l p k (each_map (IsPlaced p.queues.stack p.queues.backup (InDrain 0 [] ∷ [])) (λ w. w.queue ≢ 0) k.book.waiting (λ w i e. nowhere w (subst (λ t. IsPlaced p.queues.stack t (InDrain 0 [] ∷ []) w) is i)) s.placed);
+  reads = closing 0 [] l p k (each_map (IsPlaced p.queues.stack p.queues.backup (InDrain 0 [] ∷ [])) (λ w. w.queue ≢ 0) k.book.waiting
+      (λ w i e. nowhere w (subst (λ t. IsPlaced p.queues.stack t (InDrain 0 [] ∷ []) w) is i)) s.placed);
   over = k.over;
   dropping = refl;
   queues = record {
@@ -225,10 +254,12 @@ checkpoint_closed l p is k = record {
     brackets = refl;
     opens = s.opens;
     falls = tt;
-    placed = each_map (IsPlaced p.queues.stack p.queues.backup (InDrain 0 [] ∷ [])) (IsPlaced p.queues.stack p.queues.backup []) k.book.waiting (λ w i. absurd (nowhere w (subst (λ t. IsPlaced p.queues.stack t (InDrain 0 [] ∷ []) w) is i))) s.placed;
+    placed = each_map (IsPlaced p.queues.stack p.queues.backup (InDrain 0 [] ∷ [])) (IsPlaced p.queues.stack p.queues.backup []) k.book.waiting
+        (λ w i. absurd (nowhere w (subst (λ t. IsPlaced p.queues.stack t (InDrain 0 [] ∷ []) w) is i))) s.placed;
     owed = inl (and_false k.book.owed);
   };
-  elements = let e = k.elements in record { known = e.known; defined = e.defined; unset = e.unset; upgraded = e.upgraded; thrown = e.thrown; document = e.document; ongoing = e.ongoing };
+  elements = let e = k.elements in
+      record { known = e.known; defined = e.defined; unset = e.unset; upgraded = e.upgraded; thrown = e.thrown; document = e.document; ongoing = e.ongoing };
 }
   where
     s : SaysQueues k.book (InDrain 0 [] ∷ []) p.queues
@@ -262,7 +293,16 @@ skipped_holds q n ns h l p is k =
         owed = s.owed;
         placed = go k.book.waiting (s.waits n ∙ ap (map told) is) s.placed;
       };
-      elements = let e = k.elements in record { known = e.known; defined = e.defined; unset = e.unset; upgraded = e.upgraded; thrown = e.thrown; document = e.document; ongoing = e.ongoing };
+      elements = let e = k.elements in
+          record {
+            known = e.known;
+            defined = e.defined;
+            unset = e.unset;
+            upgraded = e.upgraded;
+            thrown = e.thrown;
+            document = e.document;
+            ongoing = e.ongoing;
+          };
     }
   where
     one : (w : Entry) → (n ≡ w.element → ⊥) → IsPlaced p.queues.stack p.queues.backup (InDrain q (n ∷ ns) ∷ h) w →
@@ -305,7 +345,11 @@ spent_lawful h l p k =
 
 -- nothing is suspended and the backup element queue is empty: nothing waits, and no checkpoint is owed
 pub at_rest : (l : List Event) (p : Page) → p.queues.backup ≡ [] → (k : Holds [] l p) → (k.book.waiting ≡ []) × (k.book.owed ≡ false)
-at_rest l p is k = (none k.book.waiting k.queues.placed, ⊎_elim (λ f. f) (λ t. absurd (let x : has_any [] || false ≡ true = sym (ap (λ ns. has_any ns || false) is) ∙ t in let y : false ≡ true = x in cc)) k.queues.owed)
+at_rest l p is k = (
+  none k.book.waiting k.queues.placed,
+  ⊎_elim (λ f. f) (λ t. absurd (let x : has_any [] || false ≡ true = sym (ap (λ ns. has_any ns || false) is) ∙ t in let y : false ≡ true = x in cc))
+      k.queues.owed,
+)
   where
     nowhere : (w : Entry) → IsPlaced p.queues.stack p.queues.backup [] w → ⊥
     nowhere w (inl i) = no_open w p.queues.stack k.queues.opens i

@@ -63,7 +63,8 @@ reads_element s = is_element (or_no_spot s).facts.kind
 pub element_there : (f : Trees) (n : ℕ) → is_element (kind_at f n) ≡ true → 0 < times n f
 element_there f n is = elim (cases_lt 0 (times n f)) [
   | inl there ↦ there
-  | inr out ↦ absurd (let none : spot_in None None n f ≡ None = spot-absent None None n f (omega arith) in let x : false ≡ true = sym (ap reads_element none) ∙ is in cc)
+  | inr out ↦ absurd (let none : spot_in None None n f ≡ None = spot-absent None None n f (omega arith) in let x : false ≡ true = sym (ap reads_element none)
+      ∙ is in cc)
 ]
 
 first_or : (a b : Option Spot) → reads_element (or_spot a b) ≡ true → (reads_element a ≡ true) ⊎ (reads_element b ≡ true)
@@ -74,23 +75,29 @@ pub element_counts : (parent host : Option ℕ) (n : ℕ) (f : Trees) → reads_
     0 < weight (λ m x. one_element n m x.kind) f
 element_counts parent host n none is = absurd (let x : false ≡ true = is in cc)
 element_counts parent host n (tree m x shadow children rest) is =
-    go (m == n) refl is (λ a. element_counts None (Some m) n shadow a) (λ a. element_counts (Some m) None n children a) (λ a. element_counts parent host n rest a)
+    go (m == n) refl is (λ a. element_counts None (Some m) n shadow a) (λ a. element_counts (Some m) None n children a)
+    (λ a. element_counts parent host n rest a)
   where
     count : Trees → ℕ
     count f = weight (λ m x. one_element n m x.kind) f
 
     go : (t : Bool) → m == n ≡ t →
-        reads_element (if t then Some (spot_of x parent host shadow children) else or_spot (spot_in None (Some m) n shadow) (or_spot (spot_in (Some m) None n children) (spot_in parent host n rest))) ≡ true
-        → (reads_element (spot_in None (Some m) n shadow) ≡ true → 0 < count shadow) → (reads_element (spot_in (Some m) None n children) ≡ true → 0 < count children) → (reads_element (spot_in parent host n rest) ≡ true → 0 < count rest)
+        reads_element (if t then Some (spot_of x parent host shadow children) else or_spot (spot_in None (Some m) n shadow)
+        (or_spot (spot_in (Some m) None n children) (spot_in parent host n rest))) ≡ true
+        → (reads_element (spot_in None (Some m) n shadow) ≡ true → 0 < count shadow)
+        → (reads_element (spot_in (Some m) None n children) ≡ true → 0 < count children)
+        → (reads_element (spot_in parent host n rest) ≡ true → 0 < count rest)
         → 0 < count (tree m x shadow children rest)
-    go true t is in_shadow in_children in_rest = let first : one_element n m x.kind ≡ 1 = ap (λ v. if v && is_element x.kind then 1 else 0) t ∙ ap (λ v. if v then 1 else 0) is in omega (arith, first)
-    go false t is in_shadow in_children in_rest = elim (first_or (spot_in None (Some m) n shadow) (or_spot (spot_in (Some m) None n children) (spot_in parent host n rest)) is) [
-      | inl a ↦ let h = in_shadow a in omega (arith, h)
-      | inr b ↦ elim (first_or (spot_in (Some m) None n children) (spot_in parent host n rest) b) [
-        | inl a ↦ let h = in_children a in omega (arith, h)
-        | inr c ↦ let h = in_rest c in omega (arith, h)
-      ]
-    ]
+    go true t is in_shadow in_children in_rest = let first : one_element n m x.kind ≡ 1 =
+        ap (λ v. if v && is_element x.kind then 1 else 0) t ∙ ap (λ v. if v then 1 else 0) is in omega (arith, first)
+    go false t is in_shadow in_children in_rest =
+        elim (first_or (spot_in None (Some m) n shadow) (or_spot (spot_in (Some m) None n children) (spot_in parent host n rest)) is) [
+          | inl a ↦ let h = in_shadow a in omega (arith, h)
+          | inr b ↦ elim (first_or (spot_in (Some m) None n children) (spot_in parent host n rest) b) [
+            | inl a ↦ let h = in_children a in omega (arith, h)
+            | inr c ↦ let h = in_rest c in omega (arith, h)
+          ]
+        ]
 
 no_host : shadow_host [] ≡ false
 unfolding shadow_host custom_name chars
@@ -99,7 +106,8 @@ no_host = refl
 pub host_there : (f : Trees) (n : ℕ) → shadow_host (facts_at f n).local ≡ true → 0 < times n f
 host_there f n is = elim (cases_lt 0 (times n f)) [
   | inl there ↦ there
-  | inr out ↦ absurd (let none : spot_in None None n f ≡ None = spot-absent None None n f (omega arith) in let x : false ≡ true = sym no_host ∙ sym (ap (λ s. shadow_host (or_no_spot s).facts.local) none) ∙ is in cc)
+  | inr out ↦ absurd (let none : spot_in None None n f ≡ None = spot-absent None None n f (omega arith) in let x : false ≡ true = sym no_host
+      ∙ sym (ap (λ s. shadow_host (or_no_spot s).facts.local) none) ∙ is in cc)
 ]
 
 -- what is outside of the tree of a node

@@ -5,7 +5,8 @@ use Rattle.ce_base.specs.declared.fault.Fault.{Fault}
 use Rattle.ce_events.specs.declared.event.Event.{Event}
 use Rattle.ce_algorithms.specs.declared.given.Given.{Given}
 use Rattle.ce_algorithms.specs.declared.given.Given.TheVariants.{Node}
-use Rattle.ce_algorithms.specs.Steps.{Step, Outcome, Goes, Throws, Spent, then_do, ◌>>=◌, ◌>>◌, give, throw, throw_if, throw_any, throw_where, refuse, catch, catch_in, settle}
+use Rattle.ce_algorithms.specs.Steps.{Step, Outcome, Goes, Throws, Spent, then_do, ◌>>=◌, ◌>>◌, give, throw, throw_if, throw_any, throw_where, refuse, catch}
+use Rattle.ce_algorithms.specs.Steps.{catch_in, settle}
 use Rattle.ce_algorithms.specs.Page.{Work}
 use Rattle.ce_algorithms.specs.State.{State, View, view, look, event_of, with_outcome, work_of, on_page}
 use Rattle.order_law.specs.Law.{Lawful}
@@ -177,7 +178,8 @@ page_back nodes h s (Spent w) k = spent_lawful (with_hands (nodes_of s.variables
 
 pub gives_page : {A : Type 0} {nodes : A → List ℕ} {h : List Hold} {f : Step Work A} →
     ((vs : List ℕ) (l : List Event) → GivesAt nodes (with_hands vs h) l f) → Gives nodes h (on_page f)
-gives_page {nodes = nodes} {h = h} {f = f} n = record { at = λ s k. page_back nodes h s (f (work_of s)) ((n (nodes_of s.variables) s.log).at (work_of s) (at_work h s k)) }
+gives_page {nodes = nodes} {h = h} {f = f} n =
+    record { at = λ s k. page_back nodes h s (f (work_of s)) ((n (nodes_of s.variables) s.log).at (work_of s) (at_work h s k)) }
 
 -- what is looked up
 abbrev pub FoundRows : {A : Type 0} → (A → List ℕ) → ℕ → Result A Fault → Type 0

@@ -61,8 +61,28 @@ take_one n h l p row k = record {
   reads = k.reads;
   over = k.over;
   dropping = k.dropping;
-  queues = let q = k.queues in record { numbers = q.numbers; queues = q.queues; rising = q.rising; below = q.below; waits = q.waits; brackets = q.brackets; opens = q.opens; falls = q.falls; placed = q.placed; owed = q.owed };
-  elements = let e = k.elements in record { known = e.known; defined = e.defined; unset = e.unset; upgraded = e.upgraded; thrown = e.thrown; document = e.document; ongoing = (row, e.ongoing) };
+  queues = let q = k.queues in record {
+    numbers = q.numbers;
+    queues = q.queues;
+    rising = q.rising;
+    below = q.below;
+    waits = q.waits;
+    brackets = q.brackets;
+    opens = q.opens;
+    falls = q.falls;
+    placed = q.placed;
+    owed = q.owed;
+  };
+  elements = let e = k.elements in
+      record {
+        known = e.known;
+        defined = e.defined;
+        unset = e.unset;
+        upgraded = e.upgraded;
+        thrown = e.thrown;
+        document = e.document;
+        ongoing = (row, e.ongoing);
+      };
 }
 
 drop_one : (n : ℕ) (h : List Hold) (l : List Event) (p : Page) → Holds (InHand n ∷ h) l p → Holds h l p
@@ -71,8 +91,20 @@ drop_one n h l p k = record {
   reads = k.reads;
   over = k.over;
   dropping = k.dropping;
-  queues = let q = k.queues in record { numbers = q.numbers; queues = q.queues; rising = q.rising; below = q.below; waits = q.waits; brackets = q.brackets; opens = q.opens; falls = q.falls; placed = q.placed; owed = q.owed };
-  elements = let e = k.elements in record { known = e.known; defined = e.defined; unset = e.unset; upgraded = e.upgraded; thrown = e.thrown; document = e.document; ongoing = e.ongoing.1 };
+  queues = let q = k.queues in record {
+    numbers = q.numbers;
+    queues = q.queues;
+    rising = q.rising;
+    below = q.below;
+    waits = q.waits;
+    brackets = q.brackets;
+    opens = q.opens;
+    falls = q.falls;
+    placed = q.placed;
+    owed = q.owed;
+  };
+  elements = let e = k.elements in
+      record { known = e.known; defined = e.defined; unset = e.unset; upgraded = e.upgraded; thrown = e.thrown; document = e.document; ongoing = e.ongoing.1 };
 }
 
 -- below the steps of an operation
@@ -83,8 +115,28 @@ take_below n m h l p row k = record {
   reads = k.reads;
   over = k.over;
   dropping = k.dropping;
-  queues = let q = k.queues in record { numbers = q.numbers; queues = q.queues; rising = q.rising; below = q.below; waits = q.waits; brackets = q.brackets; opens = q.opens; falls = q.falls; placed = q.placed; owed = q.owed };
-  elements = let e = k.elements in record { known = e.known; defined = e.defined; unset = e.unset; upgraded = e.upgraded; thrown = e.thrown; document = e.document; ongoing = (row, e.ongoing) };
+  queues = let q = k.queues in record {
+    numbers = q.numbers;
+    queues = q.queues;
+    rising = q.rising;
+    below = q.below;
+    waits = q.waits;
+    brackets = q.brackets;
+    opens = q.opens;
+    falls = q.falls;
+    placed = q.placed;
+    owed = q.owed;
+  };
+  elements = let e = k.elements in
+      record {
+        known = e.known;
+        defined = e.defined;
+        unset = e.unset;
+        upgraded = e.upgraded;
+        thrown = e.thrown;
+        document = e.document;
+        ongoing = (row, e.ongoing);
+      };
 }
 
 -- nodes taken into the hand

@@ -127,7 +127,8 @@ Ongoing upgraded rows (InReaction w called ∷ h) = Known rows w.element × Ongo
 Ongoing upgraded rows (InUpgrade n ∷ h) = Known rows n × (is_one_of n upgraded ≡ true) × Ongoing upgraded rows h
 Ongoing upgraded rows (InHand n ∷ h) = IsRow (length rows) n × Ongoing upgraded rows h
 
--- the book and the elements: a callback waits only where the definition has it; one that can be upgraded has no definition; one whose upgrade began can't be upgraded again; one whose upgrade threw has no definition either
+-- the book and the elements: a callback waits only where the definition has it; one that can be upgraded has no definition; one whose upgrade began can't be
+-- upgraded again; one whose upgrade threw has no definition either
 pub record SaysElements (b : Book) (h : List Hold) (p : Page) : Type 0 where
   pub known : Each (λ w. Known p.elements w.element) b.waiting
   pub defined : Each (λ w. fits w.what (definition_of p w.element) ≡ true) b.waiting

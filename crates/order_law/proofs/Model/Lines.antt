@@ -4,13 +4,20 @@ use Rattle.std.specs.Prelude.{◌&&◌}
 use Rattle.std.proofs.lemmas.Bool.{eq-eqb}
 use Rattle.ce_base.specs.declared.fault.Fault.{Fault}
 use Rattle.rule_tokens.specs.declared.callback.CallName.{CallName}
-use Rattle.rule_tokens.specs.declared.callback.CallName.TheVariants.{Connected as ConnectedName, Disconnected as DisconnectedName, Adopted as AdoptedName, Attribute as AttributeName, FormAssociated as FormAssociatedName, FormDisabled as FormDisabledName, FormReset as FormResetName, FormStateRestore as FormStateRestoreName}
+use Rattle.rule_tokens.specs.declared.callback.CallName.TheVariants.{Connected as ConnectedName, Disconnected as DisconnectedName, Adopted as AdoptedName}
+use Rattle.rule_tokens.specs.declared.callback.CallName.TheVariants.{Attribute as AttributeName, FormAssociated as FormAssociatedName}
+use Rattle.rule_tokens.specs.declared.callback.CallName.TheVariants.{FormDisabled as FormDisabledName, FormReset as FormResetName}
+use Rattle.rule_tokens.specs.declared.callback.CallName.TheVariants.{FormStateRestore as FormStateRestoreName}
 use Rattle.rule_tokens.specs.declared.callback.CallOrUpgrade.TheVariants.{Call, Upgrade as IsUpgrade}
 use Rattle.reaction_queue.specs.declared.reaction.Reaction.{Reaction}
-use Rattle.reaction_queue.specs.declared.reaction.Reaction.TheVariants.{Upgrade, Connected, Disconnected, Adopted, Attribute, FormAssociated, FormDisabled, FormReset, FormStateRestore}
+use Rattle.reaction_queue.specs.declared.reaction.Reaction.TheVariants.{Upgrade, Connected, Disconnected, Adopted, Attribute, FormAssociated, FormDisabled}
+use Rattle.reaction_queue.specs.declared.reaction.Reaction.TheVariants.{FormReset, FormStateRestore}
 use Rattle.reaction_queue.specs.Reactions.{what_of}
 use Rattle.ce_events.specs.declared.event.Event.{Event}
-use Rattle.ce_events.specs.declared.event.Event.TheVariants.{Construct, Caught, Reported, Asked, Connected as ConnectedLine, Disconnected as DisconnectedLine, Adopted as AdoptedLine, Attribute as AttributeLine, FormAssociated as FormAssociatedLine, FormDisabled as FormDisabledLine, FormReset as FormResetLine, FormStateRestore as FormStateRestoreLine}
+use Rattle.ce_events.specs.declared.event.Event.TheVariants.{Construct, Caught, Reported, Asked, Connected as ConnectedLine, Disconnected as DisconnectedLine}
+use Rattle.ce_events.specs.declared.event.Event.TheVariants.{Adopted as AdoptedLine, Attribute as AttributeLine, FormAssociated as FormAssociatedLine}
+use Rattle.ce_events.specs.declared.event.Event.TheVariants.{FormDisabled as FormDisabledLine, FormReset as FormResetLine}
+use Rattle.ce_events.specs.declared.event.Event.TheVariants.{FormStateRestore as FormStateRestoreLine}
 use Rattle.ce_events.specs.declared.event.Answer.{Answer}
 use Rattle.ce_algorithms.specs.Page.{Page}
 use Rattle.order_law.specs.Book.{Entry, Reacting, Book, blank}
@@ -31,7 +38,17 @@ pub record Plain (e : Event) : Type 0 where
 pub plain_holds : (e : Event) (h : List Hold) (l : List Event) (p : Page) → Plain e → Holds h l p → Holds h (l ++ e ∷ []) p
 plain_holds e h l p x k =
     let same : after k.book e ≡ k.book = x.is k.book ∙ ap (λ d. record (k.book) { dropping = d }) (sym k.dropping) in
-    record { book = k.book; reads = reads_append blank l (e ∷ []) k.book k.book k.reads (subst (Reads k.book (e ∷ [])) same (reads_one k.book e (tested k.book e (x.at k.book k.over k.dropping)))); over = k.over; dropping = k.dropping; queues = k.queues; elements = k.elements }
+    record {
+      book = k.book;
+      reads =
+          reads_append blank l (e ∷ []) k.book k.book k.reads
+          (subst (Reads k.book (e ∷ [])) same (reads_one k.book e (tested k.book e (x.at k.book k.over k.dropping))));
+      over = k.over;
+      dropping =
+          k.dropping;
+      queues = k.queues;
+      elements = k.elements;
+    }
 
 pub construct_plain : (name : List ℕ) → Plain (Construct name)
 construct_plain name = record { at = λ b o d. line_tests b (Construct name) refl o d refl refl refl; is = λ b. refl }
@@ -56,31 +73,69 @@ called_holds e w name h l p x what k =
     let b = k.book in
     let c : Book = record b { brackets = Reacting w true ∷ brackets_of h; dropping = None } in
     let may : may_call (Some (w.element, name)) b.brackets ≡ true =
-    ap (may_call (Some (w.element, name))) k.queues.brackets ∙ ap (λ t. t && is_for w.what name) (eq-eqb w.element w.element refl) ∙ ap (λ t. is_for t name) what ∙ same_self name in
+    ap (may_call (Some (w.element, name))) k.queues.brackets ∙ ap (λ t. t && is_for w.what name) (eq-eqb w.element w.element refl)
+    ∙ ap (λ t. is_for t name) what ∙ same_self name in
     let same : after b e ≡ c = x.is b ∙ ap (λ bs. record b { brackets = marked (Some (w.element, name)) bs; dropping = None }) k.queues.brackets in
     record {
       book = c;
       reads = reads_append blank l (e ∷ []) b c k.reads (subst (Reads b (e ∷ [])) same (reads_one b e (tested b e (x.at b k.over k.dropping may))));
       over = k.over;
       dropping = refl;
-      queues = let q = k.queues in record { numbers = q.numbers; queues = q.queues; rising = q.rising; below = q.below; waits = q.waits; brackets = refl; opens = q.opens; falls = q.falls; placed = q.placed; owed = q.owed };
-      elements = let t = k.elements in record { known = t.known; defined = t.defined; unset = t.unset; upgraded = t.upgraded; thrown = t.thrown; document = t.document; ongoing = t.ongoing };
+      queues = let q = k.queues in record {
+        numbers = q.numbers;
+        queues = q.queues;
+        rising = q.rising;
+        below = q.below;
+        waits = q.waits;
+        brackets = refl;
+        opens = q.opens;
+        falls = q.falls;
+        placed = q.placed;
+        owed = q.owed;
+      };
+      elements = let t = k.elements in
+          record {
+            known = t.known;
+            defined = t.defined;
+            unset = t.unset;
+            upgraded = t.upgraded;
+            thrown = t.thrown;
+            document = t.document;
+            ongoing = t.ongoing;
+          };
     }
 
 -- the line of each callback
 
 call_at : (e : Event) (n : ℕ) (name : CallName) (h : List Hold) (s : State) (w : Entry) → CallLine e n name → w.element ≡ n → w.what ≡ Call name →
     HoldsIn (InReaction w false ∷ h) s → HoldsIn (InReaction w true ∷ h) (logged e s)
-call_at e n name h s w x at what k = record { holds = called_holds e w name h s.log s.page (subst (λ m. CallLine e m name) (sym at) x) what k.holds; notes = k.notes; rest = k.rest }
+call_at e n name h s w x at what k =
+    record { holds = called_holds e w name h s.log s.page (subst (λ m. CallLine e m name) (sym at) x) what k.holds; notes = k.notes; rest = k.rest }
 
 pub call_line : (n : ℕ) (x : Reaction) (name : CallName) → what_of x ≡ Call name → (h : List Hold) (s : State) (w : Entry) → w.element ≡ n →
     w.what ≡ what_of x → HoldsIn (InReaction w false ∷ h) s → After {A = Unit {0}} (InReaction w true ∷ h) (log_call n x s)
-call_line n Connected name is h s w at what k = call_at (ConnectedLine n) n ConnectedName h s w (record { at = λ b o d may. line_tests b (ConnectedLine n) refl o d may refl refl; is = λ b. refl }) at what k
-call_line n Disconnected name is h s w at what k = call_at (DisconnectedLine n) n DisconnectedName h s w (record { at = λ b o d may. line_tests b (DisconnectedLine n) refl o d may refl refl; is = λ b. refl }) at what k
-call_line n (Adopted old new) name is h s w at what k = call_at (AdoptedLine n old new) n AdoptedName h s w (record { at = λ b o d may. line_tests b (AdoptedLine n old new) refl o d may refl refl; is = λ b. refl }) at what k
-call_line n (Attribute key old new) name is h s w at what k = call_at (AttributeLine n key old new) n AttributeName h s w (record { at = λ b o d may. line_tests b (AttributeLine n key old new) refl o d may refl refl; is = λ b. refl }) at what k
-call_line n (FormAssociated form) name is h s w at what k = call_at (FormAssociatedLine n form) n FormAssociatedName h s w (record { at = λ b o d may. line_tests b (FormAssociatedLine n form) refl o d may refl refl; is = λ b. refl }) at what k
-call_line n (FormDisabled disabled) name is h s w at what k = call_at (FormDisabledLine n disabled) n FormDisabledName h s w (record { at = λ b o d may. line_tests b (FormDisabledLine n disabled) refl o d may refl refl; is = λ b. refl }) at what k
-call_line n FormReset name is h s w at what k = call_at (FormResetLine n) n FormResetName h s w (record { at = λ b o d may. line_tests b (FormResetLine n) refl o d may refl refl; is = λ b. refl }) at what k
-call_line n (FormStateRestore state why) name is h s w at what k = call_at (FormStateRestoreLine n state why) n FormStateRestoreName h s w (record { at = λ b o d may. line_tests b (FormStateRestoreLine n state why) refl o d may refl refl; is = λ b. refl }) at what k
+call_line n Connected name is h s w at what k =
+    call_at (ConnectedLine n) n ConnectedName h s w (record { at = λ b o d may. line_tests b (ConnectedLine n) refl o d may refl refl; is = λ b. refl }) at
+    what k
+call_line n Disconnected name is h s w at what k =
+    call_at (DisconnectedLine n) n DisconnectedName h s w
+    (record { at = λ b o d may. line_tests b (DisconnectedLine n) refl o d may refl refl; is = λ b. refl }) at what k
+call_line n (Adopted old new) name is h s w at what k =
+    call_at (AdoptedLine n old new) n AdoptedName h s w
+    (record { at = λ b o d may. line_tests b (AdoptedLine n old new) refl o d may refl refl; is = λ b. refl }) at what k
+call_line n (Attribute key old new) name is h s w at what k =
+    call_at (AttributeLine n key old new) n AttributeName h s w
+    (record { at = λ b o d may. line_tests b (AttributeLine n key old new) refl o d may refl refl; is = λ b. refl }) at what k
+call_line n (FormAssociated form) name is h s w at what k =
+    call_at (FormAssociatedLine n form) n FormAssociatedName h s w
+    (record { at = λ b o d may. line_tests b (FormAssociatedLine n form) refl o d may refl refl; is = λ b. refl }) at what k
+call_line n (FormDisabled disabled) name is h s w at what k =
+    call_at (FormDisabledLine n disabled) n FormDisabledName h s w
+    (record { at = λ b o d may. line_tests b (FormDisabledLine n disabled) refl o d may refl refl; is = λ b. refl }) at what k
+call_line n FormReset name is h s w at what k =
+    call_at (FormResetLine n) n FormResetName h s w (record { at = λ b o d may. line_tests b (FormResetLine n) refl o d may refl refl; is = λ b. refl }) at
+    what k
+call_line n (FormStateRestore state why) name is h s w at what k =
+    call_at (FormStateRestoreLine n state why) n FormStateRestoreName h s w
+    (record { at = λ b o d may. line_tests b (FormStateRestoreLine n state why) refl o d may refl refl; is = λ b. refl }) at what k
 call_line n (Upgrade d) name is h s w at what k = absurd (let x : IsUpgrade ≡ Call name = is in cc)

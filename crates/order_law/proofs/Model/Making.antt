@@ -35,7 +35,8 @@ ongoing_more ups rows (InSteps q ∷ h) o = ongoing_more ups rows h o
 ongoing_more ups rows (InDrain q ns ∷ h) o = ongoing_more ups rows h o
 ongoing_more ups rows (InReaction w called ∷ h) o = (more rows w.element o.0, ongoing_more ups rows h o.1)
 ongoing_more ups rows (InUpgrade m ∷ h) o = (more rows m o.0, o.1, ongoing_more ups rows h o.2)
-ongoing_more ups rows (InHand m ∷ h) o = (let l = length-append rows (uncustomized ∷ []) in record { low = o.0.low; high = omega (arith, o.0.high, l) }, ongoing_more ups rows h o.1)
+ongoing_more ups rows (InHand m ∷ h) o =
+    (let l = length-append rows (uncustomized ∷ []) in record { low = o.0.low; high = omega (arith, o.0.high, l) }, ongoing_more ups rows h o.1)
 
 -- a node more
 pub new_holds : (f : Trees) (h : List Hold) (l : List Event) (p : Page) → Holds h l p → Holds h l (with_new f p)
@@ -46,12 +47,14 @@ new_holds f h l p k = record {
   dropping = k.dropping;
   queues = k.queues;
   elements = let e = k.elements in record {
-    known = each_map (λ w. Known p.elements w.element) (λ w. Known (p.elements ++ uncustomized ∷ []) w.element) k.book.waiting (λ w x. more p.elements w.element x) e.known;
+    known = each_map (λ w. Known p.elements w.element) (λ w. Known (p.elements ++ uncustomized ∷ []) w.element) k.book.waiting
+        (λ w x. more p.elements w.element x) e.known;
     defined = each_map (λ w. fits w.what (definition_of p w.element) ≡ true) (λ w. fits w.what (definition_of (with_new f p) w.element) ≡ true) k.book.waiting
         (λ w x. ap (λ (r : Element). fits w.what (option_and_then (slice_get p.definitions) r.definition)) (new_same f p w.element) ∙ x) e.defined;
     unset = λ n. subst (λ (r : Element). is_upgradable r.state ≡ true → r.definition ≡ None) (sym (new_same f p n)) (e.unset n);
     upgraded = λ n. subst (λ (r : Element). is_one_of n k.book.upgraded ≡ true → is_upgradable r.state ≡ false) (sym (new_same f p n)) (e.upgraded n);
-    thrown = λ n. subst (λ (r : Element). is_one_of n k.book.thrown ≡ true → (is_upgradable r.state ≡ false) × (r.definition ≡ None)) (sym (new_same f p n)) (e.thrown n);
+    thrown = λ n. subst (λ (r : Element). is_one_of n k.book.thrown ≡ true → (is_upgradable r.state ≡ false) × (r.definition ≡ None)) (sym (new_same f p n))
+        (e.thrown n);
     document = ap (λ (r : Element). r.definition) (new_same f p 1) ∙ e.document;
     ongoing = ongoing_more k.book.upgraded p.elements h e.ongoing;
   };
@@ -84,8 +87,10 @@ failed_holds n e h l p known not_again same k = record {
   dropping = k.dropping;
   queues = k.queues;
   elements = says_row k.book h p n e known (record {
-    defined = each_map (λ w. fits w.what (definition_of p w.element) ≡ true) (λ w. w.element ≡ n → fits w.what (option_and_then (slice_get p.definitions) e.definition) ≡ true) k.book.waiting
-        (λ w f is. ap (λ d. fits w.what (option_and_then (slice_get p.definitions) d)) same ∙ sym (ap (λ m. fits w.what (definition_of p m)) is) ∙ f) k.elements.defined;
+    defined = each_map (λ w. fits w.what (definition_of p w.element) ≡ true) (λ w. w.element ≡ n
+        → fits w.what (option_and_then (slice_get p.definitions) e.definition) ≡ true) k.book.waiting
+        (λ w f is. ap (λ d. fits w.what (option_and_then (slice_get p.definitions) d)) same ∙ sym (ap (λ m. fits w.what (definition_of p m)) is)
+        ∙ f) k.elements.defined;
     unset = λ x. absurd (both (is_upgradable e.state) x not_again);
     upgraded = λ _. not_again;
     thrown = λ m. (not_again, same ∙ (k.elements.thrown n m).1);
@@ -113,7 +118,8 @@ defined_holds d h l p k = record {
   queues = k.queues;
   elements = let e = k.elements in record {
     known = e.known;
-    defined = each_map (λ w. fits w.what (definition_of p w.element) ≡ true) (λ w. fits w.what (definition_of (with_defined d p) w.element) ≡ true) k.book.waiting
+    defined = each_map (λ w. fits w.what (definition_of p w.element) ≡ true)
+        (λ w. fits w.what (definition_of (with_defined d p) w.element) ≡ true) k.book.waiting
         (λ w x. fits_more w.what d p.definitions (element_of p w.element).definition x) e.defined;
     unset = e.unset;
     upgraded = e.upgraded;

@@ -47,7 +47,8 @@ use Rattle.order_law.proofs.Model.Invariant.{Hold}
 use Rattle.order_law.proofs.Model.Hands.{with_hands, IsHeld}
 use Rattle.order_law.proofs.Model.Making.{defined_holds}
 use Rattle.order_law.proofs.Model.Steps.{HoldsAt, Any, AfterAt, KeepsAt, at_seq, at_done, at_each, at_where, at_bind, at_read, callback_at, same_page}
-use Rattle.order_law.proofs.Model.Giving.{none, one, given_nodes, GivesAt, give_bind_at, give_seq_at, give_at, give_throw_if_at, give_throw_where_at, give_refuse_at, keeps_at}
+use Rattle.order_law.proofs.Model.Giving.{none, one, given_nodes, GivesAt, give_bind_at, give_seq_at, give_at, give_throw_if_at, give_throw_where_at}
+use Rattle.order_law.proofs.Model.Giving.{give_refuse_at, keeps_at}
 use Rattle.order_law.proofs.Model.Primitives.{try_at, upgrade_at, remove_at, adopt_at, insert_gives, set_at, unset_at}
 use Rattle.order_law.proofs.Model.Nodes.{create_later_gives, text_gives, attach_gives}
 use Rattle.node_trees.proofs.Elements.{candidate_element}
@@ -62,7 +63,8 @@ spend_at {h} {l} = record { at = λ w k. go w w.fuel k }
     go w (suc fuel) k = record { holds = k.holds; sound = k.sound; known = tt }
 
 -- what controls keep is changed
-controls_at : {q : Trees → Type 0} {h : List Hold} {l : List Event} (f : Page → List Control → List Control) → KeepsAt q h l (page.change_page (λ p. with_controls (f p) p))
+controls_at : {q : Trees → Type 0} {h : List Hold} {l : List Event} (f : Page → List Control → List Control)
+    → KeepsAt q h l (page.change_page (λ p. with_controls (f p) p))
 controls_at {h} {l} f = record {
   at = λ w k. record {
     holds = same_page h (l ++ map event_of w.page.notes) w.page (with_controls (f w.page) w.page) refl refl refl k.holds;
@@ -73,22 +75,27 @@ controls_at {h} {l} f = record {
 
 copy_gives : {h : List Hold} {l : List Event} (from : ℕ) (x : Facts) (element : Bool) → GivesAt one h l (copy_node from x element)
 copy_gives from x true = give_bind_at (create_later_gives x.local x.is_value x.document)
-    (λ n. give_seq_at (keeps_at (at_each x.attributes (λ (a : List ℕ × List ℕ). at_seq spend_at (set_at n a.0 a.1)))) (give_seq_at (keeps_at (controls_at (λ p cs. clone_state cs p.forest from n))) (give_at n (inl refl, tt))))
+    (λ n. give_seq_at (keeps_at (at_each x.attributes (λ (a : List ℕ × List ℕ). at_seq spend_at (set_at n a.0 a.1))))
+    (give_seq_at (keeps_at (controls_at (λ p cs. clone_state cs p.forest from n))) (give_at n (inl refl, tt))))
 copy_gives from x false = text_gives x.chars x.document
 
 below_gives : (parent : ℕ) (trees : Trees) (h : List Hold) (l : List Event) → IsHeld parent h → GivesAt none h l (copy_below parent trees)
 below_gives parent no_trees h l held = keeps_at at_done
 below_gives parent (tree m x shadow children rest) h l held = give_bind_at (copy_gives m x (is_element x.kind))
-    (λ n. give_seq_at (insert_gives parent n None (inr held) (inl refl)) (give_seq_at (below_gives n children (with_hands (n ∷ []) h) l (inl refl)) (below_gives parent rest (with_hands (n ∷ []) h) l (inr held))))
+    (λ n. give_seq_at (insert_gives parent n None (inr held) (inl refl))
+    (give_seq_at (below_gives n children (with_hands (n ∷ []) h) l (inl refl)) (below_gives parent rest (with_hands (n ∷ []) h) l (inr held))))
 
 deep_gives : (n : ℕ) (trees : Trees) (h : List Hold) (l : List Event) (deep : Bool) → IsHeld n h → GivesAt none h l (when deep (copy_below n trees))
 deep_gives n trees h l true held = below_gives n trees h l held
 deep_gives n trees h l false held = keeps_at at_done
 
 clone_gives : {h : List Hold} {l : List Event} (deep : Bool) (node : ℕ) → GivesAt one h l (clone deep node)
-clone_gives {h} {l} deep node = give_seq_at (give_throw_where_at (λ w. is_document (kind_at w.page.forest node) || is_shadow_root (kind_at w.page.forest node)) NotSupportedError)
-    (give_bind_at {nodes = none} (keeps_at (at_read (λ p. facts_at p.forest node))) (λ x. give_bind_at {nodes = none} (keeps_at (at_read (λ p. below (tree_of node p.forest))))
-    (λ children. give_bind_at (copy_gives node x (is_element x.kind)) (λ n. give_seq_at (deep_gives n children (with_hands (n ∷ []) h) l deep (inl refl)) (give_at n (inl refl, tt))))))
+clone_gives {h} {l} deep node =
+    give_seq_at (give_throw_where_at (λ w. is_document (kind_at w.page.forest node) || is_shadow_root (kind_at w.page.forest node)) NotSupportedError)
+    (give_bind_at {nodes = none} (keeps_at (at_read (λ p. facts_at p.forest node)))
+    (λ x. give_bind_at {nodes = none} (keeps_at (at_read (λ p. below (tree_of node p.forest))))
+    (λ children. give_bind_at (copy_gives node x (is_element x.kind))
+    (λ n. give_seq_at (deep_gives n children (with_hands (n ∷ []) h) l deep (inl refl)) (give_at n (inl refl, tt))))))
 
 -- definitions
 
@@ -120,12 +127,14 @@ elements_at f step [] keeps all = at_done
 elements_at f step (n ∷ ns) keeps all = at_seq (keeps n (λ g same. ap (λ t. is_element (kind_at t n)) (sym same) ∙ all.0)) (elements_at f step ns keeps all.1)
 
 -- so of elements that are found in the forest as it stands
-each_element_at : {h : List Hold} {l : List Event} (find : Trees → List ℕ) (step : ℕ → Step Work (Unit {0})) → ((f : Trees) → All (λ n. is_element (kind_at f n) ≡ true) (find f))
+each_element_at : {h : List Hold} {l : List Event} (find : Trees → List ℕ) (step : ℕ → Step Work (Unit {0}))
+    → ((f : Trees) → All (λ n. is_element (kind_at f n) ≡ true) (find f))
     → ((f : Trees) (n : ℕ) → ((g : Trees) → f ≡ g → is_element (kind_at g n) ≡ true) → KeepsAt (λ g. f ≡ g) h l (step n)) →
     KeepsAt Any h l (page.read_page (λ p. find p.forest) >>= (λ ns. for_each ns step))
 each_element_at {h} {l} find step finds keeps = record {
   at = λ w k. known (for_each (find w.page.forest) step w) w.page.forest
-      ((elements_at w.page.forest step (find w.page.forest) (keeps w.page.forest) (finds w.page.forest)).at w (record { holds = k.holds; sound = k.sound; known = refl }));
+      ((elements_at w.page.forest step (find w.page.forest) (keeps w.page.forest) (finds w.page.forest)).at w
+      (record { holds = k.holds; sound = k.sound; known = refl }));
 }
   where
     known : (o : Outcome Work (Unit {0})) (f : Trees) → AfterAt (λ g. f ≡ g) h l o → AfterAt Any h l o
@@ -135,17 +144,20 @@ each_element_at {h} {l} find step finds keeps = record {
 
 candidates_at : {h : List Hold} {l : List Event} (d : ℕ) (x : Definition) → KeepsAt Any h l (upgrade_candidates d x)
 candidates_at d x = each_element_at (λ f. candidates x.local (is_value_of x) f 1) (enqueue_upgrade d)
-    (λ f. passing_elements (λ n. is_candidate x.local (is_value_of x) (facts_at f n)) f (order_of f 1) (λ n. candidate_element x.local (is_value_of x) (facts_at f n)))
+    (λ f. passing_elements (λ n. is_candidate x.local (is_value_of x) (facts_at f n)) f (order_of f 1)
+    (λ n. candidate_element x.local (is_value_of x) (facts_at f n)))
     (λ f n is. upgrade_at d n is)
 
 all_at : {h : List Hold} {l : List Event} (n : ℕ) → KeepsAt Any h l (upgrade_all n)
-all_at n = each_element_at (λ f. elements f n) try_upgrade (λ f. passing_elements (λ m. is_element (kind_at f m)) f (order_of f n) (λ m is. is)) (λ f m is. try_at m is)
+all_at n = each_element_at (λ f. elements f n) try_upgrade (λ f. passing_elements (λ m. is_element (kind_at f m)) f (order_of f n) (λ m is. is))
+    (λ f m is. try_at m is)
 
 pub define_gives : {h : List Hold} {l : List Event} (name : List ℕ) (class : ℕ) (facts : ClassFacts) (base : Option (List ℕ)) →
     GivesAt none h l (define_name name class facts base)
 define_gives name class facts base = give_seq_at (give_refuse_at (λ w. may_define w.page.definitions name class base))
     (give_bind_at {nodes = none} (keeps_at (at_read (λ p. length p.definitions)))
-    (λ d. give_seq_at (keeps_at (defined_at (new_definition name class facts base))) (give_seq_at (keeps_at (candidates_at d (new_definition name class facts base))) (give_at d tt))))
+    (λ d. give_seq_at (keeps_at (defined_at (new_definition name class facts base)))
+    (give_seq_at (keeps_at (candidates_at d (new_definition name class facts base))) (give_at d tt))))
 
 -- deeds on the page alone
 
@@ -164,25 +176,33 @@ pub page_gives : {h : List Hold} {l : List Event} (deed : PageDeed) → All (λ 
 page_gives (page_deeds.MakeText chars document) held = node_given (text_gives chars document)
 page_gives (page_deeds.Shadow host) held = node_given (attach_gives host)
 page_gives (page_deeds.Insert parent n before) held = nothing_gives (insert_gives parent n before held.0 held.1.0)
-page_gives (page_deeds.Remove parent n) held = nothing_gives (give_seq_at (give_throw_where_at (λ w. not (is_number (parent_at w.page.forest n) parent)) NotFoundError) (keeps_at (remove_at n (λ f apart k. tt))))
+page_gives (page_deeds.Remove parent n) held =
+    nothing_gives (give_seq_at (give_throw_where_at (λ w. not (is_number (parent_at w.page.forest n) parent)) NotFoundError)
+    (keeps_at (remove_at n (λ f apart k. tt))))
 page_gives (page_deeds.Detach n) held = nothing_gives (keeps_at (at_where (λ w. is_some (parent_at w.page.forest n)) (remove_at n (λ f apart k. tt))))
-page_gives (page_deeds.SetAttr n name value) held = nothing_gives (give_seq_at (give_throw_if_at (not (attr_name name)) InvalidCharacterError) (keeps_at (set_at n (str_to_ascii_lowercase name) value)))
+page_gives (page_deeds.SetAttr n name value) held =
+    nothing_gives (give_seq_at (give_throw_if_at (not (attr_name name)) InvalidCharacterError) (keeps_at (set_at n (str_to_ascii_lowercase name) value)))
 page_gives (page_deeds.DelAttr n name) held = nothing_gives (keeps_at (unset_at n (str_to_ascii_lowercase name)))
 page_gives (page_deeds.Clone n deep) held = node_given (clone_gives deep n)
 page_gives (page_deeds.Adopt document n) held = nothing_gives (give_seq_at (give_throw_where_at (λ w. is_document (kind_at w.page.forest n)) NotSupportedError)
-    (give_seq_at (give_throw_where_at (λ w. is_shadow_root (kind_at w.page.forest n)) HierarchyRequestError) (keeps_at (adopt_at document n (λ f apart k. tt) (λ m f k. tt)))))
+    (give_seq_at (give_throw_where_at (λ w. is_shadow_root (kind_at w.page.forest n)) HierarchyRequestError)
+    (keeps_at (adopt_at document n (λ f apart k. tt) (λ m f k. tt)))))
 page_gives (page_deeds.Upgrade n) held = nothing_gives (keeps_at (all_at n))
 
 -- what is set on controls
 
-ignored_gives : {h : List Hold} {l : List Event} {f : Step Work (Unit {0})} (ignored : Bool) → GivesAt none h l f → GivesAt given_nodes h l (ignored_or ignored f)
+ignored_gives : {h : List Hold} {l : List Event} {f : Step Work (Unit {0})} (ignored : Bool) → GivesAt none h l f
+    → GivesAt given_nodes h l (ignored_or ignored f)
 ignored_gives true x = give_at Ignored tt
 ignored_gives false x = nothing_gives x
 
 pub control_gives : {h : List Hold} {l : List Event} (deed : ControlDeed) → GivesAt given_nodes h l (control_steps deed)
-control_gives (Edit n text by_user) = give_bind_at {nodes = none} (keeps_at (at_read _)) (λ ignored. ignored_gives ignored (keeps_at (controls_at (λ p cs. set_value cs n text by_user))))
-control_gives (Tick n on by_user) = give_bind_at {nodes = none} (keeps_at (at_read _)) (λ ignored. ignored_gives ignored (keeps_at (controls_at (λ p cs. set_checked (forms_of p) cs n on))))
-control_gives (Choose option on by_user) = give_bind_at {nodes = none} (keeps_at (at_read _)) (λ ignored. ignored_gives ignored (keeps_at (controls_at (λ p cs. set_chosen cs p.forest option on))))
+control_gives (Edit n text by_user) =
+    give_bind_at {nodes = none} (keeps_at (at_read _)) (λ ignored. ignored_gives ignored (keeps_at (controls_at (λ p cs. set_value cs n text by_user))))
+control_gives (Tick n on by_user) =
+    give_bind_at {nodes = none} (keeps_at (at_read _)) (λ ignored. ignored_gives ignored (keeps_at (controls_at (λ p cs. set_checked (forms_of p) cs n on))))
+control_gives (Choose option on by_user) =
+    give_bind_at {nodes = none} (keeps_at (at_read _)) (λ ignored. ignored_gives ignored (keeps_at (controls_at (λ p cs. set_chosen cs p.forest option on))))
 control_gives (SetMessage n message) = nothing_gives (keeps_at (controls_at (λ p cs. set_message cs n message)))
 
 -- what is written through internals
@@ -218,4 +238,5 @@ reset_gives form = keeps_at (at_bind (at_read (λ p. controls_of p form)) (λ li
 
 pub form_gives : {h : List Hold} {l : List Event} (deed : FormDeed) → GivesAt given_nodes h l (form_steps deed)
 form_gives (form_deeds.Reset form by_user) = nothing_gives (reset_gives form)
-form_gives (form_deeds.Restore n text mode) = give_bind_at {nodes = none} (keeps_at (at_read _)) (λ ignored. ignored_gives ignored (keeps_at (callback_at n (FormStateRestore text mode))))
+form_gives (form_deeds.Restore n text mode) =
+    give_bind_at {nodes = none} (keeps_at (at_read _)) (λ ignored. ignored_gives ignored (keeps_at (callback_at n (FormStateRestore text mode))))

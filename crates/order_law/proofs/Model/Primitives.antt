@@ -20,13 +20,15 @@ use Rattle.ce_algorithms.specs.Enqueue.{enqueue_found, enqueue_upgrade, try_upgr
 use Rattle.form_controls.specs.declared.change.Change.{Change}
 use Rattle.ce_algorithms.specs.Forms.{is_custom_form_associated}
 use Rattle.ce_algorithms.specs.FormChanges.{form_changes, tell_owner, tell_disabled, tell_form_change, tell_at_turn, tell_others}
-use Rattle.ce_algorithms.specs.Mutation.{is_connected, is_connected_parent, removed, remove, move_to, adopt, connected_now, inserted, put_in, reference_child, insert, pre_insert}
+use Rattle.ce_algorithms.specs.Mutation.{is_connected, is_connected_parent, removed, remove, move_to, adopt, connected_now, inserted, put_in, reference_child}
+use Rattle.ce_algorithms.specs.Mutation.{insert, pre_insert}
 use Rattle.ce_algorithms.specs.Attributes.{handle_attribute_change, set_attribute, remove_there, remove_attribute}
 use Rattle.order_law.proofs.Model.Forests.{alike_cut, alike_graft, alike_facts, outside_allowed, outside_facts}
 use Rattle.order_law.proofs.Model.Sound.{sound_apart, element_row}
 use Rattle.order_law.proofs.Model.Invariant.{Hold, Known}
 use Rattle.order_law.proofs.Model.Hands.{IsHeld, held_row}
-use Rattle.order_law.proofs.Model.Steps.{HoldsAt, Any, AfterAt, KeepsAt, at_bind, at_seq, at_done, at_each, at_when, at_where, at_read, at_where_forest, forest_holds, at_forest, callback_at, enqueue_at}
+use Rattle.order_law.proofs.Model.Steps.{HoldsAt, Any, AfterAt, KeepsAt, at_bind, at_seq, at_done, at_each, at_when, at_where, at_read, at_where_forest}
+use Rattle.order_law.proofs.Model.Steps.{forest_holds, at_forest, callback_at, enqueue_at}
 use Rattle.order_law.proofs.Model.Giving.{none, AfterGivesAt, GivesAt, given_at}
 use Rattle.node_trees.proofs.Weights.{IsApart}
 
@@ -80,20 +82,23 @@ removed_at changes was n = at_seq (turn_at changes n) (at_where (λ w. was && is
 
 pub remove_at : {q : Trees → Type 0} {h : List Hold} {l : List Event} (node : ℕ) → ((f : Trees) → IsApart f → q f → q (cut f node)) →
     KeepsAt q h l (remove node)
-remove_at node cuts = at_bind (at_read (λ p. p)) (λ old. at_seq (at_forest (λ f. cut f node) (λ f apart known. (alike_cut f node (apart node), cuts f apart known)))
+remove_at node cuts = at_bind (at_read (λ p. p))
+    (λ old. at_seq (at_forest (λ f. cut f node) (λ f apart known. (alike_cut f node (apart node), cuts f apart known)))
     (at_bind (at_read (form_changes old)) (λ changes. at_bind (at_read (λ p. order_of p.forest node))
     (λ walk. at_seq (at_each walk (removed_at changes (is_connected_parent old (parent_at old.forest node)))) (others_at changes walk)))))
 
 move_at : {q : Trees → Type 0} {h : List Hold} {l : List Event} (old document node : ℕ) →
     ((m : ℕ) (f : Trees) → q f → q (with_document m document f)) → KeepsAt q h l (move_to old document node)
 move_at old document node moves = at_bind (at_read (λ p. order_of p.forest node))
-    (λ walk. at_seq (at_each walk (λ n. at_forest (with_document n document) (λ f apart known. (alike_facts n (λ x. record x { document = document }) (λ x. refl) f, moves n f known))))
+    (λ walk. at_seq (at_each walk (λ n. at_forest (with_document n document)
+    (λ f apart known. (alike_facts n (λ x. record x { document = document }) (λ x. refl) f, moves n f known))))
     (at_each walk (λ n. at_where (λ w. is_custom w.page n) (callback_at n (Adopted old document)))))
 
 pub adopt_at : {q : Trees → Type 0} {h : List Hold} {l : List Event} (document node : ℕ) → ((f : Trees) → IsApart f → q f → q (cut f node)) →
     ((m : ℕ) (f : Trees) → q f → q (with_document m document f)) → KeepsAt q h l (adopt document node)
 adopt_at document node cuts moves = at_bind (at_read (λ p. document_at p.forest node))
-    (λ old. at_seq (at_where (λ w. is_some (parent_at w.page.forest node)) (remove_at node cuts)) (at_when (not (old == document)) (move_at old document node moves)))
+    (λ old. at_seq (at_where (λ w. is_some (parent_at w.page.forest node)) (remove_at node cuts))
+    (at_when (not (old == document)) (move_at old document node moves)))
 
 -- insertion
 
@@ -102,7 +107,9 @@ connected_at n true = callback_at n Connected
 connected_at n false = try_element_at n
 
 inserted_at : {q : Trees → Type 0} {h : List Hold} {l : List Event} (changes : List Change) (n : ℕ) → KeepsAt q h l (inserted changes n)
-inserted_at changes n = at_seq (turn_at changes n) (at_bind (at_read (λ p. is_connected p n)) (λ now_connected. at_bind (at_read (λ p. is_custom p n)) (λ custom. at_when now_connected (connected_at n custom))))
+inserted_at changes n = at_seq (turn_at changes n)
+    (at_bind (at_read (λ p. is_connected p n))
+    (λ now_connected. at_bind (at_read (λ p. is_custom p n)) (λ custom. at_when now_connected (connected_at n custom))))
 
 -- the node is one, and the parent stands outside of its tree
 pub record Outside (p n : ℕ) (f : Trees) : Type 0 where
@@ -116,12 +123,15 @@ outside_cut p n f apart k =
 
 outside_document : (p n document m : ℕ) (f : Trees) → Outside p n f → Outside p n (with_document m document f)
 outside_document p n document m f k =
-    let same : times n (with_document m document f) ≡ times n f = alike_facts m (λ x. record x { document = document }) (λ x. refl) f (λ m kind. if m == n then 1 else 0) in
+    let same : times n (with_document m document f) ≡ times n f =
+    alike_facts m (λ x. record x { document = document }) (λ x. refl) f (λ m kind. if m == n then 1 else 0) in
     record { there = let t = k.there in omega (arith, same, t); outside = outside_facts p n m (λ x. record x { document = document }) f ∙ k.outside }
 
 placed_at : {h : List Hold} {l : List Event} (old : Page) (n : ℕ) →
-    KeepsAt Any h l (page.read_page (form_changes old) >>= (λ changes. page.read_page (λ p. order_of p.forest n) >>= (λ walk. for_each walk (inserted changes) >> tell_others changes walk)))
-placed_at old n = at_bind (at_read (form_changes old)) (λ changes. at_bind (at_read (λ p. order_of p.forest n)) (λ walk. at_seq (at_each walk (inserted_at changes)) (others_at changes walk)))
+    KeepsAt Any h l (page.read_page (form_changes old)
+    >>= (λ changes. page.read_page (λ p. order_of p.forest n) >>= (λ walk. for_each walk (inserted changes) >> tell_others changes walk)))
+placed_at old n = at_bind (at_read (form_changes old))
+    (λ changes. at_bind (at_read (λ p. order_of p.forest n)) (λ walk. at_seq (at_each walk (inserted_at changes)) (others_at changes walk)))
 
 put_at : (p n : ℕ) (b : Option ℕ) (h : List Hold) (l : List Event) (w : Work) → HoldsAt (Outside p n) h l w → AfterAt Any h l (put_in p n b w)
 put_at p n b h l w k = (placed_at w.page n).at (record w { page = with_forest (λ f. graft f p n b) w.page })
@@ -143,7 +153,8 @@ pub insert_gives : {h : List Hold} {l : List Event} (p n : ℕ) (before : Option
 insert_gives {h} {l} p n before parent node = record { at = λ w k. go w k (may_insert w.page.forest p n before) refl }
   where
     go : (w : Work) → HoldsAt Any h l w → (o : Option Fault) → may_insert w.page.forest p n before ≡ o
-        → AfterGivesAt {A = Unit {0}} none h l (then_do (throw_any o w) (λ _. page.read_page (λ q. reference_child q.forest n before) >>= (λ child. insert p n child)))
+        → AfterGivesAt {A = Unit {0}} none h l
+        (then_do (throw_any o w) (λ _. page.read_page (λ q. reference_child q.forest n before) >>= (λ child. insert p n child)))
     go w k (Some f) may = k
     go w k None may =
         let s = k.sound in
@@ -152,23 +163,28 @@ insert_gives {h} {l} p n before parent node = record { at = λ w k. go w k (may_
         let at_n = s.once n (held_row n h (l ++ map event_of w.page.notes) w.page node k.holds) in
         let there : 0 < times n w.page.forest = omega (arith, at_n) in
         let out : Outside p n w.page.forest = record { there = there; outside = outside_allowed w.page.forest p n before apart at_p there may } in
-        given_at h l (insert p n (reference_child w.page.forest n before) w) (insert_at p n (reference_child w.page.forest n before) h l w (record { holds = k.holds; sound = s; known = out }))
+        given_at h l (insert p n (reference_child w.page.forest n before) w)
+        (insert_at p n (reference_child w.page.forest n before) h l w (record { holds = k.holds; sound = s; known = out }))
 
 -- attributes
 
 changed_at : {q : Trees → Type 0} {h : List Hold} {l : List Event} (before : Page) (n : ℕ) (name : List ℕ) (old new : Option (List ℕ)) →
     KeepsAt q h l (handle_attribute_change before n name old new)
-changed_at before n name old new = at_bind (at_read (form_changes before)) (λ changes. at_seq (at_where (λ w. is_custom w.page n) (callback_at n (Attribute name old new))) (others_at changes []))
+changed_at before n name old new =
+    at_bind (at_read (form_changes before))
+    (λ changes. at_seq (at_where (λ w. is_custom w.page n) (callback_at n (Attribute name old new))) (others_at changes []))
 
 pub set_at : {h : List Hold} {l : List Event} (n : ℕ) (name value : List ℕ) → KeepsAt Any h l (set_attribute n name value)
 set_at n name value = at_bind (at_read (λ p. p))
-    (λ before. at_seq (at_forest (with_attribute n name value) (λ f apart known. (alike_facts n (λ x. record x { attributes = with_value name value x.attributes }) (λ x. refl) f, tt)))
+    (λ before. at_seq (at_forest (with_attribute n name value)
+    (λ f apart known. (alike_facts n (λ x. record x { attributes = with_value name value x.attributes }) (λ x. refl) f, tt)))
     (changed_at before n name (attribute_at before.forest n name) (Some value)))
 
 there_at : {h : List Hold} {l : List Event} (n : ℕ) (name : List ℕ) (o : Option (List ℕ)) → KeepsAt Any h l (remove_there n name o)
 there_at n name None = at_done
 there_at n name (Some value) = at_bind (at_read (λ p. p))
-    (λ before. at_seq (at_forest (without_attribute n name) (λ f apart known. (alike_facts n (λ x. record x { attributes = without_value name x.attributes }) (λ x. refl) f, tt)))
+    (λ before. at_seq (at_forest (without_attribute n name)
+    (λ f apart known. (alike_facts n (λ x. record x { attributes = without_value name x.attributes }) (λ x. refl) f, tt)))
     (changed_at before n name (Some value) None))
 
 pub unset_at : {h : List Hold} {l : List Event} (n : ℕ) (name : List ℕ) → KeepsAt Any h l (remove_attribute n name)

@@ -7,7 +7,8 @@ use Rattle.ce_events.specs.declared.event.Event.{Event}
 use Rattle.ce_events.specs.declared.event.Event.TheVariants.{Dropped, UpgradeThrew}
 use Rattle.order_law.specs.Book.{Entry, Bracket, Upgrading, Book}
 use Rattle.order_law.specs.Reads.{entry_of, without, none_of_element, is_first}
-use Rattle.order_law.specs.Clauses.{counts_up, starts_once, calls_once, runs_in_order, drops_in_upgrade, closes_empty, ends_innermost, begins_upgrade, spares_thrown, replies_at_rest, fuel_is_last, goes_on, loser, leads, is_in_upgrade}
+use Rattle.order_law.specs.Clauses.{counts_up, starts_once, calls_once, runs_in_order, drops_in_upgrade, closes_empty, ends_innermost, begins_upgrade}
+use Rattle.order_law.specs.Clauses.{spares_thrown, replies_at_rest, fuel_is_last, goes_on, loser, leads, is_in_upgrade}
 use Rattle.order_law.specs.Law.{may_come, read, is_lawful}
 use Rattle.order_law.specs.After.{after}
 use Rattle.order_law.specs.Lines.{is_reply}
@@ -158,14 +159,16 @@ first_of n r k xs low (w ∷ ws) rises h = go (w.element == n) refl (first_of n 
         let what : w.what ≡ k = ap (λ (p : ℕ × CallOrUpgrade). p.1) pair in
         let hit : w.number == r ≡ true = eq-eqb w.number r number in
         let same : w ≡ record { number = r; element = n; what = k; queue = w.queue } =
-        ap (λ x. record w { number = x }) number ∙ ap (λ x. record { number = r; element = x; what = w.what; queue = w.queue }) is ∙ ap (λ x. record { number = r; element = n; what = x; queue = w.queue }) what in
+        ap (λ x. record w { number = x }) number ∙ ap (λ x. record { number = r; element = x; what = w.what; queue = w.queue }) is
+        ∙ ap (λ x. record { number = r; element = n; what = x; queue = w.queue }) what in
         record {
           queue = w.queue;
           above = omega (arith, rises.0, number);
           found = ap (λ b. if b then Some w else entry_of r ws) hit ∙ ap Some same;
           first = ap (λ b. if b then true else not (w.element == n) && is_first r n ws) hit;
           here = ap (λ b. told_at n (if b then ws else w ∷ without r ws)) hit ∙ (let e : told_at n ws ≡ xs = cc in e);
-          others = λ m o. ap (λ b. told_at m (if b then ws else w ∷ without r ws)) hit ∙ sym (ap (λ b. add_if b (w.number, w.what) (told_at m ws)) (ap (λ x. x == m) is ∙ o));
+          others = λ m o. ap (λ b. told_at m (if b then ws else w ∷ without r ws)) hit
+              ∙ sym (ap (λ b. add_if b (w.number, w.what) (told_at m ws)) (ap (λ x. x == m) is ∙ o));
         }
     go false t next h =
         let f = next h in
@@ -256,13 +259,15 @@ reads_throw n [] outer low b told inside rises drops over =
 reads_throw n ((r, k) ∷ xs) outer low b told inside rises drops over =
     let f = first_of n r k xs low b.waiting rises told in
     let loses : loser b (Dropped r) ≡ Some n = ap (λ o. elim o as (λ _. Option ℕ) [ None ↦ None | Some w ↦ Some w.element ]) f.found in
-    let next = reads_throw n xs outer low (after b (Dropped r)) f.here inside (rising_without low r b.waiting rises) (ap (λ o. goes_on o (Some n)) loses ∙ eq-eqb n n refl) over in
+    let next = reads_throw n xs outer low (after b (Dropped r)) f.here inside (rising_without low r b.waiting rises)
+    (ap (λ o. goes_on o (Some n)) loses ∙ eq-eqb n n refl) over in
     let step = reads_one b (Dropped r) (tested b (Dropped r) (record {
       counts = refl;
       starts = ap is_some f.found;
       calls = refl;
       order = ap (λ o. leads o b.waiting) f.found ∙ f.first;
-      throws = ap (λ o. is_in_upgrade o b.brackets) f.found ∙ ap (λ bs. is_in_upgrade (Some (record { number = r; element = n; what = k; queue = f.queue })) bs) inside ∙ eq-eqb n n refl;
+      throws = ap (λ o. is_in_upgrade o b.brackets) f.found
+          ∙ ap (λ bs. is_in_upgrade (Some (record { number = r; element = n; what = k; queue = f.queue })) bs) inside ∙ eq-eqb n n refl;
       together = ap (λ o. goes_on b.dropping o) loses ∙ drops;
       closes = refl;
       nested = refl;

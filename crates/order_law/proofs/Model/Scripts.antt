@@ -12,7 +12,8 @@ use Rattle.ce_events.specs.declared.event.Event.TheVariants.{WasBad}
 use Rattle.ce_algorithms.specs.Steps.{Step, Outcome, Goes, Throws, Spent, then_do, ◌>>=◌, ◌>>◌, attempt_in, found, throw_where, throw_if, give, change}
 use Rattle.ce_algorithms.specs.State.{State, Class, change_class, class_of, class_named, new_class}
 use Rattle.ce_algorithms.specs.Model.{model}
-use Rattle.ce_algorithms.specs.Parts.{part, add_class, change_open, change_facts, with_body, with_has, with_observed, associated, without_shadow, without_internals}
+use Rattle.ce_algorithms.specs.Parts.{part, add_class, change_open, change_facts, with_body, with_has, with_observed, associated, without_shadow}
+use Rattle.ce_algorithms.specs.Parts.{without_internals}
 use Rattle.ce_algorithms.specs.Session.{part_reply, run_line, run_lines, log_of, start}
 use Rattle.order_law.specs.Law.{Lawful}
 use Rattle.ce_algorithms.specs.declared.settings.Settings.{Settings}
@@ -107,7 +108,14 @@ start_waits n = go (n - 1)
     go (suc i) = refl
 
 start_sound : Sound (single 1 (blank_facts Document 1)) 1 []
-start_sound = record { size = refl; some = omega arith; once = λ n row. once n (let low = row.low in let high = row.high in omega (arith, low, high)); only = only; first = refl; stacked = tt }
+start_sound = record {
+  size = refl;
+  some = omega arith;
+  once = λ n row. once n (let low = row.low in let high = row.high in omega (arith, low, high));
+  only = only;
+  first = refl;
+  stacked = tt;
+}
   where
     once : (n : ℕ) → n ≡ 1 → times n (single 1 (blank_facts Document 1)) ≡ 1
     once n e = grind (arith, nat_tests)
@@ -126,8 +134,27 @@ start_rests settings = record {
       reads = reads_none blank;
       over = refl;
       dropping = refl;
-      queues = record { numbers = refl; queues = refl; rising = tt; below = tt; waits = λ n. sym (start_waits n); brackets = refl; opens = refl; falls = tt; placed = tt; owed = inl refl };
-      elements = record { known = tt; defined = tt; unset = λ n _. ap (λ (e : Element). e.definition) (start_row n); upgraded = λ n m. absurd (let x : false ≡ true = m in cc); thrown = λ n m. absurd (let x : false ≡ true = m in cc); document = refl; ongoing = tt };
+      queues = record {
+        numbers = refl;
+        queues = refl;
+        rising = tt;
+        below = tt;
+        waits = λ n. sym (start_waits n);
+        brackets = refl;
+        opens = refl;
+        falls = tt;
+        placed = tt;
+        owed = inl refl;
+      };
+      elements = record {
+        known = tt;
+        defined = tt;
+        unset = λ n _. ap (λ (e : Element). e.definition) (start_row n);
+        upgraded = λ n m. absurd (let x : false ≡ true = m in cc);
+        thrown = λ n m. absurd (let x : false ≡ true = m in cc);
+        document = refl;
+        ongoing = tt;
+      };
     };
     notes = refl;
     rest = record { sound = start_sound; named = tt };

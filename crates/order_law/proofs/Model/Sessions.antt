@@ -42,7 +42,8 @@ pub record Replies (e : Event) : Type 0 where
 reply_tests : (b : Book) (e : Event) → is_line b e ≡ true → calls_once b e ≡ true → b.over ≡ false → b.dropping ≡ None → b.owed ≡ false →
     b.brackets ≡ [] → b.waiting ≡ [] → Tests b e
 reply_tests b e line calls over dropping owed brackets waiting = line_tests b e line over dropping calls
-    (ap (λ t. not (is_reply e && t)) owed ∙ never (is_reply e)) (ap (λ bs. not (is_reply e) || (is_empty bs && is_empty b.waiting)) brackets ∙ ap (λ ws. not (is_reply e) || is_empty ws) waiting ∙ always (not (is_reply e)))
+    (ap (λ t. not (is_reply e && t)) owed ∙ never (is_reply e)) (ap (λ bs. not (is_reply e) || (is_empty bs && is_empty b.waiting)) brackets
+    ∙ ap (λ ws. not (is_reply e) || is_empty ws) waiting ∙ always (not (is_reply e)))
   where
     never : (t : Bool) → not (t && false) ≡ true
     never true = refl
@@ -76,7 +77,8 @@ replied e s x r =
       holds = record {
         holds = record {
           book = k.book;
-          reads = reads_append blank s.log (e ∷ []) k.book k.book k.reads (subst (Reads k.book (e ∷ [])) same (reads_one k.book e (tested k.book e (x.at k.book k.over k.dropping z.1 k.queues.brackets z.0))));
+          reads = reads_append blank s.log (e ∷ []) k.book k.book k.reads
+              (subst (Reads k.book (e ∷ [])) same (reads_one k.book e (tested k.book e (x.at k.book k.over k.dropping z.1 k.queues.brackets z.0))));
           over = k.over;
           dropping = k.dropping;
           queues = k.queues;
@@ -106,16 +108,25 @@ given_backup (Spent s) k = k
 level_keeps : (again : Again) → KeepsLaw again → KeepsLaw (level again)
 level_keeps again keeps = record {
   operates = λ this op h held. record { at = λ s k. (operate_gives again keeps this op h held).at s k };
-  drains = λ ns q h s k. given_calm (InDrain q [] ∷ h) (drain again ns s) (drain_after again keeps (construct_for_keeps again keeps) (body_keeps again keeps) ns q h s k);
+  drains = λ ns q h s k. given_calm (InDrain q [] ∷ h) (drain again ns s)
+      (drain_after again keeps (construct_for_keeps again keeps) (body_keeps again keeps) ns q h s k);
   backups = λ s k. given_backup (drain_backup again s) (backup_after again keeps (construct_for_keeps again keeps) (body_keeps again keeps) s k);
 }
 
 -- any number of levels
 run_keeps : (n : ℕ) → KeepsLaw (run n)
-run_keeps zero = record { operates = λ this op h held. record { at = λ s k. k.holds.reads.lawful }; drains = λ ns q h s k. k.holds.reads.lawful; backups = λ s k. k.holds.reads.lawful }
+run_keeps zero = record {
+  operates = λ this op h held. record { at = λ s k. k.holds.reads.lawful };
+  drains = λ ns q h s k. k.holds.reads.lawful;
+  backups = λ s k. k.holds.reads.lawful;
+}
 run_keeps (suc n) =
     let l = level_keeps (run n) (run_keeps n) in
-    record { operates = λ this op h held. record { at = λ s k. (l.operates this op h held).at s k }; drains = λ ns q h s k. l.drains ns q h s k; backups = λ s k. l.backups s k }
+    record {
+      operates = λ this op h held. record { at = λ s k. (l.operates this op h held).at s k };
+      drains = λ ns q h s k. l.drains ns q h s k;
+      backups = λ s k. l.backups s k;
+    }
 
 model_keeps : KeepsLaw model
 unfolding model
@@ -132,8 +143,12 @@ command_then line r (Throws f s) k = k
 command_then line r (Spent s) k = k
 
 performed_then : (line : ℕ) (o : Outcome State Given) → After [] o → Ends {A = Unit {0}} (then_do (attempt_in o) (λ r. checkpoint model >> log (reply line r)))
-performed_then line (Goes a s) k = command_then line (Ok a) (checkpoint model s) (checkpoint_after model model_keeps (construct_for_keeps model model_keeps) (body_keeps model model_keeps) s k)
-performed_then line (Throws f s) k = command_then line (Err f) (checkpoint model s) (checkpoint_after model model_keeps (construct_for_keeps model model_keeps) (body_keeps model model_keeps) s k)
+performed_then line (Goes a s) k =
+    command_then line (Ok a) (checkpoint model s)
+    (checkpoint_after model model_keeps (construct_for_keeps model model_keeps) (body_keeps model model_keeps) s k)
+performed_then line (Throws f s) k =
+    command_then line (Err f) (checkpoint model s)
+    (checkpoint_after model model_keeps (construct_for_keeps model model_keeps) (body_keeps model model_keeps) s k)
 performed_then line (Spent s) k = k
 
 -- what a command performs
@@ -147,4 +162,5 @@ command_ends line c s r = go s.fuel
   where
     go : (n : ℕ) → Ends {A = Unit {0}} (then_do (spend_from n s) (λ _. attempt (perform model c) >>= (λ result. checkpoint model >> log (reply line result))))
     go zero = spent_lawful [] s.log s.page r.holds.holds
-    go (suc n) = performed_then line (perform model c (record s { fuel = n })) ((performs c).at (record s { fuel = n }) (record { holds = r.holds.holds; notes = r.holds.notes; rest = r.holds.rest }))
+    go (suc n) = performed_then line (perform model c (record s { fuel = n }))
+        ((performs c).at (record s { fuel = n }) (record { holds = r.holds.holds; notes = r.holds.notes; rest = r.holds.rest }))

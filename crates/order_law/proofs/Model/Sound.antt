@@ -1,5 +1,6 @@
 -- Sound pages: each node of the forest has its row, and each row its node.
-use Rattle.std.proofs.Common.{◌≡◌, ℕ, zero, suc, ◌+◌, ◌<◌, ◌≤◌, true, List, [], ◌∷◌, Option, Some, None, refl, sym, ap, ◌∙◌, subst, arith, inl, inr, if◌then◌else◌, ◌==◌}
+use Rattle.std.proofs.Common.{◌≡◌, ℕ, zero, suc, ◌+◌, ◌<◌, ◌≤◌, true, List, [], ◌∷◌, Option, Some, None, refl, sym, ap, ◌∙◌, subst, arith, inl, inr}
+use Rattle.std.proofs.Common.{if◌then◌else◌, ◌==◌}
 use Rattle.std.specs.Prelude.{slice_get, slice_set}
 use Rattle.std.proofs.lemmas.Bool.Decides.{nat_tests}
 use Rattle.std.proofs.lemmas.Bool.{cases_lt, cases_eq}
@@ -75,7 +76,8 @@ sound_more f g rows stacks kind more k = record {
   some = omega arith;
   once = λ n row. once n row (more (λ m kind. if m == n then 1 else 0));
   only = λ n there. only n there (more (λ m kind. if m == n then 1 else 0));
-  first = let e = more (one_element 1) in let s = k.size in let p = k.some in let o = k.first in let z : one_element 1 (size f + 1) kind ≡ 0 = grind (arith, nat_tests) in omega (arith, e, o, z);
+  first = let e = more (one_element 1) in let s = k.size in let p = k.some in let o = k.first in let z : one_element 1 (size f + 1) kind ≡ 0 =
+      grind (arith, nat_tests) in omega (arith, e, o, z);
   stacked = all_map (All (IsEntry rows)) (All (IsEntry (rows + 1))) stacks (λ es. all_map (IsEntry rows) (IsEntry (rows + 1)) es entry) k.stacked;
 }
   where
@@ -129,10 +131,12 @@ grown_entries rows (suc count) (entries ∷ stacks) all = (all.0, grown_entries 
 
 pub pushed_entries : (rows d n : ℕ) (stacks : List (List (Option ℕ))) → IsRow rows n → All (All (IsEntry rows)) stacks →
     All (All (IsEntry rows)) (pushed d n stacks)
-pushed_entries rows d n stacks row all = set_entries rows d (Some n ∷ stack_of d stacks) (grown (d + 1) stacks) (row, stack_entries rows stacks d all) (grown_entries rows (d + 1) stacks all)
+pushed_entries rows d n stacks row all =
+    set_entries rows d (Some n ∷ stack_of d stacks) (grown (d + 1) stacks) (row, stack_entries rows stacks d all) (grown_entries rows (d + 1) stacks all)
 
 pub popped_entries : (rows d : ℕ) (stacks : List (List (Option ℕ))) → All (All (IsEntry rows)) stacks → All (All (IsEntry rows)) (popped d stacks)
-popped_entries rows d stacks all = set_entries rows d (without_last (stack_of d stacks)) stacks (fewer (stack_of d stacks) (stack_entries rows stacks d all)) all
+popped_entries rows d stacks all =
+    set_entries rows d (without_last (stack_of d stacks)) stacks (fewer (stack_of d stacks) (stack_entries rows stacks d all)) all
   where
     fewer : (entries : List (Option ℕ)) → All (IsEntry rows) entries → All (IsEntry rows) (without_last entries)
     fewer [] entries = tt
@@ -144,6 +148,7 @@ pub element_row : (f : Trees) (rows : ℕ) (stacks : List (List (Option ℕ))) (
 element_row f rows stacks n is k =
     let row = k.only n (element_there f n is) in
     elim (cases_eq n 1) [
-      | inl e ↦ absurd (let one = element_counts None None 1 f (ap (λ m. is_element (kind_at f m)) (sym e) ∙ is) in let none = k.first in omega (arith, one, none))
+      | inl e ↦ absurd (let one = element_counts None None 1 f (ap (λ m. is_element (kind_at f m)) (sym e) ∙ is) in let none = k.first in
+          omega (arith, one, none))
       | inr ne ↦ (omega (arith, row.low, ne), row.high)
     ]

@@ -1,5 +1,6 @@
 -- Steps keep the law: those of a page with its notes, and those of a session.
-use Rattle.std.proofs.Common.{◌≡◌, ℕ, zero, suc, ◌+◌, ◌-◌, ◌<◌, ◌≤◌, Bool, true, false, List, [], ◌∷◌, ◌++◌, length, map, Option, Some, None, refl, sym, ap, ◌∙◌, subst, arith, append_assoc, append-nil}
+use Rattle.std.proofs.Common.{◌≡◌, ℕ, zero, suc, ◌+◌, ◌-◌, ◌<◌, ◌≤◌, Bool, true, false, List, [], ◌∷◌, ◌++◌, length, map, Option, Some, None, refl, sym, ap}
+use Rattle.std.proofs.Common.{◌∙◌, subst, arith, append_assoc, append-nil}
 use Rattle.std.specs.Prelude.{slice_get}
 use Rattle.std.specs.Option.{option_and_then}
 use Rattle.std.proofs.lemmas.List.{map-append}
@@ -12,7 +13,8 @@ use Rattle.reaction_queue.specs.Reactions.{what_of}
 use Rattle.ce_registry.specs.declared.definition.Definition.{Definition}
 use Rattle.ce_events.specs.declared.event.Event.{Event}
 use Rattle.ce_events.specs.declared.event.Event.TheVariants.{Enqueued}
-use Rattle.ce_algorithms.specs.Steps.{Step, Outcome, Goes, Throws, Spent, then_do, ◌>>=◌, ◌>>◌, give, done, throw, when, where_is, for_each, finally, finally_in}
+use Rattle.ce_algorithms.specs.Steps.{Step, Outcome, Goes, Throws, Spent, then_do, ◌>>=◌, ◌>>◌, give, done, throw, when, where_is, for_each, finally}
+use Rattle.ce_algorithms.specs.Steps.{finally_in}
 use Rattle.ce_algorithms.specs.Page.{Page, Work, Element, or_uncustomized, definition_of, with_queues, with_forest}
 use Rattle.ce_algorithms.specs.Page as page
 use Rattle.ce_algorithms.specs.Enqueue.{noted, enqueue, enqueue_callback, gives_reaction, has_callback, is_observed}
@@ -73,14 +75,16 @@ at_each (x ∷ xs) n = at_seq (n x) (at_each xs n)
 -- a page whose elements, definitions and queues are the same
 pub same_page : (h : List Hold) (l : List Event) (p q : Page) → p.elements ≡ q.elements → p.definitions ≡ q.definitions → p.queues ≡ q.queues →
     Holds h l p → Holds h l q
-same_page h l p q e d s r = subst (λ (t : List Element × List Definition × Queues). Holds h l (record q { elements = t.0; definitions = t.1; queues = t.2 })) parts (record {
-  book = r.book;
-  reads = r.reads;
-  over = r.over;
-  dropping = r.dropping;
-  queues = r.queues;
-  elements = let t = r.elements in record { known = t.known; defined = t.defined; unset = t.unset; upgraded = t.upgraded; thrown = t.thrown; document = t.document; ongoing = t.ongoing };
-})
+same_page h l p q e d s r = subst (λ (t : List Element × List Definition × Queues). Holds h l (record q { elements = t.0; definitions = t.1; queues = t.2 }))
+    parts (record {
+      book = r.book;
+      reads = r.reads;
+      over = r.over;
+      dropping = r.dropping;
+      queues = r.queues;
+      elements = let t = r.elements in
+          record { known = t.known; defined = t.defined; unset = t.unset; upgraded = t.upgraded; thrown = t.thrown; document = t.document; ongoing = t.ongoing };
+    })
   where
     parts : ◌≡◌ {A = List Element × List Definition × Queues} (p.elements, p.definitions, p.queues) (q.elements, q.definitions, q.queues)
     parts = ap (λ y. (y, p.definitions, p.queues)) e ∙ ap (λ y. (q.elements, y, p.queues)) d ∙ ap (λ y. (q.elements, q.definitions, y)) s
@@ -94,7 +98,8 @@ defined_known h l p n d is k = record { low = low n is; high = high (slice_get p
 
     undefined : (n : ℕ) → n - 1 ≡ 0 → definition_of p n ≡ Some d → ⊥
     undefined n e is =
-        let same : definition_of p n ≡ None = ap (λ i. row_of (slice_get p.elements i)) e ∙ ap (λ o. option_and_then (slice_get p.definitions) o) k.elements.document in
+        let same : definition_of p n ≡ None =
+        ap (λ i. row_of (slice_get p.elements i)) e ∙ ap (λ o. option_and_then (slice_get p.definitions) o) k.elements.document in
         let x : None ≡ Some d = sym same ∙ is in cc
 
     low : (n : ℕ) → definition_of p n ≡ Some d → 2 ≤ n
@@ -112,16 +117,22 @@ defined_known h l p n d is k = record { low = low n is; high = high (slice_get p
         inside (y ∷ xs) (suc i) x e = let r = inside xs i x e in omega (arith, r)
 
         within : (xs : List Element) (i : ℕ) (r : Element) → slice_get xs i ≡ Some r → 2 ≤ n → n ≤ length p.elements
-        within xs i r f le = let t = inside p.elements (n - 1) (or_uncustomized (slice_get p.elements (n - 1))) (e ∙ ap Some (sym (ap or_uncustomized e))) in omega (arith, t, le)
+        within xs i r f le = let t = inside p.elements (n - 1) (or_uncustomized (slice_get p.elements (n - 1))) (e ∙ ap Some (sym (ap or_uncustomized e))) in
+            omega (arith, t, le)
 
 -- an enqueue, with its note
 note_line : (n : ℕ) (x : Reaction) (p : Page) →
-    map event_of (noted n x (with_queues (enqueued n x) p)).notes ≡ map event_of p.notes ++ Enqueued (p.queues.reactions + 1) n (what_of x) (current_of p.queues) ∷ []
-note_line n x p = map-append event_of p.notes (record { number = (enqueued n x p.queues).reactions; node = n; what = what_of x; queue = current_of (enqueued n x p.queues) } ∷ [])
+    map event_of (noted n x (with_queues (enqueued n x) p)).notes
+    ≡ map event_of p.notes ++ Enqueued (p.queues.reactions + 1) n (what_of x) (current_of p.queues) ∷ []
+note_line n x p = map-append event_of p.notes
+    (record { number = (enqueued n x p.queues).reactions; node = n; what = what_of x; queue = current_of (enqueued n x p.queues) } ∷ [])
     ∙ ap (λ (t : ℕ × ℕ). map event_of p.notes ++ Enqueued t.0 n (what_of x) t.1 ∷ []) (same p.queues.stack refl)
   where
     same : (os : _) → p.queues.stack ≡ os →
-        ◌≡◌ {A = ℕ × ℕ} ((appended_to os n (with_reaction n x (counted p.queues))).reactions, current_of (appended_to os n (with_reaction n x (counted p.queues)))) (p.queues.reactions + 1, number_of os)
+        ◌≡◌ {A = ℕ × ℕ} (
+          (appended_to os n (with_reaction n x (counted p.queues))).reactions,
+          current_of (appended_to os n (with_reaction n x (counted p.queues))),
+        ) (p.queues.reactions + 1, number_of os)
     same [] e = ap (λ os. (p.queues.reactions + 1, number_of os)) e
     same (o ∷ os) e = refl
 
@@ -138,7 +149,8 @@ enqueue_at q h l n x w known fit k = go w.fuel
         append_assoc l (map event_of w.page.notes) (line ∷ []) ∙ ap (λ m. l ++ m) (sym (note_line n x w.page)) in
         let r = subst (λ m. Holds h m (with_queues (enqueued n x) w.page)) lines e in
         record {
-          holds = same_page h (l ++ map event_of (noted n x (with_queues (enqueued n x) w.page)).notes) (with_queues (enqueued n x) w.page) (noted n x (with_queues (enqueued n x) w.page)) refl refl refl r;
+          holds = same_page h (l ++ map event_of (noted n x (with_queues (enqueued n x) w.page)).notes) (with_queues (enqueued n x) w.page)
+              (noted n x (with_queues (enqueued n x) w.page)) refl refl refl r;
           sound = k.sound;
           known = k.known;
         }
@@ -189,7 +201,8 @@ back h s (Spent w) k = spent_lawful (with_hands (nodes_of s.variables) h) (s.log
 -- into the page
 pub at_work : (h : List Hold) (s : State) → HoldsIn h s → HoldsAt Any (with_hands (nodes_of s.variables) h) s.log (work_of s)
 at_work h s k = record {
-  holds = take_hands (nodes_of s.variables) h (s.log ++ map event_of s.page.notes) s.page k.rest.named (subst (λ m. Holds h m s.page) (sym (ap (λ ns. s.log ++ map event_of ns) k.notes ∙ append-nil s.log)) k.holds);
+  holds = take_hands (nodes_of s.variables) h (s.log ++ map event_of s.page.notes) s.page k.rest.named
+      (subst (λ m. Holds h m s.page) (sym (ap (λ ns. s.log ++ map event_of ns) k.notes ∙ append-nil s.log)) k.holds);
   sound = k.rest.sound;
   known = tt;
 }
@@ -253,7 +266,10 @@ pub record Keeps {A : Type 0} (h : List Hold) (f : Step State A) : Type 0 where
   pub at : (s : State) → HoldsIn h s → After h (f s)
 
 pub keeps_page : {A : Type 0} {h : List Hold} {f : Step Work A} → ((vs : List ℕ) (l : List Event) → KeepsAt Any (with_hands vs h) l f) → Keeps h (on_page f)
-keeps_page {h} {f} n = record { at = λ s k. calm_any h (on_page f s) (back h s (f (work_of s)) ((n (nodes_of s.variables) s.log).at (work_of s) (at_work h s k))) }
+keeps_page {h} {f} n = record {
+  at =
+      λ s k. calm_any h (on_page f s) (back h s (f (work_of s)) ((n (nodes_of s.variables) s.log).at (work_of s) (at_work h s k)));
+}
 
 keeps_then : {A B : Type 0} (h : List Hold) (o : Outcome State A) (k : A → Step State B) → After h o → ((a : A) → Keeps h (k a)) → After h (then_do o k)
 keeps_then h (Goes a s) k o n = (n a).at s o

@@ -33,14 +33,16 @@ submitted_plain form (Post url media body) = record { at = λ b o d. line_tests 
 submitted_plain form (Blocked why) = record { at = λ b o d. line_tests b (SubmitBlocked form (cause why)) refl o d refl refl refl; is = λ b. refl }
 
 keeps_submit : {h : List Hold} (form : ℕ) (submitter : Option ℕ) (by_call : Bool) → Keeps h (submit form submitter by_call)
-keeps_submit form submitter by_call = keeps_bind (keeps_read (λ (s : State). plan s.page s.site form submitter by_call)) (λ sent. keeps_plain (submitted form sent) (submitted_plain form sent))
+keeps_submit form submitter by_call =
+    keeps_bind (keeps_read (λ (s : State). plan s.page s.site form submitter by_call)) (λ sent. keeps_plain (submitted form sent) (submitted_plain form sent))
 
 keeps_any : {h : List Hold} (o : Option Fault) → Keeps h (throw_any o)
 keeps_any None = keeps_done
 keeps_any (Some f) = keeps_throw f
 
 keeps_request : {h : List Hold} (form : ℕ) (submitter : Option ℕ) → Keeps h (request form submitter)
-keeps_request form submitter = keeps_seq (keeps_bind (keeps_read (λ (s : State). request_fit (forms_of s.page) form submitter)) keeps_any) (keeps_submit form submitter false)
+keeps_request form submitter =
+    keeps_seq (keeps_bind (keeps_read (λ (s : State). request_fit (forms_of s.page) form submitter)) keeps_any) (keeps_submit form submitter false)
 
 keeps_reset : {h : List Hold} (form : ℕ) → Keeps h (on_page (reset_form form))
 keeps_reset form = gives_keeps {nodes = none} (gives_page (λ vs l. reset_gives form))
@@ -50,7 +52,8 @@ keeps_if true x y = x
 keeps_if false x y = y
 
 keeps_act_on : {h : List Hold} (button form : ℕ) (kind : Option InputKind) → Keeps h (act_on button form kind)
-keeps_act_on button form kind = keeps_if (is_kind Submit kind) (keeps_submit form (Some button) false) (keeps_if (is_kind Reset kind) (keeps_reset form) keeps_done)
+keeps_act_on button form kind =
+    keeps_if (is_kind Submit kind) (keeps_submit form (Some button) false) (keeps_if (is_kind Reset kind) (keeps_reset form) keeps_done)
 
 keeps_activate_in : {h : List Hold} (button : ℕ) (owner : Option ℕ) → Keeps h (activate_in button owner)
 keeps_activate_in button None = keeps_done
@@ -66,4 +69,5 @@ ignored_gives false x = gives_seq x (gives_give Nothing tt)
 pub submit_gives : {h : List Hold} (what : SubmitDeed) → Gives given_nodes h (submit_steps what)
 submit_gives (submit_deeds.Submit form) = gives_seq (keeps_submit form None true) (gives_give Nothing tt)
 submit_gives (submit_deeds.Request form submitter) = gives_seq (keeps_request form submitter) (gives_give Nothing tt)
-submit_gives (submit_deeds.Press button) = gives_after (keeps_read_page (λ (p : Page). is_disabled p button)) (λ ignored. ignored_gives ignored (keeps_activate button))
+submit_gives (submit_deeds.Press button) =
+    gives_after (keeps_read_page (λ (p : Page). is_disabled p button)) (λ ignored. ignored_gives ignored (keeps_activate button))

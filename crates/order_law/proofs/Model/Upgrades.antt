@@ -1,5 +1,6 @@
 -- An upgrade begins, has ended, or threw.
-use Rattle.std.proofs.Common.{◌≡◌, ℕ, ◌≤◌, Bool, true, false, List, [], ◌∷◌, ◌++◌, length, map, Option, Some, None, refl, sym, ap, ◌∙◌, subst, arith, append_assoc, append-nil}
+use Rattle.std.proofs.Common.{◌≡◌, ℕ, ◌≤◌, Bool, true, false, List, [], ◌∷◌, ◌++◌, length, map, Option, Some, None, refl, sym, ap, ◌∙◌, subst, arith}
+use Rattle.std.proofs.Common.{append_assoc, append-nil}
 use Rattle.std.specs.Prelude.{slice_get, ◌-◌, ◌==◌, ◌||◌, ◌&&◌, not}
 use Rattle.std.specs.Option.{option_and_then}
 use Rattle.std.proofs.lemmas.Bool.{eqb-true, eqb-false, eq-eqb, false_from_ne_true}
@@ -22,8 +23,10 @@ use Rattle.order_law.specs.Reads.{is_one_of, is_callback}
 use Rattle.order_law.specs.Clauses.{may_upgrade, goes_on, ends_upgrade}
 use Rattle.order_law.specs.After.{after}
 use Rattle.order_law.specs.Reads.{around as outer_of}
-use Rattle.order_law.proofs.Model.Reading.{Reads, tested, reads_append, reads_one, told_at, Each, each_map, without_all, rising_without_all, each_without_all, throw_lines, reads_throw, add_if}
-use Rattle.order_law.proofs.Model.Invariant.{Hold, InSteps, InDrain, InReaction, InUpgrade, InHand, brackets_of, IsPlaced, told, SaysQueues, Known, fits, Ongoing, SaysElements, Holds, HoldsRest, rest_rows, HoldsIn, After}
+use Rattle.order_law.proofs.Model.Reading.{Reads, tested, reads_append, reads_one, told_at, Each, each_map, without_all, rising_without_all, each_without_all}
+use Rattle.order_law.proofs.Model.Reading.{throw_lines, reads_throw, add_if}
+use Rattle.order_law.proofs.Model.Invariant.{Hold, InSteps, InDrain, InReaction, InUpgrade, InHand, brackets_of, IsPlaced, told, SaysQueues, Known, fits}
+use Rattle.order_law.proofs.Model.Invariant.{Ongoing, SaysElements, Holds, HoldsRest, rest_rows, HoldsIn, After}
 use Rattle.order_law.proofs.Model.Rows.{waits_same, waits_other, row_same, row_other, row_twice, known_row}
 use Rattle.ce_base.proofs.Places.{each_number}
 
@@ -54,7 +57,8 @@ pub record FitsRow (b : Book) (p : Page) (n : ℕ) (e : Element) : Type 0 where
 pub says_row : (b : Book) (h : List Hold) (p : Page) (n : ℕ) (e : Element) → Known p.elements n → FitsRow b p n e → SaysElements b h p →
     SaysElements b h (with_element n e p)
 says_row b h p n e k f s = record {
-  known = each_map (λ w. Known p.elements w.element) (λ w. Known (with_element n e p).elements w.element) b.waiting (λ w l. known_row p n w.element e l) s.known;
+  known = each_map (λ w. Known p.elements w.element) (λ w. Known (with_element n e p).elements w.element) b.waiting
+      (λ w l. known_row p n w.element e l) s.known;
   defined = all b.waiting f.defined s.defined;
   unset = each_number (λ m. is_upgradable (state_of q m) ≡ true → (element_of q m).definition ≡ None) n
       (subst (λ (x : Element). is_upgradable x.state ≡ true → x.definition ≡ None) (sym here) f.unset)
@@ -99,7 +103,8 @@ says_row b h p n e k f s = record {
 threw_queues : (n : ℕ) (h : List Hold) (b : Book) (q : Queues) → 2 ≤ n → SaysQueues b (InUpgrade n ∷ h) q
     → told_at n (without_all (map told (waiting_at q n)) b.waiting) ≡ []
     → ((m : ℕ) → n == m ≡ false → told_at m (without_all (map told (waiting_at q n)) b.waiting) ≡ told_at m b.waiting)
-    → SaysQueues (record b { waiting = without_all (map told (waiting_at q n)) b.waiting; brackets = brackets_of h; thrown = n ∷ b.thrown; dropping = None }) h (with_waiting n [] q)
+    → SaysQueues (record b { waiting = without_all (map told (waiting_at q n)) b.waiting; brackets = brackets_of h; thrown = n ∷ b.thrown; dropping = None }) h
+    (with_waiting n [] q)
 threw_queues n h b q low s here others = record {
   numbers = s.numbers;
   queues = s.queues;
@@ -120,7 +125,8 @@ threw_queues n h b q low s here others = record {
 
 threw_elements : (n : ℕ) (h : List Hold) (b : Book) (p : Page) (xs : List (ℕ × CallOrUpgrade)) → SaysElements b (InUpgrade n ∷ h) p
     → told_at n (without_all xs b.waiting) ≡ []
-    → SaysElements (record b { waiting = without_all xs b.waiting; brackets = brackets_of h; thrown = n ∷ b.thrown; dropping = None }) h (with_definition n None p)
+    → SaysElements (record b { waiting = without_all xs b.waiting; brackets = brackets_of h; thrown = n ∷ b.thrown; dropping = None }) h
+    (with_definition n None p)
 threw_elements n h b p xs s here = record {
   known = t.known;
   defined = t.defined;
@@ -188,7 +194,8 @@ drop_lines_threw n (w ∷ ws) = ap (λ l. Dropped w.0 ∷ l) (drop_lines_threw n
 
 each_dropped : (ws : List (ℕ × Reaction)) (s : State) → for_each ws (λ w. log (Dropped w.0)) s ≡ Goes tt (record s { log = s.log ++ drop_lines ws })
 each_dropped [] s = ap (λ l. Goes tt (record s { log = l })) (sym (append-nil s.log))
-each_dropped (w ∷ ws) s = each_dropped ws (logged (Dropped w.0) s) ∙ ap (λ l. Goes tt (record s { log = l })) (append_assoc s.log (Dropped w.0 ∷ []) (drop_lines ws))
+each_dropped (w ∷ ws) s = each_dropped ws (logged (Dropped w.0) s)
+    ∙ ap (λ l. Goes tt (record s { log = l })) (append_assoc s.log (Dropped w.0 ∷ []) (drop_lines ws))
 
 -- what waits at the element is dropped, and its upgrade has thrown
 pub threw_holds : (n : ℕ) (h : List Hold) (l : List Event) (p : Page) → Holds (InUpgrade n ∷ h) l p →
@@ -203,10 +210,20 @@ threw_holds n h l p k =
       over = k.over;
       dropping = refl;
       queues = threw_queues n h k.book p.queues (k.elements.ongoing.0).low k.queues r.thrown.here r.thrown.others;
-      elements = let e = threw_elements n h k.book p xs k.elements r.thrown.here in record { known = e.known; defined = e.defined; unset = e.unset; upgraded = e.upgraded; thrown = e.thrown; document = e.document; ongoing = e.ongoing };
+      elements = let e = threw_elements n h k.book p xs k.elements r.thrown.here in
+          record {
+            known = e.known;
+            defined = e.defined;
+            unset = e.unset;
+            upgraded = e.upgraded;
+            thrown = e.thrown;
+            document = e.document;
+            ongoing = e.ongoing;
+          };
     }
 
--- the begin: it stands in a reaction that was enqueued as the element's upgrade, or in the steps of an operation; the row then has the definition, and the state is failed
+-- the begin: it stands in a reaction that was enqueued as the element's upgrade, or in the steps of an operation; the row then has the definition, and the
+-- state is failed
 abbrev pub MayUpgrade : ℕ → List Hold → Type 0
 MayUpgrade n [] = ⊥
 MayUpgrade n (InSteps q ∷ h) = Unit {0}
@@ -231,7 +248,10 @@ pub only_upgrades : (p : Page) (n : ℕ) (d : Option ℕ) (ws : List Entry) → 
     Each (λ w. fits w.what (definition_of p w.element) ≡ true) ws →
     Each (λ w. w.element ≡ n → fits w.what (option_and_then (slice_get p.definitions) d) ≡ true) ws
 only_upgrades p n d [] none f = tt
-only_upgrades p n d (w ∷ ws) none f = (λ is. go w.what (sym (ap (λ o. fits w.what (option_and_then (slice_get p.definitions) o)) (ap (λ m. (element_of p m).definition) is ∙ none)) ∙ f.0), only_upgrades p n d ws none f.1)
+only_upgrades p n d (w ∷ ws) none f = (
+  λ is. go w.what (sym (ap (λ o. fits w.what (option_and_then (slice_get p.definitions) o)) (ap (λ m. (element_of p m).definition) is ∙ none)) ∙ f.0),
+  only_upgrades p n d ws none f.1,
+)
   where
     go : (k : CallOrUpgrade) → fits k None ≡ true → fits k (option_and_then (slice_get p.definitions) d) ≡ true
     go (Call name) x = absurd (let y : false ≡ true = x in cc)
@@ -244,7 +264,8 @@ up_holds n d h l p known may upgradable k =
     let e : Element = record { state = Failed; definition = Some d } in
     let first : Element = record (element_of p n) { definition = Some d } in
     let none = k.elements.unset n upgradable in
-    let again : is_one_of n b.upgraded ≡ false = false_from_ne_true (is_one_of n b.upgraded) (λ m. both (is_upgradable (state_of p n)) upgradable (k.elements.upgraded n m)) in
+    let again : is_one_of n b.upgraded ≡ false =
+    false_from_ne_true (is_one_of n b.upgraded) (λ m. both (is_upgradable (state_of p n)) upgradable (k.elements.upgraded n m)) in
     let row : with_state n Failed (with_definition n (Some d) p) ≡ with_element n e p =
     ap (λ (x : Element). with_element n (record x { state = Failed }) (with_definition n (Some d) p)) (row_same p n first known) ∙ row_twice p n first e in
     let t = says_row b h p n e known (record {
@@ -265,14 +286,26 @@ up_holds n d h l p known may upgradable k =
         closes = refl;
         nested = refl;
         paid = refl;
-        upgrades = ap (λ bs. may_upgrade n bs && not (is_one_of n b.upgraded)) k.queues.brackets ∙ ap (λ x. x && not (is_one_of n b.upgraded)) (may_begin n h may) ∙ ap not again;
+        upgrades = ap (λ bs. may_upgrade n bs && not (is_one_of n b.upgraded)) k.queues.brackets
+            ∙ ap (λ x. x && not (is_one_of n b.upgraded)) (may_begin n h may) ∙ ap not again;
         quiet = refl;
         rest = refl;
         last = ap not k.over;
       })));
       over = k.over;
       dropping = refl;
-      queues = let q = k.queues in record { numbers = q.numbers; queues = q.queues; rising = q.rising; below = q.below; waits = q.waits; brackets = ap (λ bs. Upgrading n ∷ bs) q.brackets; opens = q.opens; falls = q.falls; placed = q.placed; owed = q.owed };
+      queues = let q = k.queues in record {
+        numbers = q.numbers;
+        queues = q.queues;
+        rising = q.rising;
+        below = q.below;
+        waits = q.waits;
+        brackets = ap (λ bs. Upgrading n ∷ bs) q.brackets;
+        opens = q.opens;
+        falls = q.falls;
+        placed = q.placed;
+        owed = q.owed;
+      };
       elements = record {
         known = t.known;
         defined = t.defined;
@@ -305,7 +338,8 @@ done_holds n h l p k =
     let e : Element = record (element_of p n) { state = Custom } in
     let known = k.elements.ongoing.0 in
     let t = says_row b (InUpgrade n ∷ h) p n e known (record {
-      defined = each_map (λ w. fits w.what (definition_of p w.element) ≡ true) (λ w. w.element ≡ n → fits w.what (option_and_then (slice_get p.definitions) e.definition) ≡ true) b.waiting
+      defined = each_map (λ w. fits w.what (definition_of p w.element) ≡ true) (λ w. w.element ≡ n
+          → fits w.what (option_and_then (slice_get p.definitions) e.definition) ≡ true) b.waiting
           (λ w f is. sym (ap (λ m. fits w.what (definition_of p m)) is) ∙ f) k.elements.defined;
       unset = λ x. absurd (let y : false ≡ true = x in cc);
       upgraded = λ _. refl;
@@ -313,31 +347,53 @@ done_holds n h l p k =
     }) k.elements in
     record {
       book = record b { brackets = brackets_of h; dropping = None };
-      reads = reads_append blank l (UpgradeDone n ∷ []) b _ k.reads (subst (λ bs. Reads b (UpgradeDone n ∷ []) (record b { brackets = bs; dropping = None })) (ap outer_of k.queues.brackets) (reads_one b (UpgradeDone n) (tested b (UpgradeDone n) (record {
-        counts = refl;
-        starts = refl;
-        calls = refl;
-        order = refl;
-        throws = refl;
-        together = ap (λ o. goes_on o None) k.dropping;
-        closes = refl;
-        nested = ap (λ bs. ends_upgrade n bs) k.queues.brackets ∙ eq-eqb n n refl;
-        paid = refl;
-        upgrades = refl;
-        quiet = refl;
-        rest = refl;
-        last = ap not k.over;
-      }))));
+      reads = reads_append blank l (UpgradeDone n ∷ []) b _ k.reads
+          (subst (λ bs. Reads b (UpgradeDone n ∷ []) (record b { brackets = bs; dropping = None })) (ap outer_of k.queues.brackets)
+          (reads_one b (UpgradeDone n) (tested b (UpgradeDone n) (record {
+            counts = refl;
+            starts = refl;
+            calls = refl;
+            order = refl;
+            throws = refl;
+            together = ap (λ o. goes_on o None) k.dropping;
+            closes = refl;
+            nested = ap (λ bs. ends_upgrade n bs) k.queues.brackets ∙ eq-eqb n n refl;
+            paid = refl;
+            upgrades = refl;
+            quiet = refl;
+            rest = refl;
+            last = ap not k.over;
+          }))));
       over = k.over;
       dropping = refl;
-      queues = let q = k.queues in record { numbers = q.numbers; queues = q.queues; rising = q.rising; below = q.below; waits = q.waits; brackets = refl; opens = q.opens; falls = q.falls; placed = q.placed; owed = q.owed };
-      elements = record { known = t.known; defined = t.defined; unset = t.unset; upgraded = t.upgraded; thrown = t.thrown; document = t.document; ongoing = t.ongoing.2 };
+      queues = let q = k.queues in record {
+        numbers = q.numbers;
+        queues = q.queues;
+        rising = q.rising;
+        below = q.below;
+        waits = q.waits;
+        brackets = refl;
+        opens = q.opens;
+        falls = q.falls;
+        placed = q.placed;
+        owed = q.owed;
+      };
+      elements = record {
+        known = t.known;
+        defined = t.defined;
+        unset = t.unset;
+        upgraded = t.upgraded;
+        thrown = t.thrown;
+        document = t.document;
+        ongoing = t.ongoing.2;
+      };
     }
 
 -- what holds beside, where a row was given anew
 pub rest_row : (n : ℕ) (e : Element) (s : State) → HoldsRest s.page.forest (length s.page.elements) s.page.stacks s.variables
     → HoldsRest s.page.forest (length (with_element n e s.page).elements) s.page.stacks s.variables
-rest_row n e s k = rest_rows s.page.forest (length s.page.elements) (length (with_element n e s.page).elements) s.page.stacks s.variables (sym (length-set s.page.elements (n - 1) e)) k
+rest_row n e s k = rest_rows s.page.forest (length s.page.elements) (length (with_element n e s.page).elements) s.page.stacks s.variables
+    (sym (length-set s.page.elements (n - 1) e)) k
 
 -- and what would come next does not
 pub threw_then : {B : Type 0} (n : ℕ) (f : Fault) (h : List Hold) (s : State) (k : Unit {0} → State → Outcome State B) → HoldsIn (InUpgrade n ∷ h) s →
@@ -345,6 +401,9 @@ pub threw_then : {B : Type 0} (n : ℕ) (f : Fault) (h : List Hold) (s : State) 
 threw_then {B} n f h s k held =
     let ws = waiting_at s.page.queues n in
     let t : State = record s { page = with_queues (with_waiting n []) (with_definition n None s.page) } in
-    let lines : (s.log ++ drop_lines ws) ++ UpgradeThrew n ∷ [] ≡ s.log ++ throw_lines n (map told ws) = append_assoc s.log (drop_lines ws) (UpgradeThrew n ∷ []) ∙ ap (λ l. s.log ++ l) (drop_lines_threw n ws) in
-    let after : Holds h ((s.log ++ drop_lines ws) ++ UpgradeThrew n ∷ []) t.page = subst (λ l. Holds h l t.page) (sym lines) (threw_holds n h s.log s.page held.holds) in
-    subst (λ (o : Outcome State (Unit {0})). After {A = B} h (then_do (then_do o (λ _. log (UpgradeThrew n) >> throw f)) k)) (sym (each_dropped ws t)) (record { holds = after; notes = held.notes; rest = rest_row n (record (element_of s.page n) { definition = None }) s held.rest })
+    let lines : (s.log ++ drop_lines ws) ++ UpgradeThrew n ∷ [] ≡ s.log ++ throw_lines n (map told ws) =
+    append_assoc s.log (drop_lines ws) (UpgradeThrew n ∷ []) ∙ ap (λ l. s.log ++ l) (drop_lines_threw n ws) in
+    let after : Holds h ((s.log ++ drop_lines ws) ++ UpgradeThrew n ∷ []) t.page =
+    subst (λ l. Holds h l t.page) (sym lines) (threw_holds n h s.log s.page held.holds) in
+    subst (λ (o : Outcome State (Unit {0})). After {A = B} h (then_do (then_do o (λ _. log (UpgradeThrew n) >> throw f)) k)) (sym (each_dropped ws t))
+    (record { holds = after; notes = held.notes; rest = rest_row n (record (element_of s.page n) { definition = None }) s held.rest })

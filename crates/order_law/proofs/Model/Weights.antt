@@ -140,9 +140,11 @@ on_path n i (tree m x s k r) apart there =
           let inner = among_under n m (path i s ++ path i k) ne in
           let parts = weight-join (λ j y. if j == i then 1 else 0) (tree_of n s) (join (tree_of n k) (tree_of n r)) in
           let others = weight-join (λ j y. if j == i then 1 else 0) (tree_of n k) (tree_of n r) in
-          let sum : times i (tree_of n (tree m x s k r)) ≡ times i (tree_of n s) + (times i (tree_of n k) + times i (tree_of n r)) = grind (arith, nat_tests, parts, others) in
+          let sum : times i (tree_of n (tree m x s k r)) ≡ times i (tree_of n s) + (times i (tree_of n k) + times i (tree_of n r)) =
+          grind (arith, nat_tests, parts, others) in
           elim (cases_eq m i) [
-            | inl same ↦ absurd (let one : 0 < times i s + (times i k + times i r) = omega (arith, sum, there, less_s, less_k, less_r) in grind (arith, nat_tests))
+            | inl same ↦ absurd (let one : 0 < times i s + (times i k + times i r) = omega (arith, sum, there, less_s, less_k, less_r) in
+                grind (arith, nat_tests))
             | inr other ↦ elim (cases_lt 0 (times i (tree_of n s))) [
               | inl a ↦ let h = in_s a in grind (arith, nat_tests, h, all, inner, both)
               | inr b ↦ elim (cases_lt 0 (times i (tree_of n k))) [

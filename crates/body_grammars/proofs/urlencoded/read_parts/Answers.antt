@@ -7,7 +7,8 @@ use Rattle.body_grammars.proofs.urlencoded.read_parts.Goals as goal
 pub returns-in_err-add_pair : goal.returns-in_err-add_pair
 returns-in_err-add_pair c =
     let p = err_from_is_err_and c.from_residual.result c.from_residual.ensures.1 in
-    rw (p.1, p.2) (stopped c.in_err-add_pair.field-0.0 c.loop-part.entries c.add_pair.new.entries c.args.bytes.now c.loop-part.rest.now c.in-Some.part.now c.in-Some.behind.now c.loop-part.invariant c.in-Some.ensures.cut c.in_err-add_pair.ensures)
+    rw (p.1, p.2) (stopped c.in_err-add_pair.field-0.0 c.loop-part.entries c.add_pair.new.entries c.args.bytes.now c.loop-part.rest.now c.in-Some.part.now
+    c.in-Some.behind.now c.loop-part.invariant c.in-Some.ensures.cut c.in_err-add_pair.ensures)
 
 pub returns : goal.returns
 returns c =

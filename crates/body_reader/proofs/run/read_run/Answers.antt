@@ -11,4 +11,5 @@ returns-in-Ok-None-clause-table g c = rw (← c.in-Ok-None.ensures.asked, c.in-O
 
 pub returns-in-Ok-Some-clause-complete : goal.returns-in-Ok-Some-clause-complete
 returns-in-Ok-Some-clause-complete g c = λ body_type bytes said known within calm_source calm_sink.
-    runs_whole _ body_type bytes _ _ _ _ _ _ _ _ _ _ c.run_typed.ensures.table (sym c.in-Ok-Some.field-0-is ∙ (c.in-Ok-Some.ensures.asked ∙ said)) known within calm_source calm_sink
+    runs_whole _ body_type bytes _ _ _ _ _ _ _ _ _ _ c.run_typed.ensures.table
+    (sym c.in-Ok-Some.field-0-is ∙ (c.in-Ok-Some.ensures.asked ∙ said)) known within calm_source calm_sink

@@ -1,4 +1,5 @@
-use Rattle.ce_algorithms.proofs.Rows.{put_back_logs, operands_logs, under_construction_logs, shadow_disabled_logs, inert_logs, clones_logs, second_super_logs, arguments_logs}
+use Rattle.ce_algorithms.proofs.Rows.{put_back_logs, operands_logs, under_construction_logs, shadow_disabled_logs, inert_logs, clones_logs, second_super_logs}
+use Rattle.ce_algorithms.proofs.Rows.{arguments_logs}
 use Rattle.ce_algorithms.proofs.laws.worked_corners.Goals as goal
 
 pub returns-clause-put_back : goal.returns-clause-put_back

@@ -1,4 +1,5 @@
-use Rattle.ce_algorithms.proofs.Rows.{candidates_logs, upgrade_throws_logs, create_throws_logs, construction_logs, constructors_logs, extends_logs, definitions_logs}
+use Rattle.ce_algorithms.proofs.Rows.{candidates_logs, upgrade_throws_logs, create_throws_logs, construction_logs, constructors_logs, extends_logs}
+use Rattle.ce_algorithms.proofs.Rows.{definitions_logs}
 use Rattle.ce_algorithms.proofs.laws.worked_upgrades.Goals as goal
 
 pub returns-clause-candidates : goal.returns-clause-candidates

@@ -8,7 +8,9 @@ loop-count-preserved g c =
     let more : c.in-Took.more ≤ length c.args.bytes.now - c.loop-count.count = rw (take_rest, length-drop) at c.in-Took.ensures.took.0 in
     record {
       count = omega (arith, more);
-      written = wrote_more (g.K.Sink.held c.args.sink.now) (g.K.Sink.held c.loop-count.sink) (g.K.Sink.held c.write.new.self) c.args.bytes.now c.loop-count.count c.in-Took.more c.loop-count.invariant.written (rw take_rest at c.in-Took.ensures.bytes);
+      written = wrote_more (g.K.Sink.held c.args.sink.now) (g.K.Sink.held c.loop-count.sink)
+          (g.K.Sink.held c.write.new.self) c.args.bytes.now c.loop-count.count c.in-Took.more c.loop-count.invariant.written
+          (rw take_rest at c.in-Took.ensures.bytes);
       later = omega arith;
       told =
           let none : g.K.Sink.failed c.loop-count.sink < g.K.Sink.failed c.write.new.self → ⊥ =

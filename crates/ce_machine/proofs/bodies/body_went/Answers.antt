@@ -14,4 +14,5 @@ returns-in_ok-now-in-Ok-clause-turn c =
 pub returns-in_ok-now-in-Ok-clause-lasts : goal.returns-in_ok-now-in-Ok-clause-lasts
 returns-in_ok-now-in-Ok-clause-lasts c =
     running_lasts c.args.state.now.page.forest _ _ c.tell.new.state.page.forest
-    (went_is c.args.stack.now c.requires.body c.args.state.now c.tell.new.state c.args.given c.in-Ok.ensures.told) (ap (λ (p : Page). p.forest) c.in-Ok.ensures.page) c.in_ok-now-in-Ok.ensures.lasts
+    (went_is c.args.stack.now c.requires.body c.args.state.now c.tell.new.state c.args.given c.in-Ok.ensures.told)
+    (ap (λ (p : Page). p.forest) c.in-Ok.ensures.page) c.in_ok-now-in-Ok.ensures.lasts

@@ -9,7 +9,8 @@ use Rattle.ce_machine.proofs.looping.run.Given as goal
 
 abbrev pub invariant-loop-state : goal.invariant-loop-state
 invariant-loop-state g l = record {
-  did : Did l.trace (g.K.Sink.held l.initial.sink) (g.K.Sink.held l.sink) (over l.initial.stack (came_in l.fn.end (session l.initial.stack l.initial.state))) (over l.stack (came_in l.now (session l.stack l.state)));
+  did : Did l.trace (g.K.Sink.held l.initial.sink) (g.K.Sink.held l.sink) (over l.initial.stack (came_in l.fn.end (session l.initial.stack l.initial.state)))
+      (over l.stack (came_in l.now (session l.stack l.state)));
   paired : ArePaired l.stack l.state;
   placed : ArePlaced l.state.page.forest (frames_of l.stack) (end_of l.now);
   later : g.K.Sink.failed l.initial.sink ≤ g.K.Sink.failed l.sink;

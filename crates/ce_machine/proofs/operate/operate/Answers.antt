@@ -8,10 +8,12 @@ pub returns-in-Ok-clause-turn : goal.returns-in-Ok-clause-turn
 unfolding operate_turn
 returns-in-Ok-clause-turn c =
     rw c.in-Ok.ensures at
-    (c.do_resolved.ensures.turn c.args.this.now (λ (v : View). resolve v c.args.op) (resolved_whole c.args.this.now c.args.op c.args.stack.now c.args.state.now c.resolve-resolved.result c.resolve-resolved.ensures.deed))
+    (c.do_resolved.ensures.turn c.args.this.now (λ (v : View). resolve v c.args.op)
+    (resolved_whole c.args.this.now c.args.op c.args.stack.now c.args.state.now c.resolve-resolved.result c.resolve-resolved.ensures.deed))
 
 pub returns-in-Ok-clause-placed : goal.returns-in-Ok-clause-placed
 unfolding operate_turn
 returns-in-Ok-clause-placed c =
     rw c.in-Ok.ensures at
-    (c.do_resolved.ensures.placed c.args.this.now (λ (v : View). resolve v c.args.op) (resolved_whole c.args.this.now c.args.op c.args.stack.now c.args.state.now c.resolve-resolved.result c.resolve-resolved.ensures.deed))
+    (c.do_resolved.ensures.placed c.args.this.now (λ (v : View). resolve v c.args.op)
+    (resolved_whole c.args.this.now c.args.op c.args.stack.now c.args.state.now c.resolve-resolved.result c.resolve-resolved.ensures.deed))

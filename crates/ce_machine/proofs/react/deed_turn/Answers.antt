@@ -13,9 +13,11 @@ use Rattle.ce_machine.proofs.react.deed_turn.Goals as goal
 pub returns-in-New-clause-turn : goal.returns-in-New-clause-turn
 returns-in-New-clause-turn c =
     ok_turns_as c.construct.result (frames_of c.args.stack.now) (frames_of c.construct.new.stack) (session c.construct.new.stack c.construct.new.state) _ _
-    (new_is c.in-New.class (session c.args.stack.now c.args.state.now) ∙ ap (λ (d : Deed). deed_turn d (session c.args.stack.now c.args.state.now)) (sym c.in-New.is)) c.construct.ensures.turn
+    (new_is c.in-New.class (session c.args.stack.now c.args.state.now)
+    ∙ ap (λ (d : Deed). deed_turn d (session c.args.stack.now c.args.state.now)) (sym c.in-New.is)) c.construct.ensures.turn
 
 pub returns-in-New-clause-lasts : goal.returns-in-New-clause-lasts
 returns-in-New-clause-lasts c =
     subst (λ (t : Turned). OnOk c.construct.result (Lasts c.args.state.now.page.forest t))
-    (new_is c.in-New.class (session c.args.stack.now c.args.state.now) ∙ ap (λ (d : Deed). deed_turn d (session c.args.stack.now c.args.state.now)) (sym c.in-New.is)) c.construct.ensures.lasts
+    (new_is c.in-New.class (session c.args.stack.now c.args.state.now)
+    ∙ ap (λ (d : Deed). deed_turn d (session c.args.stack.now c.args.state.now)) (sym c.in-New.is)) c.construct.ensures.lasts

@@ -12,4 +12,5 @@ returns-clause-step c =
     c.in_ok-now.ensures.came c.base_call.new.self o (rw c.gives_node-made.ensures ends)
 
 pub returns-clause-there : goal.returns-clause-there
-returns-clause-there c = c.in_ok-now.ensures.there c.base_call.new.self.page.forest (rw c.gives_node-made.ensures (node_there c.base_call.result c.base_call.new.self.page.forest c.base_call.ensures.made))
+returns-clause-there c = c.in_ok-now.ensures.there c.base_call.new.self.page.forest
+    (rw c.gives_node-made.ensures (node_there c.base_call.result c.base_call.new.self.page.forest c.base_call.ensures.made))

@@ -10,10 +10,15 @@ use Rattle.ce_reactions.proofs.UpgradeLaws.{constructs_turns, refused_turns}
 use Rattle.ce_reactions.proofs.upgrades.construct_for.Goals as goal
 
 pub returns-then-is_shadow_refused-clause-turn : goal.returns-then-is_shadow_refused-clause-turn
-returns-then-is_shadow_refused-clause-turn c = refused_turns (frames_of c.args.stack.now) c.args.n c.args.d (session c.args.stack.now c.args.state.now) (sym c.is_shadow_refused.ensures ∙ c.if-is_shadow_refused.true)
+returns-then-is_shadow_refused-clause-turn c =
+    refused_turns (frames_of c.args.stack.now) c.args.n c.args.d (session c.args.stack.now c.args.state.now)
+    (sym c.is_shadow_refused.ensures ∙ c.if-is_shadow_refused.true)
 
 pub returns-clause-turn : goal.returns-clause-turn
 returns-clause-turn c =
-    constructs_turns c.args.n c.args.d c.class_of-class.result (session c.args.stack.now c.args.state.now) (session c.args.stack.now c.set_state.new.self) (sym c.is_shadow_refused.ensures ∙ c.if-is_shadow_refused.false)
-    (goes_whole (change_page (with_state c.args.n Precustomized)) c.args.stack.now c.args.stack.now tt c.args.state.now c.set_state.new.self (blind_change_page (with_state c.args.n Precustomized)) refl c.set_state.ensures.step) c.class_of-class.ensures
-    (frames_of c.args.stack.now) (frames_of c.construct.new.stack) c.in_ok-now.now (session c.construct.new.stack c.construct.new.state) c.in_ok-now.ensures.turn
+    constructs_turns c.args.n c.args.d c.class_of-class.result (session c.args.stack.now c.args.state.now) (session c.args.stack.now c.set_state.new.self)
+    (sym c.is_shadow_refused.ensures ∙ c.if-is_shadow_refused.false)
+    (goes_whole (change_page (with_state c.args.n Precustomized)) c.args.stack.now c.args.stack.now tt c.args.state.now c.set_state.new.self
+    (blind_change_page (with_state c.args.n Precustomized)) refl c.set_state.ensures.step) c.class_of-class.ensures
+    (frames_of c.args.stack.now) (frames_of c.construct.new.stack) c.in_ok-now.now
+    (session c.construct.new.stack c.construct.new.state) c.in_ok-now.ensures.turn

@@ -7,7 +7,10 @@ use Rattle.ce_reactions.proofs.upgrades.upgrade_turn.Goals as goal
 
 pub returns-then-is_upgradable-clause-turn : goal.returns-then-is_upgradable-clause-turn
 returns-then-is_upgradable-clause-turn c =
-    now_turns (frames_of c.args.stack.now) (frames_of c.upgrade_now.new.stack) c.in_ok-now.now c.args.n c.args.d (session c.args.stack.now c.args.state.now) (session c.upgrade_now.new.stack c.upgrade_now.new.state) (ap is_upgradable (sym c.custom_state.ensures) ∙ sym c.if-is_upgradable.ensures) c.in_ok-now.ensures.turn
+    now_turns (frames_of c.args.stack.now) (frames_of c.upgrade_now.new.stack) c.in_ok-now.now c.args.n c.args.d (session c.args.stack.now c.args.state.now)
+    (session c.upgrade_now.new.stack c.upgrade_now.new.state)
+    (ap is_upgradable (sym c.custom_state.ensures) ∙ sym c.if-is_upgradable.ensures) c.in_ok-now.ensures.turn
 
 pub returns-clause-turn : goal.returns-clause-turn
-returns-clause-turn c = idle_turns (frames_of c.args.stack.now) c.args.n c.args.d (session c.args.stack.now c.args.state.now) (ap is_upgradable (sym c.custom_state.ensures) ∙ sym c.if-is_upgradable.ensures)
+returns-clause-turn c = idle_turns (frames_of c.args.stack.now) c.args.n c.args.d (session c.args.stack.now c.args.state.now)
+    (ap is_upgradable (sym c.custom_state.ensures) ∙ sym c.if-is_upgradable.ensures)

@@ -9,7 +9,9 @@ pub returns-clause-ok : goal.returns-clause-ok
 returns-clause-ok c = elim c.match-insert.branch [
   | in-Ok w ↦ rw (w.result-is, w.classes-is) (λ ds finds no_name no_class is.
       let names = btree_map_updates_text (string_bytes c.in_ok-name.name) c.args.names.now c.insert-2.new.self _ w.in-Ok.ensures.updates in
-      let classes = set-at c.args.classes.now c.insert.new.self c.class_key-class.result c.args.entry.now.class _ _ c.class_key-class.ensures (ap Some is) c.in_ok-insert.ensures.updates.0 in
-      finds-added c.args.names.now c.insert-2.new.self c.args.classes.now c.insert.new.self ds c.args.entry.now finds no_name no_class (rw (c.in_ok-name.ensures, is) at names) classes)
+      let classes = set-at c.args.classes.now c.insert.new.self c.class_key-class.result c.args.entry.now.class _ _ c.class_key-class.ensures
+      (ap Some is) c.in_ok-insert.ensures.updates.0 in
+      finds-added c.args.names.now c.insert-2.new.self c.args.classes.now c.insert.new.self ds c.args.entry.now finds no_name no_class
+      (rw (c.in_ok-name.ensures, is) at names) classes)
   | in-Err w ↦ rw w.result-is tt
 ]

@@ -14,5 +14,6 @@ pub returns-clause-small : goal.returns-clause-small
 returns-clause-small c =
     let is : is_number c.args.text.now ≡ true = ap is_number (sym c.as_bytes.ensures.value) ∙ (sym c.is_number.ensures ∙ c.if-not-is_number.false) in
     let P : Option ℕ → Type 0 = λ o. IfSome o (λ number. number < 10 ^ 9) in
-    let given : c.ok.result ≡ Some (digits_value 10 c.args.text.now) = rw (c.ok.ensures.value, number_parses c.args.text.now c.parse.result is c.parse.ensures.value.0) refl in
+    let given : c.ok.result ≡ Some (digits_value 10 c.args.text.now) =
+    rw (c.ok.ensures.value, number_parses c.args.text.now c.parse.result is c.parse.ensures.value.0) refl in
     subst P (sym given) (number_small c.args.text.now is)

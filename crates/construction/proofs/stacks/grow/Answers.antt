@@ -5,7 +5,8 @@ use Rattle.construction.proofs.stacks.grow.Goals as goal
 
 pub loop-alloc-preserved : goal.loop-alloc-preserved
 loop-alloc-preserved c =
-    let is : c.push.new.self.items ≡ c.loop-alloc.stacks.items ++ [] ∷ [] = c.in_ok-push.ensures.items ∙ ap (λ s. c.loop-alloc.stacks.items ++ s ∷ []) c.make.ensures in
+    let is : c.push.new.self.items ≡ c.loop-alloc.stacks.items ++ [] ∷ [] =
+    c.in_ok-push.ensures.items ∙ ap (λ s. c.loop-alloc.stacks.items ++ s ∷ []) c.make.ensures in
     record {
       grown = ap (grown (c.args.place + 1)) is ∙ grown-push (c.args.place + 1) c.loop-alloc.stacks.items (omega arith) ∙ c.loop-alloc.invariant.grown;
       same = λ e. ap (stack_of e) is ∙ stack_of-push e c.loop-alloc.stacks.items ∙ c.loop-alloc.invariant.same e;

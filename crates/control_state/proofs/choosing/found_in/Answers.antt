@@ -8,7 +8,8 @@ pub loop-next-smaller : goal.loop-next-smaller
 loop-next-smaller c = walk-less _ _ c.count-count.ensures.tidy c.requires _ _ _ _ _ _ c.loop-next.invariant c.in-Some.is c.next_sibling-next.ensures.sibling
 
 pub loop-next-preserved : goal.loop-next-preserved
-loop-next-preserved c = walk-on _ _ c.count-count.ensures.tidy c.requires _ _ _ _ _ _ _ c.loop-next.invariant c.in-Some.is c.next_sibling-next.ensures.sibling c.note_at-found.ensures
+loop-next-preserved c = walk-on _ _ c.count-count.ensures.tidy c.requires _ _ _ _ _ _ _ c.loop-next.invariant c.in-Some.is c.next_sibling-next.ensures.sibling
+    c.note_at-found.ensures
 
 pub returns : goal.returns
 returns c =

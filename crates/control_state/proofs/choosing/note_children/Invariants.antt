@@ -9,7 +9,8 @@ use Rattle.control_state.proofs.Walks.{Walks}
 use Rattle.control_state.proofs.choosing.note_children.Given as goal
 
 abbrev pub invariant-loop-next : goal.invariant-loop-next
-invariant-loop-next l = Walks l.tree (children_at l.tree l.fn.group) (λ v n. if is_a OptionItem l.tree n then noted l.controls l.tree v n else v) l.initial.found l.found l.next
+invariant-loop-next l = Walks l.tree (children_at l.tree l.fn.group)
+    (λ v n. if is_a OptionItem l.tree n then noted l.controls l.tree v n else v) l.initial.found l.found l.next
 
 abbrev pub decreases-loop-next : goal.decreases-loop-next
 decreases-loop-next l = length (left_from l.next (children_at l.tree l.fn.group))

@@ -17,7 +17,8 @@ loop-next-preserved c =
 
 pub returns-then-not-is_only_whitespace : goal.returns-then-not-is_only_whitespace
 returns-then-not-is_only_whitespace c =
-    let failed : false ≡ still c.args.tree.now is_blank true c.in-Some.at = sym c.if-not-is_only_whitespace.true ∙ c.is_only_whitespace.ensures ∙ ap is_blank c.chars.ensures.chars in
+    let failed : false ≡ still c.args.tree.now is_blank true c.in-Some.at =
+    sym c.if-not-is_only_whitespace.true ∙ c.is_only_whitespace.ensures ∙ ap is_blank c.chars.ensures.chars in
     still-fails c.args.tree.now is_blank refl c.white_space_is_asked_by_the_piece.ensures (tree_order_of c.args.tree.now c.args.n) _
     (order-on _ _ c.count-count.ensures.tidy _ _ _ _ _ _ _ c.loop-next.invariant c.in-Some.is refl failed)
 

@@ -17,7 +17,8 @@ loop-next-preserved c =
 pub returns-then-not-is_empty : goal.returns-then-not-is_empty
 returns-then-not-is_empty c =
     let law = c.normalized_newlines_leave_something.ensures in
-    let failed : false ≡ still c.args.tree.now is_empty true c.in-Some.child = sym c.if-not-is_empty.true ∙ c.is_empty.ensures ∙ ap is_empty c.chars.ensures.chars in
+    let failed : false ≡ still c.args.tree.now is_empty true c.in-Some.child =
+    sym c.if-not-is_empty.true ∙ c.is_empty.ensures ∙ ap is_empty c.chars.ensures.chars in
     still-fails c.args.tree.now is_empty refl (λ a b. sym (law.alone (a ++ b)) ∙ law.pieces a b) (children_at c.args.tree.now c.args.n) _
     (walk-on _ _ c.count-count.ensures.tidy c.requires _ _ _ _ _ _ _ c.loop-next.invariant c.in-Some.is refl failed)
     ∙ sym (law.alone (child_text c.args.tree.now c.args.n))

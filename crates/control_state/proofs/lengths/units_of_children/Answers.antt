@@ -6,7 +6,8 @@ use Rattle.control_state.proofs.Texts.{joined, joined-is}
 use Rattle.control_state.proofs.lengths.units_of_children.Goals as goal
 
 pub loop-next-smaller : goal.loop-next-smaller
-loop-next-smaller c = walk-less _ _ c.count-count.ensures.tidy c.requires _ _ _ _ _ _ c.loop-next.invariant.walk c.in-Some.is c.next_sibling-next.ensures.sibling
+loop-next-smaller c = walk-less _ _ c.count-count.ensures.tidy c.requires _ _ _ _ _ _ c.loop-next.invariant.walk c.in-Some.is
+    c.next_sibling-next.ensures.sibling
 
 pub loop-next-preserved : goal.loop-next-preserved
 loop-next-preserved c = record {

@@ -13,7 +13,11 @@ loop-next-smaller c = walk-less _ _ c.count-count.ensures.tidy c.requires _ _ _ 
 pub loop-next-preserved : goal.loop-next-preserved
 loop-next-preserved c =
     let made : c.if-is_a.found ≡ first_where (is_a OptionItem c.args.tree.now c.in-Some.child) c.loop-next.found c.in-Some.child =
-    elim c.if-is_a.branch [ then-is_a w ↦ grind (arith, w.found-is, w.or-found.ensures, w.if-is_a.true, c.is_a.ensures) | else-is_a w ↦ grind (arith, w.found-is, w.if-is_a.false, c.is_a.ensures) ] in
+    elim c.if-is_a.branch [
+      | then-is_a w ↦ grind (arith, w.found-is, w.or-found.ensures, w.if-is_a.true, c.is_a.ensures)
+      | else-is_a w ↦ grind
+          (arith, w.found-is, w.if-is_a.false, c.is_a.ensures)
+    ] in
     walk-on _ _ c.count-count.ensures.tidy c.requires _ _ _ _ _ _ _ c.loop-next.invariant c.in-Some.is c.next_sibling-next.ensures.sibling made
 
 pub returns : goal.returns

@@ -9,7 +9,8 @@ pub loop-next-smaller : goal.loop-next-smaller
 loop-next-smaller c = walk-less _ _ c.count-count.ensures.tidy c.requires _ _ _ _ _ _ c.loop-next.invariant c.in-Some.is c.next_sibling-next.ensures.sibling
 
 pub loop-next-preserved : goal.loop-next-preserved
-loop-next-preserved c = walk-on _ _ c.count-count.ensures.tidy c.requires _ _ _ _ _ _ _ c.loop-next.invariant c.in-Some.is c.next_sibling-next.ensures.sibling c.in_ok-list_at.ensures
+loop-next-preserved c = walk-on _ _ c.count-count.ensures.tidy c.requires _ _ _ _ _ _ _ c.loop-next.invariant c.in-Some.is c.next_sibling-next.ensures.sibling
+    c.in_ok-list_at.ensures
 
 pub returns-clause-list : goal.returns-clause-list
 returns-clause-list c =
@@ -18,4 +19,5 @@ returns-clause-list c =
     ∙ ap (λ v. v ++ options_of c.args.tree.now c.args.select) c.make-list.ensures
 
 pub returns-clause-nodes : goal.returns-clause-nodes
-returns-clause-nodes c = subst (All (IsNode c.args.tree.now)) (sym (returns-clause-list c)) (options-nodes c.args.tree.now c.count-count.ensures.tidy c.args.select c.requires)
+returns-clause-nodes c = subst (All (IsNode c.args.tree.now)) (sym (returns-clause-list c))
+    (options-nodes c.args.tree.now c.count-count.ensures.tidy c.args.select c.requires)

@@ -7,7 +7,8 @@ use Rattle.control_texts.proofs.building.collapsed.Goals as goal
 
 pub loop-c-preserved : goal.loop-c-preserved
 loop-c-preserved c =
-    put_more _ _ _ _ _ _ c.loop-c.invariant c.in_ok-put_collapsed.ensures (ap (collapsed_from c.loop-c.begun c.loop-c.apart) c.in-Some.ensures.steps.0 ∙ collapsed_from-char c.loop-c.begun c.loop-c.apart c.is_ascii_whitespace-apart.result c.in-Some.c _ c.is_ascii_whitespace-apart.ensures.value)
+    put_more _ _ _ _ _ _ c.loop-c.invariant c.in_ok-put_collapsed.ensures (ap (collapsed_from c.loop-c.begun c.loop-c.apart) c.in-Some.ensures.steps.0
+    ∙ collapsed_from-char c.loop-c.begun c.loop-c.apart c.is_ascii_whitespace-apart.result c.in-Some.c _ c.is_ascii_whitespace-apart.ensures.value)
 
 pub returns : goal.returns
 returns c = grind (arith, common_steps, collapsed-reads c.args.text.now)

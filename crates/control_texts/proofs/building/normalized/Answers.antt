@@ -6,7 +6,8 @@ use Rattle.control_texts.proofs.building.normalized.Goals as goal
 
 pub loop-c-preserved : goal.loop-c-preserved
 loop-c-preserved c =
-    put_more _ _ _ _ _ _ c.loop-c.invariant c.in_ok-put_normal.ensures (ap (normalized_from c.loop-c.behind) c.in-Some.ensures.steps.0 ∙ normalized_from-char c.loop-c.behind c.in-Some.c _)
+    put_more _ _ _ _ _ _ c.loop-c.invariant c.in_ok-put_normal.ensures
+    (ap (normalized_from c.loop-c.behind) c.in-Some.ensures.steps.0 ∙ normalized_from-char c.loop-c.behind c.in-Some.c _)
 
 pub returns : goal.returns
 returns c = grind (arith, common_steps)

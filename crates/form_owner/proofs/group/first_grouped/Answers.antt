@@ -10,7 +10,9 @@ pub returns-then-is_grouped_with : goal.returns-then-is_grouped_with
 returns-then-is_grouped_with c =
     let it = order-begins c.args.tree.now c.args.root c.requires.tidy c.requires.root in
     sym (find-first (is_grouped_in c.args.rows.now c.args.tree.now c.args.radio) c.args.root (tree_order_of c.args.tree.now c.args.root) it.rest it.is
-    ∙ ap (λ b. cond b (Some c.args.root) (find (is_grouped_in c.args.rows.now c.args.tree.now c.args.radio) (all_after c.args.root (tree_order_of c.args.tree.now c.args.root)))) (sym c.is_grouped_with.ensures ∙ c.if-is_grouped_with.true))
+    ∙ ap (λ b. cond b (Some c.args.root)
+    (find (is_grouped_in c.args.rows.now c.args.tree.now c.args.radio) (all_after c.args.root (tree_order_of c.args.tree.now c.args.root))))
+    (sym c.is_grouped_with.ensures ∙ c.if-is_grouped_with.true))
 
 pub grouped_behind-requires-clause-behind : goal.grouped_behind-requires-clause-behind
 grouped_behind-requires-clause-behind c = among-root c.args.tree.now c.args.root c.requires.tidy c.requires.root
@@ -20,4 +22,6 @@ returns c =
     let it = order-begins c.args.tree.now c.args.root c.requires.tidy c.requires.root in
     c.grouped_behind.ensures
     ∙ sym (find-first (is_grouped_in c.args.rows.now c.args.tree.now c.args.radio) c.args.root (tree_order_of c.args.tree.now c.args.root) it.rest it.is
-    ∙ ap (λ b. cond b (Some c.args.root) (find (is_grouped_in c.args.rows.now c.args.tree.now c.args.radio) (all_after c.args.root (tree_order_of c.args.tree.now c.args.root)))) (sym c.is_grouped_with.ensures ∙ c.if-is_grouped_with.false))
+    ∙ ap (λ b. cond b (Some c.args.root)
+    (find (is_grouped_in c.args.rows.now c.args.tree.now c.args.radio) (all_after c.args.root (tree_order_of c.args.tree.now c.args.root))))
+    (sym c.is_grouped_with.ensures ∙ c.if-is_grouped_with.false))

@@ -17,4 +17,5 @@ returns-in-None c =
 pub returns-in-Some : goal.returns-in-Some
 returns-in-Some c =
     let named : is_empty (name_of c.args.tree.now c.args.radio) ≡ false = sym c.is_nameless.ensures ∙ c.if-is_nameless.false in
-    c.grouped_behind.ensures ∙ next-some c.args.rows.now c.args.tree.now c.args.radio _ c.root-root.ensures.root named c.args.behind c.in-Some.member c.in-Some.is c.requires.member
+    c.grouped_behind.ensures ∙ next-some c.args.rows.now c.args.tree.now c.args.radio _ c.root-root.ensures.root named c.args.behind c.in-Some.member
+    c.in-Some.is c.requires.member

@@ -5,5 +5,6 @@ use Rattle.form_owner.proofs.looks.note_new.Goals as goal
 
 pub loop-looks-preserved : goal.loop-looks-preserved
 loop-looks-preserved c =
-    noted-next c.args.tree.now c.args.rows.now (is_known c.args.named.now) (c.len-in-loop-looks.result + 1) c.look_of.result c.look_of.ensures c.args.looks.now c.loop-looks.looks c.push.new.self
+    noted-next c.args.tree.now c.args.rows.now (is_known c.args.named.now)
+    (c.len-in-loop-looks.result + 1) c.look_of.result c.look_of.ensures c.args.looks.now c.loop-looks.looks c.push.new.self
     (omega (arith, c.len-in-loop-looks.ensures)) c.in_ok-push.ensures c.loop-looks.invariant

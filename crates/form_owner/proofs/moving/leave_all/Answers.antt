@@ -11,4 +11,5 @@ pub leave_where-requires : goal.leave_where-requires
 leave_where-requires c = left-owned c.args.rows.now c.loop-i.rows c.args.changes.now c.loop-i.i c.loop-i.invariant c.requires
 
 pub loop-i-preserved : goal.loop-i-preserved
-loop-i-preserved c = left-next c.args.rows.now c.loop-i.rows c.args.changes.now c.loop-i.i c.loop-i.invariant c.unwrap-change.result c.leave_where.new.rows c.is_some.result (sym c.get.ensures ∙ c.unwrap-change.ensures) c.is_some.ensures c.leave_where.ensures
+loop-i-preserved c = left-next c.args.rows.now c.loop-i.rows c.args.changes.now c.loop-i.i c.loop-i.invariant c.unwrap-change.result c.leave_where.new.rows
+    c.is_some.result (sym c.get.ensures ∙ c.unwrap-change.ensures) c.is_some.ensures c.leave_where.ensures

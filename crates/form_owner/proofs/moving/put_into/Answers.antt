@@ -5,4 +5,8 @@ use Rattle.form_owner.proofs.Leaving.{indexed}
 use Rattle.form_owner.proofs.moving.put_into.Goals as goal
 
 pub put_in-requires : goal.put_in-requires
-put_in-requires c = record { apart = subst (λ (r : OwnerRow). AreApart r.controls) (sym (indexed c.args.rows.now c.place_of.result _ (omega arith) ∙ ap (row_in c.args.rows.now) c.place_of.ensures)) c.requires.apart }
+put_in-requires c = record {
+  apart =
+      subst (λ (r : OwnerRow). AreApart r.controls)
+      (sym (indexed c.args.rows.now c.place_of.result _ (omega arith) ∙ ap (row_in c.args.rows.now) c.place_of.ensures)) c.requires.apart;
+}

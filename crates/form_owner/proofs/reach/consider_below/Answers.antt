@@ -7,4 +7,5 @@ pub consider_all-requires : goal.consider_all-requires
 consider_all-requires c = order-nodes c.args.tree.now c.args.n _ c.requires.tidy c.in_ok-below.ensures
 
 pub consider_all-requires-then-is_a-2 : goal.consider_all-requires-then-is_a-2
-consider_all-requires-then-is_a-2 c = subst (All (IsNode c.args.tree.now)) (sym (c.in_ok-below-2.ensures.children ∙ c.children.ensures.below)) (read-nodes _ _ c.children.ensures.read)
+consider_all-requires-then-is_a-2 c =
+    subst (All (IsNode c.args.tree.now)) (sym (c.in_ok-below-2.ensures.children ∙ c.children.ensures.below)) (read-nodes _ _ c.children.ensures.read)

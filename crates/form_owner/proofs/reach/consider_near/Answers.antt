@@ -33,5 +33,6 @@ loop-named_by-preserved c =
 pub returns-in-None-clause-all : goal.returns-in-None-clause-all
 returns-in-None-clause-all c = λ ended.
     let so_far = c.loop-named_by.invariant.so_far in
-    less (λ m passes. ap (λ ns. is_with_among c.args.tree.now (is_held c.args.named.now) ns m) (list-last _ _ c.requires.tidy c.requires.node _ _ so_far.1 c.in-None.ensures.next) ∙ passes)
+    less (λ m passes. ap (λ ns. is_with_among c.args.tree.now (is_held c.args.named.now) ns m)
+    (list-last _ _ c.requires.tidy c.requires.node _ _ so_far.1 c.in-None.ensures.next) ∙ passes)
     (one-more (is_with c.args.tree.now (is_held c.args.named.now)) so_far.0 c.loop-named_by.at so_far.2 c.in_ok-named_by.ensures)

@@ -6,7 +6,11 @@ use Rattle.owner_reading.proofs.Climbing.{any-up, any-top}
 use Rattle.form_owner.proofs.reading.is_in_datalist.Goals as goal
 
 pub returns-then-is_a : goal.returns-then-is_a
-returns-then-is_a c = grind (arith, c.loop-parent.invariant.is, any-up _ _ c.requires.tidy c.loop-parent.invariant.node (is_a Datalist c.args.tree.now) _ c.in-Some.ensures.parent)
+returns-then-is_a c = grind (
+  arith,
+  c.loop-parent.invariant.is,
+  any-up _ _ c.requires.tidy c.loop-parent.invariant.node (is_a Datalist c.args.tree.now) _ c.in-Some.ensures.parent,
+)
 
 pub loop-parent-smaller : goal.loop-parent-smaller
 loop-parent-smaller c = ancestors-less _ _ c.requires.tidy c.loop-parent.invariant.node _ c.in-Some.ensures.parent
@@ -14,8 +18,13 @@ loop-parent-smaller c = ancestors-less _ _ c.requires.tidy c.loop-parent.invaria
 pub loop-parent-preserved : goal.loop-parent-preserved
 loop-parent-preserved c = record {
   node = c.in-Some.ensures.node;
-  is = grind (arith, c.loop-parent.invariant.is, any-up _ _ c.requires.tidy c.loop-parent.invariant.node (is_a Datalist c.args.tree.now) _ c.in-Some.ensures.parent);
+  is = grind (
+    arith,
+    c.loop-parent.invariant.is,
+    any-up _ _ c.requires.tidy c.loop-parent.invariant.node (is_a Datalist c.args.tree.now) _ c.in-Some.ensures.parent,
+  );
 }
 
 pub returns : goal.returns
-returns c = sym (c.loop-parent.invariant.is ∙ any-top _ _ c.requires.tidy c.loop-parent.invariant.node (is_a Datalist c.args.tree.now) (sym c.in_default.is ∙ c.parent.ensures.parent))
+returns c = sym (c.loop-parent.invariant.is
+    ∙ any-top _ _ c.requires.tidy c.loop-parent.invariant.node (is_a Datalist c.args.tree.now) (sym c.in_default.is ∙ c.parent.ensures.parent))

@@ -21,5 +21,6 @@ loop-i-preserved c =
     in
     record {
       known = c.in_ok-reading.ensures.known;
-      read = made-next (change_read c.args.tree.now c.args.rows.now) is_change c.args.candidates.now c.loop-i.i c.node_at-n.result c.loop-i.changes _ _ c.node_at-n.ensures.here c.loop-i.invariant.read change c.in_ok-keep.ensures;
+      read = made-next (change_read c.args.tree.now c.args.rows.now) is_change c.args.candidates.now c.loop-i.i c.node_at-n.result c.loop-i.changes _ _
+          c.node_at-n.ensures.here c.loop-i.invariant.read change c.in_ok-keep.ensures;
     }

@@ -9,9 +9,14 @@ loop-low-preserved c =
     record {
       low = omega (arith, c.loop-low-test.true, c.loop-low.invariant.high);
       high = omega (arith, c.loop-low.invariant.high);
-      front = from-front c.args.n c.loop-low.low c.index-list-low.result c.args.list.now (omega (arith, c.loop-low-test.true, c.loop-low.invariant.high)) c.index-list-low.is (sym c.eq-in-loop-low.ensures ∙ c.if-eq-2.false) c.loop-low.invariant.front;
-      back = from-back c.args.n (c.loop-low.high - 1) c.index-list-high.result c.args.list.now (omega (arith, c.loop-low-test.true, c.loop-low.invariant.high)) c.index-list-high.is (sym c.eq.ensures ∙ c.if-eq.false) (ap (λ k. is_among c.args.n (drop k c.args.list.now)) more ∙ c.loop-low.invariant.back);
+      front = from-front c.args.n c.loop-low.low c.index-list-low.result c.args.list.now
+          (omega (arith, c.loop-low-test.true, c.loop-low.invariant.high)) c.index-list-low.is
+          (sym c.eq-in-loop-low.ensures ∙ c.if-eq-2.false) c.loop-low.invariant.front;
+      back = from-back c.args.n (c.loop-low.high - 1) c.index-list-high.result c.args.list.now
+          (omega (arith, c.loop-low-test.true, c.loop-low.invariant.high)) c.index-list-high.is (sym c.eq.ensures ∙ c.if-eq.false)
+          (ap (λ k. is_among c.args.n (drop k c.args.list.now)) more ∙ c.loop-low.invariant.back);
     }
 
 pub returns-clause-none : goal.returns-clause-none
-returns-clause-none c = λ none. nowhere c.args.n c.loop-low.low c.loop-low.high c.args.list.now c.loop-low-test.false c.loop-low.invariant.front c.loop-low.invariant.back
+returns-clause-none c = λ none.
+    nowhere c.args.n c.loop-low.low c.loop-low.high c.args.list.now c.loop-low-test.false c.loop-low.invariant.front c.loop-low.invariant.back

@@ -9,7 +9,8 @@ use Rattle.page_calls.proofs.groups.group_of.Goals as goal
 pub loop-member-smaller : goal.loop-member-smaller
 loop-member-smaller c =
     let next = c.in-Some.ensures.next (forms_of c.args.page.now) (sym c.tree-tree.ensures.tree) (c.owners-owners.ensures c.requires.settled) in
-    members-less (forms_of c.args.page.now) c.args.radio (subst IsTidy c.tree-tree.ensures.tree c.count-count.ensures.tidy) c.loop-member.at c.in-Some.member next
+    members-less (forms_of c.args.page.now) c.args.radio (subst IsTidy c.tree-tree.ensures.tree c.count-count.ensures.tidy) c.loop-member.at c.in-Some.member
+    next
 
 pub loop-member-preserved : goal.loop-member-preserved
 loop-member-preserved c =
@@ -19,7 +20,8 @@ loop-member-preserved c =
     record {
       member = c.in-Some.ensures.member;
       split = c.loop-member.invariant.split
-          ∙ ap (λ ms. c.loop-member.members ++ ms) (members-step f c.args.radio (subst IsTidy c.tree-tree.ensures.tree c.count-count.ensures.tidy) c.loop-member.at c.in-Some.member next)
+          ∙ ap (λ ms. c.loop-member.members ++ ms)
+          (members-step f c.args.radio (subst IsTidy c.tree-tree.ensures.tree c.count-count.ensures.tidy) c.loop-member.at c.in-Some.member next)
           ∙ sym (append_assoc c.loop-member.members (c.in-Some.member ∷ []) left)
           ∙ ap (λ ms. ms ++ left) (sym c.in_ok-push.ensures);
     }
@@ -27,5 +29,7 @@ loop-member-preserved c =
 pub returns : goal.returns
 returns c =
     let f = forms_of c.args.page.now in
-    let none : None ≡ next_in_group f c.args.radio c.loop-member.at = sym c.in_default.is ∙ c.next_in_group.ensures.next f (sym c.tree-tree.ensures.tree) (c.owners-owners.ensures c.requires.settled) in
-    sym (c.loop-member.invariant.split ∙ ap (λ ms. c.loop-member.members ++ ms) (members-end f c.args.radio c.loop-member.at none) ∙ append-nil c.loop-member.members)
+    let none : None ≡ next_in_group f c.args.radio c.loop-member.at =
+    sym c.in_default.is ∙ c.next_in_group.ensures.next f (sym c.tree-tree.ensures.tree) (c.owners-owners.ensures c.requires.settled) in
+    sym (c.loop-member.invariant.split ∙ ap (λ ms. c.loop-member.members ++ ms) (members-end f c.args.radio c.loop-member.at none)
+    ∙ append-nil c.loop-member.members)

@@ -11,7 +11,9 @@ returns-in-Ok-Refused-clause-table g c = rw (← c.in-Ok-Refused.ensures, c.in-O
 
 pub returns-in-Ok-Script-clause-complete : goal.returns-in-Ok-Script-clause-complete
 returns-in-Ok-Script-clause-complete g c = λ set script said known within calm_source calm_sink.
-    runs_whole _ set script _ _ _ _ _ _ _ _ _ _ c.run_with.ensures.table (sym c.in-Ok-Script.field-0-is ∙ c.in-Ok-Script.ensures ∙ said) known within calm_source calm_sink
+    runs_whole _ set script _ _ _ _ _ _ _ _ _ _ c.run_with.ensures.table
+    (sym c.in-Ok-Script.field-0-is ∙ c.in-Ok-Script.ensures ∙ said) known within calm_source calm_sink
 
 pub returns-in-Ok-Made-clause-table : goal.returns-in-Ok-Made-clause-table
-returns-in-Ok-Made-clause-table g c = rw (c.of-in-Ok-Made.ensures, ← c.in-Ok-Made.ensures, c.in-Ok-Made.field-0-is) (meets_made _ _ _ _ _ _ _ _ _ _ _ c.run_made.ensures.table)
+returns-in-Ok-Made-clause-table g c =
+    rw (c.of-in-Ok-Made.ensures, ← c.in-Ok-Made.ensures, c.in-Ok-Made.field-0-is) (meets_made _ _ _ _ _ _ _ _ _ _ _ c.run_made.ensures.table)

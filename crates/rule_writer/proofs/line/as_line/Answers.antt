@@ -8,4 +8,5 @@ use Rattle.rule_writer.specs.Canon.{said_tokens}
 pub returns-in-None-clause-text : goal.returns-in-None-clause-text
 returns-in-None-clause-text c =
     rw (no_tokens (said_tokens (line_of c.args.line.now)) (λ rest e.
-    c.in-None.ensures.cases rest (c.as_str.ensures.value ∙ (c.in_ok-put_line.ensures.text ∙ rw (c.new-out.ensures.bytes, encode_ascii 32 (omega arith)) e)))) c.of.ensures
+    c.in-None.ensures.cases rest (c.as_str.ensures.value ∙ (c.in_ok-put_line.ensures.text ∙ rw (c.new-out.ensures.bytes, encode_ascii 32 (omega arith)) e))))
+    c.of.ensures

@@ -7,5 +7,6 @@ use Rattle.rule_writer.proofs.many.put_texts.Given as goal
 
 abbrev pub invariant-loop-text : goal.invariant-loop-text
 invariant-loop-text l =
-    (string_bytes l.out ++ spaced (all_tokens (map read_as.Chars (drop l.text-index l.texts))) ≡ string_bytes l.initial.out ++ spaced (all_tokens (map read_as.Chars l.texts)))
+    (string_bytes l.out ++ spaced (all_tokens (map read_as.Chars (drop l.text-index l.texts)))
+    ≡ string_bytes l.initial.out ++ spaced (all_tokens (map read_as.Chars l.texts)))
     × (AreTexts (all_tokens (map read_as.Chars (drop l.text-index l.texts))) → AreTexts (all_tokens (map read_as.Chars l.texts)))

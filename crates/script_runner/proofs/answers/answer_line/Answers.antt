@@ -7,8 +7,14 @@ use Rattle.script_runner.proofs.answers.answer_line.Goals as goal
 pub returns-in_err-ran-clause-part : goal.returns-in_err-ran-clause-part
 returns-in_err-ran-clause-part g c =
     let p = err_from_is_err_and c.from_residual.result c.from_residual.ensures.1 in
-    rw p.1 (passed_part (g.K.Sink.held c.args.out.now.sink.now) (g.K.Sink.held c.line.new.sink.sink.now) c.args.out.now.pending.now c.line.new.sink.pending.now _ c.requires.none (part_lines c.args.session c.args.line.now [] _ _ c.in_err-ran.ensures.part) c.in_err-ran.ensures.below)
+    rw p.1 (passed_part (g.K.Sink.held c.args.out.now.sink.now)
+    (g.K.Sink.held c.line.new.sink.sink.now) c.args.out.now.pending.now c.line.new.sink.pending.now _ c.requires.none
+    (part_lines c.args.session c.args.line.now [] _ _ c.in_err-ran.ensures.part) c.in_err-ran.ensures.below)
 
 pub returns-in-Err-clause-part : goal.returns-in-Err-clause-part
 returns-in-Err-clause-part g c =
-    passed_some _ c.in_ok-ran.ran.0 _ c.in_ok-ran.ran.1 (g.K.Sink.held c.args.out.now.sink.now) _ (g.K.Sink.held c.pass_on.new.self.sink.now) c.args.out.now.pending.now c.pass_on.new.self.pending.now c.requires.none (answered_line c.args.session c.in_ok-ran.ran.0 c.in_ok-ran.ran.1 c.args.line.now _ _ c.in_ok-ran.ensures.ran c.in_ok-ran.ensures.empty c.in_ok-ran.ensures.trace c.in_ok-ran.ensures.number c.in_ok-ran.ensures.bad) c.pass_on.ensures.held (omega (arith, c.in_ok-ran.ensures.below, c.pass_on.ensures.below))
+    passed_some _ c.in_ok-ran.ran.0 _ c.in_ok-ran.ran.1 (g.K.Sink.held c.args.out.now.sink.now) _
+    (g.K.Sink.held c.pass_on.new.self.sink.now) c.args.out.now.pending.now c.pass_on.new.self.pending.now c.requires.none
+    (answered_line c.args.session c.in_ok-ran.ran.0 c.in_ok-ran.ran.1 c.args.line.now _ _ c.in_ok-ran.ensures.ran c.in_ok-ran.ensures.empty
+    c.in_ok-ran.ensures.trace c.in_ok-ran.ensures.number c.in_ok-ran.ensures.bad) c.pass_on.ensures.held
+    (omega (arith, c.in_ok-ran.ensures.below, c.pass_on.ensures.below))

@@ -27,14 +27,16 @@ pub returns-in-FuelSpent-clause-ran : goal.returns-in-FuelSpent-clause-ran
 returns-in-FuelSpent-clause-ran g c =
     let gives = rw c.in-Ok-Some.field-0-is at c.in-Ok-Some.ensures.line in
     rw c.in-FuelSpent.is (runs_spent _ _ c.in_ok-next.next _ _ c.next_line.new.self c.as_slice-in-lines.result.now _ _ _ c.lines.invariant.runs
-    (rw c.as_slice-in-lines.ensures gives) (rw c.in-FuelSpent.is at c.in_ok-next.ensures.ran) c.in_ok-next.ensures.empty c.in_ok-next.ensures.trace c.in_ok-next.ensures.number c.in_ok-next.ensures.bad)
+    (rw c.as_slice-in-lines.ensures gives) (rw c.in-FuelSpent.is at c.in_ok-next.ensures.ran) c.in_ok-next.ensures.empty c.in_ok-next.ensures.trace
+    c.in_ok-next.ensures.number c.in_ok-next.ensures.bad)
 
 pub lines-preserved : goal.lines-preserved
 lines-preserved g c =
     let gives = rw c.in-Ok-Some.field-0-is at c.in-Ok-Some.ensures.line in
     record {
       runs = runs_line _ _ c.in_ok-next.next _ _ c.next_line.new.self c.as_slice-in-lines.result.now _ _ _ c.lines.invariant.runs
-          (rw c.as_slice-in-lines.ensures gives) (rw c.in_default.is at c.in_ok-next.ensures.ran) c.in_ok-next.ensures.empty c.in_ok-next.ensures.trace c.in_ok-next.ensures.number c.in_ok-next.ensures.bad;
+          (rw c.as_slice-in-lines.ensures gives) (rw c.in_default.is at c.in_ok-next.ensures.ran) c.in_ok-next.ensures.empty c.in_ok-next.ensures.trace
+          c.in_ok-next.ensures.number c.in_ok-next.ensures.bad;
       home = c.in_ok-next.ensures.home ∙ c.lines.invariant.home;
       below = omega arith;
       later = omega arith;
@@ -45,7 +47,8 @@ pub lines-preserved-then-says_nothing : goal.lines-preserved-then-says_nothing
 lines-preserved-then-says_nothing g c =
     let gives = rw c.in-Ok-Some.field-0-is at c.in-Ok-Some.ensures.line in
     record {
-      runs = rw c.pass.ensures (runs_blank _ _ _ _ c.next_line.new.self c.as_slice.result.now _ _ c.lines.invariant.runs (rw c.as_slice.ensures gives) (sym c.says_nothing.ensures ∙ c.if-says_nothing.true));
+      runs = rw c.pass.ensures (runs_blank _ _ _ _ c.next_line.new.self c.as_slice.result.now _ _ c.lines.invariant.runs (rw c.as_slice.ensures gives)
+          (sym c.says_nothing.ensures ∙ c.if-says_nothing.true));
       home = c.lines.invariant.home;
       below = c.lines.invariant.below;
       later = c.lines.invariant.later;

@@ -23,4 +23,5 @@ past_line_end-requires c =
 pub returns : goal.returns
 returns c =
     let found = ap (position is_newline) (sym c.as_bytes.ensures.value) ∙ sym c.in_ok-end.ensures in
-    cuts_line c.args.text.now _ _ c.in_ok-end.end (ends_line c.args.text.now c.in_ok-end.end found) c.split_at.ensures.front (c.past_line_end.ensures ∙ ap past_line_end c.split_at.ensures.back)
+    cuts_line c.args.text.now _ _ c.in_ok-end.end (ends_line c.args.text.now c.in_ok-end.end found) c.split_at.ensures.front
+    (c.past_line_end.ensures ∙ ap past_line_end c.split_at.ensures.back)

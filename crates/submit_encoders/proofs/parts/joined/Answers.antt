@@ -7,7 +7,8 @@ use Rattle.submit_encoders.proofs.parts.joined.Goals as goal
 
 pub loop-e-preserved : goal.loop-e-preserved
 loop-e-preserved c =
-    one_more (part c.args.boundary.now) c.as_slice-e-items.result.now c.loop-e.e-index c.e-item.result _ _ c.loop-e-test.true c.e-item.is c.loop-e.invariant c.in_ok-put_part.ensures
+    one_more (part c.args.boundary.now) c.as_slice-e-items.result.now c.loop-e.e-index c.e-item.result _ _ c.loop-e-test.true c.e-item.is c.loop-e.invariant
+    c.in_ok-put_part.ensures
 
 pub returns : goal.returns
 returns c =
@@ -16,4 +17,5 @@ returns c =
     let parts : string_bytes c.loop-e.body ≡ flat_map (part boundary) c.args.list.now = c.loop-e.invariant ∙ ap (flat_map (part boundary)) all in
     c.from.ensures
     ∙ (c.in_ok-push_str.ensures.bytes
-    ∙ (ap (λ l. l ++ codes "--\r\n") (c.in_ok-put_delimiter.ensures ∙ ap (λ l. l ++ codes "--" ++ boundary) parts) ∙ closes (flat_map (part boundary) c.args.list.now ++ codes "--" ++ boundary)))
+    ∙ (ap (λ l. l ++ codes "--\r\n") (c.in_ok-put_delimiter.ensures ∙ ap (λ l. l ++ codes "--" ++ boundary) parts)
+    ∙ closes (flat_map (part boundary) c.args.list.now ++ codes "--" ++ boundary)))

@@ -7,7 +7,8 @@ use Rattle.submit_encoders.proofs.plain_text.plain.Goals as goal
 
 pub loop-e-preserved : goal.loop-e-preserved
 loop-e-preserved c =
-    one_more plain_line c.as_slice-e-items.result.now c.loop-e.e-index c.e-item.result _ _ c.loop-e-test.true c.e-item.is c.loop-e.invariant c.in_ok-put_line.ensures
+    one_more plain_line c.as_slice-e-items.result.now c.loop-e.e-index c.e-item.result _ _ c.loop-e-test.true c.e-item.is c.loop-e.invariant
+    c.in_ok-put_line.ensures
 
 pub returns : goal.returns
 returns c =

@@ -9,7 +9,8 @@ use Rattle.submit_encoders.proofs.written.put_quoted.Given as goal
 -- what was put, and then what is left as it is escaped, is the line as it is escaped
 abbrev pub invariant-loop-front : goal.invariant-loop-front
 invariant-loop-front l =
-    shadow (Utf8 l.left) × (has_line_end l.left ≡ false) × (string_bytes l.made ++ flat_map escaped_byte l.left ≡ string_bytes l.initial.made ++ flat_map escaped_byte l.line)
+    shadow (Utf8 l.left) × (has_line_end l.left ≡ false)
+    × (string_bytes l.made ++ flat_map escaped_byte l.left ≡ string_bytes l.initial.made ++ flat_map escaped_byte l.line)
 
 abbrev pub decreases-loop-front : goal.decreases-loop-front
 decreases-loop-front l = length l.left

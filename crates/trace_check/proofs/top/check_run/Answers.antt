@@ -10,5 +10,6 @@ returns-in-Ok-Whole-clause-table g c =
 
 pub returns-in-Ok-Whole-clause-complete : goal.returns-in-Ok-Whole-clause-complete
 returns-in-Ok-Whole-clause-complete g c = λ trace none known within calm_source calm_sink.
-    checks_whole trace c.of.result _ _ _ _ _ _ _ _ _ (returns-in-Ok-Whole-clause-table g c) (λ same. told_apart c.tell_verdict.result (sym c.of.ensures ∙ same)) known
+    checks_whole trace c.of.result _ _ _ _ _ _ _ _ _ (returns-in-Ok-Whole-clause-table g c)
+    (λ same. told_apart c.tell_verdict.result (sym c.of.ensures ∙ same)) known
     within calm_source calm_sink

@@ -8,7 +8,11 @@ use Rattle.upgrade_walk.proofs.FilterLemmas.{filter_next, filter_holds}
 use Rattle.upgrade_walk.proofs.candidate.candidates_among.Goals as goal
 
 pub loop-i-preserved : goal.loop-i-preserved
-loop-i-preserved c = filter_next (λ n. is_candidate c.args.local.now (option_copied c.args.is_value) (facts_at c.args.tree.now n)) c.args.nodes.now c.loop-i.found _ c.loop-i.i c.node_at-n.result c.is_candidate-is_found.result c.node_at-n.ensures.here c.loop-i.invariant c.is_candidate-is_found.ensures c.in_ok-keep_where.ensures
+loop-i-preserved c = filter_next (λ n. is_candidate c.args.local.now (option_copied c.args.is_value) (facts_at c.args.tree.now n)) c.args.nodes.now
+    c.loop-i.found _ c.loop-i.i c.node_at-n.result c.is_candidate-is_found.result c.node_at-n.ensures.here c.loop-i.invariant c.is_candidate-is_found.ensures
+    c.in_ok-keep_where.ensures
 
 pub returns-clause-nodes : goal.returns-clause-nodes
-returns-clause-nodes c = filter_holds (IsNode c.args.tree.now) (IsElement c.args.tree.now) (λ n. is_candidate c.args.local.now (option_copied c.args.is_value) (facts_at c.args.tree.now n)) (candidate_is c.args.local.now (option_copied c.args.is_value) c.args.tree.now) c.args.nodes.now c.loop-i.found c.loop-i.i c.loop-i.invariant c.requires
+returns-clause-nodes c = filter_holds (IsNode c.args.tree.now) (IsElement c.args.tree.now)
+    (λ n. is_candidate c.args.local.now (option_copied c.args.is_value) (facts_at c.args.tree.now n))
+    (candidate_is c.args.local.now (option_copied c.args.is_value) c.args.tree.now) c.args.nodes.now c.loop-i.found c.loop-i.i c.loop-i.invariant c.requires

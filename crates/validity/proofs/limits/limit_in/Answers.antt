@@ -15,5 +15,6 @@ pub returns-in-Some-clause-small : goal.returns-in-Some-clause-small
 returns-in-Some-clause-small c =
     let is : is_limit c.in-Some.digits.now ≡ true = sym c.is_limit.ensures ∙ c.if-is_limit.true in
     let P : Option ℕ → Type 0 = λ o. IfSome o (λ limit. limit < 10 ^ 9) in
-    let given : c.ok.result ≡ Some (digits_value 10 c.in-Some.digits.now) = rw (c.ok.ensures.value, limit_parses c.in-Some.digits.now c.parse.result is c.parse.ensures.value.0) refl in
+    let given : c.ok.result ≡ Some (digits_value 10 c.in-Some.digits.now) =
+    rw (c.ok.ensures.value, limit_parses c.in-Some.digits.now c.parse.result is c.parse.ensures.value.0) refl in
     subst P (sym given) (limit_small c.in-Some.digits.now is)

@@ -12,15 +12,19 @@ loop-member-preserved c = record {
   member = c.in-Some.ensures.member;
   left = λ f forest stands.
       c.loop-member.invariant.left f forest stands
-      ∙ any-step f c.args.radio (subst IsTidy (sym forest) c.count-count.ensures.tidy) (is_required c.args.tree.now) c.loop-member.at c.in-Some.member (c.in-Some.ensures.next f forest stands)
-      ∙ ap (λ b. b || list_any (is_required c.args.tree.now) (members_behind f c.args.radio (Some c.in-Some.member))) (sym c.is_required.ensures ∙ c.if-is_required.false);
+      ∙ any-step f c.args.radio (subst IsTidy (sym forest) c.count-count.ensures.tidy) (is_required c.args.tree.now) c.loop-member.at c.in-Some.member
+      (c.in-Some.ensures.next f forest stands)
+      ∙ ap (λ b. b || list_any (is_required c.args.tree.now) (members_behind f c.args.radio (Some c.in-Some.member)))
+      (sym c.is_required.ensures ∙ c.if-is_required.false);
 }
 
 pub returns-then-is_required : goal.returns-then-is_required
 returns-then-is_required c = λ f forest stands.
     sym (c.loop-member.invariant.left f forest stands
-    ∙ any-step f c.args.radio (subst IsTidy (sym forest) c.count-count.ensures.tidy) (is_required c.args.tree.now) c.loop-member.at c.in-Some.member (c.in-Some.ensures.next f forest stands)
-    ∙ ap (λ b. b || list_any (is_required c.args.tree.now) (members_behind f c.args.radio (Some c.in-Some.member))) (sym c.is_required.ensures ∙ c.if-is_required.true))
+    ∙ any-step f c.args.radio (subst IsTidy (sym forest) c.count-count.ensures.tidy) (is_required c.args.tree.now) c.loop-member.at c.in-Some.member
+    (c.in-Some.ensures.next f forest stands)
+    ∙ ap (λ b. b || list_any (is_required c.args.tree.now) (members_behind f c.args.radio (Some c.in-Some.member)))
+    (sym c.is_required.ensures ∙ c.if-is_required.true))
 
 pub returns : goal.returns
 returns c = λ f forest stands.

@@ -16,5 +16,6 @@ loop-above-preserved c =
       first = ap (λ ns. first_or ns parent) items ∙ first-push c.loop-above.way.items c.loop-above.at parent ∙ c.loop-above.invariant.first;
       way =
           subst (λ ns. IsUpward c.args.tree.now ns parent) (sym items)
-          (upward-push c.args.tree.now c.loop-above.way.items c.loop-above.at parent c.loop-above.invariant.node (sym c.in-Some-parent.ensures.parent) c.loop-above.invariant.way);
+          (upward-push c.args.tree.now c.loop-above.way.items c.loop-above.at parent c.loop-above.invariant.node
+          (sym c.in-Some-parent.ensures.parent) c.loop-above.invariant.way);
     }

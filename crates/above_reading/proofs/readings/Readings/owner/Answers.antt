@@ -11,4 +11,5 @@ named-requires-clause-root c =
 
 pub named-requires-clause-top : goal.named-requires-clause-top
 named-requires-clause-top c =
-    subst (λ r. parent_at c.args.tree.now r ≡ None) (sym (ap (λ (a : Above). a.root) c.requires.above)) (root-free c.args.tree.now c.requires.tidy c.args.n c.requires.node)
+    subst (λ r. parent_at c.args.tree.now r ≡ None) (sym (ap (λ (a : Above). a.root) c.requires.above))
+    (root-free c.args.tree.now c.requires.tidy c.args.n c.requires.node)

@@ -4,4 +4,8 @@ use Rattle.ce_algorithms.specs.Page.{Page}
 use Rattle.ce_page.proofs.page.Page.copy_attributes.Goals as goal
 
 pub returns-clause-step : goal.returns-clause-step
-returns-clause-step c = rw (c.deref.ensures.value, c.in_ok-attributes.ensures.list, ap (λ (p : Page). (facts_at p.forest c.args.from).attributes) c.self.view_is) at c.copy_each.ensures.step
+returns-clause-step c = rw (
+  c.deref.ensures.value,
+  c.in_ok-attributes.ensures.list,
+  ap (λ (p : Page). (facts_at p.forest c.args.from).attributes) c.self.view_is,
+) at c.copy_each.ensures.step

@@ -9,7 +9,8 @@ use Rattle.ce_page.proofs.page.Page.copy_each.Given as goal
 
 abbrev pub invariant-loop-attribute : goal.invariant-loop-attribute
 invariant-loop-attribute l = record {
-  step : for_each (drop l.attribute-index l.attributes) (copy_attribute l.n) (work l.self l.fuel) ≡ for_each l.attributes (copy_attribute l.n) (work l.initial.self l.initial.fuel);
+  step : for_each (drop l.attribute-index l.attributes) (copy_attribute l.n) (work l.self l.fuel)
+      ≡ for_each l.attributes (copy_attribute l.n) (work l.initial.self l.initial.fuel);
   within : StaysWithin l.initial.self l.self l.initial.fuel l.fuel;
   changes : OnlyChanges l.n l.initial.self.forest l.self.forest;
   copy : IsElement l.self.forest l.n;

@@ -9,4 +9,5 @@ use Rattle.ce_page.proofs.page.Page.copy_element.Goals as goal
 pub returns-clause-fresh : goal.returns-clause-fresh
 returns-clause-fresh c =
     let same = ap (λ (p : Page). p.forest) c.copy_control.ensures.rest in
-    subst (λ (f : Trees). IsFresh c.args.self.now.forest f ElementKind c.in_ok-n.n) (sym same) (fresh_changed c.in_ok-n.ensures.fresh c.copy_attributes.ensures.changes)
+    subst (λ (f : Trees). IsFresh c.args.self.now.forest f ElementKind c.in_ok-n.n) (sym same)
+    (fresh_changed c.in_ok-n.ensures.fresh c.copy_attributes.ensures.changes)

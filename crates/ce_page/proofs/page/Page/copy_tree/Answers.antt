@@ -15,20 +15,27 @@ use Rattle.ce_page.proofs.page.Page.copy_tree.Goals as goal
 pub loop-next-init : goal.loop-next-init
 loop-next-init c =
     let fresh = c.in_ok-top.ensures.fresh in
-    let numbers = subst (λ (p : Page). c.in_ok-children.children ≡ roots (below (tree_of c.args.node p.forest))) c.self.view_is (c.in_ok-children.ensures.children ∙ c.in_ok-children.ensures.below) in
+    let numbers = subst (λ (p : Page). c.in_ok-children.children ≡ roots (below (tree_of c.args.node p.forest))) c.self.view_is
+    (c.in_ok-children.ensures.children ∙ c.in_ok-children.ensures.below) in
     let read = subst (λ (p : Page). AreRead p.forest (below (tree_of c.args.node p.forest))) c.self.view_is c.in_ok-children.ensures.read in
-    let lacking = subst (λ (p : Page). is_text (kind_at p.forest c.args.node) ≡ true → below (tree_of c.args.node p.forest) ≡ none) c.self.view_is c.in_ok-children.ensures.lacking in
+    let lacking = subst (λ (p : Page). is_text (kind_at p.forest c.args.node) ≡ true
+    → below (tree_of c.args.node p.forest) ≡ none) c.self.view_is c.in_ok-children.ensures.lacking in
     let loose = copied_no_document (is_element (kind_at c.args.self.now.forest c.args.node)) _ fresh.kind_is in
-    let parent = copied_parent c.args.self.now.forest c.copy_node.new.self.forest c.in_ok-top.top _ (is_element (kind_at c.args.self.now.forest c.args.node)) (λ other. lacking (is_text_kind _ c.requires.allowed other)) fresh.later fresh.node fresh.kind_is (alone_apart _ _ fresh.alone loose) in
+    let parent = copied_parent c.args.self.now.forest c.copy_node.new.self.forest c.in_ok-top.top _ (is_element (kind_at c.args.self.now.forest c.args.node))
+    (λ other. lacking (is_text_kind _ c.requires.allowed other)) fresh.later fresh.node fresh.kind_is (alone_apart _ _ fresh.alone loose) in
     record {
-      copying = begun _ _ c.args.node c.in_ok-top.top (facts_at c.args.self.now.forest c.args.node) _ c.in_ok-children.children _ (work c.args.self.now c.args.fuel.now) (work c.copy_node.new.self c.copy_node.new.fuel) numbers read parent fresh.others c.copy_node.ensures.within.nodes (rw c.new-todo.ensures.items at c.in_ok-push_below.ensures) c.in_ok-top.ensures.step;
+      copying = begun _ _ c.args.node c.in_ok-top.top (facts_at c.args.self.now.forest c.args.node) _ c.in_ok-children.children _
+          (work c.args.self.now c.args.fuel.now)
+          (work c.copy_node.new.self c.copy_node.new.fuel) numbers read parent fresh.others c.copy_node.ensures.within.nodes
+          (rw c.new-todo.ensures.items at c.in_ok-push_below.ensures) c.in_ok-top.ensures.step;
       within = c.copy_node.ensures.within;
       made = fresh.node;
     }
 
 pub children-requires-in-Some : goal.children-requires-in-Some
 children-requires-in-Some c =
-    subst (λ (p : Page). IsNode p.forest c.in-Some.next.from) (sym c.self-in-Some.view_is) (from_node c.loop-next.invariant.copying c.in-Some.next c.pop.new.self.items c.in-Some.ensures.items)
+    subst (λ (p : Page). IsNode p.forest c.in-Some.next.from) (sym c.self-in-Some.view_is)
+    (from_node c.loop-next.invariant.copying c.in-Some.next c.pop.new.self.items c.in-Some.ensures.items)
 
 pub copy_into-requires-clause-parent : goal.copy_into-requires-clause-parent
 copy_into-requires-clause-parent c = (turn c.loop-next.invariant.copying c.in-Some.next c.pop.new.self.items c.in-Some.ensures.items).parent.element
@@ -50,7 +57,8 @@ loop-next-preserved c =
     let copied = c.in_ok-n.ensures.copied in
     let children = c.in_ok-children-2.ensures.children ∙ ap (λ (p : Page). children_at p.forest c.in-Some.next.from) c.self-in-Some.view_is in
     record {
-      copying = next c.loop-next.invariant.copying c.in-Some.next c.pop.new.self.items c.in-Some.ensures.items _ c.in_ok-n.n _ c.in_ok-children-2.children _ c.in_ok-n.ensures.step copied children c.in_ok-push_below-2.ensures;
+      copying = next c.loop-next.invariant.copying c.in-Some.next c.pop.new.self.items c.in-Some.ensures.items _ c.in_ok-n.n _ c.in_ok-children-2.children _
+          c.in_ok-n.ensures.step copied children c.in_ok-push_below-2.ensures;
       within = search rules;
       made = node_kept _ _ copied.kinds c.loop-next.invariant.made;
     }

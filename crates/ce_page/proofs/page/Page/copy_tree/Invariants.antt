@@ -10,7 +10,8 @@ use Rattle.ce_page.proofs.page.Page.copy_tree.Given as goal
 
 abbrev pub invariant-loop-next : goal.invariant-loop-next
 invariant-loop-next l = record {
-  copying : IsCopying l.fn.self.forest l.self.forest l.todo.items l.top (copy_tree l.fn.node (facts_at l.fn.self.forest l.fn.node) (below (tree_of l.fn.node l.fn.self.forest)) (work l.fn.self l.fn.fuel)) (work l.self l.fuel);
+  copying : IsCopying l.fn.self.forest l.self.forest l.todo.items l.top
+      (copy_tree l.fn.node (facts_at l.fn.self.forest l.fn.node) (below (tree_of l.fn.node l.fn.self.forest)) (work l.fn.self l.fn.fuel)) (work l.self l.fuel);
   within : GrowsWithin l.fn.self l.self l.fn.fuel l.fuel;
   made : IsNode l.self.forest l.top;
 }

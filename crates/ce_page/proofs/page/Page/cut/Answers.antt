@@ -9,14 +9,16 @@ use Rattle.ce_page.proofs.page.Page.cut.Goals as goal
 
 pub returns-clause-loose : goal.returns-clause-loose
 returns-clause-loose c =
-    subst (λ (p : Page). IsLoosed p.forest c.remove.new.self c.args.node) c.self.view_is (loosed c.self.inside.tree c.remove.new.self c.args.node c.remove.ensures.free c.remove.ensures.may c.remove.ensures.may_in_place)
+    subst (λ (p : Page). IsLoosed p.forest c.remove.new.self c.args.node) c.self.view_is
+    (loosed c.self.inside.tree c.remove.new.self c.args.node c.remove.ensures.free c.remove.ensures.may c.remove.ensures.may_in_place)
 
 pub invariant_of-self : goal.invariant_of-self
 invariant_of-self c = record { sound = sound_kept _ _ c.remove.ensures.kinds c.self.invariant.sound; given = λ e. cc; owners = λ e. cc }
 
 pub invariant_of-self-in-Some : goal.invariant_of-self-in-Some
 invariant_of-self-in-Some c =
-    let touched = removed _ _ c.self.view_is c.args.node c.in-Some.parent c.remove.new.self c.requires.node (sym c.in-Some.ensures.parent) c.remove.ensures.tidy c.remove.ensures.size c.remove.ensures.cut in
+    let touched = removed _ _ c.self.view_is c.args.node c.in-Some.parent c.remove.new.self c.requires.node
+    (sym c.in-Some.ensures.parent) c.remove.ensures.tidy c.remove.ensures.size c.remove.ensures.cut in
     let stood = c.self.invariant.owners c.if-not-self.false in
     record {
       sound = sound_kept _ _ c.remove.ensures.kinds c.self.invariant.sound;

@@ -5,7 +5,8 @@ pub invariant_of-self : goal.invariant_of-self
 invariant_of-self c = record {
   sound = record {
     rows = c.self.invariant.sound.rows;
-    waits = drop_waits c.self.inside.tree c.self.inside.queues c.drop_first.new.self c.args.node c.drop_first.result c.self.invariant.sound.waits c.drop_first.ensures.first c.drop_first.ensures.queues;
+    waits = drop_waits c.self.inside.tree c.self.inside.queues c.drop_first.new.self c.args.node c.drop_first.result c.self.invariant.sound.waits
+        c.drop_first.ensures.first c.drop_first.ensures.queues;
     held = c.self.invariant.sound.held;
   };
   given = c.self.invariant.given;

@@ -13,7 +13,8 @@ invariant_of-self-in_err-changes c = record { sound = sound_kept _ _ c.insert.en
 
 pub invariant_of-self-2 : goal.invariant_of-self-2
 invariant_of-self-2 c =
-    let touched = inserted _ _ c.self.view_is c.args.parent c.args.node c.args.before c.insert.new.self c.requires.parent c.requires.node c.requires.before c.requires.may c.requires.free c.insert.ensures.tidy c.insert.ensures.size c.in_ok-insert.ensures.ok in
+    let touched = inserted _ _ c.self.view_is c.args.parent c.args.node c.args.before c.insert.new.self c.requires.parent c.requires.node c.requires.before
+    c.requires.may c.requires.free c.insert.ensures.tidy c.insert.ensures.size c.in_ok-insert.ensures.ok in
     let stood = c.self.invariant.owners c.if-not-self.false in
     record {
       sound = sound_kept _ _ c.insert.ensures.kinds c.self.invariant.sound;

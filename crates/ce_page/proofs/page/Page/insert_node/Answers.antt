@@ -9,9 +9,12 @@ use Rattle.ce_page.proofs.page.Page.insert_node.Goals as goal
 
 pub returns-clause-step : goal.returns-clause-step
 returns-clause-step c =
-    let may : may_insert c.args.self.now.forest c.args.parent c.args.node c.args.before ≡ None = sym (c.in_ok-may_insert.ensures ∙ ap (λ (p : Page). may_insert p.forest c.args.parent c.args.node c.args.before) c.self.view_is) in
+    let may : may_insert c.args.self.now.forest c.args.parent c.args.node c.args.before ≡ None =
+    sym (c.in_ok-may_insert.ensures ∙ ap (λ (p : Page). may_insert p.forest c.args.parent c.args.node c.args.before) c.self.view_is) in
     let document = c.document-document.ensures ∙ ap (λ (p : Page). document_at p.forest c.args.parent) c.self.view_is in
-    pre_inserted _ (work c.put_in.new.self c.put_in.new.fuel) c.args.self.now c.adopt_node.new.self c.args.parent c.args.node c.args.before c.reference_child-child.result c.args.fuel.now c.adopt_node.new.fuel may c.reference_child-child.ensures.child (rw document at c.in_ok-adopt_node.ensures.step) c.put_in.ensures.step
+    pre_inserted _ (work c.put_in.new.self c.put_in.new.fuel) c.args.self.now c.adopt_node.new.self c.args.parent c.args.node c.args.before
+    c.reference_child-child.result c.args.fuel.now c.adopt_node.new.fuel may c.reference_child-child.ensures.child
+    (rw document at c.in_ok-adopt_node.ensures.step) c.put_in.ensures.step
 
 pub returns-clause-told : goal.returns-clause-told
 returns-clause-told c = λ mid goes.

@@ -11,7 +11,9 @@ invariant_of-self-in_err-push_back c =
     record {
       sound = record {
         rows = c.self.invariant.sound.rows;
-        waits = rw c.in_ok-number.ensures.queues (enqueued_waits c.self.inside.tree c.args.n c.args.r c.self.inside.queues (above c.args.n c.self.invariant.sound.rows element) c.self.invariant.sound.waits);
+        waits = rw c.in_ok-number.ensures.queues
+            (enqueued_waits c.self.inside.tree c.args.n c.args.r c.self.inside.queues
+            (above c.args.n c.self.invariant.sound.rows element) c.self.invariant.sound.waits);
         held = c.self.invariant.sound.held;
       };
       given = c.self.invariant.given;
@@ -24,7 +26,9 @@ invariant_of-self-2 c =
     record {
       sound = record {
         rows = c.self.invariant.sound.rows;
-        waits = rw c.in_ok-number.ensures.queues (enqueued_waits c.self.inside.tree c.args.n c.args.r c.self.inside.queues (above c.args.n c.self.invariant.sound.rows element) c.self.invariant.sound.waits);
+        waits = rw c.in_ok-number.ensures.queues
+            (enqueued_waits c.self.inside.tree c.args.n c.args.r c.self.inside.queues
+            (above c.args.n c.self.invariant.sound.rows element) c.self.invariant.sound.waits);
         held = c.self.invariant.sound.held;
       };
       given = c.self.invariant.given;

@@ -8,8 +8,10 @@ pub returns-clause-step : goal.returns-clause-step
 returns-clause-step c =
     let page = rw (c.in_ok-kept.ensures, c.in_ok-new.ensures) at c.in_ok-old.ensures.page in
     let was = rw c.in_ok-kept.ensures at c.in_ok-old.ensures.was in
-    let steps = set_is c.args.self.now c.put_attribute.new.self c.args.fuel.now c.in_ok-old.changes c.in_ok-old.ensures.changes c.args.n c.args.name c.args.value c.in_ok-old.old page was in
-    subst (Does c.handle_attribute_change.result (work c.handle_attribute_change.new.self c.handle_attribute_change.new.fuel)) (sym steps) c.handle_attribute_change.ensures.step
+    let steps = set_is c.args.self.now c.put_attribute.new.self c.args.fuel.now c.in_ok-old.changes c.in_ok-old.ensures.changes c.args.n c.args.name
+    c.args.value c.in_ok-old.old page was in
+    subst (Does c.handle_attribute_change.result (work c.handle_attribute_change.new.self c.handle_attribute_change.new.fuel))
+    (sym steps) c.handle_attribute_change.ensures.step
 
 pub returns-clause-told : goal.returns-clause-told
 returns-clause-told c = setting_tells _ _ (work c.args.self.now c.args.fuel.now) c.args.n c.args.name c.args.value (returns-clause-step c)

@@ -7,7 +7,8 @@ use Rattle.ce_page.proofs.page.Page.tell_adopted.Given as goal
 
 abbrev pub invariant-loop-i : goal.invariant-loop-i
 invariant-loop-i l = record {
-  step : for_each (drop l.i l.walk) (adopted l.old l.document) (work l.self l.fuel) ≡ for_each l.walk (adopted l.old l.document) (work l.initial.self l.initial.fuel);
+  step : for_each (drop l.i l.walk) (adopted l.old l.document) (work l.self l.fuel)
+      ≡ for_each l.walk (adopted l.old l.document) (work l.initial.self l.initial.fuel);
   within : StaysWithin l.initial.self l.self l.initial.fuel l.fuel;
   rest : OnlyEnqueues l.initial.self l.self;
 }

@@ -7,7 +7,8 @@ use Rattle.ce_page.proofs.page.Page.tell_outside.Given as goal
 
 abbrev pub invariant-loop-i : goal.invariant-loop-i
 invariant-loop-i l = record {
-  step : tell_others (drop l.i l.changes) (order_of l.initial.self.forest l.node) (work l.self l.fuel) ≡ tell_others l.changes (order_of l.initial.self.forest l.node) (work l.initial.self l.initial.fuel);
+  step : tell_others (drop l.i l.changes) (order_of l.initial.self.forest l.node) (work l.self l.fuel)
+      ≡ tell_others l.changes (order_of l.initial.self.forest l.node) (work l.initial.self l.initial.fuel);
   within : StaysWithin l.initial.self l.self l.initial.fuel l.fuel;
   rest : OnlyEnqueues l.initial.self l.self;
 }

@@ -15,4 +15,5 @@ returns-in_err-tell_removed-clause-step c =
 pub returns-clause-step : goal.returns-clause-step
 returns-clause-step c =
     let order = c.in_ok-walk.ensures.order ∙ ap (λ (p : Page). order_of p.forest c.args.node) c.self.view_is in
-    others_come _ _ c.args.changes.now _ _ _ _ (rw order at c.in_ok-tell_removed.ensures.step) (ap (λ (f : Trees). order_of f c.args.node) c.tell_removed.ensures.rest.forest) c.tell_outside.ensures.step
+    others_come _ _ c.args.changes.now _ _ _ _ (rw order at c.in_ok-tell_removed.ensures.step)
+    (ap (λ (f : Trees). order_of f c.args.node) c.tell_removed.ensures.rest.forest) c.tell_outside.ensures.step

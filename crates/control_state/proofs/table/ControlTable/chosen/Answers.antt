@@ -10,9 +10,11 @@ use Rattle.control_state.proofs.table.ControlTable.chosen.Goals as goal
 pub returns-then-is_multiple-clause-nodes : goal.returns-then-is_multiple-clause-nodes
 returns-then-is_multiple-clause-nodes c =
     IfOk-weaker c.selected_among.result _ _
-    (λ ns is. subst (All (IsNode c.args.tree.now)) (sym is) (All-filter (is_selected c.args.self.now c.args.tree.now) (IsNode c.args.tree.now) _ c.in_ok-options.ensures.nodes)) c.selected_among.ensures
+    (λ ns is. subst (All (IsNode c.args.tree.now)) (sym is)
+    (All-filter (is_selected c.args.self.now c.args.tree.now) (IsNode c.args.tree.now) _ c.in_ok-options.ensures.nodes)) c.selected_among.ensures
 
 pub returns-clause-nodes : goal.returns-clause-nodes
 returns-clause-nodes c =
     IfOk-weaker c.list_of.result _ _
-    (λ ns is. subst (All (IsNode c.args.tree.now)) (sym (is ∙ ap option_to_list c.chosen_one.ensures)) (one-nodes c.args.tree.now c.count-count.ensures.tidy c.args.self.now c.args.select c.requires)) c.list_of.ensures
+    (λ ns is. subst (All (IsNode c.args.tree.now)) (sym (is ∙ ap option_to_list c.chosen_one.ensures))
+    (one-nodes c.args.tree.now c.count-count.ensures.tidy c.args.self.now c.args.select c.requires)) c.list_of.ensures

@@ -13,7 +13,11 @@ loop-next-smaller c = walk-less _ _ c.count-count.ensures.tidy c.requires _ _ _ 
 pub loop-next-preserved : goal.loop-next-preserved
 loop-next-preserved c =
     let made : c.if-is_a.self ≡ (if is_a OptionItem c.args.tree.now c.in-Some.child then clear c.loop-next.self c.in-Some.child else c.loop-next.self) =
-    elim c.if-is_a.branch [ then-is_a w ↦ grind (arith, w.self-is, w.clear.ensures, w.if-is_a.true, c.is_a.ensures) | else-is_a w ↦ grind (arith, w.self-is, w.if-is_a.false, c.is_a.ensures) ] in
+    elim c.if-is_a.branch [
+      | then-is_a w ↦ grind (arith, w.self-is, w.clear.ensures, w.if-is_a.true, c.is_a.ensures)
+      | else-is_a w ↦ grind
+          (arith, w.self-is, w.if-is_a.false, c.is_a.ensures)
+    ] in
     walk-on _ _ c.count-count.ensures.tidy c.requires _ _ _ _ _ _ _ c.loop-next.invariant c.in-Some.is c.next_sibling-next.ensures.sibling made
 
 pub returns : goal.returns

@@ -9,7 +9,8 @@ use Rattle.control_state.proofs.Walks.{Walks}
 use Rattle.control_state.proofs.table.ControlTable.clear_children.Given as goal
 
 abbrev pub invariant-loop-next : goal.invariant-loop-next
-invariant-loop-next l = Walks l.tree (children_at l.tree l.fn.group) (λ rows n. if is_a OptionItem l.tree n then clear rows n else rows) l.initial.self l.self l.next
+invariant-loop-next l = Walks l.tree (children_at l.tree l.fn.group)
+    (λ rows n. if is_a OptionItem l.tree n then clear rows n else rows) l.initial.self l.self l.next
 
 abbrev pub decreases-loop-next : goal.decreases-loop-next
 decreases-loop-next l = length (left_from l.next (children_at l.tree l.fn.group))

@@ -17,7 +17,8 @@ chains_are c = c.in_ok-push.ensures.items ∙ ap (λ (l : List ℕ). c.self.insi
 pub invariant_of-self-in-Ok : goal.invariant_of-self-in-Ok
 invariant_of-self-in-Ok c =
     subst (λ (h : Homes). AreInOrder h c.push.new.self.items c.self.inside.frames.items) (sym c.in-Ok.ensures.added)
-    (subst (λ (l : List (List ℕ)). AreInOrder (c.self.inside.homes ++ Some new_behaviour ∷ []) l c.self.inside.frames.items) (sym (chains_are c)) (add_order c.self.inside.homes c.self.inside.chains.items c.self.inside.frames.items c.self.invariant (empty c)))
+    (subst (λ (l : List (List ℕ)). AreInOrder (c.self.inside.homes ++ Some new_behaviour ∷ []) l c.self.inside.frames.items) (sym (chains_are c))
+    (add_order c.self.inside.homes c.self.inside.chains.items c.self.inside.frames.items c.self.invariant (empty c)))
 
 pub returns-in-Ok-clause-behaviours : goal.returns-in-Ok-clause-behaviours
 returns-in-Ok-clause-behaviours c =

@@ -9,8 +9,10 @@ use Rattle.frame_stack.proofs.stack.Stack.is_empty.Goals as goal
 
 pub returns-clause-empty : goal.returns-clause-empty
 returns-clause-empty c =
-    c.is_empty.ensures ∙ ap (λ (n : ℕ). n == 0) c.self.inside.frames.ok.0 ∙ empty_seen (stacked c.self.inside.homes c.self.inside.frames.items) ∙ ap (λ (s : Stacked). is_empty (frames_of s)) c.self.view_is
+    c.is_empty.ensures ∙ ap (λ (n : ℕ). n == 0) c.self.inside.frames.ok.0 ∙ empty_seen (stacked c.self.inside.homes c.self.inside.frames.items)
+    ∙ ap (λ (s : Stacked). is_empty (frames_of s)) c.self.view_is
 
 pub returns-clause-one_place : goal.returns-clause-one_place
 returns-clause-one_place c =
-    subst (λ (s : Stacked). Stands s.homes s.frames (behaviours_of s)) c.self.view_is (one_place (stacked c.self.inside.homes c.self.inside.frames.items) c.self.invariant.placed)
+    subst (λ (s : Stacked). Stands s.homes s.frames (behaviours_of s)) c.self.view_is
+    (one_place (stacked c.self.inside.homes c.self.inside.frames.items) c.self.invariant.placed)

@@ -7,11 +7,14 @@ use Rattle.frame_stack.proofs.stack.Stack.is_guarded.Goals as goal
 
 pub returns-in-None : goal.returns-in-None
 returns-in-None c =
-    none_read (stacked c.self.inside.homes c.self.inside.frames.items) guarded_of (ap (λ (l : List Held). slice_get l (length l - 1)) (sym c.deref.ensures.value) ∙ sym c.in-None.ensures.value)
+    none_read (stacked c.self.inside.homes c.self.inside.frames.items) guarded_of
+    (ap (λ (l : List Held). slice_get l (length l - 1)) (sym c.deref.ensures.value) ∙ sym c.in-None.ensures.value)
     ∙ ap (λ (s : Stacked). guarded_of (top_of (frames_of s))) c.self.view_is
 
 pub returns-in-Some : goal.returns-in-Some
 returns-in-Some c =
     c.is_guarded.ensures.guarded
-    ∙ top_read (stacked c.self.inside.homes c.self.inside.frames.items) c.in-Some.f.now guarded_of _ (ap (λ (l : List Held). slice_get l (length l - 1)) (sym c.deref.ensures.value) ∙ sym c.in-Some.ensures.value) (guarded_seen c.in-Some.f.now c.is_guarded.ensures.plain)
+    ∙ top_read (stacked c.self.inside.homes c.self.inside.frames.items) c.in-Some.f.now guarded_of _
+    (ap (λ (l : List Held). slice_get l (length l - 1)) (sym c.deref.ensures.value) ∙ sym c.in-Some.ensures.value)
+    (guarded_seen c.in-Some.f.now c.is_guarded.ensures.plain)
     ∙ ap (λ (s : Stacked). guarded_of (top_of (frames_of s))) c.self.view_is

@@ -7,11 +7,14 @@ use Rattle.frame_stack.proofs.stack.Stack.owner.Goals as goal
 
 pub returns-in-None : goal.returns-in-None
 returns-in-None c =
-    none_read (stacked c.self.inside.homes c.self.inside.frames.items) owner_of (ap (λ (l : List Held). slice_get l (length l - 1)) (sym c.deref.ensures.value) ∙ sym c.in-None.ensures.value)
+    none_read (stacked c.self.inside.homes c.self.inside.frames.items) owner_of (ap (λ (l : List Held). slice_get l (length l - 1)) (sym c.deref.ensures.value)
+    ∙ sym c.in-None.ensures.value)
     ∙ ap (λ (s : Stacked). owner_of (top_of (frames_of s))) c.self.view_is
 
 pub returns-in-Some : goal.returns-in-Some
 returns-in-Some c =
     c.owner.ensures.owner
-    ∙ top_read (stacked c.self.inside.homes c.self.inside.frames.items) c.in-Some.f.now owner_of _ (ap (λ (l : List Held). slice_get l (length l - 1)) (sym c.deref.ensures.value) ∙ sym c.in-Some.ensures.value) (owner_seen c.in-Some.f.now c.owner.ensures.plain)
+    ∙ top_read (stacked c.self.inside.homes c.self.inside.frames.items) c.in-Some.f.now owner_of _
+    (ap (λ (l : List Held). slice_get l (length l - 1)) (sym c.deref.ensures.value) ∙ sym c.in-Some.ensures.value)
+    (owner_seen c.in-Some.f.now c.owner.ensures.plain)
     ∙ ap (λ (s : Stacked). owner_of (top_of (frames_of s))) c.self.view_is

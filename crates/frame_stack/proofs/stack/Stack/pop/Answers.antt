@@ -13,18 +13,23 @@ returns-then-not-is_waiting_on_top-clause-body c =
     (body_on_top c.self.inside.homes c.self.inside.chains.items c.self.inside.frames.items c.self.invariant (sym c.if-not-is_waiting_on_top.ensures))
 
 pub into_waiting-requires : goal.into_waiting-requires
-into_waiting-requires c = no_body_taken c.self.inside.homes c.self.inside.frames.items c.pop.new.self.items c.in-Some.f c.in-Some.ensures.items (sym c.if-not-is_waiting_on_top.ensures)
+into_waiting-requires c = no_body_taken c.self.inside.homes c.self.inside.frames.items c.pop.new.self.items c.in-Some.f c.in-Some.ensures.items
+    (sym c.if-not-is_waiting_on_top.ensures)
 
 pub invariant_of-self : goal.invariant_of-self
-invariant_of-self c = taken_order c.self.inside.homes c.self.inside.chains.items c.self.inside.frames.items c.pop.new.self.items c.pop.result c.self.invariant c.pop.ensures.items (sym c.if-not-is_waiting_on_top.ensures)
+invariant_of-self c = taken_order c.self.inside.homes c.self.inside.chains.items c.self.inside.frames.items c.pop.new.self.items c.pop.result c.self.invariant
+    c.pop.ensures.items (sym c.if-not-is_waiting_on_top.ensures)
 
 pub returns-clause-frames : goal.returns-clause-frames
 returns-clause-frames c = elim c.match-pop.branch [
   | in-None w ↦ rw w.result-is (ap (stacked c.self.inside.homes) (sym (w.in-None.ensures.items ∙ append-nil c.pop.new.self.items)) ∙ c.self.view_is)
-  | in-Some w ↦ rw w.result-is (ap frames_of (sym c.self.view_is) ∙ taken_frames c.self.inside.homes c.self.inside.chains.items c.self.inside.frames.items c.pop.new.self.items w.in-Some.f (waiting_of w.into_waiting.result) c.self.invariant w.in-Some.ensures.items w.into_waiting.ensures)
+  | in-Some w ↦ rw w.result-is (ap frames_of (sym c.self.view_is)
+      ∙ taken_frames c.self.inside.homes c.self.inside.chains.items c.self.inside.frames.items c.pop.new.self.items w.in-Some.f
+      (waiting_of w.into_waiting.result) c.self.invariant w.in-Some.ensures.items w.into_waiting.ensures)
 ]
 
 pub returns-clause-behaviours : goal.returns-clause-behaviours
 returns-clause-behaviours c =
-    taken_behaviours c.self.inside.homes c.self.inside.chains.items c.self.inside.frames.items c.pop.new.self.items c.pop.result c.self.invariant c.pop.ensures.items (sym c.if-not-is_waiting_on_top.ensures)
+    taken_behaviours c.self.inside.homes c.self.inside.chains.items c.self.inside.frames.items c.pop.new.self.items c.pop.result c.self.invariant
+    c.pop.ensures.items (sym c.if-not-is_waiting_on_top.ensures)
     ∙ ap behaviours_of c.self.view_is

@@ -13,7 +13,8 @@ pushed c = c.in_ok-push.ensures.items ∙ ap (λ (f : Held). c.self.inside.frame
 
 pub invariant_of-self-2 : goal.invariant_of-self-2
 invariant_of-self-2 c =
-    subst (AreInOrder c.self.inside.homes c.self.inside.chains.items) (sym (pushed c)) (push_order c.self.inside.homes c.self.inside.chains.items c.self.inside.frames.items (waiting_of c.args.w) c.self.invariant)
+    subst (AreInOrder c.self.inside.homes c.self.inside.chains.items) (sym (pushed c))
+    (push_order c.self.inside.homes c.self.inside.chains.items c.self.inside.frames.items (waiting_of c.args.w) c.self.invariant)
 
 pub returns-clause-frames : goal.returns-clause-frames
 returns-clause-frames c =

@@ -20,7 +20,8 @@ returns-in_ok-line-in-Some-clause-line c =
       | inl before ↦ c.self.invariant.2 k low before feed
       | inr later ↦ c.in-Some.ensures.before k later high (ap (λ l. get_or l k 0) c.deref.ensures.value ∙ feed)
     ] in
-    let cut : c.front.result.now ≡ given longest whole = c.front.ensures ∙ ap (λ l. given longest (take (end - start) (drop start l))) c.deref-in-Some.ensures.value in
+    let cut : c.front.result.now ≡ given longest whole =
+    c.front.ensures ∙ ap (λ l. given longest (take (end - start) (drop start l))) c.deref-in-Some.ensures.value in
     record {
       whole = whole;
       clean = no_feed_between items start end le lt clean;

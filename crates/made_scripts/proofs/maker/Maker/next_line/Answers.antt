@@ -8,7 +8,8 @@ use Rattle.made_scripts.proofs.maker.Maker.next_line.Goals as goal
 pub overflow_add-self : goal.overflow_add-self
 overflow_add-self c =
     let at = sym c.in_ok-made_line.ensures ∙ c.in-Some.is in
-    let within : c.self.inside.given < length (made_lines c.self.inside.elements) = slice_get_within (made_lines c.self.inside.elements) c.self.inside.given c.in-Some.line at in
+    let within : c.self.inside.given < length (made_lines c.self.inside.elements) =
+    slice_get_within (made_lines c.self.inside.elements) c.self.inside.given c.in-Some.line at in
     omega (arith, within, length-made_lines c.self.inside.elements)
 
 pub returns-in-None-clause-none : goal.returns-in-None-clause-none

@@ -16,7 +16,11 @@ use Rattle.node_arena.proofs.MarkLemmas.{hold_same, hold_more, hold_less}
 use Rattle.node_arena.proofs.tree.Tree.add.Goals as goal
 
 pub invariant_of-self-inside : goal.invariant_of-self-inside
-invariant_of-self-inside c = (pushed_or_not _ _ _ _ (seen_fact _ _ _ c.self.view_is) c.requires.loose c.requires.kind c.requires.parts _ c.push_node.ensures.items, tt)
+invariant_of-self-inside c = (
+  pushed_or_not _ _ _ _
+      (seen_fact _ _ _ c.self.view_is) c.requires.loose c.requires.kind c.requires.parts _ c.push_node.ensures.items,
+  tt,
+)
 
 pub invariant_of-self-2 : goal.invariant_of-self-2
 invariant_of-self-2 c =
@@ -25,7 +29,9 @@ invariant_of-self-2 c =
     let e = seen_is _ _ _ b in
     let blank = λ (is : Bool). subst (λ (k : ℕ). Allows (mark_at c.push_node.new.marks.items (k + 1)) is) (counts _ _ a) (c.push_node.ensures.blank is) in (
       pushed_covers _ _ _ _ _ c.requires.bare c.push_node.ensures.items c.self.invariant.0,
-      hold_more c.args.self.now _ _ _ (ap size e ∙ size-with_node (size c.args.self.now + 1) (facts_of c.args.node) c.args.self.now) (connected-new _ (facts_of c.args.node) _ _ a.tidy (rw e b.tidy) e) blank c.push_node.ensures.others (hold_same _ _ _ (sym c.self.view_is) c.self.invariant.1),
+      hold_more c.args.self.now _ _ _ (ap size e ∙ size-with_node (size c.args.self.now + 1) (facts_of c.args.node) c.args.self.now)
+          (connected-new _ (facts_of c.args.node) _ _ a.tidy (rw e b.tidy) e) blank c.push_node.ensures.others
+          (hold_same _ _ _ (sym c.self.view_is) c.self.invariant.1),
     )
 
 pub returns-in_err-push_node-clause-err : goal.returns-in_err-push_node-clause-err
@@ -40,7 +46,8 @@ returns-clause-number c =
     omega (arith, c.len.ensures, more, old, length-map c.self.inside.nodes.items link_from, c.push_node.new.nodes.ok.0)
 
 pub returns-clause-ok : goal.returns-clause-ok
-returns-clause-ok c = c.note.ensures ∙ seen_is _ _ _ (pushed _ _ _ _ (seen_fact _ _ _ c.self.view_is) c.requires.loose c.requires.kind c.requires.parts c.in_ok-push_node.ensures.items)
+returns-clause-ok c = c.note.ensures
+    ∙ seen_is _ _ _ (pushed _ _ _ _ (seen_fact _ _ _ c.self.view_is) c.requires.loose c.requires.kind c.requires.parts c.in_ok-push_node.ensures.items)
 
 pub returns-clause-size : goal.returns-clause-size
 returns-clause-size c = ap size (returns-clause-ok c) ∙ size-with_node (size c.args.self.now + 1) (facts_of c.args.node) c.args.self.now
@@ -96,7 +103,9 @@ invariant_of-self c =
 pub note-requires : goal.note-requires
 note-requires c =
     let a = seen_fact _ _ _ c.self.view_is in
-    let long = ap size (seen_is _ _ _ (pushed _ _ _ _ a c.requires.loose c.requires.kind c.requires.parts c.in_ok-push_node.ensures.items)) ∙ size-with_node (size c.args.self.now + 1) (facts_of c.args.node) c.args.self.now in
+    let long = ap size (seen_is _ _ _ (pushed _ _ _ _ a c.requires.loose c.requires.kind c.requires.parts c.in_ok-push_node.ensures.items))
+    ∙ size-with_node (size c.args.self.now + 1) (facts_of c.args.node) c.args.self.now in
     let more = ap length c.in_ok-push_node.ensures.items ∙ length-append c.self.inside.nodes.items (c.args.node ∷ []) in
-    let number : c.len.result ≡ size c.args.self.now + 1 = omega (arith, c.len.ensures, more, a.counted, length-map c.self.inside.nodes.items link_from, c.push_node.new.nodes.ok.0) in
+    let number : c.len.result ≡ size c.args.self.now + 1 =
+    omega (arith, c.len.ensures, more, a.counted, length-map c.self.inside.nodes.items link_from, c.push_node.new.nodes.ok.0) in
     last_node _ _ _ long number

@@ -12,7 +12,8 @@ pub loop-at-smaller : goal.loop-at-smaller
 loop-at-smaller c = children-less _ _ c.node-node.ensures.tidy c.requires _ _ c.in-Some.is c.loop-at.invariant.child _ c.next_sibling-at.ensures.sibling
 
 pub loop-at-preserved : goal.loop-at-preserved
-loop-at-preserved c = list-on _ _ c.node-node.ensures.tidy c.requires _ _ _ _ _ c.in-Some.is c.loop-at.invariant c.next_sibling-at.ensures.sibling c.next_sibling-at.ensures.node c.in_ok-push.ensures
+loop-at-preserved c = list-on _ _ c.node-node.ensures.tidy c.requires _ _ _ _ _ c.in-Some.is c.loop-at.invariant c.next_sibling-at.ensures.sibling
+    c.next_sibling-at.ensures.node c.in_ok-push.ensures
 
 pub returns-clause-children : goal.returns-clause-children
 returns-clause-children c = list-end _ _ c.node-node.ensures.tidy c.requires _ _ c.in_default.is c.loop-at.invariant

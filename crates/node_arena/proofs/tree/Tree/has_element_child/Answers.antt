@@ -15,10 +15,12 @@ pub loop-at-smaller : goal.loop-at-smaller
 loop-at-smaller c = children-less _ _ c.node-node.ensures.tidy c.requires _ _ c.in-Some.is c.loop-at.invariant.child _ c.next_sibling-at.ensures.sibling
 
 pub returns-then-is_element : goal.returns-then-is_element
-returns-then-is_element c = seek-found _ _ c.node-node.ensures.tidy c.requires _ _ c.in-Some.is c.loop-at.invariant _ refl (sym c.is_element.ensures ∙ c.if-is_element.true)
+returns-then-is_element c = seek-found _ _ c.node-node.ensures.tidy c.requires _ _ c.in-Some.is c.loop-at.invariant _ refl
+    (sym c.is_element.ensures ∙ c.if-is_element.true)
 
 pub loop-at-preserved : goal.loop-at-preserved
-loop-at-preserved c = seek-on _ _ c.node-node.ensures.tidy c.requires _ _ c.in-Some.is c.loop-at.invariant _ c.next_sibling-at.ensures.sibling (sym c.is_element.ensures ∙ c.if-is_element.false) c.next_sibling-at.ensures.node
+loop-at-preserved c = seek-on _ _ c.node-node.ensures.tidy c.requires _ _ c.in-Some.is c.loop-at.invariant _ c.next_sibling-at.ensures.sibling
+    (sym c.is_element.ensures ∙ c.if-is_element.false) c.next_sibling-at.ensures.node
 
 pub returns : goal.returns
 returns c = seek-end _ _ c.node-node.ensures.tidy c.requires _ c.in_default.is c.loop-at.invariant

@@ -13,11 +13,15 @@ pub loop-root-preserved : goal.loop-root-preserved
 loop-root-preserved c = record {
   tidy = c.loop-root.invariant.tidy;
   node = c.in-Some.ensures.node;
-  same = c.loop-root.invariant.same ∙ member-parent c.args.self.now c.args.root c.loop-root.invariant.tidy c.requires.root _ (test-apart _ _ (sym c.ne.ensures ∙ c.loop-root-test.true)) _ c.in-Some.ensures.parent;
+  same = c.loop-root.invariant.same
+      ∙ member-parent c.args.self.now c.args.root c.loop-root.invariant.tidy c.requires.root _
+      (test-apart _ _ (sym c.ne.ensures ∙ c.loop-root-test.true)) _ c.in-Some.ensures.parent;
 }
 
 pub returns-in-None : goal.returns-in-None
-returns-in-None c = member-none c.args.self.now c.args.root c.loop-root.invariant.tidy c.requires.root _ (test-apart _ _ (sym c.ne.ensures ∙ c.loop-root-test.true)) c.in-None.ensures.parent ∙ sym c.loop-root.invariant.same
+returns-in-None c = member-none c.args.self.now c.args.root c.loop-root.invariant.tidy c.requires.root _
+    (test-apart _ _ (sym c.ne.ensures ∙ c.loop-root-test.true)) c.in-None.ensures.parent ∙ sym c.loop-root.invariant.same
 
 pub returns : goal.returns
-returns c = member-root c.args.self.now c.args.root c.loop-root.invariant.tidy c.requires.root _ (test-same _ _ (sym c.ne.ensures ∙ c.loop-root-test.false)) ∙ sym c.loop-root.invariant.same
+returns c = member-root c.args.self.now c.args.root c.loop-root.invariant.tidy c.requires.root _ (test-same _ _ (sym c.ne.ensures ∙ c.loop-root-test.false))
+    ∙ sym c.loop-root.invariant.same

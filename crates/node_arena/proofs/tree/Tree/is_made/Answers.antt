@@ -10,4 +10,5 @@ returns-then-n-ge1-clause-not c = λ test.
     rw (← c.n.view_is) (not_made c.args.self.now c.n.inside.0 c.count-count.ensures.tidy (λ at. omega (arith, beyond, at.high)))
 
 pub returns-else-n-ge1-clause-not : goal.returns-else-n-ge1-clause-not
-returns-else-n-ge1-clause-not c = λ test. rw (← c.n.view_is) (not_made c.args.self.now c.n.inside.0 c.count-count.ensures.tidy (λ at. omega (arith, c.if-n-ge1.false, at.low)))
+returns-else-n-ge1-clause-not c =
+    λ test. rw (← c.n.view_is) (not_made c.args.self.now c.n.inside.0 c.count-count.ensures.tidy (λ at. omega (arith, c.if-n-ge1.false, at.low)))

@@ -8,5 +8,6 @@ use Rattle.node_arena.proofs.tree.Tree.make_text.Goals as goal
 
 pub returns-clause-text : goal.returns-clause-text
 returns-clause-text c =
-    IfOk-weaker c.add.result (λ n. IsNode c.add.new.self n × (kind_at c.add.new.self n ≡ c.blank-node.result.kind)) (λ n. IsNode c.add.new.self n × (kind_at c.add.new.self n ≡ TextNode))
+    IfOk-weaker c.add.result (λ n. IsNode c.add.new.self n × (kind_at c.add.new.self n ≡ c.blank-node.result.kind))
+    (λ n. IsNode c.add.new.self n × (kind_at c.add.new.self n ≡ TextNode))
     (λ n at. (at.0, at.1 ∙ ap (λ (x : Facts). x.kind) c.blank-node.ensures.facts)) c.add.ensures.made

@@ -32,4 +32,5 @@ loop-next-preserved c =
 pub returns-in-None-clause-noted : goal.returns-in-None-clause-noted
 returns-in-None-clause-noted c =
     let so_far = c.loop-next.invariant.marked in
-    λ some. all_marked _ _ (so_far.0 ++ c.loop-next.at ∷ []) _ _ _ (list-last _ _ c.loop-next.invariant.tidy c.requires _ _ so_far.1 c.in-None.ensures.next) (one_marked so_far.0 c.loop-next.at _ _ _ _ so_far.2 (c.set_mark.ensures.here _ c.of-mark.ensures) c.set_mark.ensures.others)
+    λ some. all_marked _ _ (so_far.0 ++ c.loop-next.at ∷ []) _ _ _ (list-last _ _ c.loop-next.invariant.tidy c.requires _ _ so_far.1 c.in-None.ensures.next)
+    (one_marked so_far.0 c.loop-next.at _ _ _ _ so_far.2 (c.set_mark.ensures.here _ c.of-mark.ensures) c.set_mark.ensures.others)

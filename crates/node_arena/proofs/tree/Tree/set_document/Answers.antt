@@ -17,15 +17,29 @@ pub move_to-requires : goal.move_to-requires
 move_to-requires c = in_slice _ _ _ (seen_fact _ _ _ c.self.view_is) c.deref_mut.ensures.value _ c.requires
 
 pub invariant_of-self-inside : goal.invariant_of-self-inside
-invariant_of-self-inside c = ((_, altered _ _ _ _ _ c.args.node _ (seen_fact _ _ _ c.self.view_is) c.requires (keeps-document _ _ _ (seen_fact _ _ _ c.self.view_is).tidy c.requires) c.deref_mut.ensures.value (written _ _ _ _ c.deref_mut.ensures.value c.self.inside.nodes.ok.0 c.move_to.auto.nodes) c.move_to.ensures), tt)
+invariant_of-self-inside c = (
+  (
+    _,
+    altered _ _ _ _ _ c.args.node _ (seen_fact _ _ _ c.self.view_is) c.requires
+        (keeps-document _ _ _ (seen_fact _ _ _ c.self.view_is).tidy c.requires) c.deref_mut.ensures.value
+        (written _ _ _ _ c.deref_mut.ensures.value c.self.inside.nodes.ok.0 c.move_to.auto.nodes) c.move_to.ensures,
+  ),
+  tt,
+)
 
 pub returns-clause-document : goal.returns-clause-document
-returns-clause-document c = seen_is _ _ _ (altered _ _ _ _ _ c.args.node _ (seen_fact _ _ _ c.self.view_is) c.requires (keeps-document _ _ _ (seen_fact _ _ _ c.self.view_is).tidy c.requires) c.deref_mut.ensures.value (written _ _ _ _ c.deref_mut.ensures.value c.self.inside.nodes.ok.0 c.move_to.auto.nodes) c.move_to.ensures)
+returns-clause-document c = seen_is _ _ _
+    (altered _ _ _ _ _ c.args.node _ (seen_fact _ _ _ c.self.view_is) c.requires
+    (keeps-document _ _ _ (seen_fact _ _ _ c.self.view_is).tidy c.requires) c.deref_mut.ensures.value
+    (written _ _ _ _ c.deref_mut.ensures.value c.self.inside.nodes.ok.0 c.move_to.auto.nodes) c.move_to.ensures)
 
 pub invariant_of-self : goal.invariant_of-self
 invariant_of-self c = (
-  written_covers _ _ _ _ _ _ c.deref_mut.ensures.value (written _ _ _ _ c.deref_mut.ensures.value c.self.inside.nodes.ok.0 c.move_to.auto.nodes) (λ covers. rw c.move_to.ensures (covers-kept _ _ c.args.node (λ x. record x { document = c.args.document }) c.requires.low (λ x id. refl) covers)) c.self.invariant.0,
-  hold_with _ c.args.node (λ x. record x { document = c.args.document }) c.args.self.now _ (λ x. refl) (returns-clause-document c) (hold_same _ _ _ (sym c.self.view_is) c.self.invariant.1),
+  written_covers _ _ _ _ _ _ c.deref_mut.ensures.value (written _ _ _ _ c.deref_mut.ensures.value c.self.inside.nodes.ok.0 c.move_to.auto.nodes)
+      (λ covers. rw c.move_to.ensures (covers-kept _ _ c.args.node (λ x. record x { document = c.args.document }) c.requires.low (λ x id. refl) covers))
+      c.self.invariant.0,
+  hold_with _ c.args.node (λ x. record x { document = c.args.document }) c.args.self.now _ (λ x. refl) (returns-clause-document c)
+      (hold_same _ _ _ (sym c.self.view_is) c.self.invariant.1),
 )
 
 pub returns-clause-size : goal.returns-clause-size

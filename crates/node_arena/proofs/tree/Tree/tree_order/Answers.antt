@@ -3,7 +3,10 @@ use Rattle.tree_laws.proofs.Listing.{Listing, list-start, list-last, list-on, li
 use Rattle.node_arena.proofs.tree.Tree.tree_order.Goals as goal
 
 pub loop-out-init : goal.loop-out-init
-loop-out-init c = record { tidy = c.count-count.ensures.tidy; so_far = subst (Listing _ _ _) (sym c.make-out.ensures) (list-start _ _ c.count-count.ensures.tidy c.requires) }
+loop-out-init c = record {
+  tidy = c.count-count.ensures.tidy;
+  so_far = subst (Listing _ _ _) (sym c.make-out.ensures) (list-start _ _ c.count-count.ensures.tidy c.requires);
+}
 
 pub loop-out-smaller : goal.loop-out-smaller
 loop-out-smaller c = list-less _ _ c.loop-out.invariant.tidy c.requires _ _ c.in-Some.ensures.next
@@ -11,7 +14,8 @@ loop-out-smaller c = list-less _ _ c.loop-out.invariant.tidy c.requires _ _ c.in
 pub loop-out-preserved : goal.loop-out-preserved
 loop-out-preserved c = record {
   tidy = c.loop-out.invariant.tidy;
-  so_far = subst (Listing _ _ _) (sym c.in_ok-push.ensures) (list-on _ _ c.loop-out.invariant.tidy c.requires _ _ c.loop-out.invariant.so_far _ c.in-Some.ensures.next);
+  so_far = subst (Listing _ _ _) (sym c.in_ok-push.ensures)
+      (list-on _ _ c.loop-out.invariant.tidy c.requires _ _ c.loop-out.invariant.so_far _ c.in-Some.ensures.next);
 }
 
 pub returns-in-None : goal.returns-in-None

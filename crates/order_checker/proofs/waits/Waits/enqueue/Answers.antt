@@ -13,11 +13,15 @@ pub invariant_of-result : goal.invariant_of-result
 invariant_of-result c =
     let s : Slot = record { element = c.args.element; what = c.args.what; queue = c.args.queue; previous = c.last_of-previous.result; waits = true } in (
       subst (λ ss. AreKnown ss c.insert.new.self) (sym c.in_ok-push.ensures.items)
-          (enqueued_known c.self.inside.slots.items c.self.inside.last c.insert.new.self s c.element.inside.0 c.len.result c.element.view_is c.self.invariant.0 c.last_of-previous.ensures refl
-          c.in_ok-insert.ensures.updates.1 (omega (arith, ap length c.in_ok-push.ensures.items, length-append c.self.inside.slots.items (s ∷ []))) c.in_ok-insert.ensures.updates.2),
+          (enqueued_known c.self.inside.slots.items c.self.inside.last c.insert.new.self s c.element.inside.0 c.len.result c.element.view_is c.self.invariant.0
+          c.last_of-previous.ensures refl
+          c.in_ok-insert.ensures.updates.1 (omega (arith, ap length c.in_ok-push.ensures.items, length-append c.self.inside.slots.items (s ∷ [])))
+          c.in_ok-insert.ensures.updates.2),
       subst (λ ws. AreCounted ws c.insert-2.new.self (c.self.inside.count + 1))
-          (sym (ap (waiting_from 1) c.in_ok-push.ensures.items ∙ waiting_push 1 (length c.self.inside.slots.items + 1) c.self.inside.slots.items s refl (omega arith)))
-          (counted_push (waiting_from 1 c.self.inside.slots.items) c.self.inside.told c.insert-2.new.self c.self.inside.count c.queue.inside.0 (c.count_of-more.result + 1) (entry_of_slot (length c.self.inside.slots.items + 1) s) c.self.invariant.1
+          (sym (ap (waiting_from 1) c.in_ok-push.ensures.items
+          ∙ waiting_push 1 (length c.self.inside.slots.items + 1) c.self.inside.slots.items s refl (omega arith)))
+          (counted_push (waiting_from 1 c.self.inside.slots.items) c.self.inside.told c.insert-2.new.self c.self.inside.count c.queue.inside.0
+          (c.count_of-more.result + 1) (entry_of_slot (length c.self.inside.slots.items + 1) s) c.self.invariant.1
           c.queue.view_is (ap (λ n. n + 1) (c.count_of-more.ensures ∙ ap (count_at (get nat_cmp c.self.inside.told)) c.queue.view_is))
           c.in_ok-insert-2.ensures.updates.1 c.in_ok-insert-2.ensures.updates.2),
     )
@@ -47,4 +51,10 @@ overflow_add-more c =
 pub overflow_add-result : goal.overflow_add-result
 overflow_add-result c =
     let s : Slot = record { element = c.args.element; what = c.args.what; queue = c.args.queue; previous = c.last_of-previous.result; waits = true } in
-    omega (arith, c.self.invariant.1.all, waiting_le 1 c.self.inside.slots.items, ap length c.in_ok-push.ensures.items, length-append c.self.inside.slots.items (s ∷ []))
+    omega (
+      arith,
+      c.self.invariant.1.all,
+      waiting_le 1 c.self.inside.slots.items,
+      ap length c.in_ok-push.ensures.items,
+      length-append c.self.inside.slots.items (s ∷ []),
+    )

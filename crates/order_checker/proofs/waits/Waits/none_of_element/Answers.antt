@@ -9,5 +9,6 @@ pub returns : goal.returns
 returns c =
     ap not c.waits_at.ensures
     ∙ none_there c.self.inside.slots.items c.args.element c.last_of.result c.self.invariant.0.links
-    (subst (LastOf c.args.element (length c.self.inside.slots.items) c.self.inside.slots.items) (sym c.last_of.ensures) (c.self.invariant.0.lasts c.args.element))
+    (subst (LastOf c.args.element (length c.self.inside.slots.items) c.self.inside.slots.items) (sym c.last_of.ensures)
+    (c.self.invariant.0.lasts c.args.element))
     ∙ ap (λ w. none_of_element c.args.element w.entries) c.self.view_is

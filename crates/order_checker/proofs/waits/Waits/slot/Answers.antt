@@ -17,4 +17,5 @@ index-requires c =
 pub returns : goal.returns
 returns c =
     let waits : waits_at c.self.inside.slots.items c.args.number ≡ true = search (rules, c.waits_at.ensures, c.if-not-waits_at.false) in
-    sym (ap (λ w. entry_of c.args.number w.entries) c.self.view_is) ∙ entry_there c.self.inside.slots.items c.args.number c.index.result.now waits c.index.ensures
+    sym (ap (λ w. entry_of c.args.number w.entries) c.self.view_is)
+    ∙ entry_there c.self.inside.slots.items c.args.number c.index.result.now waits c.index.ensures

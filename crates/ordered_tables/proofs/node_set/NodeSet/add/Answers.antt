@@ -1,4 +1,4 @@
-use Rattle.ordered_tables.proofs.Members.{put-in}
+use Rattle.ordered_tables.proofs.NodeSetMembers.{put-in}
 use Rattle.ordered_tables.proofs.node_set.NodeSet.add.Goals as goal
 
 pub returns : goal.returns

@@ -1,7 +1,7 @@
 use Rattle.std.proofs.Common.{ℕ, List, Some, ap, sym, ◌∙◌}
 use Rattle.std.specs.Option.{option_map}
 use Rattle.node_trees.specs.Facts.{value_in}
-use Rattle.ordered_tables.proofs.Pairs.{no_value, value_at}
+use Rattle.ordered_tables.proofs.TextMapPlaces.{no_value, value_at}
 use Rattle.ordered_tables.proofs.text_map.TextMap.get.Goals as goal
 
 pub returns-in_err-place : goal.returns-in_err-place

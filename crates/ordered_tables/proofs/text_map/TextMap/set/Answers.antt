@@ -2,7 +2,7 @@ use Rattle.std.proofs.Common.{ℕ, List, ap, sym, ◌∙◌}
 use Rattle.std.specs.Map.{values_of}
 use Rattle.std.specs.Option.{option_map}
 use Rattle.node_trees.specs.Facts.{value_in, with_value}
-use Rattle.ordered_tables.proofs.Pairs.{name_of, no_value, value_at, values_with, with_value-new}
+use Rattle.ordered_tables.proofs.TextMapPlaces.{name_of, no_value, value_at, values_with, with_value-new}
 use Rattle.ordered_tables.proofs.Places.{finds-with, set_there}
 use Rattle.ordered_tables.proofs.text_map.TextMap.set.Goals as goal
 
@@ -31,12 +31,14 @@ pub invariant_of-self-2 : goal.invariant_of-self-2
 invariant_of-self-2 c =
     let at = rw c.as_str.ensures at c.in-Some.ensures.value in
     finds-with name_of c.self.inside.pairs c.insert.new.self c.self.inside.places c.self.inside.next (c.args.name, c.args.value) c.self.invariant
-    (set_there name_of c.self.inside.pairs c.insert.new.self c.self.inside.places c.self.inside.next c.in-Some.field-0.now (c.args.name, c.args.value) c.self.invariant at c.in_ok-old.ensures.entries)
+    (set_there name_of c.self.inside.pairs c.insert.new.self c.self.inside.places c.self.inside.next c.in-Some.field-0.now
+    (c.args.name, c.args.value) c.self.invariant at c.in_ok-old.ensures.entries)
 
 pub returns-clause-ok : goal.returns-clause-ok
 returns-clause-ok c =
     let at = rw c.as_str.ensures at c.in-Some.ensures.value in
-    ap values_of (set_there name_of c.self.inside.pairs c.insert.new.self c.self.inside.places c.self.inside.next c.in-Some.field-0.now (c.args.name, c.args.value) c.self.invariant at c.in_ok-old.ensures.entries)
+    ap values_of (set_there name_of c.self.inside.pairs c.insert.new.self c.self.inside.places c.self.inside.next c.in-Some.field-0.now
+    (c.args.name, c.args.value) c.self.invariant at c.in_ok-old.ensures.entries)
     ∙ values_with c.self.inside.pairs c.self.inside.places c.self.inside.next c.self.invariant c.in-Some.field-0.now c.args.name c.args.value at
     ∙ ap (with_value c.args.name c.args.value) c.self.view_is
 

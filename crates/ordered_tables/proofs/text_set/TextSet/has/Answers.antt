@@ -1,7 +1,7 @@
 use Rattle.std.proofs.Common.{ap, ◌∙◌, bytes_eq}
 use Rattle.std.specs.Prelude.{is_some}
 use Rattle.std.specs.List.{list_any}
-use Rattle.ordered_tables.proofs.TextPlaces.{found_there}
+use Rattle.ordered_tables.proofs.TextSetPlaces.{found_there}
 use Rattle.ordered_tables.proofs.text_set.TextSet.has.Goals as goal
 
 pub returns : goal.returns

@@ -24,14 +24,18 @@ all_left : (es : List (ℕ × List ℕ)) (s : List ℕ) → place_of text_of es 
 all_left [] s e = refl
 all_left (x ∷ es) s e = go (bytes_eq x.1 s) refl (λ none. all_left es s none)
   where
-    go : (same : Bool) → bytes_eq x.1 s ≡ same → (place_of text_of es s ≡ None → filter (λ t. not (bytes_eq t s)) (values_of es) ≡ values_of es) → cond (not same) (x.1 ∷ filter (λ t. not (bytes_eq t s)) (values_of es)) (filter (λ t. not (bytes_eq t s)) (values_of es)) ≡ x.1 ∷ values_of es
+    go : (same : Bool) → bytes_eq x.1 s ≡ same → (place_of text_of es s ≡ None → filter (λ t. not (bytes_eq t s)) (values_of es) ≡ values_of es)
+        → cond (not same) (x.1 ∷ filter (λ t. not (bytes_eq t s)) (values_of es)) (filter (λ t. not (bytes_eq t s)) (values_of es)) ≡ x.1 ∷ values_of es
     go true is rest = let f = rw is at e in absurd cc
     go false is rest = ap (λ ts. x.1 ∷ ts) (rest (rw is at e))
 
-pub values-without : (es : List (ℕ × List ℕ)) (s : List ℕ) → is_once text_of es ≡ true → values_of (without text_of s es) ≡ filter (λ t. not (bytes_eq t s)) (values_of es)
+pub values-without : (es : List (ℕ × List ℕ)) (s : List ℕ) → is_once text_of es ≡ true
+    → values_of (without text_of s es) ≡ filter (λ t. not (bytes_eq t s)) (values_of es)
 values-without [] s once = refl
 values-without (x ∷ es) s once = go (bytes_eq x.1 s) refl (values-without es s (grind arith))
   where
-    go : (same : Bool) → bytes_eq x.1 s ≡ same → values_of (without text_of s es) ≡ filter (λ t. not (bytes_eq t s)) (values_of es) → values_of (cond same es (x ∷ without text_of s es)) ≡ cond (not same) (x.1 ∷ filter (λ t. not (bytes_eq t s)) (values_of es)) (filter (λ t. not (bytes_eq t s)) (values_of es))
+    go : (same : Bool) → bytes_eq x.1 s ≡ same → values_of (without text_of s es) ≡ filter (λ t. not (bytes_eq t s)) (values_of es)
+        → values_of (cond same es (x ∷ without text_of s es))
+        ≡ cond (not same) (x.1 ∷ filter (λ t. not (bytes_eq t s)) (values_of es)) (filter (λ t. not (bytes_eq t s)) (values_of es))
     go true is rest = sym (all_left es s (grind (arith, is_nothing (place_of text_of es x.1), same_text x.1 s)))
     go false is rest = ap (λ ts. x.1 ∷ ts) rest

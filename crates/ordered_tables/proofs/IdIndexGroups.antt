@@ -41,7 +41,8 @@ module _ {Y : Type 0} (old new : BTreeMap (String Y) (BTreeSet ℕ)) (id : List 
   elsewhere q m e = ap (λ o. option_map_or (λ s. contains nat_cmp s m) o false) (puts q ∙ ap (λ b. cond b (Some t) (get_by_text old q)) e)
 
   -- a change of the group is one of the index
-  changed : (f : Bool → Bool → Bool) (n : ℕ) → ((b : Bool) → f b false ≡ b) → ((m : ℕ) → contains nat_cmp t m ≡ f (holds old id m) (n == m)) → (q : List ℕ) (m : ℕ) → holds new q m ≡ f (holds old q m) (bytes_eq id q && n == m)
+  changed : (f : Bool → Bool → Bool) (n : ℕ) → ((b : Bool) → f b false ≡ b) → ((m : ℕ) → contains nat_cmp t m ≡ f (holds old id m) (n == m))
+      → (q : List ℕ) (m : ℕ) → holds new q m ≡ f (holds old q m) (bytes_eq id q && n == m)
   changed f n none at q m = elim (bytes_eq id q) as (λ b. bytes_eq id q ≡ b → holds new q m ≡ f (holds old q m) (b && n == m)) [
     | true ↦ λ e. here q m e ∙ at m ∙ ap (λ v. f (holds old v m) (n == m)) (same_text id q e)
     | false ↦ λ e. elsewhere q m e ∙ sym (none (holds old q m))
@@ -56,7 +57,8 @@ module _ {Y : Type 0} (old new : BTreeMap (String Y) (BTreeSet ℕ)) (id : List 
       by_test false = grind arith
 
 -- through a group that was there
-module _ {Y : Type 0} (old new : BTreeMap (String Y) (BTreeSet ℕ)) (id : List ℕ) (s t : BTreeSet ℕ) (n : ℕ) (was : Some s ≡ get_by_text old id) (writes : WritesThrough string_cmp (λ k. slice_cmp nat_cmp id (string_bytes k)) old t new) where
+module _ {Y : Type 0} (old new : BTreeMap (String Y) (BTreeSet ℕ)) (id : List ℕ) (s t : BTreeSet ℕ) (n : ℕ) (was : Some s ≡ get_by_text old id)
+    (writes : WritesThrough string_cmp (λ k. slice_cmp nat_cmp id (string_bytes k)) old t new) where
   puts : Puts old new id t
   puts = btree_map_updates_text id old new (Some t) (writes.3 (subst IsSome was refl))
 
@@ -73,10 +75,11 @@ module _ {Y : Type 0} (old new : BTreeMap (String Y) (BTreeSet ℕ)) (id : List 
   put_known = known_after old new id t puts
 
   pub still_known : (q : List ℕ) → is_some (get_by_text new q) ≡ is_some (get_by_text old q)
-  still_known q = ap is_some (puts q) ∙ elim (bytes_eq id q) as (λ b. bytes_eq id q ≡ b → is_some (cond b (Some t) (get_by_text old q)) ≡ is_some (get_by_text old q)) [
-    | true ↦ λ e. ap is_some (was ∙ ap (get_by_text old) (same_text id q e))
-    | false ↦ λ e. refl
-  ] refl
+  still_known q = ap is_some (puts q)
+      ∙ elim (bytes_eq id q) as (λ b. bytes_eq id q ≡ b → is_some (cond b (Some t) (get_by_text old q)) ≡ is_some (get_by_text old q)) [
+        | true ↦ λ e. ap is_some (was ∙ ap (get_by_text old) (same_text id q e))
+        | false ↦ λ e. refl
+      ] refl
 
   pub now_there : get_by_text new id ≡ Some t
   now_there = (writes.3 (subst IsSome was refl)).1
@@ -92,20 +95,24 @@ no_keys t m none = go t.keys none
     go (k ∷ ks) e = absurd (omega (arith, e))
 
 -- a group without a number, taken away
-module _ {Y : Type 0} (old new : BTreeMap (String Y) (BTreeSet ℕ)) (id : List ℕ) (t : BTreeSet ℕ) (was : get_by_text old id ≡ Some t) (none : sets.btree_set_len t ≡ 0) (gone : (q : List ℕ) → get_by_text new q ≡ cond (bytes_eq id q) None (get_by_text old q)) where
+module _ {Y : Type 0} (old new : BTreeMap (String Y) (BTreeSet ℕ)) (id : List ℕ) (t : BTreeSet ℕ) (was : get_by_text old id ≡ Some t)
+    (none : sets.btree_set_len t ≡ 0) (gone : (q : List ℕ) → get_by_text new q ≡ cond (bytes_eq id q) None (get_by_text old q)) where
   pub emptied : (q : List ℕ) (m : ℕ) → holds new q m ≡ holds old q m
   emptied q m = elim (bytes_eq id q) as (λ b. bytes_eq id q ≡ b → holds new q m ≡ holds old q m) [
     | true ↦ λ e.
         let there : get_by_text old q ≡ Some t = ap (get_by_text old) (sym (same_text id q e)) ∙ was in
-        ap (λ o. option_map_or (λ s. contains nat_cmp s m) o false) (gone q ∙ ap (λ b. cond b None (get_by_text old q)) e) ∙ sym (ap (λ o. option_map_or (λ s. contains nat_cmp s m) o false) there ∙ no_keys t m none)
+        ap (λ o. option_map_or (λ s. contains nat_cmp s m) o false) (gone q ∙ ap (λ b. cond b None (get_by_text old q)) e)
+        ∙ sym (ap (λ o. option_map_or (λ s. contains nat_cmp s m) o false) there ∙ no_keys t m none)
     | false ↦ λ e. ap (λ o. option_map_or (λ s. contains nat_cmp s m) o false) (gone q ∙ ap (λ b. cond b None (get_by_text old q)) e)
   ] refl
 
 -- in a new group, where the look-up left the map as it was
-module _ {Y : Type 0} (old mid new : BTreeMap (String Y) (BTreeSet ℕ)) (id : List ℕ) (s t : BTreeSet ℕ) (n : ℕ) (same : mid ≡ old) (gone : None ≡ get_by_text old id) (empty : sets.IsEmpty s) where
+module _ {Y : Type 0} (old mid new : BTreeMap (String Y) (BTreeSet ℕ)) (id : List ℕ) (s t : BTreeSet ℕ) (n : ℕ) (same : mid ≡ old)
+    (gone : None ≡ get_by_text old id) (empty : sets.IsEmpty s) where
   pub first_known : Puts mid new id t → (q : List ℕ) → is_some (get_by_text new q) ≡ (is_some (get_by_text old q) || bytes_eq id q)
   first_known puts = known_after old new id t (λ q. puts q ∙ ap (λ g. cond (bytes_eq id q) (Some t) (get_by_text g q)) same)
 
   pub put_first : Puts mid new id t → sets.Updates nat_cmp s t n true → (q : List ℕ) (m : ℕ) → holds new q m ≡ (holds old q m || (bytes_eq id q && n == m))
   put_first puts u = changed old new id t (λ q. puts q ∙ ap (λ g. cond (bytes_eq id q) (Some t) (get_by_text g q)) same) (λ a b. a || b) n (λ b. grind arith)
-      (λ m. set_put s t n m u ∙ ap (λ b. b || n == m) (ap (λ ks. contains nat_cmp (record { keys = ks }) m) empty ∙ ap (λ o. option_map_or (λ g. contains nat_cmp g m) o false) gone))
+      (λ m. set_put s t n m u ∙ ap (λ b. b || n == m)
+      (ap (λ ks. contains nat_cmp (record { keys = ks }) m) empty ∙ ap (λ o. option_map_or (λ g. contains nat_cmp g m) o false) gone))
