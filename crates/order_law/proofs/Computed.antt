@@ -22,6 +22,8 @@ pub throws_lawful : Lawful samples.throws
 unfolding chars
 throws_lawful = refl
 
+pub ruleset logs_lawful = (traced_lawful, traced_throws_lawful, upgrade_lawful, throws_lawful)
+
 -- first clause
 
 pub number_skipped_unlawful : is_lawful blank samples.number_skipped ≡ false
@@ -43,6 +45,14 @@ other_queue_unlawful = refl
 pub current_queue_passed_over_unlawful : is_lawful blank samples.current_queue_passed_over ≡ false
 unfolding chars
 current_queue_passed_over_unlawful = refl
+
+pub ruleset counts_up_unlawful = (
+  number_skipped_unlawful,
+  number_again_unlawful,
+  queue_skipped_unlawful,
+  other_queue_unlawful,
+  current_queue_passed_over_unlawful,
+)
 
 -- second clause
 
@@ -82,6 +92,18 @@ pub no_call_unlawful : is_lawful blank samples.no_call ≡ false
 unfolding chars
 no_call_unlawful = refl
 
+pub ruleset runs_once_unlawful = (
+  start_of_nothing_unlawful,
+  second_start_unlawful,
+  start_in_upgrade_unlawful,
+  call_outside_unlawful,
+  call_in_upgrade_unlawful,
+  call_of_other_element_unlawful,
+  other_callback_unlawful,
+  second_call_unlawful,
+  no_call_unlawful,
+)
+
 -- third clause
 
 pub start_before_lower_unlawful : is_lawful blank samples.start_before_lower ≡ false
@@ -91,6 +113,8 @@ start_before_lower_unlawful = refl
 pub drop_before_lower_unlawful : is_lawful blank samples.drop_before_lower ≡ false
 unfolding chars
 drop_before_lower_unlawful = refl
+
+pub ruleset runs_in_order_unlawful = (start_before_lower_unlawful, drop_before_lower_unlawful)
 
 -- fourth clause
 
@@ -113,6 +137,14 @@ drop_in_drain_unlawful = refl
 pub throw_with_one_waiting_unlawful : is_lawful blank samples.throw_with_one_waiting ≡ false
 unfolding chars
 throw_with_one_waiting_unlawful = refl
+
+pub ruleset drops_by_throw_unlawful = (
+  drop_without_throw_unlawful,
+  drop_and_no_throw_unlawful,
+  drop_in_reaction_unlawful,
+  drop_in_drain_unlawful,
+  throw_with_one_waiting_unlawful,
+)
 
 -- fifth clause
 
@@ -150,6 +182,16 @@ pub no_checkpoint_unlawful : is_lawful blank samples.no_checkpoint ≡ false
 unfolding chars
 no_checkpoint_unlawful = refl
 
+pub ruleset nests_unlawful = (
+  end_around_another_unlawful,
+  end_of_other_reaction_unlawful,
+  end_of_other_upgrade_unlawful,
+  close_of_other_queue_unlawful,
+  drain_twice_unlawful,
+  checkpoint_in_drain_unlawful,
+  no_checkpoint_unlawful,
+)
+
 -- seventh clause
 
 pub second_upgrade_unlawful : is_lawful blank samples.second_upgrade ≡ false
@@ -164,6 +206,12 @@ pub callback_after_throw_unlawful : is_lawful blank samples.callback_after_throw
 unfolding chars
 callback_after_throw_unlawful = refl
 
+pub ruleset upgrades_once_unlawful = (
+  second_upgrade_unlawful,
+  upgrade_in_drain_unlawful,
+  callback_after_throw_unlawful,
+)
+
 -- eighth clause
 
 pub reply_in_bracket_unlawful : is_lawful blank samples.reply_in_bracket ≡ false
@@ -173,6 +221,8 @@ reply_in_bracket_unlawful = refl
 pub reply_with_one_waiting_unlawful : is_lawful blank samples.reply_with_one_waiting ≡ false
 unfolding chars
 reply_with_one_waiting_unlawful = refl
+
+pub ruleset replies_at_rest_unlawful = (reply_in_bracket_unlawful, reply_with_one_waiting_unlawful)
 
 -- the end of the fuel
 

@@ -154,6 +154,8 @@ throw_is_innermost before behind n h =
     let b = read blank before in
     upgrade_top n b.brackets before (left_true (ends_upgrade n b.brackets) _ s.keeps.nested) s.stands.opens
 
+pub ruleset ends_innermost = (drain_is_innermost, checkpoint_is_outside, close_is_innermost, done_is_innermost, throw_is_innermost)
+
 drop_top : (w : Entry) (bs : List Bracket) (log : List Event) → is_in_upgrade (Some w) bs ≡ true → Opens log bs → Innermost [] (UpgradeBegun w.element) log
 drop_top w (Upgrading n ∷ bs) log h o =
     subst (λ x. Innermost [] (UpgradeBegun x) log) (sym (eqb-true w.element n h)) (innermost [] (UpgradeBegun n) (λ l. Opens l bs) log o)

@@ -113,6 +113,8 @@ no_start_behind_throw before behind w name h i e s =
     (sym (ap (λ o. not (is_callback_of b.thrown o)) found) ∙ right_true (begins_upgrade b (Started w.number)) _ a.keeps.upgrades) (ap is_callback e)
     (a.past.threw w.element (says_turned before (UpgradeThrew w.element) s))
 
+pub ruleset upgraded_once = (one_upgrade, no_enqueue_behind_throw, no_start_behind_throw)
+
 -- the checkpoint
 
 close_pays : (b : Book) (q : ℕ) (log : List Event) (t : Bool) → q == 0 ≡ t → b.owed ≡ true →

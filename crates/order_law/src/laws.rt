@@ -68,7 +68,7 @@ pub fn each_backup_is_drained()
 {}
 
 /// The upgrade of an element begins once; and behind its throw no callback of the element is enqueued or starts.
-#[tactic(auto, using(crate::proofs::Upgrading::one_upgrade, crate::proofs::Upgrading::no_enqueue_behind_throw, crate::proofs::Upgrading::no_start_behind_throw))]
+#[tactic(auto, using(crate::proofs::Upgrading::upgraded_once))]
 pub fn each_element_is_upgraded_once()
     ensures once { (before behind : List Event) (n : ℕ) → Lawful (before ++ UpgradeBegun n ∷ behind) → Says before (UpgradeBegun n) → ⊥ }
     ensures no_enqueue { (before behind : List Event) (r n q : ℕ) (name : CallName) → Lawful (before ++ Enqueued r n (Call name) q ∷ behind) →

@@ -13,7 +13,7 @@ ghost use Rattle.order_law.specs.Brackets.{Whole, Innermost, Runs, MayUpgrade, H
 
 /// What ends a bracket ends the innermost; a reaction's end is told with its lines, below. The draining of a queue begins
 /// directly in the steps that pushed it, and that of the backup element queue outside of all brackets.
-#[tactic(auto, using(crate::proofs::Stands::drain_is_innermost, crate::proofs::Stands::checkpoint_is_outside, crate::proofs::Stands::close_is_innermost, crate::proofs::Stands::done_is_innermost, crate::proofs::Stands::throw_is_innermost))]
+#[tactic(auto, using(crate::proofs::Stands::ends_innermost))]
 pub fn each_end_is_of_the_innermost()
     ensures drain { (before behind : List Event) (q : ℕ) → 0 < q → Lawful (before ++ DrainBegun q ∷ behind) → Innermost [] (QueueOpened q) before }
     ensures checkpoint { (before behind : List Event) → Lawful (before ++ DrainBegun 0 ∷ behind) → Whole [] before }

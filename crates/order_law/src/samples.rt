@@ -6,7 +6,7 @@ ghost use Rattle.order_law.specs.Law.{Lawful, is_lawful};
 ghost use Rattle.order_law.specs.Samples as samples;
 
 /// The law computes: the logs of the worked upgrades, one done and one thrown, are lawful.
-#[tactic(auto, using(crate::proofs::Computed::traced_lawful, crate::proofs::Computed::traced_throws_lawful, crate::proofs::Computed::upgrade_lawful, crate::proofs::Computed::throws_lawful))]
+#[tactic(auto, using(crate::proofs::Computed::logs_lawful))]
 pub fn worked_logs_are_lawful()
     ensures done { Lawful logs.traced }
     ensures threw { Lawful logs.traced_throws }
@@ -15,7 +15,7 @@ pub fn worked_logs_are_lawful()
 {}
 
 /// Unlawful: numbers or queues do not count up, or another queue is told than the current one.
-#[tactic(auto, using(crate::proofs::Computed::number_skipped_unlawful, crate::proofs::Computed::number_again_unlawful, crate::proofs::Computed::queue_skipped_unlawful, crate::proofs::Computed::other_queue_unlawful, crate::proofs::Computed::current_queue_passed_over_unlawful))]
+#[tactic(auto, using(crate::proofs::Computed::counts_up_unlawful))]
 pub fn counts_up_refuses()
     ensures number_skipped { is_lawful blank samples.number_skipped ≡ false }
     ensures number_again { is_lawful blank samples.number_again ≡ false }
@@ -25,7 +25,7 @@ pub fn counts_up_refuses()
 {}
 
 /// Unlawful: a reaction or a line of a callback stands where it may not, twice, or is missing.
-#[tactic(auto, using(crate::proofs::Computed::start_of_nothing_unlawful, crate::proofs::Computed::second_start_unlawful, crate::proofs::Computed::start_in_upgrade_unlawful, crate::proofs::Computed::call_outside_unlawful, crate::proofs::Computed::call_in_upgrade_unlawful, crate::proofs::Computed::call_of_other_element_unlawful, crate::proofs::Computed::other_callback_unlawful, crate::proofs::Computed::second_call_unlawful, crate::proofs::Computed::no_call_unlawful))]
+#[tactic(auto, using(crate::proofs::Computed::runs_once_unlawful))]
 pub fn runs_once_refuses()
     ensures start_of_nothing { is_lawful blank samples.start_of_nothing ≡ false }
     ensures second_start { is_lawful blank samples.second_start ≡ false }
@@ -39,14 +39,14 @@ pub fn runs_once_refuses()
 {}
 
 /// Unlawful: a lower reaction of the element waits.
-#[tactic(auto, using(crate::proofs::Computed::start_before_lower_unlawful, crate::proofs::Computed::drop_before_lower_unlawful))]
+#[tactic(auto, using(crate::proofs::Computed::runs_in_order_unlawful))]
 pub fn runs_in_order_refuses()
     ensures start_before_lower { is_lawful blank samples.start_before_lower ≡ false }
     ensures drop_before_lower { is_lawful blank samples.drop_before_lower ≡ false }
 {}
 
 /// Unlawful: a drop is no part of a throw, or a throw drops too little.
-#[tactic(auto, using(crate::proofs::Computed::drop_without_throw_unlawful, crate::proofs::Computed::drop_and_no_throw_unlawful, crate::proofs::Computed::drop_in_reaction_unlawful, crate::proofs::Computed::drop_in_drain_unlawful, crate::proofs::Computed::throw_with_one_waiting_unlawful))]
+#[tactic(auto, using(crate::proofs::Computed::drops_by_throw_unlawful))]
 pub fn drops_by_throw_refuses()
     ensures drop_without_throw { is_lawful blank samples.drop_without_throw ≡ false }
     ensures drop_and_no_throw { is_lawful blank samples.drop_and_no_throw ≡ false }
@@ -62,7 +62,7 @@ pub fn closes_empty_refuses()
 {}
 
 /// Unlawful: brackets do not nest, or a checkpoint is missing.
-#[tactic(auto, using(crate::proofs::Computed::end_around_another_unlawful, crate::proofs::Computed::end_of_other_reaction_unlawful, crate::proofs::Computed::end_of_other_upgrade_unlawful, crate::proofs::Computed::close_of_other_queue_unlawful, crate::proofs::Computed::drain_twice_unlawful, crate::proofs::Computed::checkpoint_in_drain_unlawful, crate::proofs::Computed::no_checkpoint_unlawful))]
+#[tactic(auto, using(crate::proofs::Computed::nests_unlawful))]
 pub fn nests_refuses()
     ensures end_around_another { is_lawful blank samples.end_around_another ≡ false }
     ensures end_of_other_reaction { is_lawful blank samples.end_of_other_reaction ≡ false }
@@ -74,7 +74,7 @@ pub fn nests_refuses()
 {}
 
 /// Unlawful: an element is upgraded twice, or elsewhere than it may be, or is called after its upgrade threw.
-#[tactic(auto, using(crate::proofs::Computed::second_upgrade_unlawful, crate::proofs::Computed::upgrade_in_drain_unlawful, crate::proofs::Computed::callback_after_throw_unlawful))]
+#[tactic(auto, using(crate::proofs::Computed::upgrades_once_unlawful))]
 pub fn upgrades_once_refuses()
     ensures second_upgrade { is_lawful blank samples.second_upgrade ≡ false }
     ensures upgrade_in_drain { is_lawful blank samples.upgrade_in_drain ≡ false }
@@ -82,7 +82,7 @@ pub fn upgrades_once_refuses()
 {}
 
 /// Unlawful: a line is replied to within a bracket, or while a reaction waits.
-#[tactic(auto, using(crate::proofs::Computed::reply_in_bracket_unlawful, crate::proofs::Computed::reply_with_one_waiting_unlawful))]
+#[tactic(auto, using(crate::proofs::Computed::replies_at_rest_unlawful))]
 pub fn replies_at_rest_refuses()
     ensures reply_in_bracket { is_lawful blank samples.reply_in_bracket ≡ false }
     ensures reply_with_one_waiting { is_lawful blank samples.reply_with_one_waiting ≡ false }

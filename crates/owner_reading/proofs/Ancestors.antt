@@ -53,16 +53,17 @@ up above p h n (tree m x s k r) row apart pos is =
             ∙ ap (λ v. q ∷ v) (sym (above-shadow above q m x s k r (grind (arith, nat_tests)) (grind (arith, nat_tests)) (grind (arith, nat_tests)))))
         | at_host e z ↦ at_host e (above-shadow above n m x s k r ne b c ∙ z)
       ]
-      | in_children ne a b c ↦ elim (up (m ∷ above) (Some m) None n k row (apart-children m x s k r apart) b (sym (spot-children p h n m x s k r ne a c) ∙ is)) [
-        | at_top e z ↦
-            let one = apart m in
-            in_tree m e (grind (arith, nat_tests)) (above-children above n m x s k r ne a c ∙ z ∙ ap (λ v. m ∷ v) (sym (above-here above m m x s k r refl)))
-        | in_tree q e low z ↦
-            let one = apart q in
-            in_tree q e (omega arith) (above-children above n m x s k r ne a c ∙ z
-            ∙ ap (λ v. q ∷ v) (sym (above-children above q m x s k r (grind (arith, nat_tests)) (grind (arith, nat_tests)) (grind (arith, nat_tests)))))
-        | at_host e z ↦ at_host e (above-children above n m x s k r ne a c ∙ z)
-      ]
+      | in_children ne a b c ↦ elim
+          (up (m ∷ above) (Some m) None n k row (apart-children m x s k r apart) b (sym (spot-children p h n m x s k r ne a c) ∙ is)) [
+            | at_top e z ↦
+                let one = apart m in
+                in_tree m e (grind (arith, nat_tests)) (above-children above n m x s k r ne a c ∙ z ∙ ap (λ v. m ∷ v) (sym (above-here above m m x s k r refl)))
+            | in_tree q e low z ↦
+                let one = apart q in
+                in_tree q e (omega arith) (above-children above n m x s k r ne a c ∙ z
+                ∙ ap (λ v. q ∷ v) (sym (above-children above q m x s k r (grind (arith, nat_tests)) (grind (arith, nat_tests)) (grind (arith, nat_tests)))))
+            | at_host e z ↦ at_host e (above-children above n m x s k r ne a c ∙ z)
+          ]
       | in_rest ne a b c ↦ elim (up above p h n r row (apart-rest m x s k r apart) c (sym (spot-rest p h n m x s k r ne a b) ∙ is)) [
         | at_top e z ↦ at_top e (above-rest above n m x s k r ne a b ∙ z)
         | in_tree q e low z ↦

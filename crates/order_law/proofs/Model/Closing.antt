@@ -107,10 +107,13 @@ enqueued_holds n x h l p known fitting k = go p.queues.stack refl
         ∙ fit in cc)
 
     reads : (os : List Open) → p.queues.stack ≡ os → Reads blank (l ++ Enqueued r n (what_of x) (number_of os) ∷ []) (next (number_of os))
-    reads os e = reads_append blank l (Enqueued r n (what_of x) (number_of os) ∷ []) b (next (number_of os)) k.reads
+    reads os e =
+        let same : number_of os ≡ current b.brackets =
+        ap number_of (sym e) ∙ sym (current_of_holds h p.queues.stack s.opens) ∙ ap current (sym s.brackets) in
+        reads_append blank l (Enqueued r n (what_of x) (number_of os) ∷ []) b (next (number_of os)) k.reads
         (reads_one b (Enqueued r n (what_of x) (number_of os)) (tested b (Enqueued r n (what_of x) (number_of os)) (record {
           counts = ap (λ t. t && (number_of os == current b.brackets)) (eq-eqb r (b.numbers + 1) (ap (λ m. m + 1) (sym s.numbers)))
-              ∙ eq-eqb (number_of os) (current b.brackets) (ap number_of (sym e) ∙ sym (current_of_holds h p.queues.stack s.opens) ∙ ap current (sym s.brackets));
+              ∙ eq-eqb (number_of os) (current b.brackets) same;
           starts = refl;
           calls = refl;
           order = refl;

@@ -82,8 +82,15 @@ same_page h l p q e d s r = subst (λ (t : List Element × List Definition × Qu
       over = r.over;
       dropping = r.dropping;
       queues = r.queues;
-      elements = let t = r.elements in
-          record { known = t.known; defined = t.defined; unset = t.unset; upgraded = t.upgraded; thrown = t.thrown; document = t.document; ongoing = t.ongoing };
+      elements = record {
+        known = r.elements.known;
+        defined = r.elements.defined;
+        unset = r.elements.unset;
+        upgraded = r.elements.upgraded;
+        thrown = r.elements.thrown;
+        document = r.elements.document;
+        ongoing = r.elements.ongoing;
+      };
     })
   where
     parts : ◌≡◌ {A = List Element × List Definition × Queues} (p.elements, p.definitions, p.queues) (q.elements, q.definitions, q.queues)
