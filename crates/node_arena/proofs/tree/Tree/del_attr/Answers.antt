@@ -19,7 +19,8 @@ invariant_of-self-inside c = (
   (
     _,
     altered _ _ _ _ _ c.args.node _ (seen_fact _ _ _ c.self.view_is) c.requires.node
-        (keeps-attributes _ _ (without_value c.args.name.now) (seen_fact _ _ _ c.self.view_is).tidy c.requires.node c.requires.element) c.deref_mut.ensures.value
+        (keeps-attributes _ _ (without_value c.args.name.now) (seen_fact _ _ _ c.self.view_is).tidy c.requires.node c.requires.element)
+        c.deref_mut.ensures.value
         (written _ _ _ _ c.deref_mut.ensures.value c.self.inside.nodes.ok.0 c.remove_attribute.auto.nodes) c.remove_attribute.ensures.left,
   ),
   tt,
