@@ -8,15 +8,22 @@ use ce_base::{Entries, Entry, NoMemory, Text};
 use form_urlencoded::Serializer;
 use std::alloc::Global;
 
-// Puts a pair behind those of a form.
+// Puts a pair behind those of a form: this name, and the value of an entry.
+fn append_value(alloc: Global, form: &mut Serializer, name: &str, e: &Entry) -> Result<(), NoMemory>
+    ensures { OnOk result (form.new ≡ record form.old { form = append_pair form.old.form name.now (pair_of e.now).1 }) }
+{
+    let value = full_text(alloc, e.value.as_str())?;
+    form.append_pair(name, value.as_str())?;
+    Ok(())
+}
+
+// Puts the pair of an entry behind those of a form.
 fn append_entry(alloc: Global, form: &mut Serializer, e: &Entry) -> Result<(), NoMemory>
     ensures { OnOk result
         (form.new ≡ record form.old { form = append_pair form.old.form (pair_of e.now).0 (pair_of e.now).1 }) }
 {
     let name = full_text(alloc, e.name.as_str())?;
-    let value = full_text(alloc, e.value.as_str())?;
-    form.append_pair(name.as_str(), value.as_str())?;
-    Ok(())
+    append_value(alloc, form, name.as_str(), e)
 }
 
 // The pairs of these entries, as text.

@@ -4,7 +4,7 @@ ghost use Rattle.form_submission.specs.Encodings.{is_broken_by, multipart as mul
 ghost use Rattle.submit_encoders.specs.Encoded.{Encodes, part_head};
 
 use crate::refused::PartRefused;
-use crate::written::{put_name, put_text};
+use crate::written::{put, put_name, put_text};
 use ce_base::{Entries, Entry, NoMemory, Text};
 use std::alloc::Global;
 
@@ -12,9 +12,7 @@ use std::alloc::Global;
 fn put_delimiter(body: &mut String, boundary: &str) -> Result<(), NoMemory>
     ensures { OnOk result (string_bytes body.new ≡ string_bytes body.old ++ codes "--" ++ boundary.now) }
 {
-    body.push_str("--")?;
-    body.push_str(boundary)?;
-    Ok(())
+    put(body, "--", boundary)
 }
 
 // Puts what stands before the value in the part of an entry of this name.
@@ -23,9 +21,7 @@ fn put_head(body: &mut String, boundary: &str, name: &str) -> Result<(), NoMemor
 {
     put_delimiter(body, boundary)?;
     body.push_str("\r\nContent-Disposition: form-data; name=\"")?;
-    put_name(body, name)?;
-    body.push_str("\"\r\n\r\n")?;
-    Ok(())
+    put_name(body, name, "\"\r\n\r\n")
 }
 
 // Puts the part of an entry.
@@ -33,9 +29,7 @@ fn put_part(body: &mut String, boundary: &str, e: &Entry) -> Result<(), NoMemory
     ensures { OnOk result (string_bytes body.new ≡ string_bytes body.old ++ part boundary.now e.now) }
 {
     put_head(body, boundary, e.name.as_str())?;
-    put_text(body, e.value.as_str())?;
-    body.push_str("\r\n")?;
-    Ok(())
+    put_text(body, e.value.as_str(), "\r\n")
 }
 
 // The parts, and the line that closes.
@@ -69,7 +63,12 @@ fn is_broken(e: &Entry, boundary: &str) -> bool
 fn is_broken_by(list: &[Entry], boundary: &str) -> bool
     ensures { result ≡ is_broken_by list.now boundary.now }
 {
-    list.iter().any(|e| is_broken(e, boundary))
+    for e in list {
+        if is_broken(e, boundary) {
+            return true;
+        }
+    }
+    false
 }
 
 /// The body of type multipart/form-data with this boundary (RFC 7578). Occurs: the boundary stands in a name or a value, as

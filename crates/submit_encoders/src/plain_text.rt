@@ -10,11 +10,8 @@ use std::alloc::Global;
 fn put_line(body: &mut String, e: &Entry) -> Result<(), NoMemory>
     ensures { OnOk result (string_bytes body.new ≡ string_bytes body.old ++ plain_line e.now) }
 {
-    put_text(body, e.name.as_str())?;
-    body.push_str("=")?;
-    put_text(body, e.value.as_str())?;
-    body.push_str("\r\n")?;
-    Ok(())
+    put_text(body, e.name.as_str(), "=")?;
+    put_text(body, e.value.as_str(), "\r\n")
 }
 
 /// The body of type text/plain (HTML Standard, section "Plain text form data").

@@ -11,19 +11,26 @@ use ce_base::NoMemory;
 use std::alloc::Global;
 use std::borrow::CowStr;
 
-// Puts a text, each line end as U+000D CR U+000A LF.
+// Puts a text, and what stands behind it.
+pub(crate) fn put(made: &mut String, text: &str, behind: &str) -> Result<(), NoMemory>
+    ensures { OnOk result (string_bytes made.new ≡ string_bytes made.old ++ text.now ++ behind.now) }
+{
+    made.push_str(text)?;
+    made.push_str(behind)?;
+    Ok(())
+}
+
+// Puts a text, each line end as U+000D CR U+000A LF, and what stands behind it.
 #[tactic(auto, using(crate::proofs::Lines::full_one_line))]
-pub(crate) fn put_text(made: &mut String, text: &str) -> Result<(), NoMemory>
-    ensures { OnOk result (string_bytes made.new ≡ string_bytes made.old ++ with_full_newlines text.now) }
+pub(crate) fn put_text(made: &mut String, text: &str, behind: &str) -> Result<(), NoMemory>
+    ensures { OnOk result (string_bytes made.new ≡ string_bytes made.old ++ with_full_newlines text.now ++ behind.now) }
 {
     let mut left = text;
     while let Some((line, rest)) = cut_line(left) {
-        made.push_str(line)?;
-        made.push_str("\r\n")?;
+        put(made, line, "\r\n")?;
         left = rest;
     }
-    made.push_str(left)?;
-    Ok(())
+    put(made, left, behind)
 }
 
 // Each line end of the text is U+000D CR U+000A LF, so that it is sent as it stands.
@@ -56,37 +63,34 @@ fn full_copy(alloc: Global, text: &str) -> Result<String, NoMemory>
     ensures { IfOk result (λ made. string_bytes made ≡ with_full_newlines text.now) }
 {
     let mut made = String::new(alloc);
-    put_text(&mut made, text)?;
+    put_text(&mut made, text, "")?;
     Ok(made)
 }
 
-// Puts a line of a name, with its quotes escaped.
+// Puts a line of a name, with its quotes escaped, and what stands behind it.
 #[tactic(auto, using(crate::proofs::Quotes::escaped_as_it_stands))]
-fn put_quoted(made: &mut String, line: &str) -> Result<(), NoMemory>
+fn put_quoted(made: &mut String, line: &str, behind: &str) -> Result<(), NoMemory>
     requires { has_line_end line.now ≡ false }
-    ensures { OnOk result (string_bytes made.new ≡ string_bytes made.old ++ flat_map escaped_byte line.now) }
+    ensures { OnOk result (string_bytes made.new ≡ string_bytes made.old ++ flat_map escaped_byte line.now ++ behind.now) }
 {
     let mut left = line;
     while let Some((front, rest)) = cut_quote(left) {
-        made.push_str(front)?;
-        made.push_str("%22")?;
+        put(made, front, "%22")?;
         left = rest;
     }
-    made.push_str(left)?;
-    Ok(())
+    put(made, left, behind)
 }
 
-// Puts a name as it stands in quotes: its line ends and quotes are escaped (RFC 7578, section 2; HTML Standard, section
-// "Multipart form data").
+// Puts a name as it stands in quotes, and what stands behind it: its line ends and quotes are escaped (RFC 7578, section 2;
+// HTML Standard, section "Multipart form data").
 #[tactic(auto, using(crate::proofs::Quotes::escaped_one_line))]
-pub(crate) fn put_name(made: &mut String, name: &str) -> Result<(), NoMemory>
-    ensures { OnOk result (string_bytes made.new ≡ string_bytes made.old ++ escaped name.now) }
+pub(crate) fn put_name(made: &mut String, name: &str, behind: &str) -> Result<(), NoMemory>
+    ensures { OnOk result (string_bytes made.new ≡ string_bytes made.old ++ escaped name.now ++ behind.now) }
 {
     let mut left = name;
     while let Some((line, rest)) = cut_line(left) {
-        put_quoted(made, line)?;
-        made.push_str("%0D%0A")?;
+        put_quoted(made, line, "%0D%0A")?;
         left = rest;
     }
-    put_quoted(made, left)
+    put_quoted(made, left, behind)
 }
