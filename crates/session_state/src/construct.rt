@@ -196,8 +196,13 @@ fn make_of(alloc: Global, page: &mut Page, fuel: &mut Fuel, d: DefNo) -> Result<
 {
     let x = page.registry().definition(d);
     let local = x.local.copy(alloc)?;
-    let is_value = is_value_of(alloc, x)?;
-    make_custom(alloc, page, fuel, d, local, is_value)
+    match is_value_of(alloc, x) {
+        Ok(is_value) => make_custom(alloc, page, fuel, d, local, is_value),
+        Err(NoMemory) => {
+            drop(local);
+            Err(PageStop::NoMemory)
+        }
+    }
 }
 
 // The `is` value of a definition's elements.
@@ -225,6 +230,8 @@ fn make_custom(
     ensures made { IfOk result (IsNode page.new.forest) }
 {
     if !fuel.spend() {
+        drop(local);
+        drop(is_value);
         return Err(PageStop::FuelSpent);
     }
     let n = page.make_element(alloc, local, is_value, NodeNo(1))?;

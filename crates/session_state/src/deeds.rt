@@ -55,7 +55,7 @@ impl State {
         ensures grows { size self.old.page.forest ≤ size self.new.page.forest }
     {
         let outcome = run_on_internals(alloc, &mut self.page, what);
-        let logged = self.after_call(false);
+        let logged = self.after_call(is_out_of_fuel(&outcome));
         once_logged(logged, outcome)
     }
 

@@ -186,11 +186,26 @@ fn tell_each(
     ensures forest { page.new.forest ≡ page.old.forest }
 {
     for attribute in attributes {
-        let name = attribute.0.copy(alloc)?;
-        let value = attribute.1.copy(alloc)?;
-        page.enqueue_call(alloc, n, Reaction::Attribute(name, None, Some(value)), fuel)?;
+        tell_attribute(alloc, page, fuel, n, attribute)?;
     }
     Ok(())
+}
+
+fn tell_attribute(
+    alloc: Global,
+    page: &mut Page,
+    fuel: &mut Fuel,
+    n: NodeNo,
+    attribute: &(Text, Text),
+) -> Result<(), PageStop>
+    requires room { page.old.queues.reactions + fuel.old < 2 ^ 64 }
+    ensures step { Does result (work page.new fuel.new) (enqueue_attribute n attribute.now (work page.old fuel.old)) }
+    ensures within { GrowsWithin page.old page.new fuel.old fuel.new }
+    ensures forest { page.new.forest ≡ page.old.forest }
+{
+    let name = attribute.0.copy(alloc)?;
+    let value = attribute.1.copy(alloc)?;
+    page.enqueue_call(alloc, n, Reaction::Attribute(name, None, Some(value)), fuel)
 }
 
 // That the element is connected is enqueued, where it is.
@@ -206,10 +221,10 @@ fn tell_connected(
     ensures within { GrowsWithin page.old page.new fuel.old fuel.new }
     ensures forest { page.new.forest ≡ page.old.forest }
 {
-    if page.tree().is_connected(n) {
-        page.enqueue_call(alloc, n, Reaction::Connected, fuel)?;
+    if !page.tree().is_connected(n) {
+        return Ok(());
     }
-    Ok(())
+    page.enqueue_call(alloc, n, Reaction::Connected, fuel)
 }
 
 // A form-associated element is told of its form owner, where it has one, and that it is disabled, where it is.
@@ -274,8 +289,8 @@ fn tell_first_disabled(
     if !page.is_settled() {
         return Err(PageStop::NoMemory);
     }
-    if page.owners().disabled(n) {
-        page.enqueue_call(alloc, n, Reaction::FormDisabled(true), fuel)?;
+    if !page.owners().disabled(n) {
+        return Ok(());
     }
-    Ok(())
+    page.enqueue_call(alloc, n, Reaction::FormDisabled(true), fuel)
 }

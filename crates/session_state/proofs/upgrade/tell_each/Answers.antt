@@ -3,19 +3,18 @@ use Rattle.std.proofs.lemmas.Grind.{common_steps}
 use Rattle.ce_page.proofs.CopyLemmas.{from_member, turned}
 use Rattle.session_state.proofs.upgrade.tell_each.Goals as goal
 
-pub returns-in_err-enqueue_call-clause-step : goal.returns-in_err-enqueue_call-clause-step
-returns-in_err-enqueue_call-clause-step c =
+pub returns-in_err-tell_attribute-clause-step : goal.returns-in_err-tell_attribute-clause-step
+returns-in_err-tell_attribute-clause-step c =
     let here = from_member c.args.attributes.now c.loop-attribute.attribute-index c.attribute-item.result c.loop-attribute-test.true c.attribute-item.is in
-    let stopped = rw (c.in_ok-name.ensures, c.in_ok-value.ensures) at c.in_err-enqueue_call.ensures.step in
     let all = rw here at c.loop-attribute.invariant.step in
-    grind (arith, common_steps, stopped, all)
+    grind (arith, common_steps, c.in_err-tell_attribute.ensures.step, all)
 
 pub loop-attribute-preserved : goal.loop-attribute-preserved
 loop-attribute-preserved c =
     let here = from_member c.args.attributes.now c.loop-attribute.attribute-index c.attribute-item.result c.loop-attribute-test.true c.attribute-item.is in
-    let went = rw (c.in_ok-name.ensures, c.in_ok-value.ensures) at c.in_ok-enqueue_call.ensures.step in
     record {
-      step = turned _ _ c.loop-attribute.attribute-index c.attribute-item.result _ _ _ here went c.loop-attribute.invariant.step;
+      step = turned _ _ c.loop-attribute.attribute-index c.attribute-item.result _ _ _ here c.in_ok-tell_attribute.ensures.step
+          c.loop-attribute.invariant.step;
       within = search rules;
       forest = search rules;
     }
