@@ -191,6 +191,7 @@ fn tell_each(
     Ok(())
 }
 
+// That an attribute is there is enqueued, as a change from none to its value.
 fn tell_attribute(
     alloc: Global,
     page: &mut Page,
