@@ -4,17 +4,23 @@ use Rattle.std.proofs.Common.{length, Some, None, refl, ap, sym, ◌∙◌, subs
 use Rattle.std.specs.Prelude.{◌-◌, ◌≤◌, ◌++◌, map, reverse, slice_get}
 use Rattle.std.proofs.lemmas.Grind.{common_steps}
 use Rattle.std.proofs.lemmas.Bool.Decides.{nat_tests}
+use Rattle.std.proofs.lemmas.List.{drop_all}
 use Rattle.ce_base.specs.declared.fault.Fault.TheVariants.{HierarchyRequestError}
 use Rattle.node_trees.specs.declared.kind.NodeKind.{NodeKind}
-use Rattle.node_trees.specs.Facts.{is_document, is_shadow_root, is_text}
+use Rattle.node_trees.specs.Facts.{Facts, is_document, is_shadow_root, is_text}
 use Rattle.node_trees.specs.Trees.{Trees}
 use Rattle.node_trees.specs.Spots.{kind_at, first_of}
 use Rattle.node_trees.specs.Paths.{path, connected, is_among, or_number}
 use Rattle.node_trees.specs.Insertion.{may_insert, has_element_child}
 use Rattle.node_trees.specs.Kinds.{IsElement, KeepsKinds}
 use Rattle.node_trees.specs.Links.{IsAlone}
-use Rattle.ce_algorithms.specs.Steps.{Step, Outcome, Goes, then_do, for_each}
-use Rattle.ce_algorithms.specs.Page.{Work}
+use Rattle.form_controls.specs.Resetting.{clone_state}
+use Rattle.ce_algorithms.specs.Clone.{copy_attribute, copy_node}
+use Rattle.ce_algorithms.specs.Controls.{copy_control}
+use Rattle.ce_algorithms.specs.CreateLater.{create_later}
+use Rattle.ce_algorithms.specs.Steps.{Step, Outcome, Goes, then_do, for_each, give, ◌>>◌}
+use Rattle.ce_algorithms.specs.Page.{Page, Work, with_controls}
+use Rattle.ce_page.specs.Ends.{work}
 use Rattle.ce_page.specs.Copies.{copied_kind, IsFresh, OnlyChanges, OnlyMoves}
 use Rattle.ce_page.proofs.ElementLemmas.{node_kept}
 
@@ -94,6 +100,20 @@ pub turned : {A : Type 0} (f : A → Step Work (Unit {0})) (xs : List A) (i : �
 turned f xs i a w v o e turn all =
     let split : then_do (f a w) (λ _. for_each (drop (i + 1) xs) f) ≡ o = rw e at all in
     rw (← turn) at split
+
+-- all of a list have had their turn
+pub all_turned : {A : Type 0} (f : A → Step Work (Unit {0})) (xs : List A) (i : ℕ) (w : Work) (o : Outcome Work (Unit {0}))
+    → length xs ≤ i → for_each (drop i xs) f w ≡ o → Goes tt w ≡ o
+all_turned f xs i w o past all = rw (drop_all i xs past) at all
+
+-- an element was made like another one, and has got its attributes and what its control keeps
+pub element_copied : (from n : ℕ) (x : Facts) (w made : Work) (before now : Page) (fuel : ℕ) → Goes n made ≡ create_later x.local x.is_value x.document w
+    → Goes tt (work before fuel) ≡ for_each x.attributes (copy_attribute n) made → now ≡ with_controls (λ cs. clone_state cs before.forest from n) before
+    → Goes n (work now fuel) ≡ copy_node from x true w
+element_copied from n x w made before now fuel makes turns is =
+    ap (λ (p : Page). Goes n (work p fuel)) is
+    ∙ ap (λ (o : Outcome Work (Unit {0})). then_do o (λ _. copy_control from n >> give n)) turns
+    ∙ ap (λ (o : Outcome Work ℕ). then_do o (λ m. for_each x.attributes (copy_attribute m) >> (copy_control from m >> give m))) makes
 
 -- a node is to be copied before those that wait
 pub pushed : {A : Type 0} (f : ℕ → A) (nodes : List ℕ) (left from : ℕ) (old new first : List A) → 0 < left → left ≤ length nodes

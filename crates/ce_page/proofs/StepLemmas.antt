@@ -1,6 +1,7 @@
 -- Primitives that are taken apart: a change of the page, what it changes of form owners, and whom that tells.
-use Rattle.std.proofs.Common.{◌≡◌, ℕ, Bool, true, false, List, ◌∷◌, Option, None, Some, Result, Ok, Err, refl, ap, subst, sym, ◌∙◌}
+use Rattle.std.proofs.Common.{◌≡◌, ℕ, ◌+◌, Bool, true, false, List, ◌∷◌, Option, None, Some, Result, Ok, Err, refl, ap, subst, sym, ◌∙◌, add-one}
 use Rattle.std.specs.Prelude.{is_some, not, if◌then◌else◌, OnOk}
+use Rattle.std.proofs.lemmas.Bool.{false≢true}
 use Rattle.ce_base.specs.declared.fault.Fault.{Fault}
 use Rattle.node_trees.specs.Insertion.{may_insert}
 use Rattle.node_trees.specs.Orders.{order_of}
@@ -12,16 +13,22 @@ use Rattle.form_controls.specs.declared.change.Change.{Change}
 use Rattle.ce_algorithms.specs.Attributes.{set_attribute, remove_attribute, remove_there}
 use Rattle.ce_algorithms.specs.FormChanges.{form_changes, tell_form_change, tell_others}
 use Rattle.ce_algorithms.specs.Mutation.{adopt, insert, inserted, is_connected_parent, pre_insert, put_in, reference_child, remove, removed}
-use Rattle.ce_algorithms.specs.Page.{Page, Work, read_page, with_forest}
+use Rattle.ce_algorithms.specs.Page.{Page, Work, read_page, spend, with_forest}
 use Rattle.ce_algorithms.specs.Steps.{Step, Outcome, Goes, done, for_each, then_do, throw_any, ◌>>=◌, ◌>>◌}
 use Rattle.ce_page.specs.declared.stop.PageStop.{PageStop}
 use Rattle.ce_page.specs.declared.stop.PageStop.TheVariants.{Refused, FuelSpent, NoMemory}
-use Rattle.ce_page.specs.Ends.{Does, work}
+use Rattle.ce_page.specs.Ends.{Does, Ends, work}
 use Rattle.ce_page.specs.Telling.{handled, told}
 
 pub on_ok : {A E : Type 0} (result : Result A E) {X : Type 0} → X → OnOk result X
 on_ok (Ok a) x = x
 on_ok (Err e) x = tt
+
+-- one unit of fuel was spent, and the rest of the step comes
+pub spending : {A B : Type 0} (answer : A → B) (result : Result A PageStop) (last : Work) (page : Page) (old new : ℕ) (next : Step Work B) → new + 1 ≡ old
+    → Ends answer result last (next (work page new)) → Ends answer result last ((spend >> next) (work page old))
+spending answer result last page old new next spent h =
+    subst (λ k. Ends answer result last ((spend >> next) (work page k))) (sym (add-one new) ∙ spent) h
 
 -- the walk has gone, and the others come
 pub others_come : (result : Result (Unit {0}) PageStop) (last : Work) (cs : List Change) (seen order : List ℕ) (o : Outcome Work (Unit {0})) (gone : Work)
@@ -126,7 +133,7 @@ module _ (old now : Page) (fuel : ℕ) (cs : List Change) (changed : cs ≡ form
   taken_is n name was is before there = ap (λ o. remove_there n name o (work old fuel)) (sym before) ∙ by_value was (ap is_some before ∙ there)
     where
       by_value : (o : Option (List ℕ)) → is_some o ≡ true → remove_there n name o (work old fuel) ≡ handled n (Attribute name o None) cs (work now fuel)
-      by_value None none = absurd cc
+      by_value None none = absurd (false≢true none)
       by_value (Some value) none =
           ap (λ (p : Page). handled n (Attribute name (Some value) None) (form_changes old p) (work p fuel)) (sym is)
           ∙ ap (λ v. handled n (Attribute name (Some value) None) v (work now fuel)) (sym changed)

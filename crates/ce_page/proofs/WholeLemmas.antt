@@ -2,7 +2,7 @@
 use Rattle.std.proofs.Common.{◌≡◌, ℕ, ◌+◌, ◌<◌, Bool, true, false, List, [], ◌∷◌, ◌++◌, length, Option, Some, None, IfSome, sym, ap, ◌∙◌, subst, inl, inr}
 use Rattle.std.proofs.Common.{arith, length-append}
 use Rattle.std.specs.Prelude.{◌-◌, slice_get, slice_set}
-use Rattle.std.proofs.lemmas.Bool.{cases_eq}
+use Rattle.std.proofs.lemmas.Bool.{cases_eq, false≢true}
 use Rattle.std.proofs.lemmas.Bool.Decides.{nat_tests}
 use Rattle.std.proofs.lemmas.List.{length-set}
 use Rattle.node_trees.specs.Facts.{Facts}
@@ -35,6 +35,15 @@ module _ {elements : List Element} {definitions : List Definition} {waiting : Li
   pub whole_kept : (f g : Trees) → KeepsKinds f g → Lasting table elements definitions f g
       → IsWhole elements definitions waiting stacks f table settled → IsWhole elements definitions waiting stacks g table settled
   whole_kept f g k lasts h = record { sound = sound_kept f g k h.sound; given = h.given; owners = λ e. lasts (h.owners e) }
+
+  -- other trees, for which the table is not settled yet
+  pub whole_begun : (f g : Trees) (new : OwnerRows) (now : Bool) → KeepsKinds f g → now ≡ false
+      → IsWhole elements definitions waiting stacks f table settled → IsWhole elements definitions waiting stacks g new now
+  whole_begun f g new now k begun h = record {
+    sound = sound_kept f g k h.sound;
+    given = λ e. absurd (false≢true (sym begun ∙ e));
+    owners = λ e. absurd (false≢true (sym begun ∙ e));
+  }
 
   -- a row put behind the others
   pub whole_new : (f g : Trees) → KeepsKinds f g → size g ≡ size f + 1 → Lasting table elements definitions f g

@@ -1,5 +1,5 @@
 // Attributes.
-ghost use Rattle.std.specs.Prelude.{◌≡◌, ◌+◌, ◌<◌, ◌^◌, OnOk, is_some};
+ghost use Rattle.std.specs.Prelude.{◌≡◌, ◌+◌, ◌<◌, ◌^◌, IfOk, OnOk, is_some};
 ghost use Rattle.node_trees.specs.declared.kind.NodeKind.TheVariants.{Element as ElementKind};
 ghost use Rattle.node_trees.specs.Spots.{attribute_at, kind_at};
 ghost use Rattle.node_trees.specs.Nodes.{IsNode};
@@ -11,7 +11,7 @@ ghost use Rattle.ce_page.specs.Settled.{KeepsSettled};
 ghost use Rattle.ce_page.specs.Telling.{Tells, handled};
 
 use crate::{Page, PageStop};
-use ce_base::{Fuel, NodeNo, Text};
+use ce_base::{Fuel, NoMemory, NodeNo, Text};
 use form_owner::Changes;
 use reaction_queue::Reaction;
 use std::alloc::Global;
@@ -39,9 +39,7 @@ impl Page {
         ensures settled { OnOk result (KeepsSettled self.old self.new) }
         ensures refused { NeverRefuses result }
     {
-        let kept = name.copy(alloc)?;
-        let new = value.copy(alloc)?;
-        let (old, changes) = self.put_attribute(alloc, n, kept, new)?;
+        let (old, changes) = self.put_attribute(alloc, n, &name, &value)?;
         let told = Reaction::Attribute(name, old, Some(value));
         self.handle_attribute_change(alloc, n, told, &changes, fuel)
     }
@@ -100,4 +98,14 @@ impl Page {
         self.tell(alloc, n, told, fuel)?;
         self.tell_all(alloc, changes, fuel)
     }
+}
+
+/// Copies of the name and the value of an attribute.
+pub(crate) fn copies_of(alloc: Global, name: &Text, value: &Text) -> Result<(Text, Text), NoMemory>
+    ensures name { IfOk result (λ copies. copies.0 ≡ name.now) }
+    ensures value { IfOk result (λ copies. copies.1 ≡ value.now) }
+{
+    let name = name.copy(alloc)?;
+    let value = value.copy(alloc)?;
+    Ok((name, value))
 }

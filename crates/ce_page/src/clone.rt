@@ -95,14 +95,14 @@ impl Page {
         ensures within { GrowsWithin self.old self.new fuel.old fuel.new }
         ensures refused { NeverRefuses result }
     {
-        let mut todo = Vec::new(alloc);
         let children = self.tree.children(alloc, node)?;
         let top = self.copy_node(alloc, node, fuel)?;
-        push_below(&mut todo, top, &children)?;
+        let mut todo = Vec::new(alloc);
+        push_below(&mut todo, top, children)?;
         while let Some(next) = todo.pop() {
             let children = self.tree.children(alloc, next.from)?;
             let n = self.copy_into(alloc, next.parent, next.from, fuel)?;
-            push_below(&mut todo, n, &children)?;
+            push_below(&mut todo, n, children)?;
         }
         Ok(top)
     }
@@ -159,13 +159,13 @@ impl Page {
 }
 
 /// Nodes are to be copied below a parent, the first one first.
-fn push_below(todo: &mut Vec<Rest>, parent: NodeNo, nodes: &Nodes) -> Result<(), NoMemory>
-    ensures { OnOk result (reverse todo.new.items ≡ map (λ from. record { parent = parent; from = from }) nodes.now ++ reverse todo.old.items) }
+fn push_below(todo: &mut Vec<Rest>, parent: NodeNo, nodes: Nodes) -> Result<(), NoMemory>
+    ensures { OnOk result (reverse todo.new.items ≡ map (λ from. record { parent = parent; from = from }) nodes ++ reverse todo.old.items) }
 {
     let mut left = nodes.len();
     while left > 0 {
         left -= 1;
-        let from = node_at(nodes, left);
+        let from = node_at(&nodes, left);
         todo.push(Rest { parent, from })?;
     }
     Ok(())

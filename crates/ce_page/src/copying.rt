@@ -12,6 +12,7 @@ ghost use Rattle.ce_page.specs.Ends.{Does, Ends, NeverRefuses, work};
 ghost use Rattle.ce_page.specs.Numbers.{GrowsWithin, StaysWithin};
 ghost use Rattle.ce_page.specs.Copies.{copied_kind, IsFresh, OnlyChanges};
 
+use crate::attributes::copies_of;
 use crate::{NodeKind, Page, PageStop};
 use ce_base::{Fuel, NoMemory, NodeNo, Text};
 use std::alloc::Global;
@@ -172,8 +173,7 @@ impl Page {
         if !fuel.spend() {
             return Err(PageStop::FuelSpent);
         }
-        let name = attribute.0.copy(alloc)?;
-        let value = attribute.1.copy(alloc)?;
+        let (name, value) = copies_of(alloc, &attribute.0, &attribute.1)?;
         self.set_attribute(alloc, n, name, value, fuel)
     }
 }

@@ -2,12 +2,12 @@
 //
 // A page of which memory was refused in one of these is no longer settled: what is kept of form owners does not stand for
 // its trees. Each of them refuses such a page, as for want of memory, so what goes is settled before and after.
-ghost use Rattle.std.specs.Prelude.{◌≡◌, None, true, false, length, IfOk, IsSome, OnOk};
+ghost use Rattle.std.specs.Prelude.{◌≡◌, None, true, false, length, IfOk, IsSome, OnErr, OnOk};
 ghost use Rattle.node_trees.specs.declared.kind.NodeKind.TheVariants.{Element as ElementKind};
 ghost use Rattle.node_trees.specs.Insertion.{may_insert};
 ghost use Rattle.node_trees.specs.Kinds.{IsElement, KeepsKinds};
 ghost use Rattle.node_trees.specs.Links.{KeepsApart, KeepsSpots};
-ghost use Rattle.node_trees.specs.Nodes.{IsNode, IsNodeOrNone, IsTidy};
+ghost use Rattle.node_trees.specs.Nodes.{size, IsNode, IsNodeOrNone, IsTidy};
 ghost use Rattle.node_trees.specs.Paths.{connected};
 ghost use Rattle.node_trees.specs.Spots.{attribute_at, kind_at, parent_at};
 ghost use Rattle.node_trees.specs.Trees.{cut, graft, with_attribute, without_attribute};
@@ -21,10 +21,12 @@ ghost use Rattle.ce_page.specs.Rows.{redefined};
 ghost use Rattle.ce_page.specs.Settled.{is_given, KeepsSettled};
 
 use crate::Page;
+use crate::attributes::copies_of;
 use crate::element::Element;
 use ce_base::{DefNo, NoMemory, NodeNo, Text};
 use ce_registry::Registry;
 use form_owner::{Changes, Touch};
+use node_arena::Tree;
 use std::alloc::Global;
 
 impl Page {
@@ -93,28 +95,25 @@ impl Page {
         }
     }
 
-    /// Sets an attribute of an element. Gives its old value, and what this changes of form owners and disabled states.
+    /// Sets an attribute of an element to a copy of a value. Gives its old value, and what this changes of form owners and
+    /// disabled states.
     pub(crate) fn put_attribute(
         &mut self,
         alloc: Global,
         n: NodeNo,
-        name: Text,
-        value: Text,
+        name: &Text,
+        value: &Text,
     ) -> Result<(Option<Text>, Changes), NoMemory>
         requires node { IsNode self.old.forest n }
         requires element { kind_at self.old.forest n ≡ ElementKind }
-        ensures page { OnOk result (self.new ≡ with_forest (with_attribute n name value) self.old) }
-        ensures was { IfOk result (λ r. r.0 ≡ attribute_at self.old.forest n name) }
+        ensures page { OnOk result (self.new ≡ with_forest (with_attribute n name.now value.now) self.old) }
+        ensures was { IfOk result (λ r. r.0 ≡ attribute_at self.old.forest n name.now) }
         ensures changes { IfOk result (λ r. r.1 ≡ form_changes self.old self.new) }
         ensures settled { OnOk result (KeepsSettled self.old self.new) }
         ensures within { StaysWithin self.old self.new 0 0 }
         ensures others { OnlyChanges n self.old.forest self.new.forest }
     {
-        if !self.settled {
-            return Err(NoMemory);
-        }
-        self.settled = false;
-        let old = self.tree.set_attr(alloc, n, name, value)?;
+        let old = write_attribute(alloc, &mut self.tree, &mut self.settled, n, name, value)?;
         let changes = self.owners.settle(alloc, &self.tree, Touch::Attr(n))?;
         self.settled = true;
         Ok((old, changes))
@@ -168,6 +167,36 @@ impl Page {
         self.settled = true;
         Ok(())
     }
+}
+
+/// Sets an attribute in the trees of a page to a copy of a value. A page that isn't settled is refused, and another one is
+/// unsettled from then on.
+fn write_attribute(
+    alloc: Global,
+    tree: &mut Tree,
+    settled: &mut bool,
+    n: NodeNo,
+    name: &Text,
+    value: &Text,
+) -> Result<Option<Text>, NoMemory>
+    requires node { IsNode tree.old n }
+    requires element { kind_at tree.old n ≡ ElementKind }
+    ensures set { OnOk result (tree.new ≡ with_attribute n name.now value.now tree.old) }
+    ensures was { IfOk result (λ old. old ≡ attribute_at tree.old n name.now) }
+    ensures settled { OnOk result (settled.old ≡ true) }
+    ensures begun { OnOk result (settled.new ≡ false) }
+    ensures kept { settled.new ≡ true → settled.old ≡ true }
+    ensures tidy { OnOk result (IsTidy tree.old) }
+    ensures size { size tree.new ≡ size tree.old }
+    ensures changes { OnlyChanges n tree.old tree.new }
+    ensures err { OnErr result (tree.new ≡ tree.old) }
+{
+    let (name, value) = copies_of(alloc, name, value)?;
+    if !*settled {
+        return Err(NoMemory);
+    }
+    *settled = false;
+    tree.set_attr(alloc, n, name, value)
 }
 
 /// Whether the registry gave this definition's number, or there is none.

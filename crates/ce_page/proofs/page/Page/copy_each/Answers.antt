@@ -1,6 +1,6 @@
 use Rattle.std.proofs.Common.{rules, arith}
 use Rattle.std.proofs.lemmas.Grind.{common_steps}
-use Rattle.ce_page.proofs.CopyLemmas.{changes_next, from_member, turned}
+use Rattle.ce_page.proofs.CopyLemmas.{all_turned, changes_next, from_member, turned}
 use Rattle.ce_page.proofs.ElementLemmas.{element_kept}
 use Rattle.ce_page.proofs.page.Page.copy_each.Goals as goal
 
@@ -24,3 +24,6 @@ loop-attribute-preserved c =
 
 pub returns-in_err-copy_attribute-clause-changes : goal.returns-in_err-copy_attribute-clause-changes
 returns-in_err-copy_attribute-clause-changes c = changes_next c.loop-attribute.invariant.changes c.copy_attribute.ensures.changes
+
+pub returns-clause-step : goal.returns-clause-step
+returns-clause-step c = all_turned _ _ _ _ _ c.loop-attribute-test.false c.loop-attribute.invariant.step

@@ -1,10 +1,11 @@
-use Rattle.std.proofs.Common.{subst, sym}
+use Rattle.std.proofs.Common.{refl, subst, sym}
 use Rattle.ce_algorithms.specs.Forms.{forms_in}
 use Rattle.ce_algorithms.specs.Page.{Page}
 use Rattle.ce_page.specs.Loose.{IsLoosed}
 use Rattle.ce_page.proofs.ElementLemmas.{sound_kept}
 use Rattle.ce_page.proofs.LooseLemmas.{loosed}
 use Rattle.ce_page.proofs.SettleLemmas.{removed}
+use Rattle.ce_page.proofs.WholeLemmas.{whole_begun}
 use Rattle.ce_page.proofs.page.Page.cut.Goals as goal
 
 pub returns-clause-loose : goal.returns-clause-loose
@@ -13,7 +14,7 @@ returns-clause-loose c =
     (loosed c.self.inside.tree c.remove.new.self c.args.node c.remove.ensures.free c.remove.ensures.may c.remove.ensures.may_in_place)
 
 pub invariant_of-self : goal.invariant_of-self
-invariant_of-self c = record { sound = sound_kept _ _ c.remove.ensures.kinds c.self.invariant.sound; given = λ e. cc; owners = λ e. cc }
+invariant_of-self c = whole_begun _ _ _ _ c.remove.ensures.kinds refl c.self.invariant
 
 pub invariant_of-self-in-Some : goal.invariant_of-self-in-Some
 invariant_of-self-in-Some c =

@@ -1,4 +1,4 @@
-use Rattle.std.proofs.Common.{◌≡◌, false, subst}
+use Rattle.std.proofs.Common.{◌≡◌, false, refl, subst}
 use Rattle.node_trees.specs.Kinds.{KeepsKinds}
 use Rattle.node_trees.specs.Links.{KeepsApart, KeepsSpots}
 use Rattle.node_trees.specs.Paths.{connected}
@@ -6,10 +6,14 @@ use Rattle.ce_algorithms.specs.Forms.{forms_in}
 use Rattle.ce_algorithms.specs.Page.{Page}
 use Rattle.ce_page.proofs.ElementLemmas.{sound_kept}
 use Rattle.ce_page.proofs.SettleLemmas.{inserted}
+use Rattle.ce_page.proofs.WholeLemmas.{whole_begun}
 use Rattle.ce_page.proofs.page.Page.graft.Goals as goal
 
+pub invariant_of-self : goal.invariant_of-self
+invariant_of-self c = whole_begun _ _ _ _ c.insert.ensures.kinds refl c.self.invariant
+
 pub invariant_of-self-in_err-changes : goal.invariant_of-self-in_err-changes
-invariant_of-self-in_err-changes c = record { sound = sound_kept _ _ c.insert.ensures.kinds c.self.invariant.sound; given = λ e. cc; owners = λ e. cc }
+invariant_of-self-in_err-changes c = whole_begun _ _ _ _ c.insert.ensures.kinds refl c.self.invariant
 
 pub invariant_of-self-2 : goal.invariant_of-self-2
 invariant_of-self-2 c =

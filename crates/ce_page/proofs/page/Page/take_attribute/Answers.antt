@@ -1,10 +1,12 @@
+use Rattle.std.proofs.Common.{refl}
 use Rattle.ce_algorithms.specs.Forms.{forms_in}
 use Rattle.ce_page.proofs.ElementLemmas.{sound_kept}
 use Rattle.ce_page.proofs.SettleLemmas.{attribute_taken}
+use Rattle.ce_page.proofs.WholeLemmas.{whole_begun}
 use Rattle.ce_page.proofs.page.Page.take_attribute.Goals as goal
 
 pub invariant_of-self : goal.invariant_of-self
-invariant_of-self c = record { sound = sound_kept _ _ c.del_attr-old.ensures.kinds c.self.invariant.sound; given = λ e. cc; owners = λ e. cc }
+invariant_of-self c = whole_begun _ _ _ _ c.del_attr-old.ensures.kinds refl c.self.invariant
 
 pub invariant_of-self-2 : goal.invariant_of-self-2
 invariant_of-self-2 c =
