@@ -164,6 +164,11 @@ impl Machine {
         let ran = run_command(&mut *state, alloc, &mut *stack, line, c, trace, sink);
         with_end(state, stack, ran)
     }
+
+    /// Lets the machine go, with all that its session owns.
+    pub fn close(self) {
+        drop(self);
+    }
 }
 
 // The machine behind a line, where nothing stopped it: all behaviours are at home.

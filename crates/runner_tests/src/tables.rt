@@ -104,8 +104,13 @@ fn stands_after(
     ensures { IfOk result (λ s. s.line ≡ session.line + 1) }
 {
     let (next, _) = session.line(alloc, line.as_bytes(), sink)?;
-    same_page(rt, alloc, next.page(), line)?;
-    Ok(next)
+    match same_page(rt, alloc, next.page(), line) {
+        Ok(()) => Ok(next),
+        Err(fail) => {
+            next.close();
+            Err(fail)
+        }
+    }
 }
 
 // Sees the page after each line.
@@ -115,7 +120,7 @@ fn stands_each(rt: &impl Abort, alloc: Global, lines: &[&str]) -> Result<(), Fai
     for i in 0..lines.len() {
         session = stands_after(rt, alloc, session, lines[i], &mut sink)?;
     }
-    drop(session);
+    session.close();
     Ok(())
 }
 

@@ -31,7 +31,7 @@ pub(crate) fn take_piece<K: Sink>(
     ensures told { K.failed sink.old < K.failed sink.new → IsErrOf result Stop.WriteFault }
 {
     if let Err(NoMemory) = feed.piece(alloc, piece) {
-        drop(session);
+        session.close();
         return Err(Stop::NoMemory);
     }
     let mut pending = Pending::make(alloc);
@@ -86,7 +86,7 @@ fn answer_lines<K: Sink>(
 {
     let ran = run_lines(alloc, session, feed, out)?;
     if let Err(stop) = out.pass_on() {
-        drop(ran.0);
+        ran.0.close();
         return Err(stop);
     }
     Ok(ran)
@@ -111,7 +111,7 @@ fn answer_line<K: Sink>(
 {
     let ran = session.line(alloc, line, out)?;
     if let Err(stop) = out.pass_on() {
-        drop(ran.0);
+        ran.0.close();
         return Err(stop);
     }
     Ok(ran)

@@ -36,7 +36,7 @@ pub(crate) fn run_lines<K: Sink>(
             Ok(Some(line)) => line,
             Ok(None) => return Ok((session, End::Replied)),
             Err(NoMemory) => {
-                drop(session);
+                session.close();
                 return Err(Stop::NoMemory);
             }
         };

@@ -54,7 +54,7 @@ fn run_all(
     let session = Session::make(alloc, options)?;
     let (session, end) = run_made_lines(alloc, session, Maker::of(count), figures)?;
     let left = session.fuel_left();
-    drop(session);
+    session.close();
     Ok((left, is_fuel_spent(end)))
 }
 
@@ -83,7 +83,7 @@ fn run_made_lines(
             Ok(Some(line)) => line,
             Ok(None) => return Ok((session, End::Replied)),
             Err(NoMemory) => {
-                drop(session);
+                session.close();
                 return Err(NoMemory);
             }
         };

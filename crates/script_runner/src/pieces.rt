@@ -56,7 +56,7 @@ fn run_pieces<S: Source, K: Sink>(
     'pieces: loop {
         match ask(source, buffer) {
             Got::Failed => {
-                drop(session);
+                session.close();
                 return Ok(Status::ReadFault);
             }
             Got::End => {
@@ -67,11 +67,11 @@ fn run_pieces<S: Source, K: Sink>(
                 let within = count.min(LIMIT - taken);
                 let (next, end) = take_piece(alloc, session, &mut feed, &buffer[..within], sink)?;
                 if let End::FuelSpent = end {
-                    drop(next);
+                    next.close();
                     return Ok(Status::Fuel);
                 }
                 if within < count {
-                    drop(next);
+                    next.close();
                     return Ok(Status::TooLong);
                 }
                 session = next;

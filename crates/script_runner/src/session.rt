@@ -77,6 +77,11 @@ impl Session {
         self.machine.page()
     }
 
+    /// Lets the session go, with all that its machine owns.
+    pub fn close(self) {
+        self.machine.close();
+    }
+
     // Passes over a line that says nothing.
     pub(crate) fn pass(&mut self)
         requires { self.old.line + 1 < 2 ^ 64 }
@@ -146,7 +151,7 @@ impl Session {
                 }
             }
             Err(LineRefused::NoMemory) => {
-                drop(machine);
+                machine.close();
                 Err(Stop::NoMemory)
             }
         }

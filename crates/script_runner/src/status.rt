@@ -49,7 +49,7 @@ impl Status {
         ensures { result ≡ status_at end session.bad }
     {
         let bad = session.is_bad();
-        drop(session);
+        session.close();
         match end {
             End::FuelSpent => Status::Fuel,
             End::Replied if bad => Status::BadLines,
