@@ -5,13 +5,13 @@
 
 mod judging;
 mod laws;
+mod run;
 mod status;
 mod telling;
-mod top;
 mod verdict;
 
 pub use judging::check;
 pub use laws::{each_front_of_a_trace_is_lawful, each_trace_has_one_verdict};
+pub use run::check_run;
 pub use status::CheckStatus;
-pub use top::check_run;
 pub use verdict::Verdict;

@@ -1,6 +1,6 @@
 use Rattle.std.proofs.Common.{sym, ◌∙◌}
 use Rattle.trace_check.proofs.ExitLaws.{checks_whole, meets_whole, told_apart}
-use Rattle.trace_check.proofs.top.check_run.Goals as goal
+use Rattle.trace_check.proofs.run.check_run.Goals as goal
 
 pub returns-in-Ok-Whole-clause-table : goal.returns-in-Ok-Whole-clause-table
 returns-in-Ok-Whole-clause-table g c =
