@@ -155,9 +155,9 @@ while IFS= read -r row; do
     eval "set -- ${row% => *}"
     "$program" "$@" <"$room/script" >"$room/transcript" 2>"$room/usage"
     given="$?$(sed 's,^, / ,' "$room/transcript" | tr -d '\n')"
-    options=$(grep -c -e '--fuel <N>' -e '--boundary <T>' -e '--url <U>' -e '--trace' -e '--make <N>' "$room/usage")
+    lines=$(grep -c -e 'from standard input' -e '--fuel <N>' -e '--boundary <T>' -e '--url <U>' -e '--trace' -e '--make <N>' "$room/usage")
     case $given in
-        2) [ "$options" -ge 5 ] || fail "the words ${row% => *}: the usage text lacks an option" ;;
+        2) [ "$lines" -ge 6 ] || fail "the words ${row% => *}: the usage text lacks a line" ;;
         *) [ ! -s "$room/usage" ] || fail "the words ${row% => *}: standard error has $(cat "$room/usage")" ;;
     esac
     if [ "$given" != "${row#* => }" ]; then
@@ -291,9 +291,9 @@ while IFS= read -r row; do
         grep -q -F -e "$text" "$room/usage" || fail "the words ${row% => *}: the usage text lacks $text"
     done
 done <<'END'
-cecheck lawful => cecheck
+cecheck lawful => cecheck 'from standard input'
 cecheck '' => cecheck
-formread multipart => formread 'urlencoded, plain or multipart' BOUNDARY
+formread multipart => formread 'from standard input' 'urlencoded, plain or multipart' BOUNDARY
 formread plain plain => formread 'urlencoded, plain or multipart' BOUNDARY
 END
 

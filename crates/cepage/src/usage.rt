@@ -38,6 +38,7 @@ const OPTIONS: [(&str, Option<&str>, &str); 5] = [
 // The text, rendered from a command that parses nothing.
 pub(crate) fn usage(alloc: Global) -> Result<String, AllocError> {
     let mut command = Command::new(alloc, "cepage")
+        .about("Runs a script from standard input, and writes its transcript.")
         .disable_help_flag(true)
         .disable_version_flag(true);
     for (name, value, help) in &OPTIONS {

@@ -13,6 +13,7 @@ pub(crate) fn tell_usage(rt: &HostRuntime) {
 // The text, rendered from a command that parses nothing.
 pub(crate) fn usage(alloc: Global) -> Result<String, AllocError> {
     let mut command = Command::new(alloc, "formread")
+        .about("Reads the body of a request from standard input, and writes its entries.")
         .disable_help_flag(true)
         .disable_version_flag(true)
         .arg(word(
