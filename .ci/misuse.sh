@@ -19,7 +19,12 @@ mkdir -p "$room/crates/misuse/src"
 failed=0
 for file in misuse/*.txt; do
     name=$(basename "$file" .txt)
-    cp "$file" "$room/crates/misuse/src/lib.rt"
+    if ! [ -f "$file" ] || ! [ -s "misuse/$name.refused" ]; then
+        echo "misuse: $file or its words are missing" >&2
+        failed=$((failed + 1))
+        continue
+    fi
+    cp "$file" "$room/crates/misuse/src/lib.rt" || exit 1
     if (cd "$room/crates/misuse" && rt check) >"$room/log" 2>&1; then
         echo "misuse: $name was let through" >&2
         failed=$((failed + 1))
