@@ -79,10 +79,6 @@ prefix_same (c ∷ text) (x ∷ xs) rest are = ap (λ (t : Bool). nat_eq c x && 
 miss : (c b : ℕ) (text bytes : List ℕ) → nat_eq c b ≡ false → behind (c ∷ text) (b ∷ bytes) ≡ None
 miss c b text bytes differ = behind_not (c ∷ text) (b ∷ bytes) (rw differ refl)
 
-cut_first : (c : ℕ) (text rest : List ℕ) → cut_text (c ∷ text) ((c ∷ text) ++ rest) ≡ Some ([], rest)
-unfolding cut_text
-cut_first c text rest = ap (λ (h : Option (List ℕ)). cut_here h (onto (c ∷ []) (cut_text (c ∷ text) (text ++ rest)))) (behind_again (c ∷ text) rest)
-
 cut_dash : (text rest : List ℕ) → HasSome text → AllByRecursion IsBound text → cut_text text (dashes ++ (text ++ rest)) ≡ Some (dashes, rest)
 unfolding cut_text
 cut_dash [] rest some are = absurd (omega arith)

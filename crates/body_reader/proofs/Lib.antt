@@ -1,3 +1,3 @@
-pub mod GatheredLaws
+pub mod Refusals
 pub mod ListingLaws
 pub mod RunLaws

@@ -1,5 +1,5 @@
 -- The form-associated custom elements of a page, and what form owners and disabled states are read off (HTML Standard,
--- sections "Form-associated custom elements" and "Form control infrastructure").
+-- sections "Core concepts" of custom elements and "Form control infrastructure").
 use Rattle.std.specs.Prelude.{ℕ, ◌-◌, Bool, false, ◌&&◌, List, filter, length, slice_get, Option, Some, None}
 use Rattle.std.specs.List.{range_with_len}
 use Rattle.std.specs.Option.{option_and_then}

@@ -28,8 +28,9 @@ removed changes was_connected n = do
   tell_at_turn changes n
   where_is (λ w. was_connected && is_custom w.page n) (enqueue_callback n Disconnected)
 
--- The node is taken out of its parent. Then for each of its shadow-including inclusive descendants:
--- a custom one is told that it was disconnected, where the parent was connected
+-- The node is taken out of its parent. Then each of its shadow-including inclusive descendants has its turn: it is told
+-- of its form change, and a custom one that it was disconnected, where the parent was connected; then the others of whom
+-- something is said
 abbrev pub remove : ℕ → Step Work (Unit {0})
 remove node = do
   old ← read_page (λ p. p)

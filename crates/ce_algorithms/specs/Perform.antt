@@ -50,11 +50,12 @@ create_named again name is document = do
   throw_if (not (local_name name)) InvalidCharacterError
   create again (str_to_ascii_lowercase name) is document
 
--- the look-up for a custom element's name or an `is` value gives a definition that disables shadow
+-- the definition disables shadow; none does not
 abbrev pub disables_shadow : Page → Option ℕ → Bool
 disables_shadow p None = false
 disables_shadow p (Some d) = (definition_at p d).facts.no_shadow
 
+-- the look-up for a custom element's name or an `is` value gives a definition that disables shadow
 abbrev pub is_shadow_disabled : Page → ℕ → Bool
 is_shadow_disabled p n = (custom_name (facts_at p.forest n).local || is_some (facts_at p.forest n).is_value) && disables_shadow p (lookup_for p n)
 

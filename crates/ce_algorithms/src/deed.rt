@@ -112,7 +112,7 @@ pub enum InternalsDeed {
         value: Value,
         saved: Value,
     },
-    /// Sets all validity flags, and their message (section "Element internals", `setValidity`).
+    /// Sets all validity flags, and their message (section "Form-associated custom elements", `setValidity`).
     SetValidity {
         node: NodeNo,
         flags: Flags,

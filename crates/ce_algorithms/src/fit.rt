@@ -29,7 +29,7 @@ pub enum Fit {
     AnOption,
     /// A button (section "Categories"): one that submits, one that resets, or one that does nothing by itself.
     Button,
-    /// A form-associated custom element (HTML Standard, section "Form-associated custom elements").
+    /// A form-associated custom element (HTML Standard, section "Core concepts").
     FormAssociated,
     /// One whose state is "custom".
     CustomFormAssociated,

@@ -1,10 +1,10 @@
-//! The Standard's algorithms for custom elements, as definitions that compute.
+//! The Standard's algorithms for custom elements and for forms, as definitions that compute.
 //!
 //! The definitions stand in `specs/`. This crate's own types are what the definitions and the code share: what
 //! the page tells of an enqueue, what operations come to, and what they give.
 #![tactic(auto)]
 
-mod callback;
+mod create;
 mod deed;
 mod fit;
 mod given;
@@ -12,7 +12,7 @@ mod laws;
 mod note;
 mod settings;
 
-pub use callback::same_call;
+pub use create::first_state;
 pub use deed::{ControlDeed, Deed, FormDeed, InternalsDeed, PageDeed, SubmitDeed};
 pub use fit::Fit;
 pub use given::Given;

@@ -42,6 +42,6 @@ pub use short::ShortSink;
 pub use standard::{StdSink, StdSource};
 pub use stop::Stop;
 pub use sure::{SureSink, SureSource};
-pub use text::Text;
+pub use text::{Text, copy_of, owned};
 pub use texts::Texts;
 pub use whole::{Read, ask, make_buffer, read_all};

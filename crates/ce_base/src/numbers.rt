@@ -1,4 +1,5 @@
 // Numbers that name things. A contract sees each as the number that it holds.
+ghost use Rattle.std.specs.Prelude.{◌≡◌, ◌-◌};
 
 use std::marker::Model;
 
@@ -14,6 +15,15 @@ impl Model for NodeNo {
     ghost view = { λ n. n.0 };
 
     ghost inverse = { λ n. record { 0 = n } };
+}
+
+impl NodeNo {
+    /// The place of the node's row in a table with a row for each node: that of node 1 comes first.
+    pub fn place(self) -> usize
+        ensures { result ≡ self - 1 }
+    {
+        self.0.saturating_sub(1) as usize
+    }
 }
 
 /// A class, numbered from 0 in the order of its declaration.

@@ -1,5 +1,5 @@
 // A text.
-ghost use Rattle.std.specs.Prelude.{◌≡◌, IfOk};
+ghost use Rattle.std.specs.Prelude.{◌≡◌, IfOk, option_copied};
 
 use crate::NoMemory;
 use std::alloc::Global;
@@ -51,5 +51,25 @@ impl From<String> for Text {
 
     fn from(s: String) -> Self {
         Text { inner: s }
+    }
+}
+
+/// A text of these characters, where there are some. NoMemory: memory was refused.
+pub fn owned(alloc: Global, text: Option<&str>) -> Result<Option<Text>, NoMemory>
+    ensures { IfOk result (λ t. t ≡ option_copied text.entry) }
+{
+    match text {
+        None => Ok(None),
+        Some(text) => Ok(Some(Text::of(alloc, text)?)),
+    }
+}
+
+/// The same text once more, where there is one. NoMemory: memory was refused.
+pub fn copy_of(alloc: Global, text: &Option<Text>) -> Result<Option<Text>, NoMemory>
+    ensures { IfOk result (λ t. t ≡ text.now) }
+{
+    match text {
+        None => Ok(None),
+        Some(text) => Ok(Some(text.copy(alloc)?)),
     }
 }

@@ -4,10 +4,9 @@ ghost use Rattle.rule_tokens.specs.Quoted.{in_quotes};
 ghost use Rattle.ce_events.specs.Text.{call, event_text, fault, text_or_null};
 
 use crate::lists::put_spaced;
-use crate::words::{mode_word, truth_word};
 use crate::written::Written;
 use ce_base::{Fault, NoMemory, NodeNo, Text, Texts};
-use ce_events::Event;
+use ce_events::{Event, mode_word, truth_word};
 use reaction_queue::Mode;
 use std::alloc::Global;
 

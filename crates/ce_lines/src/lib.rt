@@ -1,4 +1,4 @@
-//! Events as the lines of a transcript.
+//! Events as the lines of a transcript, and lines read as events.
 //!
 //! What the line of an event is, is defined beside the type, in `ce_events`.
 #![tactic(auto)]

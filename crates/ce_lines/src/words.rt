@@ -1,9 +1,8 @@
 // The words of a line.
 ghost use Rattle.std.specs.Prelude.{◌≡◌};
-ghost use Rattle.ce_events.specs.Text.{bad_word, custom_state, mode, truth, what, yes_or_no};
+ghost use Rattle.ce_events.specs.Text.{bad_word, custom_state, what, yes_or_no};
 
 use ce_base::CustomState;
-use reaction_queue::Mode;
 use rule_tokens::{Bad, CallOrUpgrade};
 
 /// The word for what a reaction is for.
@@ -31,28 +30,11 @@ pub(crate) fn bad_word(bad: Bad) -> &'static str
     }
 }
 
-/// The word for whether an element is disabled.
-pub(crate) fn truth_word(disabled: bool) -> &'static str
-    ensures { result.now ≡ truth disabled }
-{
-    if disabled { "true" } else { "false" }
-}
-
 /// The word for the answer yes or no.
 pub(crate) fn yes_or_no(yes: bool) -> &'static str
     ensures { result.now ≡ yes_or_no yes }
 {
     if yes { "yes" } else { "no" }
-}
-
-/// The word for why a state comes back.
-pub(crate) fn mode_word(why: Mode) -> &'static str
-    ensures { result.now ≡ mode why }
-{
-    match why {
-        Mode::Restore => "restore",
-        Mode::Autocomplete => "autocomplete",
-    }
 }
 
 /// The word for a custom element state.

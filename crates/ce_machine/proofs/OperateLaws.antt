@@ -3,7 +3,6 @@ use Rattle.std.proofs.Common.{◌≡◌, ℕ, true, false, Bool, List, [], ◌�
 use Rattle.std.specs.Prelude.{Result, Ok, Err, IfOk, if◌then◌else◌}
 use Rattle.ce_base.specs.declared.fault.Fault.{Fault}
 use Rattle.ce_base.specs.declared.fault.Refused.{Refused as RefusedWith}
-use Rattle.ce_base.specs.declared.fault.Refused.TheVariants.{Fault as IsFault}
 use Rattle.rule_lines.specs.declared.line.Cmd.{Cmd}
 use Rattle.rule_lines.specs.declared.op.Op.{Op}
 use Rattle.node_trees.specs.Nodes.{size}
@@ -21,12 +20,12 @@ use Rattle.ce_algorithms.specs.Model.{model}
 use Rattle.ce_algorithms.specs.Page.{with_queues}
 use Rattle.ce_algorithms.specs.Perform.{steps}
 use Rattle.ce_algorithms.specs.Perform as algorithms
-use Rattle.ce_algorithms.specs.State.{State, View, logged, on_page, view}
-use Rattle.ce_algorithms.specs.Steps.{Step, Outcome, Goes, Throws, attempt_in, settle}
+use Rattle.ce_algorithms.specs.State.{State, logged, on_page, view}
+use Rattle.ce_algorithms.specs.Steps.{Step, Outcome, Goes, attempt_in, settle}
 use Rattle.ce_frames.specs.Frames as waiting
 use Rattle.ce_frames.specs.Frames.{Frame}
 use Rattle.ce_frames.specs.ConstructTurns.{construct_turn}
-use Rattle.ce_frames.specs.OperateTurns.{create_named_turn, deed_turn, named_turn, next_turn, pop_turn, resolved_turn, steps_turn}
+use Rattle.ce_frames.specs.OperateTurns.{create_named_turn, deed_turn, named_turn, next_turn, pop_turn, steps_turn}
 use Rattle.ce_frames.specs.Turned.{Turn, ended, turn_after, below, hand_down}
 use Rattle.ce_frames.proofs.BlindSteps.{resolve_blind, resolve_user_blind}
 use Rattle.ce_frames.proofs.BlindTurns.{blind_below, blind_page, deed_turn_blind}
@@ -37,7 +36,6 @@ use Rattle.ce_operations.specs.Resolved.{Resolves}
 use Rattle.frame_stack.specs.Sessions.{session}
 use Rattle.frame_stack.specs.Stacked.{Stacked, behaviours_of}
 use Rattle.ce_outcomes.specs.declared.came.Came.{Came}
-use Rattle.ce_outcomes.specs.declared.came.Came.TheVariants.{Threw}
 use Rattle.ce_drains.specs.Blind.{BlindAt}
 use Rattle.ce_outcomes.specs.Placed.{IsKeptThere, Lasts, StaysPlaced}
 use Rattle.ce_outcomes.specs.Turns.{Turns, came_in}
@@ -157,19 +155,6 @@ new_is class s = refl
 pub named_placed : (F : Trees) (var : Option (List ℕ)) (turn : Turn) (s : State) → Lasts F (turn s) → StaysPlaced F (named_turn var turn s)
 named_placed F None turn s h = record { grows = h.grows; placed = h.placed }
 named_placed F (Some var) turn s h = record { grows = h.grows; placed = (h.gives, h.placed) }
-
--- one of its operands is at fault
-
-refused_is : (this : Option ℕ) (find : View → Result Deed Fault) (var : Option (List ℕ)) (f : Fault) (s : State) (r : Result Deed RefusedWith)
-    → r ≡ Err (IsFault f) → Resolves r (find (view this s)) → ended (Throws f s) ≡ resolved_turn this find var s
-refused_is this find var f s r is h =
-    let found : find (view this s) ≡ Err f = subst (λ (x : Result Deed RefusedWith). Resolves x (find (view this s))) is h in
-    ap (λ (x : Result Deed Fault). turn_after (settle x s) (λ d. named_turn var (deed_turn d))) (sym found)
-
-pub refused_turns : (frames : List Frame) (this : Option ℕ) (find : View → Result Deed Fault) (var : Option (List ℕ)) (f : Fault) (s : State)
-    (r : Result Deed RefusedWith) → r ≡ Err (IsFault f) → Resolves r (find (view this s)) → Turns frames frames (Threw f) s (resolved_turn this find var s)
-refused_turns frames this find var f s r is h =
-    turns_as frames frames (Threw f) s _ _ (refused_is this find var f s r is h) (turns_same frames (Threw f) s (Throws f s) refl)
 
 -- operands read no behaviour
 pub resolved_whole : (this : Option ℕ) (op : Op) (old : Stacked) (s : State) (r : Result Deed RefusedWith) → Resolves r (resolve (view this s) op)

@@ -3,16 +3,16 @@ ghost use Rattle.std.specs.Prelude.{◌≡◌, ◌≤◌, IfOk};
 ghost use Rattle.node_trees.specs.Nodes.{IsNode, size};
 ghost use Rattle.ce_registry.specs.Registry.{is_autonomous};
 ghost use Rattle.ce_algorithms.specs.Create.{create_failed, fitting, is_no_element, is_unfit};
-ghost use Rattle.ce_algorithms.specs.CreateLater.{first_state, make_undefined};
+ghost use Rattle.ce_algorithms.specs.CreateLater.{make_undefined};
 ghost use Rattle.ce_algorithms.specs.Enqueue.{lookup_in};
 ghost use Rattle.ce_algorithms.specs.Page.{definition_at};
 ghost use Rattle.ce_algorithms.specs.State.{on_page};
 ghost use Rattle.session_state.specs.Ends.{Ends};
 ghost use Rattle.ce_outcomes.specs.Fitting.{tested};
 
+use ce_algorithms::first_state;
 use ce_base::{ClassNo, CustomState, DefNo, Fault, NoMemory, NodeNo, Text};
 use ce_events::Event;
-use element_names::is_custom_name;
 use session_state::State;
 use session_state::page_calls::{NodeKind, PageStop};
 use std::alloc::Global;
@@ -41,18 +41,8 @@ pub fn create_undefined(
     ensures made { IfOk result (IsNode state.new.page.forest) }
     ensures grows { size state.old.page.forest ≤ size state.new.page.forest }
 {
-    let first = first_state(&local, &is);
+    let first = first_state(local.as_str(), &is);
     state.make_in_state(alloc, local, is, document, first)
-}
-
-// The state of an element without a definition.
-fn first_state(local: &Text, is: &Option<Text>) -> CustomState
-    ensures { result ≡ first_state local.now is.now }
-{
-    if is_custom_name(local.as_str()) || is.is_some() {
-        return CustomState::Undefined;
-    }
-    CustomState::Uncustomized
 }
 
 /// Whether a definition extends no element (HTML Standard, section "Core concepts", "autonomous custom element").

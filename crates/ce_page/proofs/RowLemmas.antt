@@ -55,10 +55,6 @@ pub state_given : (elements : List Element) (n i : ℕ) (e : Element) (state : C
     → slice_set elements i (record e { state = state }) ≡ slice_set elements (n - 1) (record (or_uncustomized (slice_get elements (n - 1))) { state = state })
 state_given elements n i e state place read = let there = row_there elements n i e place read in rw (← there.0, there.1) refl
 
-pub definition_given : (elements : List Element) (n i : ℕ) (e : Element) (d : Option ℕ) → row_place (length elements) n ≡ Some i → e ≡ get_or elements i e
-    → slice_set elements i (record e { definition = d }) ≡ slice_set elements (n - 1) (record (or_uncustomized (slice_get elements (n - 1))) { definition = d })
-definition_given elements n i e d place read = let there = row_there elements n i e place read in rw (← there.0, there.1) refl
-
 pub row_defined : {elements : List Element} {forest : Trees} (i : ℕ) (e : Element) → HasRows elements forest → or_uncustomized (slice_get elements i) ≡ e
     → IfSome e.definition (λ d. IsElement forest (i + 1))
 row_defined {elements} {forest} i e h is = go e.definition refl
@@ -66,11 +62,6 @@ row_defined {elements} {forest} i e h is = go e.definition refl
     go : (o : Option ℕ) → e.definition ≡ o → IfSome o (λ d. IsElement forest (i + 1))
     go None f = tt
     go (Some d) f = h.defined i d (ap (λ (x : Element). x.definition) is ∙ f)
-
-pub given_here : {elements : List Element} {forest : Trees} (n i : ℕ) (d : Option ℕ) → HasRows elements forest → i ≡ n - 1 → IfSome d (λ x. IsElement forest n)
-    → IfSome d (λ x. IsElement forest (i + 1))
-given_here n i None h is x = tt
-given_here {forest = forest} n i (Some d) h is x = subst (λ k. IsElement forest (k + 1)) (sym is) (above n h x)
 
 -- a row put behind the others
 

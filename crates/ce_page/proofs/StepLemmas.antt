@@ -14,7 +14,7 @@ use Rattle.ce_algorithms.specs.Attributes.{set_attribute, remove_attribute, remo
 use Rattle.ce_algorithms.specs.FormChanges.{form_changes, tell_form_change, tell_others}
 use Rattle.ce_algorithms.specs.Mutation.{adopt, insert, inserted, is_connected_parent, pre_insert, put_in, reference_child, remove, removed}
 use Rattle.ce_algorithms.specs.Page.{Page, Work, read_page, spend, with_forest}
-use Rattle.ce_algorithms.specs.Steps.{Step, Outcome, Goes, done, for_each, then_do, throw_any, ◌>>=◌, ◌>>◌}
+use Rattle.ce_algorithms.specs.Steps.{Step, Outcome, Goes, done, then_do, throw_any, ◌>>=◌, ◌>>◌}
 use Rattle.ce_page.specs.declared.stop.PageStop.{PageStop}
 use Rattle.ce_page.specs.declared.stop.PageStop.TheVariants.{Refused, FuelSpent, NoMemory}
 use Rattle.ce_page.specs.Ends.{Does, Ends, work}
@@ -41,20 +41,6 @@ others_come result last cs seen order o gone went same h =
 pub goes_on : (result : Result (Unit {0}) PageStop) (last gone : Work) (o : Outcome Work (Unit {0})) (next : Step Work (Unit {0})) → Goes tt gone ≡ o
     → Does result last (next gone) → Does result last (then_do o (λ _. next))
 goes_on result last gone o next went h = subst (λ (x : Outcome Work (Unit {0})). Does result last (then_do x (λ _. next))) went h
-
--- one of a walk has had its turn
-module _ (turn : ℕ → Step Work (Unit {0})) (n : ℕ) (all rest : List ℕ) (w : Work) (begins : all ≡ n ∷ rest) where
-  pub turn_gone : (gone : Work) → Goes tt gone ≡ turn n w → for_each rest turn gone ≡ for_each all turn w
-  turn_gone gone went = ap (λ (o : Outcome Work (Unit {0})). then_do o (λ _. for_each rest turn)) went ∙ ap (λ ns. for_each ns turn w) (sym begins)
-
-  pub turn_stopped : (stop : PageStop) (last : Work) → Does {A = Unit {0}} (Err stop) last (turn n w)
-      → Does {A = Unit {0}} (Err stop) last (for_each all turn w)
-  turn_stopped stop last does = subst (λ ns. Does {A = Unit {0}} (Err stop) last (for_each ns turn w)) (sym begins) (by_stop stop does)
-    where
-      by_stop : (s : PageStop) → Does {A = Unit {0}} (Err s) last (turn n w) → Does {A = Unit {0}} (Err s) last (for_each (n ∷ rest) turn w)
-      by_stop (Refused f) d = ap (λ (o : Outcome Work (Unit {0})). then_do o (λ _. for_each rest turn)) d
-      by_stop FuelSpent d = ap (λ (o : Outcome Work (Unit {0})). then_do o (λ _. for_each rest turn)) d
-      by_stop NoMemory d = tt
 
 -- one of whom something is said has its turn, if it stands outside; else it is passed over
 module _ (order : List ℕ) (c : Change) (rest all : List Change) (w : Work) (begins : all ≡ c ∷ rest) where

@@ -1,17 +1,17 @@
 // New nodes, each for one unit of fuel.
-ghost use Rattle.std.specs.Prelude.{◌≡◌, ◌+◌, ◌<◌, ◌^◌, IfOk, OnOk};
+ghost use Rattle.std.specs.Prelude.{◌+◌, ◌<◌, ◌^◌, IfOk, OnOk};
 ghost use Rattle.node_trees.specs.Kinds.{IsElement};
 ghost use Rattle.node_trees.specs.Nodes.{IsNode};
 ghost use Rattle.node_trees.specs.declared.kind.NodeKind.TheVariants.{Element as ElementKind, TextNode};
-ghost use Rattle.ce_algorithms.specs.CreateLater.{first_state, make_in_state, make_later};
+ghost use Rattle.ce_algorithms.specs.CreateLater.{make_in_state, make_later};
 ghost use Rattle.ce_algorithms.specs.Making.{make_text};
 ghost use Rattle.ce_page.specs.Ends.{Ends, NeverRefuses, work};
 ghost use Rattle.ce_page.specs.Numbers.{GrowsWithin};
 ghost use Rattle.ce_page.specs.Copies.{IsFresh};
 
 use crate::{Page, PageStop};
+use ce_algorithms::first_state;
 use ce_base::{CustomState, DefNo, Fuel, NodeNo, Text};
-use element_names::is_custom_name;
 use reaction_queue::Reaction;
 use std::alloc::Global;
 
@@ -104,14 +104,4 @@ impl Page {
             }
         }
     }
-}
-
-/// The state of an element without a definition.
-fn first_state(local: &str, is: &Option<Text>) -> CustomState
-    ensures { result ≡ first_state local.now is.now }
-{
-    if is_custom_name(local) || is.is_some() {
-        return CustomState::Undefined;
-    }
-    CustomState::Uncustomized
 }

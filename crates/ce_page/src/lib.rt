@@ -1,4 +1,5 @@
-//! The page: its trees, its definitions, its reactions, and the primitives that change them.
+//! The page: its trees, its form owners, its controls and internals, its definitions, its reactions, and the primitives
+//! that change them.
 #![tactic(auto)]
 
 mod adoption;

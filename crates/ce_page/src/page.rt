@@ -84,7 +84,7 @@ impl Page {
     pub(crate) fn row_of(&self, n: NodeNo) -> Option<usize>
         ensures { result ≡ row_place (length self.now.elements) n }
     {
-        let i = n.0.saturating_sub(1) as usize;
+        let i = n.place();
         if i < self.elements.len() {
             Some(i)
         } else {

@@ -105,8 +105,8 @@ impl Page {
         is_custom_state(self.state(n))
     }
 
-    /// Whether a node is a form-associated custom element (HTML Standard, section "Form-associated custom elements"): its
-    /// definition is autonomous, and of a class that is form-associated.
+    /// Whether a node is a form-associated custom element (HTML Standard, section "Core concepts"): its definition is
+    /// autonomous, and of a class that is form-associated.
     pub fn is_form_associated(&self, n: NodeNo) -> bool
         ensures definition { result ≡ is_form_associated (definition_of self.now n) }
         ensures among { 0 < n → result ≡ is_associated (forms_of self.now) n }

@@ -44,8 +44,8 @@ impl Calls {
     }
 }
 
-// The place of a callback in their order.
-fn place_of(call: CallName) -> usize
+/// The place of a callback in their order.
+pub fn place_of(call: CallName) -> usize
     ensures place { result ≡ place_of call }
     ensures within { result < 9 }
 {

@@ -6,7 +6,8 @@ ghost use Rattle.ce_events.specs.Text as text;
 
 use crate::Memory;
 use ce_base::{NoMemory, NodeNo, Text};
-use reaction_queue::{Mode, Reaction};
+use ce_events::{mode_word, truth_word};
+use reaction_queue::Reaction;
 use rule_tokens::Val;
 use std::alloc::Global;
 use std::marker::Model;
@@ -41,9 +42,9 @@ impl Args {
                 of_texts(alloc, name.as_str(), or_empty(old), or_empty(new))
             }
             Reaction::FormAssociated(form) => of_form(alloc, *form),
-            Reaction::FormDisabled(disabled) => of_texts(alloc, truth(*disabled), "", ""),
+            Reaction::FormDisabled(disabled) => of_texts(alloc, truth_word(*disabled), "", ""),
             Reaction::FormStateRestore(state, why) => {
-                of_texts(alloc, state.as_str(), mode(*why), "")
+                of_texts(alloc, state.as_str(), mode_word(*why), "")
             }
             Reaction::Upgrade(_) => Args::none(alloc),
             Reaction::Connected => Args::none(alloc),
@@ -123,20 +124,5 @@ fn or_empty(text: &Option<Text>) -> &str
     match text {
         None => "",
         Some(text) => text.as_str(),
-    }
-}
-
-fn truth(t: bool) -> &'static str
-    ensures { result.now ≡ text.truth t }
-{
-    if t { "true" } else { "false" }
-}
-
-fn mode(why: Mode) -> &'static str
-    ensures { result.now ≡ text.mode why }
-{
-    match why {
-        Mode::Restore => "restore",
-        Mode::Autocomplete => "autocomplete",
     }
 }

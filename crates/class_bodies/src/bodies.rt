@@ -2,9 +2,9 @@
 ghost use Rattle.std.specs.Prelude.{◌≡◌, ◌+◌, ◌^◌, ◌<◌, ◌++◌, ◌∷◌, [], drop, if◌then◌else◌, is_ok, slice_get, IfSome, MatchOption, OnErr, OnOk};
 ghost use Rattle.rule_lines.specs.Acts.{act_of};
 ghost use Rattle.ce_algorithms.specs.Body.{actions_of};
-ghost use Rattle.ce_registry.specs.ClassFacts.{place_of};
 
 use ce_base::NoMemory;
+use ce_registry::place_of;
 use rule_lines::Action;
 use rule_tokens::CallName;
 use std::alloc::Global;
@@ -127,12 +127,4 @@ fn no_places(alloc: Global) -> [Places; 9]
         Places::make(alloc),
         Places::make(alloc),
     ]
-}
-
-// The place of a callback in their order.
-fn place_of(call: CallName) -> usize
-    ensures place { result ≡ place_of call }
-    ensures within { result < 9 }
-{
-    call as usize
 }

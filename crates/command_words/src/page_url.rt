@@ -1,11 +1,11 @@
 // URLs at which a page may stand.
 ghost use Rattle.std.specs.Prelude.{◌≡◌, IfOk};
-ghost use Rattle.form_submission.specs.Plans.{is_web};
 ghost use Rattle.url.specs.Parser.{Gives, Parsed};
 ghost use Rattle.url.specs.Parts.{Parts};
 ghost use Rattle.command_words.specs.Words.{is_of_web, is_page_url};
 
 use ce_base::NoMemory;
+use form_submission::is_web;
 use std::alloc::Global;
 use url::{ParseError, ParseResult, Url};
 
@@ -32,11 +32,4 @@ fn is_of_web(parsed: ParseResult<Url>) -> Result<bool, NoMemory>
         Err(ParseError::Overflow) => Err(NoMemory),
         Err(_) => Ok(false),
     }
-}
-
-fn is_web(url: &Url) -> bool
-    ensures { result ≡ is_web url.now }
-{
-    let scheme = url.scheme();
-    scheme == "http" || scheme == "https"
 }

@@ -1,5 +1,5 @@
-//! What native controls keep of what was set: values, checkedness, choices (HTML Standard, sections "A form control's
-//! value", "The input element", "The textarea element", "The select element", "The option element").
+//! What native controls keep of what was set: values, checkedness, choices, custom messages (HTML Standard, sections "A form
+//! control's value", "The input element", "The textarea element", "The select element", "The option element").
 #![tactic(auto)]
 
 mod choosing;

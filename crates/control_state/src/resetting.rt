@@ -6,7 +6,6 @@ ghost use Rattle.form_controls.specs.Options.{option_children, options_at, optio
 ghost use Rattle.form_controls.specs.Resetting.{clear_all, reset};
 
 use crate::ControlTable;
-use crate::table::place_of;
 use ce_base::NodeNo;
 use element_names::Native;
 use form_kinds::{is_a, native_at};
@@ -17,7 +16,7 @@ impl ControlTable {
     fn clear(&mut self, n: NodeNo)
         ensures { self.new ≡ clear self.old n }
     {
-        let place = place_of(n);
+        let place = n.place();
         if place < self.rows.len() {
             let row = &mut self.rows[place];
             row.value = None;

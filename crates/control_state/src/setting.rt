@@ -1,9 +1,8 @@
 // What is set.
-ghost use Rattle.std.specs.Prelude.{◌≡◌, ◌-◌, ◌<◌, Some, length, option_copied, slice_set, IfOk, OnOk};
+ghost use Rattle.std.specs.Prelude.{◌≡◌, ◌-◌, ◌<◌, Some, length, slice_set, OnOk};
 ghost use Rattle.form_controls.specs.Controls.{control_at, untouched};
 ghost use Rattle.form_controls.specs.Filling.{IsFilled};
 
-use crate::table::place_of;
 use ce_base::{NoMemory, NodeNo, Text};
 use form_controls::Control;
 use std::alloc::Global;
@@ -31,24 +30,11 @@ pub(crate) fn fill(alloc: Global, rows: &mut Vec<Control>, place: usize) -> Resu
     Ok(())
 }
 
-/// A second text, where there is one.
-pub(crate) fn copy_of(alloc: Global, text: Option<&str>) -> Result<Option<Text>, NoMemory>
-    ensures { IfOk result (λ t. t ≡ option_copied text.entry) }
-{
-    match text {
-        None => Ok(None),
-        Some(text) => {
-            let copy = Text::of(alloc, text)?;
-            Ok(Some(copy))
-        }
-    }
-}
-
 pub(crate) fn write_value(rows: &mut [Control], n: NodeNo, v: Text, by_user: bool)
     requires { n - 1 < length rows.old }
     ensures { rows.new ≡ slice_set rows.old (n - 1) (record (control_at rows.old n) { value = Some v; edited = by_user }) }
 {
-    let row = &mut rows[place_of(n)];
+    let row = &mut rows[n.place()];
     row.value = Some(v);
     row.edited = by_user;
 }
@@ -57,7 +43,7 @@ pub(crate) fn write_flag(rows: &mut [Control], n: NodeNo, on: bool)
     requires { n - 1 < length rows.old }
     ensures { rows.new ≡ slice_set rows.old (n - 1) (record (control_at rows.old n) { flag = Some on }) }
 {
-    let row = &mut rows[place_of(n)];
+    let row = &mut rows[n.place()];
     row.flag = Some(on);
 }
 
@@ -65,7 +51,7 @@ pub(crate) fn write_state(rows: &mut [Control], n: NodeNo, value: Option<Text>, 
     requires { n - 1 < length rows.old }
     ensures { rows.new ≡ slice_set rows.old (n - 1) (record (control_at rows.old n) { value = value; flag = flag }) }
 {
-    let row = &mut rows[place_of(n)];
+    let row = &mut rows[n.place()];
     row.value = value;
     row.flag = flag;
 }
@@ -74,6 +60,6 @@ pub(crate) fn write_message(rows: &mut [Control], n: NodeNo, m: Text)
     requires { n - 1 < length rows.old }
     ensures { rows.new ≡ slice_set rows.old (n - 1) (record (control_at rows.old n) { message = m }) }
 {
-    let row = &mut rows[place_of(n)];
+    let row = &mut rows[n.place()];
     row.message = m;
 }

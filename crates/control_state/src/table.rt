@@ -1,9 +1,9 @@
 // The table.
-ghost use Rattle.std.specs.Prelude.{◌≡◌, ◌-◌, [], OnOk, option_copied};
+ghost use Rattle.std.specs.Prelude.{◌≡◌, [], OnOk, option_copied};
 ghost use Rattle.form_controls.specs.Controls.{control_at, copy_state, is_edited, message_at, set_flag, set_message, set_value};
 
-use crate::setting::{copy_of, fill, write_flag, write_message, write_state, write_value};
-use ce_base::{NoMemory, NodeNo, Text};
+use crate::setting::{fill, write_flag, write_message, write_state, write_value};
+use ce_base::{NoMemory, NodeNo, Text, owned};
 use form_controls::Control;
 use node_arena::Tree;
 use std::alloc::Global;
@@ -25,13 +25,6 @@ impl Model for ControlTable {
     ghost view = { λ t. t.rows.items };
 }
 
-/// The place of a node's row.
-pub(crate) fn place_of(n: NodeNo) -> usize
-    ensures { result ≡ n - 1 }
-{
-    n.0.saturating_sub(1) as usize
-}
-
 impl ControlTable {
     /// The table where nothing was set.
     pub fn make(alloc: Global) -> ControlTable
@@ -46,7 +39,7 @@ impl ControlTable {
     pub fn edited(&self, n: NodeNo) -> bool
         ensures { result ≡ is_edited self.now n }
     {
-        match self.rows.get(place_of(n)) {
+        match self.rows.get(n.place()) {
             None => false,
             Some(row) => row.edited,
         }
@@ -57,7 +50,7 @@ impl ControlTable {
     pub fn message(&self, n: NodeNo) -> &str
         ensures { result.now ≡ message_at self.now n }
     {
-        match self.rows.get(place_of(n)) {
+        match self.rows.get(n.place()) {
             None => "",
             Some(row) => row.message.as_str(),
         }
@@ -67,7 +60,7 @@ impl ControlTable {
     pub(crate) fn raw(&self, n: NodeNo) -> Option<&str>
         ensures { option_copied result ≡ (control_at self.now n).value }
     {
-        match self.rows.get(place_of(n)) {
+        match self.rows.get(n.place()) {
             None => None,
             Some(row) => match &row.value {
                 None => None,
@@ -80,7 +73,7 @@ impl ControlTable {
     pub(crate) fn flag(&self, n: NodeNo) -> Option<bool>
         ensures { result ≡ (control_at self.now n).flag }
     {
-        match self.rows.get(place_of(n)) {
+        match self.rows.get(n.place()) {
             None => None,
             Some(row) => row.flag,
         }
@@ -98,7 +91,7 @@ impl ControlTable {
     ) -> Result<(), NoMemory>
         ensures { OnOk result (self.new ≡ set_value self.old n v by_user) }
     {
-        fill(alloc, &mut self.rows, place_of(n))?;
+        fill(alloc, &mut self.rows, n.place())?;
         write_value(&mut self.rows, n, v, by_user);
         Ok(())
     }
@@ -108,7 +101,7 @@ impl ControlTable {
     pub fn set_flag(&mut self, alloc: Global, n: NodeNo, on: bool) -> Result<(), NoMemory>
         ensures { OnOk result (self.new ≡ set_flag self.old n on) }
     {
-        fill(alloc, &mut self.rows, place_of(n))?;
+        fill(alloc, &mut self.rows, n.place())?;
         write_flag(&mut self.rows, n, on);
         Ok(())
     }
@@ -118,7 +111,7 @@ impl ControlTable {
     pub fn set_message(&mut self, alloc: Global, n: NodeNo, m: Text) -> Result<(), NoMemory>
         ensures { OnOk result (self.new ≡ set_message self.old n m) }
     {
-        fill(alloc, &mut self.rows, place_of(n))?;
+        fill(alloc, &mut self.rows, n.place())?;
         write_message(&mut self.rows, n, m);
         Ok(())
     }
@@ -129,9 +122,9 @@ impl ControlTable {
     pub fn copy_state(&mut self, alloc: Global, from: NodeNo, to: NodeNo) -> Result<(), NoMemory>
         ensures { OnOk result (self.new ≡ copy_state self.old from to) }
     {
-        let value = copy_of(alloc, self.raw(from))?;
+        let value = owned(alloc, self.raw(from))?;
         let flag = self.flag(from);
-        fill(alloc, &mut self.rows, place_of(to))?;
+        fill(alloc, &mut self.rows, to.place())?;
         write_state(&mut self.rows, to, value, flag);
         Ok(())
     }

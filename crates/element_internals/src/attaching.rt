@@ -5,7 +5,6 @@ ghost use Rattle.element_internals.specs.Calls.{Writes};
 ghost use Rattle.form_controls.specs.Filling.{IsFilled};
 
 use crate::InternalsTable;
-use crate::table::place_of;
 use ce_base::{Fault, Flags, NoMemory, NodeNo, Refused, Text};
 use form_controls::{Attach, Internals, Value};
 use ordered_tables::TextSet;
@@ -64,7 +63,7 @@ impl InternalsTable {
         if let Some(fault) = self.attach_fault(n, c) {
             return Err(Refused::Fault(fault));
         }
-        let place = place_of(n);
+        let place = n.place();
         fill(&mut self.rows, place)?;
         write_new(alloc, &mut self.rows, place);
         Ok(())

@@ -1,5 +1,5 @@
-//! What ElementInternals keeps of elements: submission values and states, and custom states (HTML Standard, sections
-//! "Element internals", "Form-associated custom elements", "Custom state pseudo-class").
+//! What ElementInternals keeps of elements: submission values and states, validity flags and their message, and custom
+//! states (HTML Standard, sections "Element internals", "Form-associated custom elements", "Custom state pseudo-class").
 #![tactic(auto)]
 
 mod attaching;

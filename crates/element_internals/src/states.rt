@@ -4,7 +4,6 @@ ghost use Rattle.form_controls.specs.Internals.{add_state, clear_states, delete_
 ghost use Rattle.element_internals.specs.Calls.{Changes, Writes};
 
 use crate::InternalsTable;
-use crate::table::place_of;
 use ce_base::{Fault, NoMemory, NodeNo, Refused, Text};
 use form_controls::Internals;
 use std::alloc::Global;
@@ -19,7 +18,7 @@ fn write_state(
     requires { is_attached rows.old n ≡ true }
     ensures { OnOk result (rows.new ≡ add_state rows.old n s) }
 {
-    match &mut rows[place_of(n)] {
+    match &mut rows[n.place()] {
         None => unreachable!(),
         Some(kept) => kept.states.add(alloc, s)?,
     }
@@ -31,7 +30,7 @@ fn leave_out(rows: &mut [Option<Internals>], n: NodeNo, s: &str)
     requires { is_attached rows.old n ≡ true }
     ensures { rows.new ≡ delete_state rows.old n s.now }
 {
-    match &mut rows[place_of(n)] {
+    match &mut rows[n.place()] {
         None => unreachable!(),
         Some(kept) => kept.states.remove(s),
     }
@@ -42,7 +41,7 @@ fn leave_out_all(rows: &mut [Option<Internals>], n: NodeNo)
     requires { is_attached rows.old n ≡ true }
     ensures { rows.new ≡ clear_states rows.old n }
 {
-    match &mut rows[place_of(n)] {
+    match &mut rows[n.place()] {
         None => unreachable!(),
         Some(kept) => kept.states.clear(),
     }

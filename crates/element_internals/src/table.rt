@@ -1,5 +1,5 @@
 // The table.
-ghost use Rattle.std.specs.Prelude.{◌≡◌, ◌-◌, [], option_copied};
+ghost use Rattle.std.specs.Prelude.{◌≡◌, [], option_copied};
 ghost use Rattle.form_controls.specs.Internals.{internals_at, is_attached};
 
 use ce_base::NodeNo;
@@ -23,13 +23,6 @@ impl Model for InternalsTable {
     ghost view = { λ t. t.rows.items };
 }
 
-/// The place of a node's row.
-pub(crate) fn place_of(n: NodeNo) -> usize
-    ensures { result ≡ n - 1 }
-{
-    n.0.saturating_sub(1) as usize
-}
-
 impl InternalsTable {
     /// The table where no element has internals.
     pub fn make(alloc: Global) -> InternalsTable
@@ -44,7 +37,7 @@ impl InternalsTable {
     pub(crate) fn row(&self, n: NodeNo) -> Option<&Internals>
         ensures { option_copied result ≡ internals_at self.now n }
     {
-        match self.rows.get(place_of(n)) {
+        match self.rows.get(n.place()) {
             None => None,
             Some(row) => row.as_ref(),
         }

@@ -4,7 +4,6 @@ ghost use Rattle.form_controls.specs.Internals.{change_internals, is_attached, i
 ghost use Rattle.element_internals.specs.Calls.{Writes};
 
 use crate::InternalsTable;
-use crate::table::place_of;
 use ce_base::{Fault, Flags, NodeNo, Refused, Text};
 use form_controls::Internals;
 use std::alloc::Global;
@@ -37,7 +36,7 @@ fn write_validity(rows: &mut [Option<Internals>], n: NodeNo, flags: Flags, messa
     requires { is_attached rows.old n ≡ true }
     ensures { rows.new ≡ change_internals rows.old n (λ i. record i { flags = flags; message = message }) }
 {
-    match &mut rows[place_of(n)] {
+    match &mut rows[n.place()] {
         None => unreachable!(),
         Some(kept) => {
             kept.flags = flags;
@@ -66,9 +65,10 @@ impl InternalsTable {
         None
     }
 
-    /// Sets all validity flags of an element, and their message (HTML Standard, section "Element internals",
-    /// `setValidity`). Without a flag no message is kept. It throws TypeError where the element has no internals, else
-    /// NotSupportedError where it is not form-associated, else TypeError where a flag is set and the message is empty.
+    /// Sets all validity flags of an element, and their message (HTML Standard, section "Form-associated custom
+    /// elements", `setValidity`). Without a flag no message is kept. It throws TypeError where the element has no
+    /// internals, else NotSupportedError where it is not form-associated, else TypeError where a flag is set and the
+    /// message is empty.
     /// After a fault nothing has changed; after NoMemory the table is only dropped.
     pub fn set_validity(
         &mut self,

@@ -4,7 +4,6 @@ ghost use Rattle.form_controls.specs.Internals.{is_attached, may_write, set_form
 ghost use Rattle.element_internals.specs.Calls.{Writes};
 
 use crate::InternalsTable;
-use crate::table::place_of;
 use ce_base::{Fault, NodeNo, Refused};
 use form_controls::{Internals, Value};
 use std::alloc::Global;
@@ -21,7 +20,7 @@ fn write_value(rows: &mut [Option<Internals>], n: NodeNo, v: Value, saved: Value
     requires { is_attached rows.old n ≡ true }
     ensures { rows.new ≡ set_form_value rows.old n v saved }
 {
-    match &mut rows[place_of(n)] {
+    match &mut rows[n.place()] {
         None => unreachable!(),
         Some(kept) => {
             put(&mut kept.value, v);

@@ -1,3 +1,4 @@
 pub mod Listed
 pub mod Filled
 pub mod Differ
+pub mod Ancestors

@@ -114,18 +114,6 @@ module _ {forest : Trees} {about : ℕ → Bool} where
   -- along what is left of a set
 
   module _ (xs : List ℕ) where
-    pub none-passed : (left set : List ℕ) → left ≡ xs → Considers forest about (is_passed xs left) set set
-    none-passed left set all = nothing (is_passed xs left) set (λ n is. ap (λ ys. is_among n xs && not (is_among n ys)) all ∙ apart (is_among n xs))
-      where
-        apart : (b : Bool) → (b && not b) ≡ false
-        apart true = refl
-        apart false = refl
-
-    pub one-passed : (left later : List ℕ) (x : ℕ) {old mid new : List ℕ} → left ≡ x ∷ later → Considers forest about (is_passed xs left) old mid
-        → Considers forest about (λ n. x == n) mid new → Considers forest about (is_passed xs later) old new
-    one-passed left later x is so_far more =
-        less (λ n passes. let it : is_among n left ≡ (x == n || is_among n later) = ap (is_among n) is in grind (arith, it, passes)) (both so_far more)
-
     pub all-passed : (test : ℕ → Bool) (left : List ℕ) {old new : List ℕ} → left ≡ [] → ((n : ℕ) → test n ≡ true → is_among n xs ≡ true)
         → Considers forest about (is_passed xs left) old new → Considers forest about test old new
     all-passed test left none within all =

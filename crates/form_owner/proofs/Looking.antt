@@ -7,7 +7,6 @@ use Rattle.std.specs.BTreeSet.{BTreeSet, contains}
 use Rattle.std.specs.Option.{option_map_or}
 use Rattle.std.specs.Ordering.{nat_cmp}
 use Rattle.std.proofs.lemmas.Bool.{cases_eq, eqb-true}
-use Rattle.std.proofs.lemmas.Bool.Decides.{nat_tests}
 use Rattle.element_names.specs.declared.natives.Native.TheVariants.{OptionItem}
 use Rattle.element_names.specs.Natives.{native, same_native}
 use Rattle.node_trees.specs.Facts.{Facts, value_in}
@@ -71,10 +70,6 @@ module _ (forest : Trees) (rows : List OwnerRow) (known : List ℕ → Bool) (n 
     | inl e ↦ here-or-whole i (omega (arith, low, e)) (look_at new i) (subst (λ k. look_at new k ≢ Whole → look_at new k ≡ look) (sym e) at)
     | inr ne ↦ subst (λ l. IsRight forest rows known l (i + 1)) (sym (others i ne)) (was ne)
   ]
-
--- another place is that of another node
-pub other-node : (n i : ℕ) → 0 < n → i ≢ n - 1 → (n == i + 1) ≡ false
-other-node n i low ne = let other : n ≢ i + 1 = λ e. ne (omega (arith, e, low)) in grind (arith, nat_tests, other)
 
 -- what a touch says something of is a node
 pub on-node : (touch : Touch) (old new : Trees) → IsTouched touch old new → IsTouching touch new

@@ -38,7 +38,8 @@ use Rattle.form_owner.specs.Looks.{look_at}
 use Rattle.owner_reading.specs.Owners.{listed_by, owner_with}
 use Rattle.above_reading.specs.Disabled.{disabled_with}
 use Rattle.form_owner.specs.Stands.{Stands}
-use Rattle.owner_reading.proofs.Ancestors.{above-absent, ancestors-up}
+use Rattle.form_controls.proofs.Ancestors.{above-absent}
+use Rattle.owner_reading.proofs.Ancestors.{ancestors-up}
 use Rattle.form_owner.proofs.Nodes.{absent, found-passes, not-a-form, not-listed, no-owner, not-disabled, no-controls, owner-form, filter-none, is-number}
 use Rattle.form_owner.proofs.Rows.{filter-members}
 use Rattle.form_owner.proofs.Looking.{right-still}

@@ -1,19 +1,15 @@
 -- Nodes whose ID comes to be looked at.
-use Rattle.std.proofs.Common.{Bor, ◌≡◌, ◌≢◌, ℕ, ◌+◌, ◌-◌, ◌<◌, ◌==◌, Bool, true, false, cond, List, [], ◌∷◌, Option, Some, None, refl, sym, ap, ◌∙◌, subst}
+use Rattle.std.proofs.Common.{Bor, ◌≡◌, ◌≢◌, ℕ, ◌+◌, ◌-◌, ◌<◌, Bool, true, false, List, [], Option, Some, None, refl, sym, ap, ◌∙◌, subst}
 use Rattle.std.proofs.Common.{arith}
-use Rattle.std.specs.Prelude.{◌||◌, not, bytes_eq, codes}
-use Rattle.std.specs.BTreeSet.{BTreeSet, contains}
+use Rattle.std.specs.Prelude.{not, bytes_eq, codes}
 use Rattle.std.specs.Option.{option_copied, option_eq}
-use Rattle.std.specs.Ordering.{nat_cmp}
 use Rattle.std.proofs.lemmas.Bool.{false_from_ne_true}
-use Rattle.std.proofs.lemmas.Bool.Decides.{nat_tests}
 use Rattle.std.proofs.lemmas.Slice.Eq.{bytes_eq-Decides}
 use Rattle.ordered_tables.specs.declared.id_index.IdIndex.{IdIndex}
 use Rattle.ordered_tables.specs.Held.{is_held, is_known}
 use Rattle.node_trees.specs.Trees.{Trees}
 use Rattle.node_trees.specs.Paths.{is_among}
 use Rattle.node_trees.specs.Spots.{attribute_at}
-use Rattle.ordered_tables.proofs.NodeSetMembers.{among-any}
 use Rattle.form_owner.specs.declared.looks.Look.{Look}
 use Rattle.form_owner.specs.declared.looks.Look.TheVariants.{Nothing}
 use Rattle.owner_rows.specs.OwnerRow.{OwnerRow, row_of}

@@ -15,7 +15,7 @@ use Rattle.form_controls.specs.declared.change.Change.{Change}
 use Rattle.form_controls.specs.Changes.{where_new, is_change}
 use Rattle.owner_reading.specs.Owners.{owner_with}
 use Rattle.above_reading.specs.Disabled.{disabled_with}
-use Rattle.owner_rows.specs.OwnerRow.{OwnerRow, blank_row, row_in, row_of}
+use Rattle.owner_rows.specs.OwnerRow.{OwnerRow, row_in, row_of}
 use Rattle.form_owner.specs.Reading.{change_read, changes_read}
 use Rattle.form_owner.specs.Writing.{Written, with_told, with_changes}
 
@@ -23,13 +23,6 @@ use Rattle.form_owner.specs.Writing.{Written, with_told, with_changes}
 pub range-more : (a n : ℕ) → range_with_len a (n + 1) ≡ range_with_len a n ++ (a + n) ∷ []
 range-more a zero = grind arith
 range-more a (suc n) = grind (arith, range-more (a + 1) n, range-more (suc a) n)
-
--- a blank row behind
-pub blank-behind : (rows : List OwnerRow) (i : ℕ) → row_in (rows ++ blank_row ∷ []) i ≡ row_in rows i
-blank-behind [] zero = refl
-blank-behind [] (suc i) = refl
-blank-behind (r ∷ rows) zero = refl
-blank-behind (r ∷ rows) (suc i) = blank-behind rows i
 
 -- changes that are written one after another
 

@@ -11,12 +11,12 @@ use Rattle.tree_laws.proofs.InOrder.{member_is_node}
 use Rattle.form_controls.specs.Owners.{Forms, form_owner, is_associated, is_owned_by, controls_of}
 use Rattle.owner_reading.specs.Owners.{owner_with}
 use Rattle.owner_laws.proofs.OwnerTogether.{owner-together}
+use Rattle.owner_laws.proofs.TogetherCut.{AreTogether}
 use Rattle.owner_rows.specs.OwnerRow.{OwnerRow, row_in, row_of}
 use Rattle.form_owner.specs.Reading.{is_owned_in}
 use Rattle.form_owner.specs.Writing.{IsKept, ListsStood}
 use Rattle.form_owner.proofs.Nodes.{is-number}
 use Rattle.form_owner.proofs.Rows.{filter-members}
-use Rattle.form_owner.proofs.Touching.{StaysTogether}
 
 -- one test after another
 filter-twice : (p q : ℕ → Bool) (xs : List ℕ) → filter p (filter q xs) ≡ filter (λ x. q x && p x) xs
@@ -33,7 +33,7 @@ module _ (before after : Forms) (old_tidy : IsTidy before.forest) (tidy : IsTidy
     (owners : (i : ℕ) → (row_in rows i).owner ≡ form_owner before (i + 1))
     (controls : (i : ℕ) → (row_in rows i).controls ≡ controls_of before (i + 1))
     (flags : (i : ℕ) → (row_in rows i).associated ≡ is_associated after (i + 1))
-    (stays : (g : ℕ) → IsNode before.forest g → (q : ℕ → Bool) → StaysTogether q before.forest after.forest g →
+    (stays : (g : ℕ) → IsNode before.forest g → (q : ℕ → Bool) → AreTogether q before.forest after.forest g →
     filter q (tree_order_of after.forest (root_at after.forest g)) ≡ filter q (tree_order_of before.forest (root_at before.forest g))) where
   node-before : (m : ℕ) → IsNode after.forest m → IsNode before.forest m
   node-before m node = let low = node.low in let high = node.high in record { low = low; high = omega (arith, high, long) }
@@ -101,7 +101,7 @@ module _ (before after : Forms) (old_tidy : IsTidy before.forest) (tidy : IsTidy
         and-false true = refl
         and-false false = refl
 
-    together : StaysTogether tested before.forest after.forest (i + 1)
+    together : AreTogether tested before.forest after.forest (i + 1)
     together m e =
         let both = and_parts (test m) (is_number_of_node m) e in
         let at = of_node m both.1 in

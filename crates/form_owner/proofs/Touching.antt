@@ -14,7 +14,7 @@ use Rattle.tree_laws.proofs.Changed.{spot-with-other}
 use Rattle.owner_laws.proofs.AttributeOrders.{order-set, order-gone, root-set, root-gone}
 use Rattle.owner_laws.proofs.PutBack.{graft-up}
 use Rattle.owner_laws.proofs.Shift.{IsShift, cut-shift, graft-shift}
-use Rattle.owner_laws.proofs.TogetherCut.{together-cut}
+use Rattle.owner_laws.proofs.TogetherCut.{AreTogether, together-cut}
 use Rattle.owner_laws.proofs.TogetherGraft.{together-graft}
 use Rattle.form_owner.specs.declared.touch.Touch.{Touch}
 use Rattle.form_owner.specs.declared.touch.Touch.TheVariants.{Inserted, Removed, Attr, Associated}
@@ -64,10 +64,6 @@ tidy-before (Associated n on) old new t tidy = subst IsTidy t.is tidy
 
 -- orders
 
--- what a test is true of is in the tree of g, before and now
-abbrev pub StaysTogether : (ℕ → Bool) → Trees → Trees → ℕ → Type 0
-StaysTogether q old new g = (m : ℕ) → q m ≡ true → IsNode old m × ((root_at old m ≡ root_at old g) × (root_at new m ≡ root_at new g))
-
 abbrev KeepsOrder : Trees → Trees → ℕ → (ℕ → Bool) → Type 0
 KeepsOrder old new g q = filter q (tree_order_of new (root_at new g)) ≡ filter q (tree_order_of old (root_at old g))
 
@@ -78,14 +74,14 @@ changed-order n old new t g q = elim t.is [
   | inr gone ↦ subst (λ f. KeepsOrder old f g q) (sym gone) (ap (filter q) (order-gone old n t.name _ ∙ ap (tree_order_of old) (root-gone old n t.name g)))
 ]
 
-pub order-stays : (touch : Touch) (old new : Trees) → IsTouched touch old new → (g : ℕ) → IsNode old g → (q : ℕ → Bool) → StaysTogether q old new g
+pub order-stays : (touch : Touch) (old new : Trees) → IsTouched touch old new → (g : ℕ) → IsNode old g → (q : ℕ → Bool) → AreTogether q old new g
     → KeepsOrder old new g q
 order-stays (Inserted n) old new t g node q together =
     subst (λ f. KeepsOrder old f g q) (sym t.is)
-    (together-graft old t.parent n t.before t.tidy t.parent_node t.node t.may t.free g node q (subst (λ f. StaysTogether q old f g) t.is together))
+    (together-graft old t.parent n t.before t.tidy t.parent_node t.node t.may t.free g node q (subst (λ f. AreTogether q old f g) t.is together))
 order-stays (Removed n parent) old new t g node q together =
     subst (λ f. KeepsOrder old f g q) (sym t.is)
-    (together-cut old n parent t.tidy t.node t.placed g node q (subst (λ f. StaysTogether q old f g) t.is together))
+    (together-cut old n parent t.tidy t.node t.placed g node q (subst (λ f. AreTogether q old f g) t.is together))
 order-stays (Attr n) old new t g node q together = changed-order n old new t g q
 order-stays (Associated n on) old new t g node q together = ap (λ f. filter q (tree_order_of f (root_at f g))) t.is
 

@@ -9,7 +9,7 @@ ghost use Rattle.form_owner.specs.Writing.{Written, AreListed};
 use crate::node_list::node_at;
 use ce_base::{NoMemory, NodeNo, Nodes};
 use node_arena::Tree;
-use owner_rows::{Row, owner_in, place_of};
+use owner_rows::{Row, owner_in};
 use std::alloc::Global;
 
 /// Whether a form is the owner of a node, by the rows.
@@ -66,7 +66,7 @@ fn list_of(alloc: Global, tree: &Tree, rows: &mut [Row], form: NodeNo) -> Result
     ensures { OnOk result (Written rows.old rows.new (form - 1) (record (row_of rows.old form) { controls = owned_in rows.old tree.now form })) }
 {
     let controls = owned(alloc, tree, rows, form)?;
-    let row = &mut rows[place_of(form)];
+    let row = &mut rows[form.place()];
     row.set_controls(controls);
     Ok(())
 }

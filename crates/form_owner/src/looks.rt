@@ -11,7 +11,7 @@ use crate::seeing::is_known;
 use ce_base::{NoMemory, NodeNo};
 use node_arena::{NodeKind, Tree};
 use ordered_tables::IdIndex;
-use owner_rows::{Row, place_of};
+use owner_rows::Row;
 use std::alloc::Global;
 use std::marker::Model;
 
@@ -57,7 +57,7 @@ impl Looks {
     pub(crate) fn at(&self, n: NodeNo) -> Look
         ensures { result ≡ look_at self.now (n - 1) }
     {
-        match self.items.get(place_of(n)) {
+        match self.items.get(n.place()) {
             None => Look::Whole,
             Some(look) => *look,
         }
@@ -101,7 +101,7 @@ impl Looks {
         ensures here { look_at self.new (n - 1) ≢ Whole → look_at self.new (n - 1) ≡ look }
         ensures others { (i : ℕ) → i ≢ n - 1 → look_at self.new i ≡ look_at self.old i }
     {
-        let place = place_of(n);
+        let place = n.place();
         if place < self.items.len() {
             let old = self.items[place];
             self.items[place] = look;

@@ -18,13 +18,13 @@ use crate::Changes;
 use crate::writing::write_all;
 use ce_base::{NoMemory, NodeNo};
 use node_arena::Tree;
-use owner_rows::{Row, controls_in, is_in, owner_in, place_of};
+use owner_rows::{Row, controls_in, is_in, owner_in};
 
 /// Takes a node out of a form's list.
 fn take_from(rows: &mut [Row], form: NodeNo, n: NodeNo)
     ensures { Written rows.old rows.new (form - 1) (record (row_of rows.old form) { controls = filter (is_other n) (row_of rows.old form).controls }) }
 {
-    let place = place_of(form);
+    let place = form.place();
     if place < rows.len() {
         let row = &mut rows[place];
         row.take_out(n);
@@ -119,7 +119,7 @@ fn put_into(
     requires apart { AreApart (row_of rows.old form).controls }
     ensures { OnOk result (Written rows.old rows.new (form - 1) (with_control before n (row_of rows.old form))) }
 {
-    let row = &mut rows[place_of(form)];
+    let row = &mut rows[form.place()];
     row.put_in(n, before)?;
     Ok(())
 }

@@ -11,7 +11,7 @@ use crate::Touch;
 use ce_base::{NoMemory, NodeNo};
 use node_arena::Tree;
 use ordered_tables::IdIndex;
-use owner_rows::{Row, Seen, form_seen_in, place_of};
+use owner_rows::{Row, Seen, form_seen_in};
 use std::alloc::Global;
 
 /// Whether a text is known to be somebody's `form` attribute, or to have been. It stays known, so that no node is noted
@@ -87,7 +87,7 @@ fn see(
 {
     rename(alloc, tree, rows, named, n)?;
     let seen = Seen::of(alloc, tree, n)?;
-    let row = &mut rows[place_of(n)];
+    let row = &mut rows[n.place()];
     row.set_seen(seen);
     Ok(())
 }

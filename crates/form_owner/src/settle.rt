@@ -19,7 +19,7 @@ use crate::{Changes, OwnerTable, Touch};
 use ce_base::{NoMemory, NodeNo};
 use node_arena::Tree;
 use ordered_tables::NodeSet;
-use owner_rows::{Row, place_of};
+use owner_rows::Row;
 use std::alloc::Global;
 
 /// Puts blank rows behind, up to a count.
@@ -39,7 +39,7 @@ fn mark(rows: &mut [Row], n: NodeNo, on: bool)
     requires { n - 1 < length rows.old }
     ensures { Written rows.old rows.new (n - 1) (record (row_of rows.old n) { associated = on }) }
 {
-    let row = &mut rows[place_of(n)];
+    let row = &mut rows[n.place()];
     row.set_associated(on);
 }
 

@@ -6,14 +6,14 @@ ghost use Rattle.form_owner.specs.Writing.{Written, with_changes, with_told};
 
 use crate::Changes;
 use ce_base::NodeNo;
-use owner_rows::{Row, place_of};
+use owner_rows::Row;
 
 /// Writes what is told of a node into its row.
 fn write(rows: &mut [Row], n: NodeNo, owner: Option<Option<NodeNo>>, disabled: Option<bool>)
     requires { n - 1 < length rows.old }
     ensures { Written rows.old rows.new (n - 1) (with_told owner disabled (row_of rows.old n)) }
 {
-    let row = &mut rows[place_of(n)];
+    let row = &mut rows[n.place()];
     row.take_over(owner, disabled);
 }
 

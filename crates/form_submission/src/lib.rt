@@ -5,13 +5,15 @@
 
 mod boundary;
 mod plan;
+mod scheme;
 mod site;
 mod worked;
 
 pub use boundary::is_boundary;
 pub use plan::{Plan, Why};
+pub use scheme::is_web;
 pub use site::Site;
 pub use worked::{
     worked_actions, worked_bodies, worked_button, worked_causes, worked_entries, worked_groups,
-    worked_validation,
+    worked_texts, worked_validation,
 };

@@ -1,16 +1,8 @@
 -- Lines of bytes that come in pieces.
 use Rattle.std.proofs.Common.{◌≡◌, ◌≢◌, ◌<◌, ℕ, true, false, ◌==◌, cond, length, List, [], ◌∷◌, ◌++◌, refl, sym, ap, ◌∙◌, append_assoc, append-nil, arith, All}
-use Rattle.std.specs.List.{AllByRecursion}
-use Rattle.std.proofs.lemmas.Grind.{common_steps}
 use Rattle.std.proofs.lemmas.List.Elements.{recursion_from_All}
 use Rattle.ce_algorithms.specs.Lines.{whole_from, part_from, whole_lines, last_part, last_line, lines_of}
-
--- no line feed is among the bytes
-abbrev NoFeed : List ℕ → Type 0
-NoFeed = AllByRecursion (λ b. b ≢ 10)
-
-not_feed : (b : ℕ) → b ≢ 10 → (b == 10) ≡ false
-not_feed b h = grind (arith, common_steps)
+use Rattle.ce_algorithms.proofs.NoFeeds.{part_from-no_feed, whole_from-no_feed}
 
 -- what comes later is cut as if the part before stood in front of it
 whole_from-append : (p a b : List ℕ) → whole_from p (a ++ b) ≡ whole_from p a ++ whole_from (part_from p a) b
@@ -30,17 +22,6 @@ part_from-append p (x ∷ a) b =
       | true ↦ part_from-append [] a b
       | false ↦ part_from-append (p ++ x ∷ []) a b
     ]
-
--- bytes without a line feed go onto the part before
-whole_from-no_feed : (p q b : List ℕ) → NoFeed q → whole_from p (q ++ b) ≡ whole_from (p ++ q) b
-whole_from-no_feed p [] b h = ap (λ l. whole_from l b) (sym (append-nil p))
-whole_from-no_feed p (x ∷ q) b h =
-    rw (not_feed x h.0) (whole_from-no_feed (p ++ x ∷ []) q b h.1 ∙ ap (λ l. whole_from l b) (append_assoc p (x ∷ []) q))
-
-part_from-no_feed : (p q b : List ℕ) → NoFeed q → part_from p (q ++ b) ≡ part_from (p ++ q) b
-part_from-no_feed p [] b h = ap (λ l. part_from l b) (sym (append-nil p))
-part_from-no_feed p (x ∷ q) b h =
-    rw (not_feed x h.0) (part_from-no_feed (p ++ x ∷ []) q b h.1 ∙ ap (λ l. part_from l b) (append_assoc p (x ∷ []) q))
 
 -- a line, its line feed, and other bytes
 pub whole_lines-line : (line rest : List ℕ) → All (λ b. b ≢ 10) line → whole_lines (line ++ 10 ∷ rest) ≡ line ∷ whole_lines rest

@@ -1,9 +1,8 @@
 -- The forest as which links are seen: they are those of one at most.
-use Rattle.std.specs.Prelude.{◌≡◌, List, length}
+use Rattle.std.specs.Prelude.{◌≡◌, List}
 use Rattle.std.proofs.Common.{subst}
 use mathlib.Core.HLevel.{Σ_prop_path}
 use Rattle.node_trees.specs.Trees.{Trees}
-use Rattle.node_trees.specs.Nodes.{size}
 use Rattle.node_arena.specs.Links.{Link, IsLinked}
 use Rattle.node_arena.specs.OneForest.{IsLinked-prop, IsLinked-unique}
 
@@ -24,7 +23,3 @@ seen_is links a f is = IsLinked-unique links a.0 f a.1 is
 pub seen_fact : (links : List Link) (a : Forest links) (f : Trees) → seen links a ≡ f → IsLinked links f
 unfolding seen
 seen_fact links a f is = subst (IsLinked links) is a.1
-
-pub seen_size : (links : List Link) (a : Forest links) → size (seen links a) ≡ length links
-unfolding seen
-seen_size links a = a.1.counted

@@ -1,10 +1,10 @@
 -- The ancestors of a node: it stands in the order of each one's tree.
-use Rattle.std.proofs.Common.{◌≡◌, ℕ, true, ◌==◌, List, [], ◌∷◌, ◌++◌, refl, ap, sym, ◌∙◌, arith, inl, inr}
+use Rattle.std.proofs.Common.{◌≡◌, ℕ, true, ◌==◌, List, [], ◌∷◌, ◌++◌, ap, sym, ◌∙◌, arith, inl, inr}
 use Rattle.std.proofs.lemmas.Bool.{cases_eq, or_cases}
 use Rattle.std.proofs.lemmas.Bool.Decides.{nat_tests}
 use Rattle.node_trees.specs.Facts.{Facts}
 use Rattle.node_trees.specs.Trees.{Trees, none, tree}
-use Rattle.node_trees.specs.Nodes.{times, IsTidy}
+use Rattle.node_trees.specs.Nodes.{IsTidy}
 use Rattle.node_trees.specs.Orders.{tree_order, tree_order_of}
 use Rattle.node_trees.specs.Paths.{is_among}
 use Rattle.node_trees.proofs.Absent.{is_among-append}
@@ -13,12 +13,6 @@ use Rattle.tree_laws.proofs.Pieces.{tree_of-here, tree_of-shadow, tree_of-childr
 use Rattle.tree_laws.proofs.Sums.{tidy-apart, apart-shadow, apart-children, apart-rest}
 use Rattle.form_controls.specs.Owners.{ancestors_below, ancestors}
 use Rattle.owner_laws.proofs.Roots.{order-there}
-
--- no ancestors where the node does not stand
-pub above-absent : (above : List ℕ) (n : ℕ) (f : Trees) → times n f ≡ 0 → ancestors_below above n f ≡ []
-above-absent above n none z = refl
-above-absent above n (tree m x s k r) z =
-    grind (arith, nat_tests, above-absent [] n s (omega arith), above-absent (m ∷ above) n k (omega arith), above-absent above n r (omega arith))
 
 -- an ancestor of n in a list of trees: one of those above the list, and n is in the list's order, or one in the list, and n is in its order
 data Ancestor (above : List ℕ) (a n : ℕ) (f : Trees) : Type 0 where

@@ -8,7 +8,7 @@ use Rattle.node_trees.proofs.Weights.{IsApart}
 use Rattle.tree_laws.proofs.Sums.{apart-shadow, apart-children, apart-rest, times-join}
 use Rattle.tree_laws.proofs.Pieces.{tree_of-here}
 use Rattle.form_controls.specs.Owners.{ancestors_below, ancestors}
-use Rattle.owner_laws.proofs.Ancestors.{above-absent}
+use Rattle.form_controls.proofs.Ancestors.{above-absent}
 
 above-right : (above : List ℕ) (m : ℕ) (f g : Trees) → times m f ≡ 0 → ancestors_below above m (join f g) ≡ ancestors_below above m g
 above-right above m none g z = refl

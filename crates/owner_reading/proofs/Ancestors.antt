@@ -10,13 +10,9 @@ use Rattle.tree_laws.proofs.Sums.{tidy-apart, apart-shadow, apart-children, apar
 use Rattle.tree_laws.proofs.Pieces.{spot-here, spot-shadow, spot-children, spot-rest}
 use Rattle.tree_laws.proofs.AtNode.{node_stands, node_spot, parent_at-is}
 use Rattle.form_controls.specs.Owners.{ancestors_below, ancestors}
+use Rattle.form_controls.proofs.Ancestors.{above-absent}
 
 -- by the part of the trees that the node stands in
-
-pub above-absent : (above : List ℕ) (n : ℕ) (f : Trees) → times n f ≡ 0 → ancestors_below above n f ≡ []
-above-absent above n none z = refl
-above-absent above n (tree m x s k r) z =
-    grind (arith, nat_tests, above-absent [] n s (omega arith), above-absent (m ∷ above) n k (omega arith), above-absent above n r (omega arith))
 
 above-here : (above : List ℕ) (n m : ℕ) (x : Facts) (s k r : Trees) → m ≡ n → ancestors_below above n (tree m x s k r) ≡ above
 above-here above n m x s k r e = grind (arith, nat_tests)

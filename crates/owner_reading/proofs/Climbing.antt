@@ -1,21 +1,14 @@
 -- Loops up from a node.
 use Rattle.std.proofs.Common.{◌≡◌, ℕ, Bool, false, cond, Some, None, refl, sym}
-use Rattle.std.specs.Prelude.{find, ◌||◌, ◌==◌}
+use Rattle.std.specs.Prelude.{find, ◌||◌}
 use Rattle.std.specs.List.{list_any}
 use Rattle.node_trees.specs.Trees.{Trees}
 use Rattle.node_trees.specs.Nodes.{IsNode, IsTidy}
-use Rattle.node_trees.specs.Paths.{is_among}
 use Rattle.node_trees.specs.Spots.{parent_at}
 use Rattle.form_controls.specs.Owners.{ancestors}
 use Rattle.owner_reading.proofs.Ancestors.{ancestors-up, ancestors-top}
 
 module _ (f : Trees) (n : ℕ) (tidy : IsTidy f) (node : IsNode f n) where
-  pub among-up : (a q : ℕ) → Some q ≡ parent_at f n → is_among a (ancestors f n) ≡ (q == a || is_among a (ancestors f q))
-  among-up a q e = rw (ancestors-up f n tidy node q (sym e)) refl
-
-  pub among-top : (a : ℕ) → None ≡ parent_at f n → is_among a (ancestors f n) ≡ false
-  among-top a e = rw (ancestors-top f n tidy node (sym e)) refl
-
   module _ (p : ℕ → Bool) where
     pub find-up : (q : ℕ) → Some q ≡ parent_at f n → find p (ancestors f n) ≡ cond (p q) (Some q) (find p (ancestors f q))
     find-up q e = rw (ancestors-up f n tidy node q (sym e)) refl

@@ -12,6 +12,5 @@ pub use control_list::is_in;
 pub use row::Row;
 pub use rows::{
     associated_in, controls_in, disabled_in, disabled_seen_in, form_seen_in, id_seen_in, owner_in,
-    place_of,
 };
 pub use seen::Seen;

@@ -1,23 +1,16 @@
 // Rows by their nodes. A row past the end of a list is blank.
-ghost use Rattle.std.specs.Prelude.{◌≡◌, ◌-◌};
+ghost use Rattle.std.specs.Prelude.{◌≡◌};
 ghost use Rattle.std.specs.Option.{option_copied};
 ghost use Rattle.owner_rows.specs.OwnerRow.{row_of};
 
 use crate::Row;
 use ce_base::NodeNo;
 
-/// The place of a node's row, from 0: the row of node 1 comes first.
-pub fn place_of(n: NodeNo) -> usize
-    ensures { result ≡ n - 1 }
-{
-    n.0.saturating_sub(1) as usize
-}
-
 /// The form owner of a node, as its row has it.
 pub fn owner_in(rows: &[Row], n: NodeNo) -> Option<NodeNo>
     ensures { result ≡ (row_of rows.now n).owner }
 {
-    match rows.get(place_of(n)) {
+    match rows.get(n.place()) {
         None => None,
         Some(row) => row.owner(),
     }
@@ -27,7 +20,7 @@ pub fn owner_in(rows: &[Row], n: NodeNo) -> Option<NodeNo>
 pub fn disabled_in(rows: &[Row], n: NodeNo) -> bool
     ensures { result ≡ (row_of rows.now n).disabled }
 {
-    match rows.get(place_of(n)) {
+    match rows.get(n.place()) {
         None => false,
         Some(row) => row.disabled(),
     }
@@ -37,7 +30,7 @@ pub fn disabled_in(rows: &[Row], n: NodeNo) -> bool
 pub fn associated_in(rows: &[Row], n: NodeNo) -> bool
     ensures { result ≡ (row_of rows.now n).associated }
 {
-    match rows.get(place_of(n)) {
+    match rows.get(n.place()) {
         None => false,
         Some(row) => row.associated(),
     }
@@ -47,7 +40,7 @@ pub fn associated_in(rows: &[Row], n: NodeNo) -> bool
 pub fn controls_in(rows: &[Row], n: NodeNo) -> &[NodeNo]
     ensures { result.now ≡ (row_of rows.now n).controls }
 {
-    match rows.get(place_of(n)) {
+    match rows.get(n.place()) {
         None => &[],
         Some(row) => row.controls(),
     }
@@ -57,7 +50,7 @@ pub fn controls_in(rows: &[Row], n: NodeNo) -> &[NodeNo]
 pub fn id_seen_in(rows: &[Row], n: NodeNo) -> Option<&str>
     ensures { option_copied result ≡ (row_of rows.now n).seen.id }
 {
-    match rows.get(place_of(n)) {
+    match rows.get(n.place()) {
         None => None,
         Some(row) => row.seen().id(),
     }
@@ -67,7 +60,7 @@ pub fn id_seen_in(rows: &[Row], n: NodeNo) -> Option<&str>
 pub fn form_seen_in(rows: &[Row], n: NodeNo) -> Option<&str>
     ensures { option_copied result ≡ (row_of rows.now n).seen.form }
 {
-    match rows.get(place_of(n)) {
+    match rows.get(n.place()) {
         None => None,
         Some(row) => row.seen().form(),
     }
@@ -77,7 +70,7 @@ pub fn form_seen_in(rows: &[Row], n: NodeNo) -> Option<&str>
 pub fn disabled_seen_in(rows: &[Row], n: NodeNo) -> bool
     ensures { result ≡ (row_of rows.now n).seen.disabled }
 {
-    match rows.get(place_of(n)) {
+    match rows.get(n.place()) {
         None => false,
         Some(row) => row.seen().disabled(),
     }

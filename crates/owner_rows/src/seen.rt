@@ -5,7 +5,7 @@ ghost use Rattle.node_trees.specs.Nodes.{IsNode};
 ghost use Rattle.owner_rows.specs.Attributes.{seen_at};
 ghost use Rattle.owner_rows.specs.OwnerRow.{blank_seen};
 
-use ce_base::{NoMemory, NodeNo, Text};
+use ce_base::{NoMemory, NodeNo, Text, owned};
 use form_kinds::has_disabled;
 use node_arena::Tree;
 use std::alloc::Global;
@@ -45,8 +45,8 @@ impl Seen {
         requires { IsNode tree.now n }
         ensures { IfOk result (λ s. s ≡ seen_at tree.now n) }
     {
-        let id = copied(alloc, tree.attr(n, "id"))?;
-        let form = copied(alloc, tree.attr(n, "form"))?;
+        let id = owned(alloc, tree.attr(n, "id"))?;
+        let form = owned(alloc, tree.attr(n, "form"))?;
         Ok(Seen {
             id,
             form,
@@ -70,16 +70,6 @@ impl Seen {
         ensures { result ≡ self.now.disabled }
     {
         self.disabled
-    }
-}
-
-/// A text of its own, where there is one.
-fn copied(alloc: Global, text: Option<&str>) -> Result<Option<Text>, NoMemory>
-    ensures { IfOk result (λ t. t ≡ option_copied text.entry) }
-{
-    match text {
-        None => Ok(None),
-        Some(text) => Ok(Some(Text::of(alloc, text)?)),
     }
 }
 

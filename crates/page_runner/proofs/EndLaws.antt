@@ -12,7 +12,7 @@ use Rattle.ce_base.specs.Outside.{AppendsPart, IsPrefix}
 use Rattle.ce_algorithms.specs.Lines.{lines_of, whole_from, whole_lines}
 use Rattle.ce_algorithms.specs.Session.{start, log_of}
 use Rattle.ce_algorithms.specs.State.{State}
-use Rattle.ce_algorithms.specs.Steps.{Step, Outcome, Goes, Throws, Spent, then_do, is_spent}
+use Rattle.ce_algorithms.specs.Steps.{Outcome, is_spent}
 use Rattle.ce_algorithms.proofs.FramedSteps.{framed_run_lines}
 use Rattle.ce_algorithms.proofs.Writing.{part_then}
 use Rattle.ce_events.specs.Text.{text}
@@ -20,6 +20,7 @@ use Rattle.command_words.specs.declared.words.Options.{Options}
 use Rattle.command_words.specs.declared.words.Meaning.TheVariants.{Script}
 use Rattle.line_feed.proofs.LineLaws.{lines_of-front}
 use Rattle.page_runner.specs.Ending.{Ends, end_status, script_lines, script_transcript}
+use Rattle.script_runner.proofs.WholeLaws.{all_taken, then_spent}
 use Rattle.script_runner.proofs.PieceLaws.{counted-ended, counted-within}
 use Rattle.script_runner.proofs.SittingLaws.{run_from-append}
 use Rattle.script_runner.proofs.WholeLaws.{runs_whole}
@@ -80,11 +81,6 @@ cut_lines taken rest =
             | inr short ↦ let more = lines_of-front taken rest in (more.0, counted-ended (taken ++ rest) short ∙ (more.1 ∙ ap (λ l. l ++ more.0) (sym lines)))
           ]
     ]
-
--- all bytes were taken where none is left
-all_taken : (script : List ℕ) (left : Option (List ℕ)) (taken : List ℕ) → Consumes (Some script) left taken → IsAtEnd left → script ≡ taken
-all_taken script None taken took none = absurd took
-all_taken script (Some rest) taken took none = took ∙ (ap (λ l. taken ++ l) none ∙ append-nil taken)
 
 -- the lines that count are the first ones of the script
 counted_front : (script taken : List ℕ) (ended : Bool) (left : Option (List ℕ)) → Consumes (Some script) left taken → (ended ≡ true → IsAtEnd left)
@@ -152,11 +148,6 @@ ends_within set script status held held' short (inl whole) =
 ends_within set script status held held' short (inr none) = inr none
 
 -- a longer one
-then_spent : {S A : Type 0} (o : Outcome S A) (next : A → Step S A) → is_spent o ≡ true → then_do o next ≡ o
-then_spent (Goes a s) next h = cc
-then_spent (Throws f s) next h = cc
-then_spent (Spent s) next h = refl
-
 ends_spent : (set : Options) (script : List ℕ) (call : Call) (held held' : Option (List ℕ)) → Row Fuel set call → Consumes (Some script) call.left call.taken
     → Appends held held' call.written → Ends set script Fuel held held'
 ends_spent set script call held held' row took wrote =

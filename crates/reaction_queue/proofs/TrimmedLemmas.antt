@@ -1,5 +1,5 @@
 -- Lists side by side, without the empty ones at the end.
-use Rattle.std.proofs.Common.{◌≡◌, ◌≤◌, ◌<◌, ℕ, zero, suc, List, [], ◌∷◌, ◌++◌, length, get_or, refl, ap, sym, ◌∙◌, arith, Option, Some, None, IfNone}
+use Rattle.std.proofs.Common.{◌≡◌, ◌≤◌, ◌<◌, ℕ, zero, suc, List, [], ◌∷◌, ◌++◌, length, get_or, refl, ap, sym, ◌∙◌, arith, Option, Some, None}
 use Rattle.std.proofs.Common.{MatchOption}
 use Rattle.std.specs.Prelude.{slice_set}
 use Rattle.std.proofs.lemmas.List.{get_or-set_same, length-set, set-get_or}
@@ -75,12 +75,6 @@ takes_others ls i l m None lt read taken =
     ap trimmed (ap (slice_set ls i) (taken.1 ∙ sym taken.0 ∙ read) ∙ set-get_or ls i l)
 takes_others ls i l m (Some x) lt read taken =
     trimmed-set i m ls lt ∙ ap (λ xs. with_list i xs (trimmed ls)) (sym (list_at-set i ls m lt))
-
-pub takes_none : {A : Type 0} → (ls : List (List A)) (i : ℕ) (l m : List A) (r : Option A) → i < length ls → l ≡ get_or ls i l
-    → MatchOption r ((l ≡ []) × (m ≡ [])) (λ x. l ≡ x ∷ m)
-    → IfNone r (with_list i [] (trimmed ls) ≡ trimmed ls)
-takes_none ls i l m None lt read taken = trimmed-empty i ls (list_at-read i ls l lt read ∙ taken.0)
-takes_none ls i l m (Some x) lt read taken = tt
 
 -- one more comes last in the list at a place
 pub appends : {A : Type 0} → (ls : List (List A)) (i : ℕ) (l m : List A) (x : A) → i < length ls → l ≡ get_or ls i l → m ≡ l ++ x ∷ []

@@ -52,7 +52,7 @@ impl Waiting {
         ensures ok { OnOk result (self.new ≡ with_list (node - 1) (list_at (node - 1) self.old ++ (number, r) ∷ []) self.old) }
         ensures err { OnErr result (self.new ≡ self.old) }
     {
-        let i = place_of(node);
+        let i = node.place();
         if let Err(refused) = grow(&mut self.ends, i) {
             drop(r);
             return Err(refused);
@@ -68,7 +68,7 @@ impl Waiting {
         ensures others { MatchOption result (self.new ≡ self.old) (λ w. self.new ≡ with_list (node - 1) (list_at (node - 1) self.new) self.old) }
         ensures empty { IfNone result (with_list (node - 1) [] self.old ≡ self.old) }
     {
-        let i = place_of(node);
+        let i = node.place();
         if i >= self.ends.len() {
             return None;
         }
@@ -79,13 +79,6 @@ impl Waiting {
         self.ends[i] = rest;
         Some(first)
     }
-}
-
-// The place of a node among the ends.
-fn place_of(node: NodeNo) -> usize
-    ensures { result ≡ node - 1 }
-{
-    node.0.saturating_sub(1) as usize
 }
 
 // Adds ends of empty chains until there are some in the place.

@@ -7,18 +7,9 @@ ghost use Rattle.rule_lines.specs.declared.op.Op.TheVariants.{Let, MakeText, New
 ghost use Rattle.rule_lines.specs.declared.op.Op.TheVariants.{StateAdd, StateClear, StateDelete, Submit, Upgrade, Validity, Value};
 
 use crate::{AskWord, Op};
-use ce_base::{Entries, Flags, NoMemory, Text};
+use ce_base::{Entries, Flags, NoMemory, Text, copy_of};
 use rule_tokens::{Operand, Val};
 use std::alloc::Global;
-
-fn maybe_text(alloc: Global, o: &Option<Text>) -> Result<Option<Text>, NoMemory>
-    ensures { IfOk result (λ x. x ≡ o.now) }
-{
-    match o {
-        None => Ok(None),
-        Some(text) => Ok(Some(text.copy(alloc)?)),
-    }
-}
 
 fn maybe_value(alloc: Global, o: &Option<Val>) -> Result<Option<Val>, NoMemory>
     ensures { IfOk result (λ x. x ≡ o.now) }
@@ -51,7 +42,7 @@ fn create(
     Ok(Op::Create {
         var: var.copy(alloc)?,
         local: local.copy(alloc)?,
-        is_value: maybe_text(alloc, is_value)?,
+        is_value: copy_of(alloc, is_value)?,
         document: maybe_node(alloc, document)?,
     })
 }
@@ -111,7 +102,7 @@ fn define(alloc: Global, name: &Text, class: &Text, base: &Option<Text>) -> Resu
     Ok(Op::Define {
         name: name.copy(alloc)?,
         class: class.copy(alloc)?,
-        base: maybe_text(alloc, base)?,
+        base: copy_of(alloc, base)?,
     })
 }
 
@@ -154,7 +145,7 @@ fn ask(alloc: Global, word: AskWord, node: &Operand, name: &Option<Text>) -> Res
     Ok(Op::Ask {
         word,
         node: node.copy(alloc)?,
-        name: maybe_text(alloc, name)?,
+        name: copy_of(alloc, name)?,
     })
 }
 

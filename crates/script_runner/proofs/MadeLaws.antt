@@ -56,9 +56,6 @@ pub record MadeOn (a s : Sitting) (all left : List (List ℕ)) (held held' : Opt
 
 module _ (a s t : Sitting) (all left next : List (List ℕ)) (line : List ℕ) (held mid held' : Option (List ℕ)) (on : MadeOn a s all left held mid)
     (gives : left ≡ line ∷ next) where
-  pub made_room : s.line + length next + 1 ≤ a.line + length all
-  made_room = omega (arith, on.number, ap length gives)
-
   module _ (end : End) (did : Did s.trace mid held' (run_line model (s.line + 1) (reading line) s.state) (outcome_of end t.state))
       (empty : t.state.log ≡ []) (trace : t.trace ≡ s.trace) (number : t.line ≡ s.line + 1) (bad : t.bad ≡ (s.bad || is_bad (reading line))) where
     front : Answered s (line ∷ []) end t mid held'

@@ -22,7 +22,7 @@ use Rattle.script_runner.proofs.SittingLaws.{run_from-append}
 use Rattle.script_runner.proofs.PieceLaws.{counted-within, counted-ended}
 
 -- where the fuel is spent, no step follows
-then_spent : {S A : Type 0} (o : Outcome S A) (next : A → Step S A) → is_spent o ≡ true → then_do o next ≡ o
+pub then_spent : {S A : Type 0} (o : Outcome S A) (next : A → Step S A) → is_spent o ≡ true → then_do o next ≡ o
 then_spent (Goes a s) next h = cc
 then_spent (Throws f s) next h = cc
 then_spent (Spent s) next h = refl
@@ -36,7 +36,7 @@ front_taken script None taken took = absurd took
 front_taken script (Some rest) taken took = (rest, took)
 
 -- and all of it where no byte is left
-all_taken : (script : List ℕ) (left : Option (List ℕ)) (taken : List ℕ) → Consumes (Some script) left taken → IsAtEnd left → script ≡ taken
+pub all_taken : (script : List ℕ) (left : Option (List ℕ)) (taken : List ℕ) → Consumes (Some script) left taken → IsAtEnd left → script ≡ taken
 all_taken script None taken took none = absurd took
 all_taken script (Some rest) taken took none = took ∙ (ap (λ l. taken ++ l) none ∙ append-nil taken)
 

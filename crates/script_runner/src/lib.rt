@@ -1,4 +1,4 @@
-//! Runs a script line by line, in pieces as the source gives them.
+//! Runs a script line by line, in pieces as the source gives them, and scripts that are made.
 #![tactic(auto)]
 
 mod answers;

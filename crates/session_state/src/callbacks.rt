@@ -11,9 +11,8 @@ ghost use Rattle.frame_stack.specs.Stacked.{HasBody, frames_of};
 ghost use Rattle.session_state.specs.Steps.{callee, is_callback};
 
 use crate::State;
-use crate::construct::copy_of;
 use behaviours::Next;
-use ce_base::{ClassNo, NoMemory, NodeNo};
+use ce_base::{ClassNo, NoMemory, NodeNo, copy_of};
 use ce_events::Event;
 use frame_stack::Stack;
 use reaction_queue::Reaction;

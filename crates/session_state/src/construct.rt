@@ -18,7 +18,7 @@ ghost use Rattle.session_state.specs.Steps.{with_frozen};
 
 use crate::State;
 use crate::state::is_out_of_fuel;
-use ce_base::{ClassNo, CustomState, DefNo, Fault, Fuel, NoMemory, NodeNo, Text};
+use ce_base::{ClassNo, CustomState, DefNo, Fault, Fuel, NoMemory, NodeNo, Text, copy_of};
 use ce_events::Event;
 use ce_page::{Page, PageStop};
 use ce_registry::{ClassFacts, Definition};
@@ -238,14 +238,4 @@ fn make_custom(
     page.set_definition(alloc, n, Some(d))?;
     page.set_state(n, CustomState::Custom);
     Ok(n)
-}
-
-/// A text that may be absent, copied. NoMemory: memory was refused.
-pub fn copy_of(alloc: Global, text: &Option<Text>) -> Result<Option<Text>, NoMemory>
-    ensures { IfOk result (λ copy. copy ≡ text.now) }
-{
-    match text {
-        None => Ok(None),
-        Some(text) => Ok(Some(text.copy(alloc)?)),
-    }
 }

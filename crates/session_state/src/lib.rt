@@ -1,6 +1,6 @@
 //! The state of a session, and its steps: those of the page as steps of the session, the parts of classes, and
 //! what a turn of the machine reads and takes: queues, their elements, reactions, and the callbacks that these
-//! call. What was logged is written out by `flush` alone.
+//! call; and the submission of forms. What was logged is written out by `flush` alone.
 #![tactic(auto)]
 
 mod callbacks;
@@ -15,6 +15,5 @@ mod submission;
 mod upgrade;
 mod variables;
 
-pub use construct::copy_of;
 pub use page_calls;
 pub use state::State;

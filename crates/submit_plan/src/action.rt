@@ -1,7 +1,7 @@
 // Where a submission goes.
 ghost use Rattle.std.specs.Prelude.{◌≡◌, Ok, Some, if◌then◌else◌, IfOk, OnOk};
 ghost use Rattle.form_controls.specs.Texts.{is_empty};
-ghost use Rattle.form_submission.specs.Plans.{action_url, is_web};
+ghost use Rattle.form_submission.specs.Plans.{action_url};
 ghost use Rattle.url.specs.Parser.{Gives, Parsed, parse_url};
 ghost use Rattle.url.specs.Parts.{Parts};
 ghost use Rattle.url.specs.Setters as spec;
@@ -42,14 +42,6 @@ fn joined(base: Url, action: &str) -> Result<Option<Url>, NoMemory>
         return Ok(Some(base));
     }
     found(base.join(action))
-}
-
-/// Whether a URL is one of the web.
-pub(crate) fn is_web(url: &Url) -> bool
-    ensures { result ≡ is_web url.now }
-{
-    let scheme = url.scheme();
-    scheme == "http" || scheme == "https"
 }
 
 /// Sets the query of a URL (URL Standard, section "URL class", "search").

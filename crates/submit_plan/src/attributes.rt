@@ -117,8 +117,8 @@ pub(crate) fn encoding_of(tree: &Tree, form: NodeNo, submitter: Option<NodeNo>) 
     encoding_named(said(tree, form, submitter, "formenctype", "enctype"))
 }
 
-/// Whether the form or the submitter says that the controls are not validated (HTML Standard, section "Attributes for form
-/// submission", "no-validate state").
+/// Whether the form or the submitter says that the controls are not validated (HTML Standard, section "Form
+/// submission attributes", "no-validate state").
 pub(crate) fn is_unvalidated(tree: &Tree, form: NodeNo, submitter: Option<NodeNo>) -> bool
     requires form { IsNode tree.now form }
     requires submitter { IsNodeOrNone tree.now submitter }

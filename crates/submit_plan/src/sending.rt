@@ -7,12 +7,12 @@ ghost use Rattle.url.specs.Parts.{Parts};
 ghost use Rattle.submit_plan.specs.Actions.{Finds};
 ghost use Rattle.submit_plan.specs.Named.{encoding_meant, method_meant};
 
-use crate::action::{is_web, set_query};
+use crate::action::set_query;
 use crate::attributes::{Encoding, Method};
 use crate::body::post;
 use crate::size::is_too_large;
 use ce_base::{Entries, NoMemory, Text};
-use form_submission::{Plan, Why};
+use form_submission::{Plan, Why, is_web};
 use std::alloc::Global;
 use submit_encoders::urlencoded;
 use url::Url;

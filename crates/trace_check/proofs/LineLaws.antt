@@ -1,29 +1,10 @@
 -- The first line of bytes, and those behind it.
-use Rattle.std.proofs.Common.{◌≡◌, ◌≢◌, ◌<◌, ◌+◌, ℕ, zero, suc, false, ◌==◌, length, List, [], ◌∷◌, ◌++◌, take, drop, get_or, refl, sym, ap, ◌∙◌, append_assoc}
+use Rattle.std.proofs.Common.{◌≡◌, ◌<◌, ◌+◌, ℕ, zero, suc, length, List, [], ◌∷◌, ◌++◌, take, drop, get_or, refl, sym, ap, ◌∙◌}
 use Rattle.std.proofs.Common.{append-nil, arith, subst, drop-cons}
-use Rattle.std.specs.List.{AllByRecursion}
 use Rattle.std.proofs.Math.Seq.{take-length}
-use Rattle.std.proofs.lemmas.Grind.{common_steps}
 use Rattle.std.proofs.lemmas.List.{take-append-drop}
-use Rattle.ce_algorithms.specs.Lines.{whole_from, part_from, last_line, lines_of}
-
--- no line feed is among the bytes
-abbrev NoFeed : List ℕ → Type 0
-NoFeed = AllByRecursion (λ b. b ≢ 10)
-
-not_feed : (b : ℕ) → b ≢ 10 → (b == 10) ≡ false
-not_feed b h = grind (arith, common_steps)
-
--- bytes without a line feed go onto the part before
-whole_from-no_feed : (p q b : List ℕ) → NoFeed q → whole_from p (q ++ b) ≡ whole_from (p ++ q) b
-whole_from-no_feed p [] b h = ap (λ l. whole_from l b) (sym (append-nil p))
-whole_from-no_feed p (x ∷ q) b h =
-    rw (not_feed x h.0) (whole_from-no_feed (p ++ x ∷ []) q b h.1 ∙ ap (λ l. whole_from l b) (append_assoc p (x ∷ []) q))
-
-part_from-no_feed : (p q b : List ℕ) → NoFeed q → part_from p (q ++ b) ≡ part_from (p ++ q) b
-part_from-no_feed p [] b h = ap (λ l. part_from l b) (sym (append-nil p))
-part_from-no_feed p (x ∷ q) b h =
-    rw (not_feed x h.0) (part_from-no_feed (p ++ x ∷ []) q b h.1 ∙ ap (λ l. part_from l b) (append_assoc p (x ∷ []) q))
+use Rattle.ce_algorithms.specs.Lines.{last_line, lines_of}
+use Rattle.ce_algorithms.proofs.NoFeeds.{NoFeed, part_from-no_feed, whole_from-no_feed}
 
 -- a line, its line feed, and other bytes
 lines_of-feed : (line rest : List ℕ) → NoFeed line → lines_of (line ++ 10 ∷ rest) ≡ line ∷ lines_of rest

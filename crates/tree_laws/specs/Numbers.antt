@@ -1,5 +1,5 @@
 -- Edits of a list of numbers.
-use Rattle.std.specs.Prelude.{ℕ, ◌+◌, ◌==◌, if◌then◌else◌, List, [], ◌∷◌, Option}
+use Rattle.std.specs.Prelude.{ℕ, ◌==◌, if◌then◌else◌, List, [], ◌∷◌, Option}
 use Rattle.node_trees.specs.Trees.{is_number}
 
 -- the first n taken out
@@ -11,8 +11,3 @@ remove_number n (m ∷ ms) = if m == n then ms else m ∷ remove_number n ms
 abbrev pub insert_number : Option ℕ → ℕ → List ℕ → List ℕ
 insert_number b n [] = n ∷ []
 insert_number b n (m ∷ ms) = if is_number b m then n ∷ m ∷ ms else m ∷ insert_number b n ms
-
--- where n stands first; the length where it does not
-abbrev pub first_place : ℕ → List ℕ → ℕ
-first_place n [] = 0
-first_place n (m ∷ ms) = if m == n then 0 else first_place n ms + 1

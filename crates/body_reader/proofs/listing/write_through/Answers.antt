@@ -1,6 +1,7 @@
 use Rattle.std.proofs.Common.{arith}
 use Rattle.std.proofs.lemmas.Result.{err_from_is_err_and}
-use Rattle.body_reader.proofs.GatheredLaws.{on_err, passed_part, passed_some}
+use Rattle.ce_base.proofs.Passed.{passed_part, passed_some}
+use Rattle.body_reader.proofs.Refusals.{on_err}
 use Rattle.body_reader.proofs.listing.write_through.Goals as goal
 
 pub returns-in_err-write_entries-clause-part : goal.returns-in_err-write_entries-clause-part

@@ -7,7 +7,7 @@ use Rattle.element_internals.proofs.states.leave_out.Goals as goal
 
 pub returns : goal.returns
 returns c =
-    ap (λ states. slice_set c.args.rows.now c.place_of.result (Some (record c.in-Some.kept { states = states }))) c.remove.ensures
-    ∙ changed new_internals c.args.rows.now (c.args.n - 1) c.place_of.result c.index-rows-place_of.result c.in-Some.kept
+    ap (λ states. slice_set c.args.rows.now c.place.result (Some (record c.in-Some.kept { states = states }))) c.remove.ensures
+    ∙ changed new_internals c.args.rows.now (c.args.n - 1) c.place.result c.index-rows-place.result c.in-Some.kept
     (λ (i : Internals). record i { states = without_state i.states c.args.s.now })
-    c.requires c.place_of.ensures c.in-Some.is
+    c.requires c.place.ensures c.in-Some.is

@@ -7,7 +7,7 @@ use Rattle.element_internals.proofs.states.write_state.Goals as goal
 
 pub returns : goal.returns
 returns c =
-    ap (λ states. slice_set c.args.rows.now c.place_of.result (Some (record c.in-Some.kept { states = states }))) c.in_ok-add-in-Some.ensures
-    ∙ changed new_internals c.args.rows.now (c.args.n - 1) c.place_of.result c.index-rows-place_of.result c.in-Some.kept
+    ap (λ states. slice_set c.args.rows.now c.place.result (Some (record c.in-Some.kept { states = states }))) c.in_ok-add-in-Some.ensures
+    ∙ changed new_internals c.args.rows.now (c.args.n - 1) c.place.result c.index-rows-place.result c.in-Some.kept
     (λ (i : Internals). record i { states = with_state i.states c.args.s })
-    c.requires c.place_of.ensures c.in-Some.is
+    c.requires c.place.ensures c.in-Some.is

@@ -6,6 +6,6 @@ use Rattle.element_internals.proofs.validity.write_validity.Goals as goal
 
 pub returns : goal.returns
 returns c =
-    changed new_internals c.args.rows.now (c.args.n - 1) c.place_of.result c.index-rows-place_of.result c.in-Some.kept
+    changed new_internals c.args.rows.now (c.args.n - 1) c.place.result c.index-rows-place.result c.in-Some.kept
     (λ (i : Internals). record i { flags = c.args.flags; message = c.args.message })
-    c.requires c.place_of.ensures c.in-Some.is
+    c.requires c.place.ensures c.in-Some.is

@@ -8,5 +8,5 @@ pub put_in-requires : goal.put_in-requires
 put_in-requires c = record {
   apart =
       subst (λ (r : OwnerRow). AreApart r.controls)
-      (sym (indexed c.args.rows.now c.place_of.result _ (omega arith) ∙ ap (row_in c.args.rows.now) c.place_of.ensures)) c.requires.apart;
+      (sym (indexed c.args.rows.now c.place.result _ (omega arith) ∙ ap (row_in c.args.rows.now) c.place.ensures)) c.requires.apart;
 }

@@ -1,6 +1,7 @@
 use Rattle.std.proofs.Common.{arith, []}
 use Rattle.std.proofs.lemmas.Result.{err_from_is_err_and}
-use Rattle.script_runner.proofs.GatheredLaws.{passed_part, passed_some}
+use Rattle.ce_base.proofs.Passed.{passed_part}
+use Rattle.script_runner.proofs.GatheredLaws.{answers_passed}
 use Rattle.script_runner.proofs.LoopLaws.{answered_line, part_lines}
 use Rattle.script_runner.proofs.answers.answer_line.Goals as goal
 
@@ -13,7 +14,7 @@ returns-in_err-ran-clause-part g c =
 
 pub returns-in-Err-clause-part : goal.returns-in-Err-clause-part
 returns-in-Err-clause-part g c =
-    passed_some _ c.in_ok-ran.ran.0 _ c.in_ok-ran.ran.1 (g.K.Sink.held c.args.out.now.sink.now) _
+    answers_passed _ c.in_ok-ran.ran.0 _ c.in_ok-ran.ran.1 (g.K.Sink.held c.args.out.now.sink.now) _
     (g.K.Sink.held c.pass_on.new.self.sink.now) c.args.out.now.pending.now c.pass_on.new.self.pending.now c.requires.none
     (answered_line c.args.session c.in_ok-ran.ran.0 c.in_ok-ran.ran.1 c.args.line.now _ _ c.in_ok-ran.ensures.ran c.in_ok-ran.ensures.empty
     c.in_ok-ran.ensures.trace c.in_ok-ran.ensures.number c.in_ok-ran.ensures.bad) c.pass_on.ensures.held

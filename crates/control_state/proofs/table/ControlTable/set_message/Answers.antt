@@ -7,8 +7,8 @@ use Rattle.control_state.proofs.table.ControlTable.set_message.Goals as goal
 
 pub returns : goal.returns
 returns c =
-    changed-at untouched (c.args.n - 1) c.place_of.result c.args.self.now c.self.inside.rows.items c.fill.new.rows.items c.deref_mut.result.now
+    changed-at untouched (c.args.n - 1) c.place.result c.args.self.now c.self.inside.rows.items c.fill.new.rows.items c.deref_mut.result.now
     c.write_message.new.rows _
-    (λ (r : Control). record r { message = c.args.m }) c.place_of.ensures c.self.view_is c.deref_mut.ensures.value
+    (λ (r : Control). record r { message = c.args.m }) c.place.ensures c.self.view_is c.deref_mut.ensures.value
     (with_items_is c.fill.new.rows c.write_message.new.rows (omega (arith, c.write_message.auto.rows, c.deref_mut.ensures.len))) c.in_ok-fill.ensures.same
     c.in_ok-fill.ensures.long c.write_message.ensures

@@ -33,8 +33,8 @@ returns-in_err-ends-clause-err c =
 
 pub invariant_of-self-2 : goal.invariant_of-self-2
 invariant_of-self-2 c =
-    as_read c.put_last.new.cells (set c.grow.new.ends.items c.place_of-i.result (Some c.in_ok-ends.ends)) _
-    (put_chains c.self.inside.cells c.put_last.new.cells c.grow.new.ends.items c.place_of-i.result c.index.result.now c.in_ok-ends.ends
+    as_read c.put_last.new.cells (set c.grow.new.ends.items c.place-i.result (Some c.in_ok-ends.ends)) _
+    (put_chains c.self.inside.cells c.put_last.new.cells c.grow.new.ends.items c.place-i.result c.index.result.now c.in_ok-ends.ends
     (c.args.number, c.args.r)
     (widened c.self.inside.cells c.self.inside.ends.items c.grow.new.ends.items c.grow.ensures.empty c.self.invariant).are
     (omega (arith, c.in_default.ensures.within)) c.index.ensures
@@ -43,9 +43,9 @@ invariant_of-self-2 c =
 pub returns-clause-ok : goal.returns-clause-ok
 returns-clause-ok c =
     (let wider = widened c.self.inside.cells c.self.inside.ends.items c.grow.new.ends.items c.grow.ensures.empty c.self.invariant in
-    rw (← (wider.same ∙ c.self.view_is), ← c.place_of-i.ensures)
-    (put_view c.self.inside.cells c.put_last.new.cells c.grow.new.ends.items c.place_of-i.result c.in_ok-ends.ends (c.args.number, c.args.r)
+    rw (← (wider.same ∙ c.self.view_is), ← c.place-i.ensures)
+    (put_view c.self.inside.cells c.put_last.new.cells c.grow.new.ends.items c.place-i.result c.in_ok-ends.ends (c.args.number, c.args.r)
     (omega (arith, c.in_default.ensures.within))
-    (put_chains c.self.inside.cells c.put_last.new.cells c.grow.new.ends.items c.place_of-i.result c.index.result.now c.in_ok-ends.ends
+    (put_chains c.self.inside.cells c.put_last.new.cells c.grow.new.ends.items c.place-i.result c.index.result.now c.in_ok-ends.ends
     (c.args.number, c.args.r) wider.are (omega (arith, c.in_default.ensures.within)) c.index.ensures
     c.in_ok-ends.ensures.chain c.in_ok-ends.ensures.others c.in_ok-ends.ensures.count)))
