@@ -1,6 +1,6 @@
 // What a line of a transcript sends: the form, the URL, and the names and values in it; or what blocks it. Null of another line.
 export async function sent(line) {
-  const found = /^submit #(\d+) (get|post|blocked) (.*)$/.exec(line);
+  const found = /^submit #(\d+) (get|post|blocked) (.*)$/s.exec(line);
   if (!found) return null;
   const [form, method] = [Number(found[1]), found[2]];
   if (method === "blocked") return { form, method, cause: found[3] };

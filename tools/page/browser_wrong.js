@@ -13,7 +13,7 @@ function wrongInPage(name, transcript) {
     null: '"x"', empty: '#1',
   };
   function wrongs(text) {
-    const [, begin = '', answer = ''] = /^(\d+: |ask )(.*)$/.exec(text) || [];
+    const [, begin = '', answer = ''] = /^(\d+: |ask )(.*)$/s.exec(text) || [];
     if (!begin) return [`${text} x`, null];
     if (answer in others) return [begin + others[answer]];
     if (answer[0] === '"') return [`${begin}"x${answer.slice(1)}`];

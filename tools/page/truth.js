@@ -34,7 +34,7 @@ function scripts(next) {
   const tail = ['define x-a A', 'setattr $e k 2', 'setattr $e k 1', 'detach $e', 'create $f x-a', 'append $p $f', 'setattr $f k 1',
     'delattr $f k', 'new $g A', 'append $html $g', ''];
   const lines = bodies(next);
-  const marked = lines.flatMap((line, at) => [line.replace(/ : .*/, ` : log m${head.length + at + 1}`), line]);
+  const marked = lines.flatMap((line, at) => [line.replace(/ : .*/s, ` : log m${head.length + at + 1}`), line]);
   return [[...head, ...lines, ...tail].join('\n'), [...head, ...marked, ...tail].join('\n')];
 }
 

@@ -49,7 +49,8 @@ globalThis.CepageBrowser ??= {};
 
     // A byte that is no UTF-8 stands in the page as U+FFFD. Where the program refused the line for it, it is one again.
     function withBytes(script, transcript) {
-        const refused = new Set([...transcript.matchAll(/^(\d+): bad utf8$/gm)].map(([, line]) => Number(line)));
+        const replies = transcript.split("\n").map((line) => /^(\d+): bad utf8$/.exec(line));
+        const refused = new Set(replies.filter(Boolean).map(([, line]) => Number(line)));
         const asRead = (line, at) => (refused.has(at + 1) ? line.replaceAll("\ufffd", "\udcff") : line);
         return script.split("\n").map(asRead).join("\n");
     }

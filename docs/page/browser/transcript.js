@@ -121,7 +121,7 @@ globalThis.CepageBrowser ??= {};
     }
 
     // What kind of line it is, so that one of each side stand beside each other where they answer the same thing.
-    const kindOf = ({ text }) => (isReply(text) ? "reply" : text.replace(/^(call \S+ \S+|submit \S+|\S+).*$/, "$1"));
+    const kindOf = ({ text }) => (isReply(text) ? "reply" : text.replace(/^(call \S+ \S+|submit \S+|\S+).*$/s, "$1"));
 
     // Lines between two equal ones: beside each other where they are of one kind, else one above the other.
     function besides(program, browser) {

@@ -44,7 +44,7 @@ globalThis.CepageBrowser ??= {};
             && facts.derivedMissing === isHere,
         "a type that is not here": (facts) => isInput(facts, ...OTHER_TYPES),
     };
-    const blocking = (text) => (/ blocked invalid (.*)$/.exec(text) || ["", ""])[1].split(" ").filter(Boolean);
+    const blocking = (text) => (/^submit #\d+ blocked invalid (.*)$/.exec(text) || ["", ""])[1].split(" ").filter(Boolean);
 
     // Why a control blocks on one side alone; `isHere`: in the program's transcript.
     function whyOf(number, isHere, controls) {
