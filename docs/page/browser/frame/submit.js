@@ -54,12 +54,17 @@ CepageBrowser.frame.push(function submit(run) {
         return (await response.text()).replaceAll(own, run.words.boundary);
     }
 
+    // A URL with this query, the empty one too, in place of its own. What stands from its first `#` on stays: of an empty
+    // fragment `hash` is empty, and the URL has the `#` all the same.
+    function withQuery(href, query) {
+        return href.replace(/^([^?#]*)(\?[^#]*)?/, (all, path) => `${path}?${query}`);
+    }
+
     // What is written of a submission. Only a multipart body has to be waited for.
     function compose(form, submitter, { entries, url }, put) {
         const begin = `submit ${run.number(form)}`;
         if (said(form, submitter, "method") !== "post") {
-            const [path] = url.href.replace(/#.*$/, "").split("?");
-            return put(`${begin} get ${run.quote(`${path}?${urlencoded(entries)}${url.hash}`)}`);
+            return put(`${begin} get ${run.quote(withQuery(url.href, urlencoded(entries)))}`);
         }
         const type = said(form, submitter, "enctype");
         const post = (full, body) => put(`${begin} post ${run.quote(url.href)} ${run.quote(full)} ${run.quote(body)}`);
@@ -131,7 +136,7 @@ CepageBrowser.frame.push(function submit(run) {
         if (controls.some(isChoice)) variants.derived = { url, entries: withDerived(entries, controls) };
         const action = said(form, submitter, "action");
         if (document.querySelector("base[href]") && action) variants.base = { entries, url: new URL(action, run.words.url) };
-        if (/\|/.test(action)) variants.bar = { entries, url: { href: url.href.replace(/%7C/g, "|"), hash: url.hash } };
+        if (/\|/.test(action)) variants.bar = { entries, url: { href: url.href.replace(/%7C/g, "|") } };
         return variants;
     }
 
