@@ -26,10 +26,17 @@ for script in "$folder"/*.script; do
     if [ -f "$name.status" ]; then
         wanted=$(cat "$name.status")
     fi
-    if [ "$status" -ne "$wanted" ]; then
+    case $wanted in
+    '' | *[!0-9]*)
+        echo "$name.status has no status: one is a number, without a space or a carriage return" >&2
+        failed=1
+        ;;
+    "$status") ;;
+    *)
         echo "$script: the status is $status, and not $wanted" >&2
         failed=1
-    fi
+        ;;
+    esac
     diff -u "$name.transcript" "$name.out" >&2 || failed=1
 done
 exit "$failed"

@@ -1,8 +1,14 @@
 // The files of docs/checking.
 import assert from "node:assert/strict";
+import { spawnSync } from "node:child_process";
+import { mkdtempSync, rmSync, writeFileSync } from "node:fs";
+import { tmpdir } from "node:os";
+import { join } from "node:path";
 import { test } from "node:test";
+import { fileURLToPath } from "node:url";
 import { run } from "cepage";
 import { sent } from "../../../docs/checking/sent.mjs";
+import { programOf } from "./program.js";
 
 const FORM = "create $html html\nappend doc $html\ncreate $form form\nsetattr $form method post\nappend $html $form\n";
 
@@ -15,4 +21,27 @@ test("a body with U+2028 and U+2029 is read", async () => {
   });
   assert.equal(await sent("7: ok"), null);
   assert.deepEqual(await sent("submit #3 blocked invalid #5"), { form: 3, method: "blocked", cause: "invalid #5" });
+});
+
+// Runs a file of docs/checking over a folder of these files, by a program that ends with this status.
+function checked(words, files, status, variables) {
+  const folder = mkdtempSync(join(tmpdir(), "cepage-"));
+  for (const [name, text] of Object.entries(files)) writeFileSync(join(folder, name), text);
+  const [name, ...rest] = words.map((word) => (word === "FOLDER" ? folder : word));
+  const { NODE_TEST_CONTEXT, ...env } = { ...process.env, PAGES: folder, CEPAGE: programOf(`cat > /dev/null; exit ${status}`), ...variables };
+  const ended = spawnSync(name, rest, { env, cwd: fileURLToPath(new URL("../../../docs/checking/", import.meta.url)) });
+  rmSync(folder, { recursive: true });
+  return { status: ended.status, told: `${ended.stdout}${ended.stderr}` };
+}
+
+test("compare.sh compares the status, and takes no odd one for equal", () => {
+  const compared = (files, status) => checked(["sh", "compare.sh", "FOLDER"], { "a.script": "", "a.transcript": "", ...files }, status);
+  for (const [files, status] of [[{}, 0], [{ "a.status": "3\n" }, 3], [{ "a.status": "0" }, 0]]) {
+    assert.deepEqual(compared(files, status), { status: 0, told: "" });
+  }
+  for (const [text, told] of [["", "a.status has no status"], ["0\r\n", "a.status has no status"], ["0\n0\n", "a.status has no status"], ["3\n", "is 0, and not 3"]]) {
+    const came = compared({ "a.status": text }, 0);
+    assert.equal(came.status, 1, text);
+    assert.ok(came.told.includes(told), came.told);
+  }
 });
