@@ -18,7 +18,7 @@ for script in "$folder"/*.script; do
     name=${script%.script}
     set --
     if [ -f "$name.words" ]; then
-        while IFS= read -r word; do set -- "$@" "$word"; done <"$name.words"
+        while IFS= read -r word || [ -n "$word" ]; do set -- "$@" "$word"; done <"$name.words"
     fi
     "$cepage" "$@" <"$script" >"$name.out"
     status=$?

@@ -9,11 +9,21 @@ import { STATUSES, run } from "../../bindings/node/index.js";
 
 const folder = process.env.PAGES ?? import.meta.dirname;
 
-// The options that the words of a file say, one word a line.
-function optionsOf(words) {
+// The options that the words of a file say, one word a line: a value stands in the next word, or behind `=`. What is no
+// option of the package, as `--make`, is refused.
+function optionsOf(text) {
+  const words = text.split("\n");
+  if (words.at(-1) === "") words.pop();
   const said = {};
-  for (let at = 0; at < words.length; at += 1) said[words[at].slice(2)] = words[at] === "--trace" || words[++at];
-  return said.fuel === undefined ? said : { ...said, fuel: Number(said.fuel) };
+  while (words.length) {
+    const word = words.shift();
+    const [, name, behind] = /^--(trace|fuel|url|boundary)(?:=(.*))?$/s.exec(word) ?? [];
+    const value = name === "trace" ? behind === undefined : behind ?? words.shift();
+    const fits = name && value && !(name in said) && (name !== "fuel" || /^[0-9]{1,9}$/.test(value));
+    assert.ok(fits, `the words have "${word}", which the package does not take so`);
+    said[name] = name === "fuel" ? Number(value) : value;
+  }
+  return said;
 }
 
 const scripts = readdirSync(folder).filter((name) => name.endsWith(".script"));
@@ -21,9 +31,11 @@ for (const name of scripts) {
   test(name, () => {
     const file = join(folder, name);
     const beside = (end) => file.replace(/script$/, end);
-    const optional = (end) => (existsSync(beside(end)) ? readFileSync(beside(end), "utf8") : "");
-    const came = run(readFileSync(file), optionsOf(optional("words").split("\n").filter((word) => word !== "")));
-    came.expectStatus(STATUSES[Number(optional("status"))]);
+    const optional = (end, plain) => (existsSync(beside(end)) ? readFileSync(beside(end), "utf8") : plain);
+    const status = optional("status", "0");
+    assert.match(status, /^[0-7]\n*$/, `${beside("status")} has no status`);
+    const came = run(readFileSync(file), optionsOf(optional("words", "")));
+    came.expectStatus(STATUSES[Number(status)]);
     assert.equal(came.transcript, readFileSync(beside("transcript"), "utf8"));
   });
 }

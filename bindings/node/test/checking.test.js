@@ -45,3 +45,24 @@ test("compare.sh compares the status, and takes no odd one for equal", () => {
     assert.ok(came.told.includes(told), came.told);
   }
 });
+
+// Of a row: the words, the status that is wanted, the transcript, and what the test says.
+test("drive.test.mjs reads words as the program does, and refuses others", () => {
+  const [spent, done] = ["1: #2\nfuel\n", "1: #2\n2: empty\n"];
+  const rows = [
+    ...["--fuel=2\n", "--fuel\n2\n", "--fuel=2"].map((words) => [words, "3\n", spent, ""]),
+    ["--url=http://h/?a=b\n--boundary\nXX\n", "0", done, ""],
+    ...["--frob\n", "--make\n5\n", "--fuel=\n", "--fuel\n", "--fuel=2\n--fuel=2\n", "--trace=on\n", "--url=\n", "\n", "--fuel=2\r\n"]
+      .map((words) => [words, "0", done, "the words have"]),
+    ...["", "0\r\n", "8\n"].map((status) => ["", status, done, "status has no status"]),
+  ];
+  const files = rows.flatMap(([words, status, transcript], at) => Object.entries({ script: "create $a p\nask kids doc\n", words, status, transcript })
+    .map(([end, text]) => [`${at}.${end}`, text]));
+  const drive = ["node", "--test", "--test-reporter=tap", "drive.test.mjs"];
+  const { told } = checked(drive, Object.fromEntries(files), 0, { CEPAGE: process.env.CEPAGE ?? "cepage" });
+  rows.forEach((row, at) => {
+    const [, ended, said] = new RegExp(`^ *(ok|not ok) [0-9]+ - ${at}\\.script\n((?:.*\n)*?) *\\.\\.\\.$`, "m").exec(told) ?? assert.fail(told);
+    assert.equal(ended, row[3] ? "not ok" : "ok", said);
+    assert.ok(said.includes(row[3]), said);
+  });
+});
