@@ -305,7 +305,7 @@ export class Failure extends Error {
   readonly actual: unknown;
 }
 
-/** The program or its library could not be used. */
+/** The program or its library could not be used: one that can't be started, or called, is named with what names it. */
 export class CepageError extends Error {}
 
 /** There is no program of that name. */

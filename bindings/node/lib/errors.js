@@ -8,6 +8,12 @@ export class CepageError extends Error {
   }
 }
 
+/** What is said of a program that can't be started, and of a library that can't be called. */
+export function unfit(what, { name, askedBy }, cause) {
+  const why = cause.message.split("\n", 1)[0];
+  return new CepageError(`the ${what} "${name}" of ${askedBy} could not be used: ${why}`, { cause });
+}
+
 /** There is no program of that name. */
 export class ProgramMissing extends CepageError {
   constructor(name, askedBy) {

@@ -3,6 +3,7 @@ import { existsSync } from "node:fs";
 import { createRequire } from "node:module";
 import { resolve } from "node:path";
 import { fileURLToPath } from "node:url";
+import { unfit } from "./errors.js";
 import { STATUSES } from "./status.js";
 
 const BESIDE = fileURLToPath(new URL("../cepage.node", import.meta.url));
@@ -15,9 +16,21 @@ const require = createRequire(import.meta.url);
  * Null where there is none, where the variable is empty, and where it is not wanted, by false. */
 export function findLibrary(library) {
   if (library === false) return null;
-  if (library !== undefined && library !== null && library !== true) return resolve(String(library));
-  if (process.env.CEPAGE_ADDON !== undefined) return process.env.CEPAGE_ADDON ? resolve(process.env.CEPAGE_ADDON) : null;
-  return existsSync(BESIDE) ? BESIDE : null;
+  if (library !== undefined && library !== null && library !== true) return { name: resolve(String(library)), askedBy: "the option library" };
+  const named = process.env.CEPAGE_ADDON;
+  if (named !== undefined) return named ? { name: resolve(named), askedBy: "CEPAGE_ADDON" } : null;
+  return existsSync(BESIDE) ? { name: BESIDE, askedBy: "the package's folder" } : null;
+}
+
+// The one call of an addon.
+function callOf(library) {
+  try {
+    const { run } = require(library.name);
+    if (typeof run !== "function") throw new TypeError("it has no function run");
+    return run;
+  } catch (error) {
+    throw unfit("library", library, error);
+  }
 }
 
 // A buffer that is kept for the next call, as long as it is of the first size.
@@ -25,7 +38,7 @@ let kept = Buffer.allocUnsafe(FIRST_ROOM);
 
 /** The status and the transcript of a script. It is run again with more room where its transcript is longer. */
 export function runLibrary(library, script, { fuel, trace, url, boundary }) {
-  const { run } = require(library);
+  const run = callOf(library);
   const said = fuel >= 0 && fuel <= MOST_FUEL_SAID ? fuel : 0;
   for (let room = kept; ; room = Buffer.allocUnsafe(room.length * 8)) {
     const [status, written] = run(script, said, trace, Buffer.from(url), Buffer.from(boundary), room);

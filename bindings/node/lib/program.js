@@ -1,6 +1,6 @@
 // A script run by starting the program.
 import { spawnSync } from "node:child_process";
-import { ProgramDied, ProgramMissing } from "./errors.js";
+import { ProgramDied, ProgramMissing, unfit } from "./errors.js";
 import { wordsOf } from "./options.js";
 import { STATUSES } from "./status.js";
 
@@ -12,8 +12,9 @@ export function findProgram(program) {
 }
 
 /** What a failed start says. */
-export function startFailed({ name, askedBy }, error) {
-  return error.code === "ENOENT" || error.code === "EACCES" ? new ProgramMissing(name, askedBy) : error;
+export function startFailed(program, error) {
+  const isMissing = error.code === "ENOENT" || error.code === "EACCES";
+  return isMissing ? new ProgramMissing(program.name, program.askedBy) : unfit("program", program, error);
 }
 
 /** The status and the transcript of a script. */

@@ -31,7 +31,7 @@ export class Session {
   constructor(options = {}) {
     this.#options = optionsOf(options);
     this.#program = findProgram(options.program);
-    this.#child = spawn(this.#program.name, wordsOf(this.#options), { stdio: ["pipe", "pipe", "ignore"] });
+    this.#child = this.#started();
     this.#closed = new Promise((resolve) => this.#child.on("close", (code, signal) => resolve(this.#end({ code, signal }))));
     this.#child.on("error", (error) => {
       this.#failed = startFailed(this.#program, error);
@@ -88,6 +88,14 @@ export class Session {
 
   async [Symbol.asyncDispose ?? Symbol.for("nodejs.asyncDispose")]() {
     await this.close();
+  }
+
+  #started() {
+    try {
+      return spawn(this.#program.name, wordsOf(this.#options), { stdio: ["pipe", "pipe", "ignore"] });
+    } catch (error) {
+      throw startFailed(this.#program, error);
+    }
   }
 
   get #status() {

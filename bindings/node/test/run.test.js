@@ -1,10 +1,12 @@
 // A script that is run.
 import assert from "node:assert/strict";
 import { once } from "node:events";
-import { dirname } from "node:path";
+import { mkdtempSync, rmSync, symlinkSync, writeFileSync } from "node:fs";
+import { tmpdir } from "node:os";
+import { dirname, join } from "node:path";
 import { test } from "node:test";
 import { Worker } from "node:worker_threads";
-import { ProgramDied, ProgramMissing, run } from "cepage";
+import { CepageError, ProgramDied, ProgramMissing, Session, run } from "cepage";
 import { example } from "./examples.js";
 import { programOf } from "./program.js";
 
@@ -141,4 +143,31 @@ test("a program that dies", () => {
   assert.throws(() => run("", { program: programOf("kill -9 $$") }), /by the signal SIGKILL/);
   assert.throws(() => run("", { program: programOf("echo no room >&2; exit 127") }), /with status 127: no room/);
   assert.throws(() => run("", { program: programOf("exit 9") }), ProgramDied);
+});
+
+test("a program that does not start", async () => {
+  const folder = mkdtempSync(join(tmpdir(), "cepage-"));
+  const program = join(folder, "round");
+  symlinkSync(program, program);
+  const isTold = (error) => error instanceof CepageError && error.message.startsWith(`the program "${program}" of the option program could not be used: `);
+  assert.throws(() => run("", { program }), isTold);
+  await assert.rejects(async () => {
+    await new Session({ program }).command("create $a p");
+  }, isTold);
+  rmSync(folder, { recursive: true });
+});
+
+test("a library that is missing or another", () => {
+  const folder = mkdtempSync(join(tmpdir(), "cepage-"));
+  const file = (name, text) => {
+    writeFileSync(join(folder, name), text);
+    return join(folder, name);
+  };
+  for (const library of ["/nowhere/cepage.node", file("short.node", ""), file("other.js", "exports.start = () => 0;")]) {
+    const told = (asker) => (error) =>
+      error instanceof CepageError && error.cause && error.message.startsWith(`the library "${library}" of ${asker} could not be used: `);
+    assert.throws(() => run("", { library }), told("the option library"));
+    withEnvironment({ CEPAGE_ADDON: library }, () => assert.throws(() => run(""), told("CEPAGE_ADDON")));
+  }
+  rmSync(folder, { recursive: true });
 });

@@ -1,9 +1,16 @@
 """What goes wrong outside of a script."""
 import os
 import signal
-from typing import Optional
+from typing import NamedTuple, Optional
 
 from .status import Status
+
+
+class Named(NamedTuple):
+    """A program or a library, and what names it."""
+
+    path: str
+    asked_by: str
 
 
 class CepageError(Exception):
@@ -30,6 +37,11 @@ class SessionEnded(CepageError):
     def __init__(self, why: str, status: Optional[Status]) -> None:
         super().__init__(f"the session has ended: {why}")
         self.status = status
+
+
+def unfit(what: str, named: Named, why: object) -> CepageError:
+    """What is said of a program that can't be started, and of a library that can't be called."""
+    return CepageError(f"the {what} {named.path!r} of {named.asked_by} could not be used: {why}")
 
 
 def how_it_ended(status: int) -> str:

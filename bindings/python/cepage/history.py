@@ -2,6 +2,7 @@
 import functools
 from typing import Callable, List, Optional
 
+from .errors import Named
 from .options import Options
 from .program import run_program
 from .running import Run
@@ -9,7 +10,7 @@ from .status import Status
 
 
 class History:
-    def __init__(self, program: str, options: Options) -> None:
+    def __init__(self, program: Named, options: Options) -> None:
         self.script: List[bytes] = []
         self.wrote: List[bytes] = []
         self.rest = b""

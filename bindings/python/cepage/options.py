@@ -4,8 +4,10 @@ from dataclasses import dataclass
 from typing import List
 
 PLAIN_FUEL = 20_000
-# A word of a command line can't be of any length. What is longer than this is refused by the program in any case.
+# A word of a command line can't be of any length, and a number of Python can't be written at any. What is longer than this, or
+# larger, is refused by the program in any case.
 LONGEST_WORD = 5_000
+MOST_FUEL_SAID = 2**32 - 1
 
 
 @dataclass(frozen=True)
@@ -28,7 +30,7 @@ class Options:
 
     def words(self) -> List[bytes]:
         """The words that say the same to the program."""
-        words = ["--fuel", str(int(self.fuel))] + ["--trace"] * bool(self.trace)
+        words = ["--fuel", str(max(-1, min(int(self.fuel), MOST_FUEL_SAID)))] + ["--trace"] * bool(self.trace)
         for word, text in (("--url", self.url), ("--boundary", self.boundary)):
             if text:
                 words += [word, text[:LONGEST_WORD]]

@@ -4,7 +4,7 @@ from types import TracebackType
 from typing import Optional, Tuple, Type
 
 from .command import Command
-from .errors import ProgramDied, SessionEnded, how_it_ended, is_of_cepage
+from .errors import ProgramDied, SessionEnded, how_it_ended, is_of_cepage, unfit
 from .history import History
 from .options import PLAIN_FUEL, Options
 from .pipe import Pipe
@@ -38,7 +38,10 @@ class Session:
         self._history = History(self._program, options)
         self._over = ""
         self._status: Optional[int] = None
-        self._pipe = Pipe([self._program.encode("utf-8", "surrogateescape"), *options.words()])
+        try:
+            self._pipe = Pipe([self._program.path.encode("utf-8", "surrogateescape"), *options.words()])
+        except OSError as error:
+            raise unfit("program", self._program, error) from error
         self._process = self._pipe.process
 
     @property
@@ -86,7 +89,7 @@ class Session:
             self._over = self._over or "it was closed"
         status = self._named()
         if status is None:
-            raise ProgramDied(self._program, self._status or 0)
+            raise ProgramDied(self._program.path, self._status or 0)
         return self._history.run(status)
 
     def _wait(self, pipe: Pipe, line: str) -> None:

@@ -8,7 +8,7 @@ import unittest
 from concurrent.futures import ThreadPoolExecutor
 from unittest import mock
 
-from cepage import Node, ProgramDied, ProgramMissing, Status, run
+from cepage import CepageError, Node, ProgramDied, ProgramMissing, Session, Status, run
 
 from . import example
 
@@ -47,6 +47,7 @@ class Running(unittest.TestCase):
     def test_options_that_are_refused(self) -> None:
         for said in (
             {"fuel": -1}, {"fuel": 200_001}, {"fuel": 2**32 + 2}, {"fuel": 10**30}, {"url": "page.test"}, {"boundary": "a-b"},
+            {"fuel": 10**5000}, {"fuel": -(10**5000)},
             {"url": "http://h/" + "a" * 300_000}, {"boundary": "B" * 300_000}, {"url": "http://h/\udcff"},
         ):  # fmt: skip
             for library in (None, False):
@@ -142,3 +143,19 @@ class Finding(unittest.TestCase):
         for text, told in (("kill -9 $$", "by the signal SIGKILL"), ("echo no room >&2; exit 127", "with status 127: no room")):
             with self.assertRaisesRegex(ProgramDied, told):
                 run("", program=program_of(text))
+
+    def test_a_program_that_does_not_start(self) -> None:
+        file = program_of("")
+        with open(file, "w", encoding="utf-8") as program:
+            program.write("this is no program")
+        for start in (run, lambda _, program: Session(program=program)):
+            with self.assertRaisesRegex(CepageError, f"program '{file}' of program= could not be used: .*Exec format error"):
+                start("", program=file)
+
+    def test_a_library_that_is_missing_or_another(self) -> None:
+        for library, told in (("/nowhere/cepage.so", "No such file"), (__file__, "ELF"), ("libc.so.6", "undefined symbol")):
+            with self.assertRaisesRegex(CepageError, f"library '{library}' of library= could not be used: .*{told}"):
+                run("", library=library)
+            with mock.patch.dict(os.environ, {"CEPAGE_LIBRARY": library}):
+                with self.assertRaisesRegex(CepageError, f"library '{library}' of CEPAGE_LIBRARY could not be used"):
+                    run("")
