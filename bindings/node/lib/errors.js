@@ -1,6 +1,8 @@
 // What goes wrong outside of a script.
 import { STATUSES } from "./status.js";
 
+const MOST_TOLD = 300;
+
 /** The program or its library could not be used. */
 export class CepageError extends Error {
   get name() {
@@ -40,4 +42,10 @@ export class SessionEnded extends CepageError {
 export function howItEnded({ code, signal }) {
   if (signal) return `by the signal ${signal}`;
   return `with status ${code}${STATUSES[code] ? `, ${STATUSES[code]}` : ""}`;
+}
+
+/** A line of a script, as an error tells it: of a long one the beginning. */
+export function cut(line) {
+  const more = line.length - MOST_TOLD;
+  return more <= 0 ? line : `${line.slice(0, MOST_TOLD)} … and ${more} characters more`;
 }

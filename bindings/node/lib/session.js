@@ -1,7 +1,7 @@
 // A session: a command in, what it answered out, over the program's own pipe.
 import { spawn } from "node:child_process";
 import { Command } from "./command.js";
-import { ProgramDied, SessionEnded, howItEnded } from "./errors.js";
+import { ProgramDied, SessionEnded, cut, howItEnded } from "./errors.js";
 import { optionsOf, wordsOf } from "./options.js";
 import { findProgram, runProgram, startFailed } from "./program.js";
 import { readLines } from "./reading.js";
@@ -126,14 +126,14 @@ export class Session {
   #spent() {
     if (!this.#waiting.length) return;
     const { number, line } = this.#waiting[0];
-    this.#over = `the fuel was spent in line ${number}: ${line}`;
+    this.#over = `the fuel was spent in line ${number}: ${cut(line)}`;
     this.#answer();
   }
 
   #end(ended) {
     this.#ended = ended;
     const first = this.#waiting[0];
-    const where = first ? `, at line ${first.number}: ${first.line}` : "";
+    const where = first ? `, at line ${first.number}: ${cut(first.line)}` : "";
     this.#over ??= `the program ended ${howItEnded(ended)}${where}`;
     for (const { reject } of this.#waiting.splice(0)) reject(this.#failed ?? new SessionEnded(this.#over, this.#status));
   }

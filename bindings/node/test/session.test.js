@@ -150,6 +150,11 @@ test("a script that is too long", async () => {
   };
   await assert.rejects(talk(), /TooLong/);
   assert.equal((await page.close()).status, "TooLong");
+  const long = new Session();
+  await assert.rejects(long.command("a".repeat(17_000_000)), ({ message }) => {
+    assert.match(message, /TooLong, at line 1: aaaa.* … and 16999700 characters more$/);
+    return message.length < 500;
+  });
 });
 
 test("a line that is cut off is kept", async () => {

@@ -6,6 +6,9 @@ from typing import NamedTuple, Optional
 from .status import Status
 
 
+MOST_TOLD = 300
+
+
 class Named(NamedTuple):
     """A program or a library, and what names it."""
 
@@ -54,6 +57,12 @@ def how_it_ended(status: int) -> str:
 
 def is_of_cepage(status: int) -> bool:
     return status in list(Status)
+
+
+def cut(line: str) -> str:
+    """A line of a script, as an error tells it: of a long one the beginning."""
+    more = len(line) - MOST_TOLD
+    return line if more <= 0 else f"{line[:MOST_TOLD]} … and {more} characters more"
 
 
 def one_line(told: bytes) -> str:

@@ -4,7 +4,7 @@ from types import TracebackType
 from typing import Optional, Tuple, Type
 
 from .command import Command
-from .errors import ProgramDied, SessionEnded, how_it_ended, is_of_cepage, unfit
+from .errors import ProgramDied, SessionEnded, cut, how_it_ended, is_of_cepage, unfit
 from .history import History
 from .options import PLAIN_FUEL, Options
 from .pipe import Pipe
@@ -99,11 +99,11 @@ class Session:
             wrote = pipe.line()
             if wrote is None:
                 self._take_rest(pipe)
-                self._over = f"the program ended {how_it_ended(self._status or 0)}, at line {self.line}: {line}"
+                self._over = f"the program ended {how_it_ended(self._status or 0)}, at line {self.line}: {cut(line)}"
                 raise SessionEnded(self._over, self._named())
             self._history.wrote.append(wrote)
             if wrote == b"fuel":
-                self._over = f"the fuel was spent in line {self.line}: {line}"
+                self._over = f"the fuel was spent in line {self.line}: {cut(line)}"
                 return
             if wrote.startswith(reply):
                 return

@@ -135,6 +135,10 @@ class Ends(unittest.TestCase):
                 for _ in range(20):
                     page.command("#" * 1_000_000)
                 page.command("create $a p")
+        with Session() as page:
+            with self.assertRaisesRegex(SessionEnded, "TOO_LONG, at line 1: aaaa.* … and 16999700 characters more$") as ended:
+                page.command("a" * 17_000_000)
+            self.assertLess(len(str(ended.exception)), 500)
         self.assertIs(page.close().status, Status.TOO_LONG)
 
     def test_no_process_is_left(self) -> None:

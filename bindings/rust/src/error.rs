@@ -5,6 +5,8 @@ use std::io;
 use std::os::unix::process::ExitStatusExt;
 use std::process::ExitStatus;
 
+const MOST_TOLD: usize = 300;
+
 /// The program could not be used, or a line could not be given to it.
 ///
 /// `Debug` writes the same as `Display`, so that a test that returns it fails with words.
@@ -82,5 +84,13 @@ pub(crate) fn how_it_ended(ended: ExitStatus) -> String {
         (Some(signal), _, _) => format!("by the signal {signal}"),
         (_, Some(code), Some(status)) => format!("with status {code}, {status}"),
         (_, code, _) => format!("with status {}", code.unwrap_or(-1)),
+    }
+}
+
+/// A line of a script, as an error tells it: of a long one the beginning.
+pub(crate) fn cut(line: &str) -> String {
+    match line.char_indices().nth(MOST_TOLD) {
+        Some((at, _)) => format!("{} … and {} characters more", &line[..at], line[at..].chars().count()),
+        None => line.to_string(),
     }
 }

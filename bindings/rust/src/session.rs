@@ -1,6 +1,6 @@
 //! A session: a command in, what it answered out, over the program's own pipe.
 use crate::command::Command;
-use crate::error::{how_it_ended, status_of, Error};
+use crate::error::{cut, how_it_ended, status_of, Error};
 use crate::options::Options;
 use crate::past::Past;
 use crate::pipe::Pipe;
@@ -95,13 +95,13 @@ impl Session {
         loop {
             let Some(wrote) = self.pipe.line() else {
                 let how = how_it_ended(self.take_rest()?);
-                self.over = Some(format!("the program ended {how}, at line {number}: {line}"));
+                self.over = Some(format!("the program ended {how}, at line {number}: {}", cut(line)));
                 return Err(self.is_over());
             };
             self.wrote.extend_from_slice(&wrote);
             let is_fuel = wrote == b"fuel\n";
             if is_fuel {
-                self.over = Some(format!("the fuel was spent in line {number}: {line}"));
+                self.over = Some(format!("the fuel was spent in line {number}: {}", cut(line)));
             }
             if is_fuel || wrote.starts_with(reply.as_bytes()) {
                 break;

@@ -134,6 +134,9 @@ fn a_script_that_is_too_long() {
         || (0..20).try_for_each(|_| page.command(&comment).map(drop)).and_then(|()| page.command("create $a p"));
     assert!(talk().unwrap_err().to_string().contains("TooLong"));
     assert_eq!(page.close().unwrap().status(), Status::TooLong);
+    let told = Session::new().unwrap().command(&"a".repeat(17_000_000)).unwrap_err().to_string();
+    assert!(told.contains("TooLong, at line 1: aaaa") && told.ends_with(" … and 16999700 characters more"));
+    assert!(told.len() < 500);
 }
 
 #[test]
