@@ -22,18 +22,18 @@ globalThis.Cepage ??= {};
 
     const queueWords = (queue) => queue === 0 ? "the backup element queue" : `queue ${queue}`;
 
-    // The arguments of a callback, as they stand in a row: the two values with an arrow between them.
-    function argumentsOf(what, args) {
+    // The arguments of a callback, as they stand in a row: the two values with an arrow between them, or this word.
+    function argumentsOf(what, args, arrow = "→") {
         if (what === "attribute") {
             const [name, before, after] = args.match(/"(?:[^"\\]|\\.)*"|null/g) ?? [];
-            return `${Cepage.unquoted(name)}: ${before} → ${after}`;
+            return `${Cepage.unquoted(name)}: ${before} ${arrow} ${after}`;
         }
         return what === "adopted" ? args.replace(" ", " → ") : args;
     }
 
     function argumentWords(row) {
         if (!row.args) return "";
-        if (row.text === "attribute") return ` (${argumentsOf(row.text, row.args).replace("→", "to")})`;
+        if (row.text === "attribute") return ` (${argumentsOf(row.text, row.args, "to")})`;
         return ` (${row.args})`;
     }
 

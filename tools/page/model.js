@@ -212,9 +212,17 @@ function checkCuts(Cepage, { name, script, trace }) {
   return faults;
 }
 
+// The arguments of a callback in words: an arrow in the name or in a value is none between the values.
+function checkWords(Cepage) {
+  const run = Cepage.readRun('', 'call #2 attribute "a→b" "c→" null\n1: ok\n');
+  const said = Cepage.rowWords(new Cepage.View(run, false), 1);
+  const wanted = 'attribute (a→b: "c→" to null) of #2 is called.';
+  return said === wanted ? [] : [`the words of a call are: ${said}`];
+}
+
 function checkModel(Cepage) {
   const { examples } = Cepage;
-  const faults = checkLines(Cepage);
+  const faults = [...checkLines(Cepage), ...checkWords(Cepage)];
   const sums = { due: 0, ran: 0, dropped: 0, waits: 0, named: 0, operations: 0 };
   for (const example of examples) {
     const { faults: found, counts } = checkExample(Cepage, example);
