@@ -7,7 +7,9 @@ export class Unfit extends Error {}
 
 // Numbers of more digits stand in no transcript, and a number of JavaScript could not hold them.
 const NUMBER = "(?:0|[1-9][0-9]{0,14})";
-const TOKEN = new RegExp(`"((?:[^"\\\\\\x00-\\x1f\\x7f]|\\\\[\\\\"nrt]|\\\\u\\{[0-9a-f]{1,2}\\})*)"|#(${NUMBER})|([^ "#][^ "]*)`, "y");
+const BARE = new RegExp(`#(${NUMBER})|([^ "#][^ "]*)`, "y");
+// A piece of a quoted text. A pattern takes room for each run and each escape that it repeats, and a text has up to 16 million.
+const PIECE = /(?:[^"\\\x00-\x1f\x7f]+|\\[\\"nrt]|\\u\{[0-9a-f]{1,2}\}){1,4096}/y;
 const WHOLE_NUMBER = new RegExp(`^${NUMBER}$`);
 const REPLY = new RegExp(`^(${NUMBER}):`);
 const SIGNS = { n: "\n", r: "\r", t: "\t" };
@@ -15,20 +17,40 @@ const SIGNS = { n: "\n", r: "\r", t: "\t" };
 /** The tokens of a line, with one space between them. */
 export function tokensOf(line) {
   const tokens = [];
-  TOKEN.lastIndex = 0;
+  let at = 0;
   for (;;) {
-    const found = TOKEN.exec(line);
-    if (!found) throw new Unfit();
-    const [, quoted, node, word] = found;
-    tokens.push(word !== undefined ? { word } : node !== undefined ? { node: Number(node) } : { text: unescaped(quoted) });
-    if (TOKEN.lastIndex === line.length) return tokens;
-    if (line[TOKEN.lastIndex] !== " ") throw new Unfit();
-    TOKEN.lastIndex += 1;
+    const [token, end] = line[at] === '"' ? quotedAt(line, at) : bareAt(line, at);
+    tokens.push(token);
+    if (end === line.length) return tokens;
+    if (line[end] !== " ") throw new Unfit();
+    at = end + 1;
   }
 }
 
-function unescaped(quoted) {
-  return quoted.replace(/\\(?:u\{([0-9a-f]+)\}|(.))/g, (_, code, sign) =>
+// The token without quotes at this place, and where it ends.
+function bareAt(line, place) {
+  BARE.lastIndex = place;
+  const found = BARE.exec(line);
+  if (!found) throw new Unfit();
+  const [, node, word] = found;
+  return [word === undefined ? { node: Number(node) } : { word }, BARE.lastIndex];
+}
+
+// The quoted text that begins with this quote, and where it ends.
+function quotedAt(line, quote) {
+  const pieces = [];
+  let end = quote + 1;
+  PIECE.lastIndex = end;
+  for (let found = PIECE.exec(line); found; found = PIECE.exec(line)) {
+    pieces.push(unescaped(found[0]));
+    end = PIECE.lastIndex;
+  }
+  if (line[end] !== '"') throw new Unfit();
+  return [{ text: pieces.join("") }, end + 1];
+}
+
+function unescaped(piece) {
+  return piece.replace(/\\(?:u\{([0-9a-f]+)\}|(.))/g, (_, code, sign) =>
     code ? String.fromCodePoint(parseInt(code, 16)) : (SIGNS[sign] ?? sign),
   );
 }

@@ -104,6 +104,15 @@ test("no line is too odd", () => {
   }
 });
 
+test("no text is too long", () => {
+  for (const [written, said, times] of [["a", "a", 16_000_000], ["é\\n\\u{1f}\\\"", 'é\n\x1f"', 4097]]) {
+    const long = written.repeat(times);
+    assert.ok(readLine(`log "${long}" "b"`).texts[0] === said.repeat(times));
+    assert.equal(readLine(`log "${long}`).kind, "other");
+    assert.equal(readLine(`log "${long}\\q"`).kind, "other");
+  }
+});
+
 test("the examples are read whole", () => {
   const kinds = new Set();
   for (const name of examples(".transcript")) {

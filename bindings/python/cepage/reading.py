@@ -24,7 +24,9 @@ class Unfit(ValueError):
 
 # Numbers of more digits stand in no transcript, and not every language could hold them.
 NUMBER = r"(?:0|[1-9][0-9]{0,14})"
-TOKEN = re.compile(rf'"((?:[^"\\\x00-\x1f\x7f]|\\[\\"nrt]|\\u\{{[0-9a-f]{{1,2}}\}})*)"|#({NUMBER})|([^ "#][^ "]*)')
+BARE = re.compile(rf'#({NUMBER})|([^ "#][^ "]*)')
+# A piece of a quoted text. A pattern takes room for each run and each escape that it repeats, and a text has up to 16 million.
+PIECE = re.compile(r'(?:[^"\\\x00-\x1f\x7f]+|\\[\\"nrt]|\\u\{[0-9a-f]{1,2}\}){1,4096}')
 ESCAPE = re.compile(r"\\(?:u\{([0-9a-f]+)\}|(.))")
 SIGNS = {"n": "\n", "r": "\r", "t": "\t"}
 REPLY = re.compile(rf"({NUMBER}):")
@@ -40,12 +42,8 @@ def tokens_of(text: str) -> List[Any]:
     tokens: List[Any] = []
     at = 0
     while True:
-        found = TOKEN.match(text, at)
-        if not found:
-            raise Unfit
-        quoted, node, word = found.groups()
-        tokens.append(Word(word) if word else Node(int(node)) if node else unescaped(quoted))
-        at = found.end()
+        token, at = quoted_at(text, at) if text[at : at + 1] == '"' else bare_at(text, at)
+        tokens.append(token)
         if at == len(text):
             return tokens
         if text[at] != " ":
@@ -53,10 +51,34 @@ def tokens_of(text: str) -> List[Any]:
         at += 1
 
 
-def unescaped(quoted: str) -> str:
-    if "\\" not in quoted:
-        return quoted
-    return ESCAPE.sub(lambda sign: chr(int(sign[1], 16)) if sign[1] else SIGNS.get(sign[2], sign[2]), quoted)
+def bare_at(text: str, at: int) -> Tuple[Any, int]:
+    """The token without quotes at this place, and where it ends."""
+    found = BARE.match(text, at)
+    if not found:
+        raise Unfit
+    node, word = found.groups()
+    return Word(word) if word else Node(int(node)), found.end()
+
+
+def quoted_at(text: str, quote: int) -> Tuple[str, int]:
+    """The quoted text that begins with this quote, and where it ends."""
+    pieces: List[str] = []
+    end = quote + 1
+    while True:
+        found = PIECE.match(text, end)
+        if not found:
+            break
+        pieces.append(unescaped(found[0]))
+        end = found.end()
+    if text[end : end + 1] != '"':
+        raise Unfit
+    return "".join(pieces), end + 1
+
+
+def unescaped(piece: str) -> str:
+    if "\\" not in piece:
+        return piece
+    return ESCAPE.sub(lambda sign: chr(int(sign[1], 16)) if sign[1] else SIGNS.get(sign[2], sign[2]), piece)
 
 
 def text(token: Any) -> str:

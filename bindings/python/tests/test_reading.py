@@ -1,5 +1,6 @@
 """The reader of a transcript's lines."""
 import random
+import tracemalloc
 import unittest
 
 from cepage import Answer, Fault, Node, read_line, read_transcript, run
@@ -99,6 +100,18 @@ class Reading(unittest.TestCase):
                 text[signs.randrange(len(text)) : signs.randrange(len(text) + 1)] = signs.choice('"\\ #~:u{}0a\n\u2028é')
             line = read_line("".join(text), 1, 7)
             self.assertIn(line.kind, {"other", *(kind for _, kind, _ in LINES)})
+
+    def test_no_text_is_too_long(self) -> None:
+        for written, said, times in (("a", "a", 1_000_000), (r'é\n\u{1f}\"', 'é\n\x1f"', 8193)):
+            line = f'log "{written * times}" "b"'
+            tracemalloc.start()
+            came = read_line(line)
+            peak = tracemalloc.get_traced_memory()[1]
+            tracemalloc.stop()
+            self.assertTrue(came.texts == (said * times, "b"))
+            self.assertLess(peak, 16_000_000)
+            self.assertEqual(read_line(line[:-5]).kind, "other")
+            self.assertEqual(read_line(rf'log "{written * times}\q"').kind, "other")
 
     def test_the_examples_are_read_whole(self) -> None:
         kinds = set()
