@@ -4,14 +4,17 @@ export async function sent(line) {
   if (!found) return null;
   const [form, method] = [Number(found[1]), found[2]];
   if (method === "blocked") return { form, method, cause: found[3] };
-  const [url, type, body] = found[3].match(/"(?:[^"\\]|\\.)*"/g).map(unquoted);
+  const [url, type, body] = quotedTexts(found[3]);
   const text = method === "get" ? new URL(url).search.slice(1) : body;
   return { form, method, url, type, body, entries: await entries(type ?? "application/x-www-form-urlencoded", text) };
 }
 
-// A quoted text of a transcript: its escapes are those of JSON, but for `\u{h}`.
-function unquoted(text) {
-  return JSON.parse(text.replace(/\\(?:\\|u\{([0-9a-f]+)\})/g, (all, h) => (h ? "\\u" + h.padStart(4, "0") : all)));
+// The quoted texts of a line. Their escapes are those of JSON, but for `\u{h}`. A backslash and a quote in a text are first
+// written by their numbers, so that each quote that is left begins or ends a text.
+function quotedTexts(line) {
+  const numbered = line.replaceAll("\\\\", "\\u005c").replaceAll('\\"', "\\u0022");
+  const escaped = numbered.replace(/\\u\{([0-9a-f]+)\}/g, (all, h) => `\\u${h.padStart(4, "0")}`);
+  return escaped.match(/"[^"]*"/g).map((text) => JSON.parse(text));
 }
 
 // A text/plain body can't be told apart in general: it is left as it is.

@@ -9,6 +9,7 @@ import { fileURLToPath } from "node:url";
 import { run } from "cepage";
 import { sent } from "../../../docs/checking/sent.mjs";
 import { programOf } from "./program.js";
+import { spelled } from "./spelled.js";
 
 const FORM = "create $html html\nappend doc $html\ncreate $form form\nsetattr $form method post\nappend $html $form\n";
 
@@ -21,6 +22,16 @@ test("a body with U+2028 and U+2029 is read", async () => {
   });
   assert.equal(await sent("7: ok"), null);
   assert.deepEqual(await sent("submit #3 blocked invalid #5"), { form: 3, method: "blocked", cause: "invalid #5" });
+});
+
+test("quoted texts are read as they were written, long ones too", async () => {
+  const texts = ["a".repeat(16_000_000), 'é\\n\n"\x1f'.repeat(50_000), '\\', '"', '\\"', '" "', '\\" \\', "\\u{1f}\x1f\\\\u{0}\0", "\\u0022\\n\t"];
+  for (const [at, body] of texts.entries()) {
+    const url = texts[texts.length - 1 - at];
+    const line = spelled({ kind: "submit", form: 3, method: "post", url, mediaType: "text/plain", body, blocked: null, invalid: [] });
+    const came = await sent(line);
+    assert.ok(came.url === url && came.body === body, line.slice(0, 80));
+  }
 });
 
 // Runs a file of docs/checking over a folder of these files, by a program that ends with this status.
