@@ -5,14 +5,16 @@ globalThis.Cepage ??= {};
 
 (function () {
     const NUMBER = "(0|[1-9][0-9]*)";
-    const QUOTED = '("(?:[^"\\\\\\x00-\\x1f\\x7f]|\\\\["\\\\nrt]|\\\\u\\{[0-9a-f]{1,2}\\})*")';
+    // A line is matched with its quoted texts left empty: a pattern takes room for each sign or escape that it repeats, and
+    // a text has up to 16 million.
+    const QUOTED = '""';
+    const PIECE = /(?:[^"\\\x00-\x1f\x7f]+|\\["\\nrt]|\\u\{[0-9a-f]{1,2}\}){1,4096}/y;
     const NAME = "([A-Z][A-Za-z0-9_]*)";
     const FAULT = "((?:Type|Reference|Syntax|NotSupported|HierarchyRequest|NotFound|InvalidCharacter)Error|user "
         + QUOTED + ")";
     const CALLBACKS = "connected|disconnected|adopted|attribute|formAssociated|formDisabled|formReset|formStateRestore";
     const whole = (pattern) => new RegExp("^" + pattern + "$", "s");
 
-    const QUOTED_TEXTS = new RegExp(QUOTED, "g");
     const NODES = new RegExp("#" + NUMBER, "g");
     const VALUE = "(?:null|" + QUOTED + ")";
 
@@ -62,7 +64,29 @@ globalThis.Cepage ??= {};
     const REPLY = whole(NUMBER + ": (.+)");
     const THROW = whole("throw " + FAULT);
 
-    // What each line tells, from the parts that its pattern has found.
+    // Where the quoted text ends that begins at this quote: behind its second quote, or -1.
+    function endOfQuoted(text, begin) {
+        let end = begin + 1;
+        PIECE.lastIndex = end;
+        while (PIECE.test(text)) end = PIECE.lastIndex;
+        return text[end] === '"' ? end + 1 : -1;
+    }
+
+    // The quoted texts of a text, and what is left where they are made empty; null where a quote is wrong.
+    function cutQuoted(text) {
+        const quoted = [], left = [];
+        let at = 0;
+        for (let quote = text.indexOf('"'); quote >= 0; quote = text.indexOf('"', at)) {
+            left.push(text.slice(at, quote));
+            at = endOfQuoted(text, quote);
+            if (at < 0) return null;
+            quoted.push(text.slice(quote, at));
+        }
+        left.push(text.slice(at));
+        return { quoted, left: left.join(QUOTED) };
+    }
+
+    // What each line tells, from the parts that its pattern has found, and from the line itself where it may have texts.
     const TELLS = {
         open: (found) => ({ kind: "open", queue: Number(found[1]) }),
         enq: (found) => ({ kind: "enq", reaction: Number(found[1]), node: Number(found[2]), what: found[3],
@@ -76,20 +100,20 @@ globalThis.Cepage ??= {};
         threw: (found) => ({ kind: "threw", node: Number(found[1]) }),
         close: (found) => ({ kind: "close", queue: Number(found[1]) }),
         construct: (found) => ({ kind: "construct", name: found[1] }),
-        call: (found) => ARGUMENTS[found[2]].test(found[3])
-            ? { kind: "call", node: Number(found[1]), what: found[2], args: found[3].slice(1) } : null,
-        log: (found) => ({ kind: "log", text: found[0].slice(4) }),
-        ask: (found) => ANSWER.test(found[1]) ? { kind: "ask", text: found[1] } : null,
-        submit: (found) => ({ kind: "submit", node: Number(found[1]), text: found[0].slice(found[0].indexOf(" ", 7) + 1) }),
-        caught: (found) => ({ kind: "caught", fault: found[1] }),
-        report: (found) => ({ kind: "report", fault: found[1] }),
+        call: (found, line) => ARGUMENTS[found[2]].test(found[3]) ? { kind: "call", node: Number(found[1]), what: found[2],
+            args: line.slice(found[0].length - found[3].length + 1) } : null,
+        log: (found, line) => ({ kind: "log", text: line.slice(4) }),
+        ask: (found, line) => ANSWER.test(found[1]) ? { kind: "ask", text: line.slice(4) } : null,
+        submit: (found, line) => ({ kind: "submit", node: Number(found[1]), text: line.slice(line.indexOf(" ", 7) + 1) }),
+        caught: (found, line) => ({ kind: "caught", fault: line.slice(7) }),
+        report: (found, line) => ({ kind: "report", fault: line.slice(7) }),
         fuel: () => ({ kind: "fuel" }),
     };
 
-    function readReply(line) {
-        const found = REPLY.exec(line);
+    function readReply(left, line) {
+        const found = REPLY.exec(left);
         if (!found) return null;
-        const reply = { kind: "reply", line: Number(found[1]), text: found[2], answer: "asked" };
+        const reply = { kind: "reply", line: Number(found[1]), text: line.slice(found[1].length + 2), answer: "asked" };
         if (found[2] === "ok" || found[2] === "ignored") reply.answer = found[2];
         else if (/^#[0-9]+$/.test(found[2])) reply.answer = "node";
         else if (BAD.test(found[2])) reply.answer = "bad";
@@ -98,19 +122,21 @@ globalThis.Cepage ??= {};
         return reply;
     }
 
-    function readWith(patterns, word, line) {
+    function readWith(patterns, word, left, line) {
         if (!Object.hasOwn(patterns, word)) return null;
-        const found = patterns[word].exec(line);
-        return found && TELLS[word](found);
+        const found = patterns[word].exec(left);
+        return found && TELLS[word](found, line);
     }
 
     // Tells the event that a line is.
     function readEvent(line) {
+        const cut = cutQuoted(line);
+        if (!cut) return { kind: "unreadable" };
         const traced = line.startsWith("~ ");
         const from = traced ? 2 : 0;
         const space = line.indexOf(" ", from);
         const word = line.slice(from, space < 0 ? line.length : space);
-        const event = readWith(traced ? TRACE : PLAIN, word, line) ?? (traced ? null : readReply(line));
+        const event = readWith(traced ? TRACE : PLAIN, word, cut.left, line) ?? (traced ? null : readReply(cut.left, line));
         return event ?? { kind: "unreadable" };
     }
 
@@ -126,6 +152,13 @@ globalThis.Cepage ??= {};
         return { lines: lines.map((line) => line.endsWith("\r") ? line.slice(0, -1) : line), returns, ended };
     }
 
+    // The values in a text, each a quoted text or `null`, as they stand.
+    function valuesIn(text) {
+        const { quoted, left } = cutQuoted(text);
+        let at = 0;
+        return left.split(" ").map((value) => value === QUOTED ? quoted[at++] : value);
+    }
+
     const ESCAPES = { n: "\n", r: "\r", t: "\t", '"': '"', "\\": "\\" };
 
     // The text that a quoted text says.
@@ -137,6 +170,7 @@ globalThis.Cepage ??= {};
     Cepage.readEvent = readEvent;
     Cepage.cutLines = cutLines;
     Cepage.unquoted = unquoted;
-    Cepage.quotedTexts = (text) => text.match(QUOTED_TEXTS) ?? [];
+    Cepage.quotedTexts = (text) => cutQuoted(text)?.quoted ?? [];
+    Cepage.valuesIn = valuesIn;
     Cepage.nodesIn = (text) => Array.from(text.matchAll(NODES), (found) => Number(found[1]));
 })();

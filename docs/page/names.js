@@ -42,7 +42,7 @@ globalThis.Cepage ??= {};
     function argumentTexts(row) {
         if (row.kind !== "run" || !row.args) return [];
         if (row.text === "formStateRestore") return [Cepage.unquoted(Cepage.quotedTexts(row.args)[0]), row.args.split(" ").pop()];
-        const parts = row.text === "attribute" ? row.args.match(/"(?:[^"\\]|\\.)*"|null/g) : row.args.split(" ");
+        const parts = row.text === "attribute" ? Cepage.valuesIn(row.args) : row.args.split(" ");
         return parts.map((part) => part === "null" ? "" : part.startsWith('"') ? Cepage.unquoted(part) : part);
     }
 

@@ -25,7 +25,7 @@ globalThis.Cepage ??= {};
     // The arguments of a callback, as they stand in a row: the two values with an arrow between them, or this word.
     function argumentsOf(what, args, arrow = "→") {
         if (what === "attribute") {
-            const [name, before, after] = args.match(/"(?:[^"\\]|\\.)*"|null/g) ?? [];
+            const [name, before, after] = Cepage.valuesIn(args);
             return `${Cepage.unquoted(name)}: ${before} ${arrow} ${after}`;
         }
         return what === "adopted" ? args.replace(" ", " → ") : args;

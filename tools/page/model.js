@@ -27,6 +27,11 @@ function checkLines(Cepage) {
       if (read !== kind) faults.push(`the line ${JSON.stringify(line)} is read as ${read}, and not as ${kind}`);
     }
   }
+  const long = `"${'a'.repeat(16000000)}"`;
+  for (const line of [`log ${long}`, `4: ${long}`, `submit #3 post "u" "t" ${long}`, `call #2 attribute "k" null ${long}`]) {
+    const read = Cepage.readEvent(line).kind;
+    if (read === 'unreadable') faults.push(`a line ${line.slice(0, 20)} with a text of 16 MB is not read`);
+  }
   return faults;
 }
 

@@ -111,5 +111,5 @@ globalThis.CepageBrowser ??= {};
         return { tokens };
     }
 
-    Object.assign(CepageBrowser, { bytesOf, cutLines, tokensOf });
+    Object.assign(CepageBrowser, { bytesOf, cutLines, endOfQuoted, tokensOf });
 })();

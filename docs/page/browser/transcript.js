@@ -6,7 +6,17 @@ globalThis.CepageBrowser ??= {};
 (() => {
     const LARGEST = 4000000;
     const isReply = (text) => /^\d+: /.test(text);
-    const pieces = (text) => text.match(/"(?:[^"\\]|\\.)*"|[^"]+/g) || [];
+
+    // A line cut into its quoted texts, with their quotes, and what stands between them.
+    function pieces(text) {
+        const cut = [];
+        for (let at = 0; at < text.length;) {
+            const end = text[at] === '"' ? CepageBrowser.endOfQuoted(text, at) : text.indexOf('"', at);
+            cut.push(text.slice(at, end < 0 ? text.length : end));
+            at += cut.at(-1).length;
+        }
+        return cut;
+    }
 
     // What each command wrote in the program's transcript, by its line of the script. What follows the last reply
     // belongs to the next command that has none: there the session ended. The trace's lines are left out.
