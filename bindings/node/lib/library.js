@@ -16,7 +16,9 @@ const require = createRequire(import.meta.url);
  * Null where there is none, where the variable is empty, and where it is not wanted, by false. */
 export function findLibrary(library) {
   if (library === false) return null;
-  if (library !== undefined && library !== null && library !== true) return { name: resolve(String(library)), askedBy: "the option library" };
+  if (library !== undefined && library !== null && library !== true) {
+    return { name: resolve(String(library)), askedBy: "the option library" };
+  }
   const named = process.env.CEPAGE_ADDON;
   if (named !== undefined) return named ? { name: resolve(named), askedBy: "CEPAGE_ADDON" } : null;
   return existsSync(BESIDE) ? { name: BESIDE, askedBy: "the package's folder" } : null;

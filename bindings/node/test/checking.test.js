@@ -14,7 +14,8 @@ import { spelled } from "./spelled.js";
 const FORM = "create $html html\nappend doc $html\ncreate $form form\nsetattr $form method post\nappend $html $form\n";
 
 test("a body with U+2028 and U+2029 is read", async () => {
-  const script = `${FORM}setattr $form enctype text/plain\ncreate $q input\nsetattr $q name q\nappend $form $q\nvalue $q "a\u2028b\u2029"\nsubmit $form\n`;
+  const control = 'create $q input\nsetattr $q name q\nappend $form $q\nvalue $q "a\u2028b\u2029"\n';
+  const script = `${FORM}setattr $form enctype text/plain\n${control}submit $form\n`;
   const { text } = run(script).submissions()[0];
   assert.match(text, /\u2028/);
   assert.deepEqual(await sent(text), {
@@ -39,7 +40,8 @@ function checked(words, files, status, variables) {
   const folder = mkdtempSync(join(tmpdir(), "cepage-"));
   for (const [name, text] of Object.entries(files)) writeFileSync(join(folder, name), text);
   const [name, ...rest] = words.map((word) => (word === "FOLDER" ? folder : word));
-  const { NODE_TEST_CONTEXT, ...env } = { ...process.env, PAGES: folder, CEPAGE: programOf(`cat > /dev/null; exit ${status}`), ...variables };
+  const CEPAGE = programOf(`cat > /dev/null; exit ${status}`);
+  const { NODE_TEST_CONTEXT, ...env } = { ...process.env, PAGES: folder, CEPAGE, ...variables };
   const ended = spawnSync(name, rest, { env, cwd: fileURLToPath(new URL("../../../docs/checking/", import.meta.url)) });
   rmSync(folder, { recursive: true });
   return { status: ended.status, told: `${ended.stdout}${ended.stderr}` };
@@ -50,7 +52,8 @@ test("compare.sh compares the status, and takes no odd one for equal", () => {
   for (const [files, status] of [[{}, 0], [{ "a.status": "3\n" }, 3], [{ "a.status": "0" }, 0]]) {
     assert.deepEqual(compared(files, status), { status: 0, told: "" });
   }
-  for (const [text, told] of [["", "a.status has no status"], ["0\r\n", "a.status has no status"], ["0\n0\n", "a.status has no status"], ["3\n", "is 0, and not 3"]]) {
+  const odd = "a.status has no status";
+  for (const [text, told] of [["", odd], ["0\r\n", odd], ["0\n0\n", odd], ["3\n", "is 0, and not 3"]]) {
     const came = compared({ "a.status": text }, 0);
     assert.equal(came.status, 1, text);
     assert.ok(came.told.includes(told), came.told);
@@ -67,8 +70,9 @@ test("drive.test.mjs reads words as the program does, and refuses others", () =>
       .map((words) => [words, "0", done, "the words have"]),
     ...["", "0\r\n", "8\n"].map((status) => ["", status, done, "status has no status"]),
   ];
-  const files = rows.flatMap(([words, status, transcript], at) => Object.entries({ script: "create $a p\nask kids doc\n", words, status, transcript })
-    .map(([end, text]) => [`${at}.${end}`, text]));
+  const script = "create $a p\nask kids doc\n";
+  const files = rows.flatMap(([words, status, transcript], at) =>
+    Object.entries({ script, words, status, transcript }).map(([end, text]) => [`${at}.${end}`, text]));
   const drive = ["node", "--test", "--test-reporter=tap", "drive.test.mjs"];
   const { told } = checked(drive, Object.fromEntries(files), 0, { CEPAGE: process.env.CEPAGE ?? "cepage" });
   rows.forEach((row, at) => {

@@ -149,7 +149,8 @@ test("a program that does not start", async () => {
   const folder = mkdtempSync(join(tmpdir(), "cepage-"));
   const program = join(folder, "round");
   symlinkSync(program, program);
-  const isTold = (error) => error instanceof CepageError && error.message.startsWith(`the program "${program}" of the option program could not be used: `);
+  const told = `the program "${program}" of the option program could not be used: `;
+  const isTold = (error) => error instanceof CepageError && error.message.startsWith(told);
   assert.throws(() => run("", { program }), isTold);
   await assert.rejects(async () => {
     await new Session({ program }).command("create $a p");
