@@ -1,5 +1,5 @@
 // A list of nodes.
-ghost use Rattle.std.specs.Prelude.{◌≡◌, ◌++◌, ◌∷◌, [], length, IfOk, OnOk, slice_get};
+ghost use Rattle.std.specs.Prelude.{◌≡◌, ◌++◌, ◌∷◌, [], if◌then◌else◌, length, IfOk, OnOk, slice_get};
 
 use crate::{NoMemory, NodeNo};
 use std::alloc::Global;
@@ -34,6 +34,16 @@ impl Nodes {
         ensures { OnOk result (self.new ≡ self.old ++ n ∷ []) }
     {
         self.items.push(n)?;
+        Ok(())
+    }
+
+    /// Puts a node at the end, where it is one to keep.
+    pub fn keep_where(&mut self, alloc: Global, is_kept: bool, n: NodeNo) -> Result<(), NoMemory>
+        ensures { OnOk result (self.new ≡ self.old ++ (if is_kept then n ∷ [] else [])) }
+    {
+        if is_kept {
+            return self.push(alloc, n);
+        }
         Ok(())
     }
 

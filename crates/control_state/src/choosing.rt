@@ -1,5 +1,5 @@
 // Which options of a select are chosen.
-ghost use Rattle.std.specs.Prelude.{◌≡◌, ◌<◌, ◌++◌, ◌∷◌, [], All, Some, filter, if◌then◌else◌, length, slice_get, IfOk, OnOk};
+ghost use Rattle.std.specs.Prelude.{◌≡◌, ◌<◌, All, Some, filter, IfOk};
 ghost use Rattle.std.specs.Option.{option_to_list};
 ghost use Rattle.node_trees.specs.Nodes.{IsNode, IsNodeOrNone};
 ghost use Rattle.node_trees.specs.Spots.{first_of};
@@ -11,7 +11,7 @@ use crate::options::{is_multiple, options_of};
 use ce_base::{NoMemory, NodeNo, Nodes};
 use element_names::Native;
 use form_kinds::{is_a, is_option_disabled};
-use node_arena::Tree;
+use node_arena::{Tree, node_at};
 use std::alloc::Global;
 
 /// What is found among options: the first and the last that are selected, and the first that is not disabled.
@@ -88,31 +88,6 @@ fn found_in(controls: &ControlTable, tree: &Tree, select: NodeNo) -> Found
     found
 }
 
-/// The option at a place of a list.
-fn option_at(tree: &Tree, options: &Nodes, place: usize) -> NodeNo
-    requires within { place < length options.now }
-    requires nodes { All (IsNode tree.now) options.now }
-    ensures here { slice_get options.now place ≡ Some result }
-    ensures node { IsNode tree.now result }
-{
-    options.get(place).unwrap()
-}
-
-/// Puts an option behind others, where it is selected.
-fn keep_where(
-    alloc: Global,
-    is_kept: bool,
-    kept: &mut Nodes,
-    option: NodeNo,
-) -> Result<(), NoMemory>
-    ensures { OnOk result (kept.new ≡ kept.old ++ (if is_kept then option ∷ [] else [])) }
-{
-    if is_kept {
-        kept.push(alloc, option)?;
-    }
-    Ok(())
-}
-
 /// The list of an option, or of none.
 fn list_of(alloc: Global, option: Option<NodeNo>) -> Result<Nodes, NoMemory>
     ensures { IfOk result (λ ns. ns ≡ option_to_list option) }
@@ -132,9 +107,9 @@ impl ControlTable {
     {
         let mut kept = Nodes::make(alloc);
         for i in 0..options.len() {
-            let option = option_at(tree, options, i);
+            let option = node_at(tree, options, i);
             let is_kept = self.is_selected(tree, option);
-            keep_where(alloc, is_kept, &mut kept, option)?;
+            kept.keep_where(alloc, is_kept, option)?;
         }
         Ok(kept)
     }

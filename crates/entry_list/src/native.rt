@@ -1,5 +1,5 @@
 // What an element of HTML gives.
-ghost use Rattle.std.specs.Prelude.{◌≡◌, ◌<◌, ◌++◌, ◌∷◌, [], All, Some, if◌then◌else◌, length, not, slice_get, OnOk};
+ghost use Rattle.std.specs.Prelude.{◌≡◌, ◌<◌, ◌++◌, ◌∷◌, [], All, if◌then◌else◌, not, OnOk};
 ghost use Rattle.ce_base.specs.Texts.{entry};
 ghost use Rattle.node_trees.specs.Nodes.{IsNode};
 ghost use Rattle.form_controls.specs.Disabled.{is_option_disabled};
@@ -13,18 +13,8 @@ use ce_base::{Entries, NoMemory, NodeNo, Nodes, Text};
 use control_state::{ControlTable, option_value};
 use element_names::{InputKind, Native};
 use form_kinds::{has_kind, is_a, is_option_disabled, name_of};
-use node_arena::Tree;
+use node_arena::{Tree, node_at};
 use std::alloc::Global;
-
-/// The option at a place of a list.
-fn option_at(tree: &Tree, options: &Nodes, place: usize) -> NodeNo
-    requires within { place < length options.now }
-    requires nodes { All (IsNode tree.now) options.now }
-    ensures here { slice_get options.now place ≡ Some result }
-    ensures node { IsNode tree.now result }
-{
-    options.get(place).unwrap()
-}
 
 /// Puts the entry of an option of a select, unless it is disabled.
 fn put_option(
@@ -59,7 +49,7 @@ fn put_options(
     ensures { OnOk result (list.new ≡ list.old ++ option_entries tree.now select options.now) }
 {
     for i in 0..options.len() {
-        let option = option_at(tree, options, i);
+        let option = node_at(tree, options, i);
         put_option(alloc, tree, list, select, option)?;
     }
     Ok(())

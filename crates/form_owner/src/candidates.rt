@@ -9,11 +9,10 @@ ghost use Rattle.form_owner.specs.Candidates.{Considers, is_concerned, is_named_
 ghost use Rattle.form_owner.specs.Looks.{AreNotedWhole, AreRight};
 
 use crate::looks::{Look, Looks};
-use crate::node_list::node_at;
 use ce_base::{NoMemory, NodeNo, Nodes};
 use element_names::Native;
 use form_kinds::is_a;
-use node_arena::Tree;
+use node_arena::{Tree, node_at};
 use ordered_tables::{IdIndex, NodeSet};
 use owner_reading::is_listed;
 use owner_rows::{Row, associated_in};

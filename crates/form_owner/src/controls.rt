@@ -6,9 +6,8 @@ ghost use Rattle.owner_rows.specs.OwnerRow.{row_of};
 ghost use Rattle.form_owner.specs.Reading.{is_owned_in, owned_in};
 ghost use Rattle.form_owner.specs.Writing.{Written, AreListed};
 
-use crate::node_list::node_at;
 use ce_base::{NoMemory, NodeNo, Nodes};
-use node_arena::Tree;
+use node_arena::{Tree, node_at};
 use owner_rows::{Row, owner_in};
 use std::alloc::Global;
 

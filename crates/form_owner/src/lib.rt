@@ -10,7 +10,6 @@ mod involved;
 mod laws;
 mod looks;
 mod moving;
-mod node_list;
 mod reach;
 mod reading;
 mod renewal;

@@ -14,12 +14,11 @@ ghost use Rattle.form_owner.specs.Writing.{AreRenewed, ListsStood};
 use crate::controls::list_controls;
 use crate::involved::involved;
 use crate::moving::move_each;
-use crate::node_list::node_at;
 use crate::writing::write_all;
 use crate::{Change, Changes};
 use above_reading::{Reading, Readings};
 use ce_base::{NoMemory, NodeNo, Nodes};
-use node_arena::Tree;
+use node_arena::{Tree, node_at};
 use owner_rows::{Row, associated_in, controls_in, disabled_in, owner_in};
 use std::alloc::Global;
 

@@ -8,6 +8,7 @@ mod attributes;
 mod facts;
 mod ids;
 mod insertion;
+mod listed;
 mod making;
 mod marks;
 mod node;
@@ -18,5 +19,6 @@ mod removal;
 mod siblings;
 mod tree;
 
+pub use listed::node_at;
 pub use node_trees::NodeKind;
 pub use tree::Tree;

@@ -5,9 +5,9 @@ ghost use Rattle.node_trees.specs.Nodes.{IsNode};
 ghost use Rattle.node_trees.specs.Spots.{facts_at};
 ghost use Rattle.node_trees.specs.Candidates.{candidates, has_is_value, is_candidate};
 
-use crate::place::{is_element, keep_where, node_at};
+use crate::element::is_element;
 use ce_base::{NoMemory, NodeNo, Nodes};
-use node_arena::Tree;
+use node_arena::{Tree, node_at};
 use std::alloc::Global;
 
 /// The elements that a new definition may upgrade (HTML Standard, section "The CustomElementRegistry
@@ -45,7 +45,7 @@ fn candidates_among(
     for i in 0..nodes.len() {
         let n = node_at(tree, nodes, i);
         let is_found = is_candidate(tree, n, local, is_value);
-        keep_where(alloc, is_found, &mut found, n)?;
+        found.keep_where(alloc, is_found, n)?;
     }
     Ok(found)
 }

@@ -6,10 +6,18 @@ ghost use Rattle.node_trees.specs.Nodes.{IsNode};
 ghost use Rattle.node_trees.specs.Spots.{kind_at};
 ghost use Rattle.node_trees.specs.Candidates.{elements};
 
-use crate::place::{is_element, keep_where, node_at};
 use ce_base::{NoMemory, NodeNo, Nodes};
-use node_arena::Tree;
+use node_arena::{Tree, node_at};
+use node_trees::NodeKind;
 use std::alloc::Global;
+
+/// Whether a node is an element.
+pub(crate) fn is_element(tree: &Tree, n: NodeNo) -> bool
+    requires { IsNode tree.now n }
+    ensures { result ≡ is_element (kind_at tree.now n) }
+{
+    tree.kind(n) == NodeKind::Element
+}
 
 /// The elements among a node's shadow-including inclusive descendants, in shadow-including tree order (HTML
 /// Standard, section "The CustomElementRegistry interface", `upgrade`). `NoMemory` comes only where memory was
@@ -33,7 +41,7 @@ fn elements_among(alloc: Global, tree: &Tree, nodes: &Nodes) -> Result<Nodes, No
     for i in 0..nodes.len() {
         let n = node_at(tree, nodes, i);
         let is_found = is_element(tree, n);
-        keep_where(alloc, is_found, &mut found, n)?;
+        found.keep_where(alloc, is_found, n)?;
     }
     Ok(found)
 }

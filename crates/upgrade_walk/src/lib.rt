@@ -3,7 +3,6 @@
 
 mod candidate;
 mod element;
-mod place;
 
 pub use candidate::candidates;
 pub use element::walk;

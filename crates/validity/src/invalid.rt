@@ -1,5 +1,5 @@
 // The invalid controls of a form.
-ghost use Rattle.std.specs.Prelude.{◌≡◌, ◌++◌, ◌∷◌, [], All, if◌then◌else◌, IfOk, OnOk};
+ghost use Rattle.std.specs.Prelude.{◌≡◌, IfOk};
 ghost use Rattle.node_trees.specs.Nodes.{IsNode};
 ghost use Rattle.form_controls.specs.Owners.{Forms};
 ghost use Rattle.form_controls.specs.Validity.{invalid_controls, is_invalid};
@@ -30,16 +30,6 @@ fn is_invalid(
         && is_raised(flags(tree, owners, controls, inner, n))
 }
 
-/// Puts a node behind others, where it is one of them.
-fn keep_where(alloc: Global, is_kept: bool, kept: &mut Nodes, n: NodeNo) -> Result<(), NoMemory>
-    ensures { OnOk result (kept.new ≡ kept.old ++ (if is_kept then n ∷ [] else [])) }
-{
-    if is_kept {
-        return kept.push(alloc, n);
-    }
-    Ok(())
-}
-
 /// The invalid controls of a form, in tree order: those of its controls that are validated and have a flag (HTML Standard,
 /// section "Constraint validation", "statically validate the constraints"). NoMemory: memory was refused.
 pub fn invalid_controls(
@@ -58,7 +48,7 @@ pub fn invalid_controls(
     let mut invalid = Nodes::make(alloc);
     for n in owners.controls(form) {
         let is_kept = is_invalid(tree, owners, controls, inner, *n);
-        keep_where(alloc, is_kept, &mut invalid, *n)?;
+        invalid.keep_where(alloc, is_kept, *n)?;
     }
     Ok(invalid)
 }

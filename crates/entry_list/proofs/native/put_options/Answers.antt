@@ -9,9 +9,9 @@ use Rattle.entry_list.proofs.native.put_options.Goals as goal
 
 pub loop-i-preserved : goal.loop-i-preserved
 loop-i-preserved c =
-    let option = c.option_at-option.result in
+    let option = c.node_at-option.result in
     kept-next (λ o. not (is_option_disabled c.args.tree.now o)) (λ o. entry (name_of c.args.tree.now c.args.select) (option_value c.args.tree.now o))
     c.args.options.now c.loop-i.i option c.args.list.now c.loop-i.list c.put_option.new.list
-    (slice_get_within c.args.options.now c.loop-i.i option c.option_at-option.ensures.here)
-    (get_or_from_slice_get c.args.options.now c.loop-i.i option option c.option_at-option.ensures.here)
+    (slice_get_within c.args.options.now c.loop-i.i option c.node_at-option.ensures.here)
+    (get_or_from_slice_get c.args.options.now c.loop-i.i option option c.node_at-option.ensures.here)
     c.loop-i.invariant c.in_ok-put_option.ensures

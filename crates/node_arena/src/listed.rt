@@ -2,11 +2,11 @@
 ghost use Rattle.std.specs.Prelude.{◌≡◌, ◌<◌, All, Some, length, slice_get};
 ghost use Rattle.node_trees.specs.Nodes.{IsNode};
 
+use crate::Tree;
 use ce_base::{NodeNo, Nodes};
-use node_arena::Tree;
 
-/// The node at a place of a list.
-pub(crate) fn node_at(tree: &Tree, nodes: &Nodes, place: usize) -> NodeNo
+/// The node at a place of a list of nodes of a tree.
+pub fn node_at(tree: &Tree, nodes: &Nodes, place: usize) -> NodeNo
     requires within { place < length nodes.now }
     requires nodes { All (IsNode tree.now) nodes.now }
     ensures here { slice_get nodes.now place ≡ Some result }
