@@ -1,6 +1,7 @@
 -- The custom element registry: the definitions in the order of defining (HTML Standard, section "The CustomElementRegistry interface").
 use Rattle.std.specs.Prelude.{ℕ, Bool, true, false, ◌&&◌, ◌==◌, not, if◌then◌else◌, List, Option, Some, None, bytes_eq, is_some}
 use Rattle.std.specs.List.{list_any, position}
+use Rattle.std.specs.Option.{option_or}
 use Rattle.ce_base.specs.declared.fault.Fault.{Fault}
 use Rattle.ce_base.specs.declared.fault.Fault.TheVariants.{NotSupportedError, SyntaxError}
 use Rattle.element_names.specs.Names.{custom_name}
@@ -52,16 +53,12 @@ abbrev pub by_is_value : List Definition → Option (List ℕ) → List ℕ → 
 by_is_value ds None local = None
 by_is_value ds (Some value) local = by_names ds value local
 
-abbrev pub or_else : Option ℕ → Option ℕ → Option ℕ
-or_else None o = o
-or_else (Some n) o = Some n
-
 -- Look up a custom element definition: none where the document is not the page's; else the one whose name and local
 -- name both are the local name; else the one whose name is the `is` value and whose local name is the local name (HTML
 -- Standard, section "Core concepts")
 abbrev pub lookup : List Definition → Bool → List ℕ → Option (List ℕ) → Option ℕ
 lookup ds false local is = None
-lookup ds true local is = or_else (by_names ds local local) (by_is_value ds is local)
+lookup ds true local is = option_or (by_names ds local local) (by_is_value ds is local)
 
 -- the definition observes the attribute's name, where there is one
 abbrev pub observes : Option Definition → List ℕ → Bool

@@ -3,12 +3,13 @@ use Rattle.std.proofs.Common.{◌≡◌, ℕ, true, ◌-◌, ◌<◌, List, ◌+
 use Rattle.std.specs.Option.{option_to_list}
 use Rattle.std.proofs.lemmas.Bool.Decides.{nat_tests}
 use Rattle.std.proofs.lemmas.List.{length-map}
+use Rattle.std.specs.Option.{option_or}
 use Rattle.node_trees.specs.Trees.{Trees}
 use Rattle.node_trees.specs.Nodes.{IsNode, IsNodeOrNone, IsTidy}
 use Rattle.node_trees.specs.Paths.{is_among}
 use Rattle.node_trees.specs.Spots.{Spot, spot, spot_at, parent_at, host_at, shadow_at, children_at, first_child_at, next_sibling_at, first_of, after}
 use Rattle.tree_laws.specs.Beside.{before}
-use Rattle.tree_laws.specs.Walks.{AreNodes, IsUp, parent_or, above}
+use Rattle.tree_laws.specs.Walks.{AreNodes, IsUp, above}
 use Rattle.tree_laws.proofs.Above.{nothing, a_parent, a_host, row_above}
 use Rattle.tree_laws.proofs.AtNode.{node_spot, spot_at-is}
 use Rattle.tree_laws.proofs.Beside.{before-among}
@@ -61,7 +62,7 @@ pub record Read (f : Trees) (n : ℕ) (node : Node) : Type 0 where
   pub shadow_is : node.shadow ≡ shadow_at f n
   pub next_is : node.next ≡ next_sibling_at f n
   pub lone : (m : ℕ) → after m (spot_at f n).shadow ≡ None
-  pub up : IsUp f n (parent_or node.parent node.host)
+  pub up : IsUp f n (option_or node.parent node.host)
   pub parent : IsNodeOrNone f node.parent
   pub host : IsNodeOrNone f node.host
   pub shadow : IsNodeOrNone f node.shadow
@@ -74,15 +75,15 @@ module _ (f : Trees) (tidy : IsTidy f) (n : ℕ) (at : IsNode f n) where
   up_is : (it : Spot) → spot f n ≡ Some it → IsUp f n (above it) × (IsNodeOrNone f it.parent × IsNodeOrNone f it.host)
   up_is it is = elim (row_above f n it tidy at is) [
     | nothing e o path ↦ (
-      subst (IsUp f n) (sym (ap (λ v. parent_or v it.host) e ∙ o)) path,
+      subst (IsUp f n) (sym (ap (λ v. option_or v it.host) e ∙ o)) path,
       (subst (IsNodeOrNone f) (sym e) tt, subst (IsNodeOrNone f) (sym o) tt),
     )
     | a_parent q e o up ↦ (
-      subst (IsUp f n) (sym (ap (λ v. parent_or v it.host) e)) (up.is_node, up.path_is),
+      subst (IsUp f n) (sym (ap (λ v. option_or v it.host) e)) (up.is_node, up.path_is),
       (subst (IsNodeOrNone f) (sym e) up.is_node, subst (IsNodeOrNone f) (sym o) tt),
     )
     | a_host q e o up ↦ (
-      subst (IsUp f n) (sym (ap (λ v. parent_or v it.host) e ∙ o)) (up.is_node, up.path_is),
+      subst (IsUp f n) (sym (ap (λ v. option_or v it.host) e ∙ o)) (up.is_node, up.path_is),
       (subst (IsNodeOrNone f) (sym e) tt, subst (IsNodeOrNone f) (sym o) up.is_node),
     )
   ]
@@ -116,7 +117,7 @@ module _ (f : Trees) (tidy : IsTidy f) (n : ℕ) (at : IsNode f n) where
           shadow_is = shadow_is;
           next_is = ap (λ (l : Link). l.next) is ∙ next-same f n (parent_at f n) refl;
           lone = λ m. lone-after node.shadow _ m (ap (λ (l : Link). l.shadow) is);
-          up = subst (IsUp f n) (ap (λ (s : Spot). above s) (sym same) ∙ ap (λ (l : Link). parent_or l.parent l.host) (sym is)) around.0;
+          up = subst (IsUp f n) (ap (λ (s : Spot). above s) (sym same) ∙ ap (λ (l : Link). option_or l.parent l.host) (sym is)) around.0;
           parent = subst (IsNodeOrNone f) (sym (ap (λ (l : Link). l.parent) is)) parent;
           host = subst (IsNodeOrNone f) (sym (ap (λ (l : Link). l.host) is)) host;
           shadow = subst (IsNodeOrNone f) (sym shadow_is) shadow;

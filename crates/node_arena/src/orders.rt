@@ -1,10 +1,10 @@
 // Tree order and the shadow-including order.
 ghost use Rattle.std.specs.Prelude.{◌≡◌, ℕ, None, true, IfOk, IfSome, All};
+ghost use Rattle.std.specs.Option.{option_or};
 ghost use Rattle.node_trees.specs.Orders.{order_of, tree_order_of};
 ghost use Rattle.node_trees.specs.Paths.{connected, is_among};
 ghost use Rattle.node_trees.specs.Nodes.{IsNode, IsNodeOrNone, IsTidy};
 ghost use Rattle.node_trees.specs.Spots.{after, spot_at, shadow_at, first_child_at};
-ghost use Rattle.tree_laws.specs.Walks.{parent_or};
 
 use crate::Tree;
 use ce_base::{NoMemory, NodeNo, Nodes};
@@ -61,7 +61,7 @@ impl Tree {
     // The first thing below a node: its shadow root, or else its first child.
     fn first_below(&self, n: NodeNo) -> Option<NodeNo>
         requires { IsNode self.now n }
-        ensures below { result ≡ parent_or (shadow_at self.now n) (first_child_at self.now n) }
+        ensures below { result ≡ option_or (shadow_at self.now n) (first_child_at self.now n) }
         ensures tidy { IsTidy self.now }
     {
         let node = self.node(n);

@@ -1,5 +1,6 @@
 // What is known of a node, and who stands next to it.
 ghost use Rattle.std.specs.Prelude.{◌≡◌, [], ℕ, Some, None, true, false, IfOk, option_copied};
+ghost use Rattle.std.specs.Option.{option_or};
 ghost use Rattle.node_trees.specs.Facts.{is_element, is_text};
 ghost use Rattle.node_trees.specs.Trees.{none, roots, tree_of};
 ghost use Rattle.node_trees.specs.Spots.{after, spot_at, facts_at, kind_at, document_at, parent_at};
@@ -9,7 +10,7 @@ ghost use Rattle.node_trees.specs.Links.{below, AreRead};
 ghost use Rattle.tree_laws.specs.Beside.{before};
 ghost use Rattle.node_arena.specs.Links.{children_of, link_in};
 ghost use Rattle.node_arena.specs.NodeLinks.{facts_of, link_from, text_in};
-ghost use Rattle.tree_laws.specs.Walks.{parent_or, IsUp};
+ghost use Rattle.tree_laws.specs.Walks.{IsUp};
 
 use crate::Tree;
 use crate::node::Node;
@@ -49,7 +50,7 @@ impl Tree {
         ensures last_is { result.now.last ≡ before None (children_at self.now n) }
         ensures previous_is { result.now.previous ≡ before (Some n) (children_of self.now (parent_at self.now n)) }
         ensures next_is { result.now.next ≡ next_sibling_at self.now n }
-        ensures up { IsUp self.now n (parent_or result.now.parent result.now.host) }
+        ensures up { IsUp self.now n (option_or result.now.parent result.now.host) }
         ensures parent { IsNodeOrNone self.now result.now.parent }
         ensures host { IsNodeOrNone self.now result.now.host }
         ensures shadow { IsNodeOrNone self.now result.now.shadow }

@@ -2,12 +2,12 @@
 use Rattle.std.proofs.Common.{◌≡◌, ◌≢◌, ℕ, true, false, ◌<◌, ◌==◌, Option, Some, None, refl, ap, sym, ◌∙◌, arith, length}
 use Rattle.std.specs.Prelude.{is_some, not}
 use Rattle.std.proofs.lemmas.Bool.Decides.{nat_tests}
+use Rattle.std.specs.Option.{option_or}
 use Rattle.node_trees.specs.Trees.{Trees}
 use Rattle.node_trees.specs.Nodes.{IsNode, IsTidy}
 use Rattle.node_trees.specs.Orders.{tree_order_of}
 use Rattle.node_trees.specs.Paths.{path, is_among}
 use Rattle.node_trees.specs.Spots.{parent_at, first_child_at, next_sibling_at, after}
-use Rattle.tree_laws.proofs.Next.{or_else}
 use Rattle.tree_laws.proofs.InOrder.{member_is_node}
 use Rattle.tree_laws.proofs.Following.{beyond_in, after-is, beyond-root, beyond-is, beyond-parent, among-parent, parent-there}
 use Rattle.tree_laws.proofs.Above.{parent-above}
@@ -17,13 +17,13 @@ pub record Climbing (f : Trees) (root n at : ℕ) : Type 0 where
   pub among : is_among at (tree_order_of f root) ≡ true
   pub is : after n (tree_order_of f root) ≡ beyond_in f root at
 
-pub or_else-some : (a b : Option ℕ) → is_some a ≡ true → or_else a b ≡ a
-or_else-some None b h = absurd cc
-or_else-some (Some a) b h = refl
+pub option_or-some : (a b : Option ℕ) → is_some a ≡ true → option_or a b ≡ a
+option_or-some None b h = absurd cc
+option_or-some (Some a) b h = refl
 
-pub or_else-none : (a b : Option ℕ) → is_some a ≡ false → or_else a b ≡ b
-or_else-none None b h = refl
-or_else-none (Some a) b h = absurd cc
+pub option_or-none : (a b : Option ℕ) → is_some a ≡ false → option_or a b ≡ b
+option_or-none None b h = refl
+option_or-none (Some a) b h = absurd cc
 
 none-is : (a : Option ℕ) → is_some a ≡ false → a ≡ None
 none-is None h = refl
@@ -41,12 +41,12 @@ module _ (f : Trees) (root n : ℕ) (tidy : IsTidy f) (is : IsNode f root) where
   pub climb-child : (child : Option ℕ) → is_among n (tree_order_of f root) ≡ true → child ≡ first_child_at f n → is_some child ≡ true
       → child ≡ after n (tree_order_of f root)
   climb-child child among e some =
-      sym (after-is f root tidy is n among ∙ ap (λ v. or_else v (beyond_in f root n)) (sym e) ∙ or_else-some child (beyond_in f root n) some)
+      sym (after-is f root tidy is n among ∙ ap (λ v. option_or v (beyond_in f root n)) (sym e) ∙ option_or-some child (beyond_in f root n) some)
 
   pub climb-start : (child : Option ℕ) → is_among n (tree_order_of f root) ≡ true → child ≡ first_child_at f n → is_some child ≡ false → Climbing f root n n
   climb-start child among e gone = record {
     among = among;
-    is = after-is f root tidy is n among ∙ ap (λ v. or_else v (beyond_in f root n)) (sym e) ∙ or_else-none child (beyond_in f root n) gone;
+    is = after-is f root tidy is n among ∙ ap (λ v. option_or v (beyond_in f root n)) (sym e) ∙ option_or-none child (beyond_in f root n) gone;
   }
 
   module _ (at : ℕ) (c : Climbing f root n at) where
@@ -62,7 +62,7 @@ module _ (f : Trees) (root n : ℕ) (tidy : IsTidy f) (is : IsNode f root) where
       pub climb-sibling : (next : Option ℕ) → next ≡ next_sibling_at f at → is_some next ≡ true → next ≡ after n (tree_order_of f root)
       climb-sibling next e some =
           let b = beyond-is f root tidy is at ne c.among in
-          sym (c.is ∙ b.beyond_is ∙ ap (λ v. or_else v (beyond_in f root b.parent)) (sym e) ∙ or_else-some next (beyond_in f root b.parent) some)
+          sym (c.is ∙ b.beyond_is ∙ ap (λ v. option_or v (beyond_in f root b.parent)) (sym e) ∙ option_or-some next (beyond_in f root b.parent) some)
 
       -- else on to the parent
       pub climb-on : (next : Option ℕ) (p : ℕ) → next ≡ next_sibling_at f at → is_some next ≡ false → Some p ≡ parent_at f at → Climbing f root n p

@@ -4,6 +4,7 @@ use Rattle.std.proofs.Common.{length, refl}
 use Rattle.std.specs.Prelude.{⊤}
 use Rattle.std.proofs.lemmas.Bool.{cases_eq}
 use Rattle.std.proofs.lemmas.Bool.Decides.{nat_tests}
+use Rattle.std.specs.Option.{option_or}
 use Rattle.node_trees.specs.Facts.{Facts, is_document}
 use Rattle.node_trees.specs.Trees.{Trees, tree_of, cut, with_node, with_facts}
 use Rattle.node_trees.specs.Spots.{Spot, spot_of, spot_at, kind_at, parent_at, host_at, first_of}
@@ -13,7 +14,6 @@ use Rattle.node_trees.specs.Nodes.{size, times, IsNode, IsTidy}
 use Rattle.node_trees.proofs.Absent.{is_among-append}
 use Rattle.tree_laws.specs.Numbers.{insert_number}
 use Rattle.tree_laws.specs.Rows.{row_of_node, IsForest, Grafted, Attached}
-use Rattle.tree_laws.specs.Walks.{parent_or}
 use Rattle.tree_laws.proofs.Above.{IsAbove, nothing, a_parent, a_host, row_above, parent-above}
 use Rattle.tree_laws.proofs.Apart.{connected-root, connected-above, row_written}
 use Rattle.tree_laws.proofs.AtNode.{node_stands, node_spot, parent_at-is, host_at-is, spot_at-is}
@@ -34,7 +34,7 @@ pub record SameAbove (f g : Trees) (m : ℕ) : Type 0 where
   pub kind : kind_at g m ≡ kind_at f m
 
 abbrev above_at : Trees → ℕ → Option ℕ
-above_at f m = parent_or (parent_at f m) (host_at f m)
+above_at f m = option_or (parent_at f m) (host_at f m)
 
 -- nothing is above a node, or one node is
 data Up (f : Trees) (m : ℕ) : Type 0 where
@@ -44,7 +44,7 @@ data Up (f : Trees) (m : ℕ) : Type 0 where
 up_of : (f : Trees) (m : ℕ) → IsTidy f → IsNode f m → Up f m
 up_of f m tidy at =
     let st = node_spot f m tidy at in
-    let is : above_at f m ≡ parent_or st.row.parent st.row.host = rw (parent_at-is f m st.row st.is, host_at-is f m st.row st.is) refl in
+    let is : above_at f m ≡ option_or st.row.parent st.row.host = rw (parent_at-is f m st.row st.is, host_at-is f m st.row st.is) refl in
     elim (row_above f m st.row tidy at st.is) [
       | nothing e o z ↦ top (is ∙ rw (e, o) refl) z
       | a_parent q e o a ↦ below q (is ∙ rw e refl) a
@@ -52,7 +52,7 @@ up_of f m tidy at =
     ]
 
 same_above : (f g : Trees) (m : ℕ) → SameAbove f g m → above_at g m ≡ above_at f m
-same_above f g m same = ap (λ o. parent_or o (host_at g m)) same.parent ∙ ap (λ o. parent_or (parent_at f m) o) same.host
+same_above f g m same = ap (λ o. option_or o (host_at g m)) same.parent ∙ ap (λ o. option_or (parent_at f m) o) same.host
 
 -- nodes with the same above them, all the way up, are as connected as they were
 module _ (f g : Trees) (tidy_f : IsTidy f) (tidy_g : IsTidy g) (Here : ℕ → Type 0) (up : (q m : ℕ) → IsAbove f q m → Here m → Here q) (over : (m : ℕ)

@@ -1,6 +1,7 @@
 -- Tree order of one node's tree, walked by first child, next sibling and parent: no stack, and the walk stays inside that tree.
 use Rattle.std.proofs.Common.{◌≡◌, ◌≢◌, ℕ, true, Option, Some, None, ap, sym, ◌∙◌, subst, arith}
 use Rattle.std.proofs.lemmas.Bool.Decides.{nat_tests}
+use Rattle.std.specs.Option.{option_or}
 use Rattle.node_trees.specs.Trees.{Trees, tree_of}
 use Rattle.node_trees.specs.Nodes.{IsNode, IsTidy}
 use Rattle.node_trees.specs.Orders.{tree_order, tree_order_of}
@@ -9,7 +10,7 @@ use Rattle.node_trees.specs.Spots.{spot_of, spot_in, parent_at, first_child_at, 
 use Rattle.tree_laws.proofs.InOrder.{order-inside}
 use Rattle.tree_laws.proofs.Sums.{tidy-apart}
 use Rattle.tree_laws.proofs.Inside.{Found, found, tree_apart}
-use Rattle.tree_laws.proofs.Next.{or_else, beyond, next_is, Below, climb_tree}
+use Rattle.tree_laws.proofs.Next.{beyond, next_is, Below, climb_tree}
 use Rattle.tree_laws.proofs.AtNode.{node_stands, parent_at-is, first_child_at-is, next_sibling_at-is}
 use Rattle.node_trees.proofs.Weights.{IsApart}
 
@@ -22,14 +23,14 @@ pub record Parented (f : Trees) (root n : ℕ) : Type 0 where
   pub parent : ℕ
   pub parent_is : parent_at f n ≡ Some parent
   pub among : is_among parent (tree_order_of f root) ≡ true
-  pub beyond_is : beyond_in f root n ≡ or_else (next_sibling_at f n) (beyond_in f root parent)
+  pub beyond_is : beyond_in f root n ≡ option_or (next_sibling_at f n) (beyond_in f root parent)
 
 module _ (f : Trees) (root : ℕ) (tidy : IsTidy f) (is : IsNode f root) where
   found_root : Found None None root f
   found_root = found None None root f (tidy-apart f tidy) (node_stands f root tidy is)
 
   -- first its first child; where it has none, what is beyond it
-  pub after-is : (n : ℕ) → is_among n (tree_order_of f root) ≡ true → after n (tree_order_of f root) ≡ or_else (first_child_at f n) (beyond_in f root n)
+  pub after-is : (n : ℕ) → is_among n (tree_order_of f root) ≡ true → after n (tree_order_of f root) ≡ option_or (first_child_at f n) (beyond_in f root n)
   after-is n among =
       let low = order-inside n (tree_of root f) among in
       let apart = tree_apart root f (tidy-apart f tidy) in
@@ -37,7 +38,7 @@ module _ (f : Trees) (root : ℕ) (tidy : IsTidy f) (is : IsNode f root) where
       let row = spot_of it.facts it.parent it.host it.shadow it.children in
       let here = found_root.inside n low ∙ it.spot_is in
       next_is found_root.parent found_root.host n (tree_of root f) row apart among it.spot_is
-      ∙ ap (λ v. or_else v (beyond_in f root n)) (sym (first_child_at-is f n row here))
+      ∙ ap (λ v. option_or v (beyond_in f root n)) (sym (first_child_at-is f n row here))
 
   -- nothing is beyond the root
   pub beyond-root : beyond_in f root root ≡ None
@@ -74,7 +75,7 @@ module _ (f : Trees) (root : ℕ) (tidy : IsTidy f) (is : IsNode f root) where
       let b = beyond-is n ne among in
       let e = b.parent_is in
       let same : b.parent ≡ p = cc in
-      b.beyond_is ∙ ap (λ v. or_else v (beyond_in f root b.parent)) next ∙ ap (beyond_in f root) same
+      b.beyond_is ∙ ap (λ v. option_or v (beyond_in f root b.parent)) next ∙ ap (beyond_in f root) same
 
   pub among-parent : (n p : ℕ) → n ≢ root → is_among n (tree_order_of f root) ≡ true → parent_at f n ≡ Some p → is_among p (tree_order_of f root) ≡ true
   among-parent n p ne among up =

@@ -1,30 +1,30 @@
 -- The node that comes after another in tree order, by first child, next sibling and parent.
 use Rattle.std.proofs.Common.{◌≡◌, ◌≢◌, ℕ, true, false, ◌==◌, if◌then◌else◌, List, [], ◌∷◌, ◌++◌, Option, Some, None, refl, ap, sym, ◌∙◌, arith}
 use Rattle.std.proofs.lemmas.Bool.Decides.{nat_tests}
+use Rattle.std.specs.Option.{option_or}
 use Rattle.node_trees.specs.Facts.{Facts}
 use Rattle.node_trees.specs.Trees.{Trees, none, tree, roots}
 use Rattle.node_trees.specs.Nodes.{times}
 use Rattle.node_trees.specs.Orders.{tree_order}
 use Rattle.node_trees.specs.Paths.{is_among}
 use Rattle.node_trees.specs.Spots.{Spot, spot_of, spot_in, first_of, after}
-pub use Rattle.tree_laws.specs.Walks.{parent_or as or_else}
 use Rattle.tree_laws.proofs.InOrder.{order-inside}
 use Rattle.tree_laws.proofs.Sums.{apart-children, apart-rest, here, in_shadow, in_children, in_rest, stands_where}
 use Rattle.tree_laws.proofs.Pieces.{spot-here, spot-children, spot-rest}
 use Rattle.node_trees.proofs.Weights.{IsApart}
 use Rattle.node_trees.proofs.Absent.{is_among-append}
 
-pub or_else-assoc : (a b c : Option ℕ) → or_else (or_else a b) c ≡ or_else a (or_else b c)
-or_else-assoc None b c = refl
-or_else-assoc (Some a) b c = refl
+pub option_or-assoc : (a b c : Option ℕ) → option_or (option_or a b) c ≡ option_or a (option_or b c)
+option_or-assoc None b c = refl
+option_or-assoc (Some a) b c = refl
 
 -- ---- lists
 
-pub first_of-append : (xs ys : List ℕ) → first_of (xs ++ ys) ≡ or_else (first_of xs) (first_of ys)
+pub first_of-append : (xs ys : List ℕ) → first_of (xs ++ ys) ≡ option_or (first_of xs) (first_of ys)
 first_of-append [] ys = refl
 first_of-append (x ∷ xs) ys = refl
 
-pub after-left : (n : ℕ) (xs ys : List ℕ) → is_among n xs ≡ true → after n (xs ++ ys) ≡ or_else (after n xs) (first_of ys)
+pub after-left : (n : ℕ) (xs ys : List ℕ) → is_among n xs ≡ true → after n (xs ++ ys) ≡ option_or (after n xs) (first_of ys)
 after-left n [] ys h = cc
 after-left n (x ∷ xs) ys h = grind (arith, nat_tests, after-left n xs ys, first_of-append xs ys)
 
@@ -48,7 +48,7 @@ abbrev pub beyond : ℕ → Trees → Option ℕ
 beyond n none = None
 beyond n (tree m x shadow children rest) =
     if m == n then first_of (roots rest)
-    else if is_among n (tree_order children) then or_else (beyond n children) (first_of (roots rest))
+    else if is_among n (tree_order children) then option_or (beyond n children) (first_of (roots rest))
     else beyond n rest
 
 -- where a number of tree order stands
@@ -67,7 +67,7 @@ ordered n m x s k r apart among = elim (stands_where n m x s k r apart (order-in
 
 -- next is the first child, or else what is beyond all below
 pub next_is : (p h : Option ℕ) (n : ℕ) (f : Trees) (row : Spot) → IsApart f → is_among n (tree_order f) ≡ true → spot_in p h n f ≡ Some row
-    → after n (tree_order f) ≡ or_else (first_of row.children) (beyond n f)
+    → after n (tree_order f) ≡ option_or (first_of row.children) (beyond n f)
 next_is p h n none row apart among is = cc
 next_is p h n (tree m x s k r) row apart among is = elim (ordered n m x s k r apart among) [
   | first e ↦
@@ -77,7 +77,7 @@ next_is p h n (tree m x s k r) row apart among is = elim (ordered n m x s k r ap
   | below ne a b c ↦
       let on = next_is (Some m) None n k row (apart-children m x s k r apart) b (sym (spot-children p h n m x s k r ne a c) ∙ is) in
       let left = after-left n (tree_order k) (tree_order r) b in
-      grind (arith, nat_tests, on, left, order-first r, or_else-assoc (first_of row.children) (beyond n k) (first_of (roots r)))
+      grind (arith, nat_tests, on, left, order-first r, option_or-assoc (first_of row.children) (beyond n k) (first_of (roots r)))
   | later ne a b c ↦
       let on = next_is p h n r row (apart-rest m x s k r apart) c (sym (spot-rest p h n m x s k r ne a b) ∙ is) in
       let gone = order-absent n k b in
@@ -92,7 +92,7 @@ pub record Below (p h : Option ℕ) (n : ℕ) (f : Trees) (row : Spot) : Type 0 
   pub parent_is : row.parent ≡ Some parent
   pub among : is_among parent (tree_order f) ≡ true
   pub spot_is : spot_in p h parent f ≡ Some above
-  pub beyond_is : beyond n f ≡ or_else (after n above.children) (beyond parent f)
+  pub beyond_is : beyond n f ≡ option_or (after n above.children) (beyond parent f)
 
 -- what is beyond n: by its place among the roots of the list, or by its place among the children of its parent
 pub data Climb (p h : Option ℕ) (n : ℕ) (f : Trees) (row : Spot) : Type 0 where
@@ -122,7 +122,7 @@ climb_children p h n m x s k r row apart ne among on = elim on [
         parent_is = b.parent_is;
         among = grind (arith, nat_tests, is_among-append b.parent (tree_order k) (tree_order r));
         spot_is = spot-children p h b.parent m x s k r (grind (arith, nat_tests)) (grind (arith, nat_tests)) (grind (arith, nat_tests)) ∙ b.spot_is;
-        beyond_is = grind (arith, nat_tests, or_else-assoc (after n b.above.children) (beyond b.parent k) (first_of (roots r)));
+        beyond_is = grind (arith, nat_tests, option_or-assoc (after n b.above.children) (beyond b.parent k) (first_of (roots r)));
       }
 ]
 

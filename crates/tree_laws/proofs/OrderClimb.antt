@@ -1,13 +1,14 @@
 -- The loop that looks for what follows a node in shadow-including tree order: from the node up to the root of the walk.
 use Rattle.std.proofs.Common.{◌≡◌, ◌≢◌, ℕ, true, false, ◌<◌, Option, Some, None, refl, ap, sym, ◌∙◌, subst, length}
 use Rattle.std.specs.Prelude.{is_some}
+use Rattle.std.specs.Option.{option_or}
 use Rattle.node_trees.specs.Trees.{Trees, tree_of}
 use Rattle.node_trees.specs.Nodes.{times, IsNode, IsTidy}
 use Rattle.node_trees.specs.Orders.{order_of}
 use Rattle.node_trees.specs.Paths.{path}
 use Rattle.node_trees.specs.Spots.{parent_at, host_at, shadow_at, first_child_at, next_sibling_at, spot_at, after}
-use Rattle.tree_laws.proofs.Climbing.{or_else-some, or_else-none}
-use Rattle.tree_laws.proofs.Next.{or_else, or_else-assoc}
+use Rattle.tree_laws.proofs.Climbing.{option_or-some, option_or-none}
+use Rattle.tree_laws.proofs.Next.{option_or-assoc}
 use Rattle.tree_laws.proofs.PastIn.{past_in, Past, of_parent, of_host, inside-node, after-is, past-root, past-is}
 
 -- What the loop keeps: `up` is in the tree, and what follows n is what is past `up`
@@ -17,18 +18,18 @@ pub record Climbing (f : Trees) (root n up : ℕ) : Type 0 where
 
 -- the first thing below a node: its shadow root, or else its first child
 abbrev pub first_below : Trees → ℕ → Option ℕ
-first_below f n = or_else (shadow_at f n) (first_child_at f n)
+first_below f n = option_or (shadow_at f n) (first_child_at f n)
 
-first-some : (a b c : Option ℕ) → is_some c ≡ true → c ≡ a → c ≡ or_else a b
-first-some a b c some e = e ∙ sym (or_else-some a b (ap is_some (sym e) ∙ some))
+first-some : (a b c : Option ℕ) → is_some c ≡ true → c ≡ a → c ≡ option_or a b
+first-some a b c some e = e ∙ sym (option_or-some a b (ap is_some (sym e) ∙ some))
 
-first-none : (a b c : Option ℕ) → is_some c ≡ false → c ≡ a → or_else a b ≡ b
-first-none a b c gone e = or_else-none a b (ap is_some (sym e) ∙ gone)
+first-none : (a b c : Option ℕ) → is_some c ≡ false → c ≡ a → option_or a b ≡ b
+first-none a b c gone e = option_or-none a b (ap is_some (sym e) ∙ gone)
 
 module _ (f : Trees) (root n : ℕ) (tidy : IsTidy f) (is : IsNode f root) where
   module _ (inside : 0 < times n (tree_of root f)) (below : Option ℕ) (e : below ≡ first_below f n) where
-    start : after n (order_of f root) ≡ or_else (first_below f n) (past_in f root n)
-    start = after-is f root tidy is n inside ∙ sym (or_else-assoc (shadow_at f n) (first_child_at f n) (past_in f root n))
+    start : after n (order_of f root) ≡ option_or (first_below f n) (past_in f root n)
+    start = after-is f root tidy is n inside ∙ sym (option_or-assoc (shadow_at f n) (first_child_at f n) (past_in f root n))
 
     -- what is below follows
     pub climb-below : is_some below ≡ true → below ≡ after n (order_of f root)
@@ -90,15 +91,15 @@ module _ (f : Trees) (root n : ℕ) (tidy : IsTidy f) (is : IsNode f root) where
           -- it has one shadow root
           module _ (lone : (m : ℕ) → after m (spot_at f h).shadow ≡ None) where
             past_host : (0 < times h (tree_of root f)) × (length (path h f) < length (path up f))
-                × (after n (order_of f root) ≡ or_else (first_child_at f h) (past_in f root h))
+                × (after n (order_of f root) ≡ option_or (first_child_at f h) (past_in f root h))
             past_host = elim it [
               | of_parent q p there a z ↦ absurd cc
               | of_host q p o there a z ↦
                   let same : q ≡ h = cc in
                   let gone : after up (spot_at f q).shadow ≡ None = rw same (lone up) in
                   subst (λ v. (0 < times v (tree_of root f)) × (length (path v f) < length (path up f))
-                  × (after n (order_of f root) ≡ or_else (first_child_at f v) (past_in f root v))) same
-                  (there, a.nearer, c.is ∙ z ∙ ap (λ v. or_else v (or_else (first_child_at f q) (past_in f root q))) gone)
+                  × (after n (order_of f root) ≡ option_or (first_child_at f v) (past_in f root v))) same
+                  (there, a.nearer, c.is ∙ z ∙ ap (λ v. option_or v (option_or (first_child_at f q) (past_in f root q))) gone)
             ]
 
             pub climb-host_less : length (path h f) < length (path up f)

@@ -1,6 +1,7 @@
 -- What is past a node in the shadow-including order of one node's tree, by the reads of the forest.
 use Rattle.std.proofs.Common.{◌≡◌, ◌≢◌, ℕ, ◌<◌, Option, Some, None, ap, sym, ◌∙◌, subst, arith}
 use Rattle.std.proofs.lemmas.Bool.Decides.{nat_tests}
+use Rattle.std.specs.Option.{option_or}
 use Rattle.node_trees.specs.Trees.{Trees, tree_of}
 use Rattle.node_trees.specs.Nodes.{times, IsNode, IsTidy}
 use Rattle.node_trees.specs.Orders.{order_of}
@@ -9,7 +10,6 @@ use Rattle.node_trees.proofs.Weights.{IsApart}
 use Rattle.tree_laws.proofs.Above.{IsAbove, nothing, a_parent, a_host, row_above}
 use Rattle.tree_laws.proofs.AtNode.{node_stands, spot_at-is, next_sibling_at-is}
 use Rattle.tree_laws.proofs.Inside.{Found, found, tree_apart}
-use Rattle.tree_laws.proofs.Next.{or_else}
 use Rattle.tree_laws.proofs.Past.{past, next_is, Up, by_parent, by_host, climb_tree}
 use Rattle.tree_laws.proofs.Sums.{tidy-apart, times-without}
 
@@ -19,9 +19,9 @@ past_in f root n = past n (tree_of root f)
 -- n stands below q, which is in the tree too
 pub data Past (f : Trees) (root n : ℕ) : Type 0 where
   of_parent : (q : ℕ) → parent_at f n ≡ Some q → 0 < times q (tree_of root f) → IsAbove f q n
-      → past_in f root n ≡ or_else (next_sibling_at f n) (past_in f root q) → Past f root n
+      → past_in f root n ≡ option_or (next_sibling_at f n) (past_in f root q) → Past f root n
   of_host : (q : ℕ) → parent_at f n ≡ None → host_at f n ≡ Some q → 0 < times q (tree_of root f) → IsAbove f q n
-      → past_in f root n ≡ or_else (after n (spot_at f q).shadow) (or_else (first_child_at f q) (past_in f root q)) → Past f root n
+      → past_in f root n ≡ option_or (after n (spot_at f q).shadow) (option_or (first_child_at f q) (past_in f root q)) → Past f root n
 
 module _ (f : Trees) (root : ℕ) (tidy : IsTidy f) (is : IsNode f root) where
   pub its_tree : Found None None root f
@@ -39,11 +39,12 @@ module _ (f : Trees) (root : ℕ) (tidy : IsTidy f) (is : IsNode f root) where
       (spot_of it.facts it.parent it.host it.shadow it.children, its_tree.inside n low ∙ it.spot_is, it.spot_is)
 
   -- next is its shadow root, or else its first child; where it has neither, what is past it
-  pub after-is : (n : ℕ) → 0 < times n (tree_of root f) → after n (order_of f root) ≡ or_else (shadow_at f n) (or_else (first_child_at f n) (past_in f root n))
+  pub after-is : (n : ℕ) → 0 < times n (tree_of root f)
+      → after n (order_of f root) ≡ option_or (shadow_at f n) (option_or (first_child_at f n) (past_in f root n))
   after-is n low =
       let row = row_of n low in
       next_is its_tree.parent its_tree.host n (tree_of root f) row.0 (tree_apart root f (tidy-apart f tidy)) low row.2
-      ∙ ap (λ (s : Spot). or_else (first_of s.shadow) (or_else (first_of s.children) (past_in f root n))) (sym (spot_at-is f n row.0 row.1))
+      ∙ ap (λ (s : Spot). option_or (first_of s.shadow) (option_or (first_of s.children) (past_in f root n))) (sym (spot_at-is f n row.0 row.1))
 
   -- nothing is past the root
   pub past-root : past_in f root root ≡ None
@@ -78,5 +79,5 @@ module _ (f : Trees) (root : ℕ) (tidy : IsTidy f) (is : IsNode f root) where
             ] in
             let up_is = spot_at-is f q up (its_tree.inside q there ∙ at) in
             of_host q (ap (λ (s : Spot). s.parent) here ∙ p) (ap (λ (s : Spot). s.host) here ∙ o) there over
-            (z ∙ ap (λ (s : Spot). or_else (after n s.shadow) (or_else (first_of s.children) (past_in f root q))) (sym up_is))
+            (z ∙ ap (λ (s : Spot). option_or (after n s.shadow) (option_or (first_of s.children) (past_in f root q))) (sym up_is))
       ]

@@ -1,18 +1,15 @@
 -- One step of a way through the trees.
 use Rattle.std.specs.Prelude.{◌≡◌, ℕ, List, [], ◌∷◌, ◌++◌, Option, Some, None}
+use Rattle.std.specs.Option.{option_or}
 use Rattle.node_trees.specs.Trees.{Trees, tree_of}
 use Rattle.node_trees.specs.Spots.{Spot}
 use Rattle.node_trees.specs.Orders.{order}
 use Rattle.node_trees.specs.Paths.{path}
 use Rattle.node_trees.specs.Nodes.{IsNode}
 
-abbrev pub parent_or : Option ℕ → Option ℕ → Option ℕ
-parent_or None host = host
-parent_or (Some p) host = Some p
-
 -- the parent, or the host
 abbrev pub above : Spot → Option ℕ
-above s = parent_or s.parent s.host
+above s = option_or s.parent s.host
 
 -- what is above n, if anything is: the path of n is that of it, with n behind
 abbrev pub IsUp : Trees → ℕ → Option ℕ → Type 0
