@@ -5,10 +5,10 @@ use Rattle.ce_algorithms.specs.State.{Memory}
 use Rattle.ce_frames.specs.Places.{Behaviour, Held, Place, Wait, Body}
 use Rattle.class_bodies.specs.declared.next.Next.{Next}
 use Rattle.class_bodies.specs.Next.{resumed_to, stop_of}
-use Rattle.class_bodies.specs.Resume.{Stop, Doing, Returning, Throwing, OutOfFuel, resumed}
+use Rattle.class_bodies.specs.Resume.{BodyStop, Doing, Returning, Throwing, OutOfFuel, resumed}
 
 -- it stops in a `try`
-abbrev pub is_guarded : Stop → Bool
+abbrev pub is_guarded : BodyStop → Bool
 is_guarded (Doing action guarded) = guarded
 is_guarded (Returning value guarded) = guarded
 is_guarded (Throwing fault guarded) = guarded

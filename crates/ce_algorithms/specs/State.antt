@@ -39,6 +39,10 @@ pub record State : Type 0 where
 abbrev pub logged : Event → State → State
 logged e s = record s { log = s.log ++ e ∷ [] }
 
+-- the log was written out
+abbrev pub forgotten : State → State
+forgotten s = record s { log = [] }
+
 abbrev pub log : Event → Step State (Unit {0})
 log e = change (logged e)
 

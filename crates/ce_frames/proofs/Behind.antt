@@ -27,7 +27,7 @@ use Rattle.ce_frames.specs.Frames.{Frame, Replying, Checking, DrainingBackup, Na
 use Rattle.ce_frames.specs.Frames.{Constructing, InBody}
 use Rattle.ce_frames.specs.Handing.{node_in, given_of, dropped, numbered}
 use Rattle.ce_frames.specs.After.{backup_on, drain_on, after}
-use Rattle.ce_frames.specs.Rest.{End, Went, Threw, Over, outcome_of, rest}
+use Rattle.ce_frames.specs.Rest.{WaitEnd, Went, Threw, Over, outcome_of, rest}
 use Rattle.ce_frames.specs.Work.{potential, work}
 
 -- what is made of an outcome is made of it behind any events
@@ -125,12 +125,12 @@ rest_behind (f ∷ frames) events o = ap (after f) (rest_behind frames events o)
 
 -- the log of a state stands before what is still to come
 
-log_behind : (e : End) (s : State) → outcome_of e s ≡ behind_in s.log (outcome_of e (record s { log = [] }))
+log_behind : (e : WaitEnd) (s : State) → outcome_of e s ≡ behind_in s.log (outcome_of e (record s { log = [] }))
 log_behind (Went given) s = ap (λ l. Goes given (record s { log = l })) (sym (append-nil s.log))
 log_behind (Threw f) s = ap (λ l. Throws f (record s { log = l })) (sym (append-nil s.log))
 log_behind Over s = ap (λ l. Spent (record s { log = l })) (sym (append-nil s.log))
 
-pub rest_forgotten : (frames : List Frame) (e : End) (s : State)
+pub rest_forgotten : (frames : List Frame) (e : WaitEnd) (s : State)
     → rest frames (outcome_of e s) ≡ behind_in s.log (rest frames (outcome_of e (record s { log = [] })))
 rest_forgotten frames e s = ap (rest frames) (log_behind e s) ∙ rest_behind frames s.log (outcome_of e (record s { log = [] }))
 

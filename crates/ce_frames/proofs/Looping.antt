@@ -14,7 +14,7 @@ use Rattle.ce_algorithms.specs.Session.{perform, reply_to, command}
 use Rattle.ce_frames.specs.Frames.{Frame, Replying}
 use Rattle.ce_frames.specs.Handing.{nothing}
 use Rattle.ce_frames.specs.After.{after}
-use Rattle.ce_frames.specs.Rest.{rest, End, outcome_of}
+use Rattle.ce_frames.specs.Rest.{rest, WaitEnd, outcome_of}
 use Rattle.ce_frames.specs.Work.{weight, work}
 use Rattle.ce_frames.specs.Turned.{Turned, below, to_come}
 use Rattle.ce_frames.specs.Turns.{turn}
@@ -55,7 +55,7 @@ unfolding cost
 turned_work t frames = let a = onto_weight t.pushed frames in omega (arith, a)
 
 -- more turns than there is work left are enough
-loop_is : (n : ℕ) (frames : List Frame) (end : End) (s : State) → work frames s < n → loop n frames end s ≡ down frames (outcome_of end s)
+loop_is : (n : ℕ) (frames : List Frame) (end : WaitEnd) (s : State) → work frames s < n → loop n frames end s ≡ down frames (outcome_of end s)
 unfolding loop down
 loop_is zero frames end s h = absurd (omega arith)
 loop_is (suc n) [] end s h = refl

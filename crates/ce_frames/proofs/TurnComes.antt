@@ -11,7 +11,7 @@ use Rattle.ce_algorithms.specs.State.{State, logged}
 use Rattle.ce_algorithms.specs.Values.{Args}
 use Rattle.ce_frames.specs.Frames.{Frame, Replying, DrainingBackup, Stepping, Draining, InBody, CreatingFit, Upgrading}
 use Rattle.ce_frames.specs.After.{after}
-use Rattle.ce_frames.specs.Rest.{rest, End, Went, Threw, Over, outcome_of}
+use Rattle.ce_frames.specs.Rest.{rest, WaitEnd, Went, Threw, Over, outcome_of}
 use Rattle.ce_frames.specs.Turned.{Turned, to_come}
 use Rattle.ce_frames.specs.Turns.{turn_went, turn_threw, turn}
 use Rattle.ce_frames.proofs.Comes.{comes, Comes, comes_ended}
@@ -54,7 +54,7 @@ threw_comes (Upgrading n d) x s = upgraded_comes n d (Throws x s)
 threw_comes f x s = comes_ended (after f (Throws x s))
 
 -- without the frames below it
-pub turn_comes : (f : Frame) (end : End) (s : State) → comes (turn f end s) ≡ after f (outcome_of end s)
+pub turn_comes : (f : Frame) (end : WaitEnd) (s : State) → comes (turn f end s) ≡ after f (outcome_of end s)
 unfolding turn
 turn_comes f (Went given) s = went_comes f given s
 turn_comes f (Threw x) s = threw_comes f x s
@@ -65,7 +65,7 @@ unfolding comes
 comes_is t = refl
 
 -- with them
-pub turn_leaves : (frames : List Frame) (f : Frame) (end : End) (s : State) → to_come frames (turn f end s) ≡ rest (frames ++ f ∷ []) (outcome_of end s)
+pub turn_leaves : (frames : List Frame) (f : Frame) (end : WaitEnd) (s : State) → to_come frames (turn f end s) ≡ rest (frames ++ f ∷ []) (outcome_of end s)
 turn_leaves frames f end s =
     let t : Turned = turn f end s in
     rest_append frames t.pushed (outcome_of t.end t.state) ∙ ap (rest frames) (comes_is t ∙ turn_comes f end s) ∙ sym (rest_push frames f (outcome_of end s))

@@ -22,7 +22,7 @@ use Rattle.ce_algorithms.proofs.PageSteps.{keeps_pop_construction}
 use Rattle.ce_frames.specs.Frames.{Frame, Replying, Checking, DrainingBackup, Naming, Stepping, Draining, InReaction, CreatingFit, CreatingExtended, Upgrading}
 use Rattle.ce_frames.specs.Frames.{Constructing, InBody}
 use Rattle.ce_frames.specs.Handing.{node_in}
-use Rattle.ce_frames.specs.Rest.{End, Went, Threw, Over}
+use Rattle.ce_frames.specs.Rest.{WaitEnd, Went, Threw, Over}
 use Rattle.ce_frames.specs.Work.{weight, potential, work}
 use Rattle.ce_frames.specs.Turned.{Turned, hand_down, left, Turn}
 use Rattle.ce_frames.specs.ConstructTurns.{created_turn, upgrade_result_turn, upgraded_turn}
@@ -162,7 +162,7 @@ threw_cost (InBody class args this true actions) x s =
 threw_cost f x s = through f x s
 
 -- without the frames below it
-pub turn_cost : (f : Frame) (end : End) (s : State) → cost (turn f end s) < potential s + weight f
+pub turn_cost : (f : Frame) (end : WaitEnd) (s : State) → cost (turn f end s) < potential s + weight f
 unfolding turn
 turn_cost f (Went given) s = went_cost f given s
 turn_cost f (Threw x) s = threw_cost f x s
@@ -173,7 +173,7 @@ unfolding cost
 cost_is t = refl
 
 -- with them
-pub turn_lowers : (frames : List Frame) (f : Frame) (end : End) (s : State) → left frames (turn f end s) < work (frames ++ f ∷ []) s
+pub turn_lowers : (frames : List Frame) (f : Frame) (end : WaitEnd) (s : State) → left frames (turn f end s) < work (frames ++ f ∷ []) s
 turn_lowers frames f end s =
     let t : Turned = turn f end s in
     let a = sum_by-append weight frames t.pushed in

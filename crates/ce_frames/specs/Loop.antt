@@ -8,7 +8,7 @@ use Rattle.ce_algorithms.specs.Making.{make_document}
 use Rattle.ce_algorithms.specs.State.{State, on_page, spend}
 use Rattle.ce_algorithms.specs.Perform.{gives_node}
 use Rattle.ce_frames.specs.Frames.{Frame, Replying}
-use Rattle.ce_frames.specs.Rest.{End, outcome_of}
+use Rattle.ce_frames.specs.Rest.{WaitEnd, outcome_of}
 use Rattle.ce_frames.specs.Work.{work}
 use Rattle.ce_frames.specs.Turned.{Turned, Turn, ◌>>◌, hand_down, below}
 use Rattle.ce_frames.specs.OperateTurns.{named_turn, operate_turn, user_turn}
@@ -30,7 +30,7 @@ onto [] frames = frames
 onto (f ∷ pushed) frames = onto pushed (f ∷ frames)
 
 -- at most so many turns, until no frame is left; the topmost frame comes first
-unfoldable pub loop : ℕ → List Frame → End → State → Outcome State Given
+unfoldable pub loop : ℕ → List Frame → WaitEnd → State → Outcome State Given
 loop zero frames end s = Spent s
 loop (suc n) [] end s = outcome_of end s
 loop (suc n) (f ∷ frames) end s = let t : Turned = turn f end s in loop n (onto t.pushed frames) t.end t.state

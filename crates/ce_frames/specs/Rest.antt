@@ -8,13 +8,13 @@ use Rattle.ce_frames.specs.Frames.{Frame}
 use Rattle.ce_frames.specs.After.{after}
 
 -- how a wait ended: with what was given, with a fault, or with the end of the session
-pub data End : Type 0 where
-  Went : (given : Given) → End
-  Threw : (fault : Fault) → End
-  Over : End
+pub data WaitEnd : Type 0 where
+  Went : (given : Given) → WaitEnd
+  Threw : (fault : Fault) → WaitEnd
+  Over : WaitEnd
 
 -- an end, in the state where it came
-abbrev pub outcome_of : End → State → Outcome State Given
+abbrev pub outcome_of : WaitEnd → State → Outcome State Given
 outcome_of (Went given) s = Goes given s
 outcome_of (Threw f) s = Throws f s
 outcome_of Over s = Spent s

@@ -7,13 +7,13 @@ use Rattle.ce_algorithms.specs.Steps.{Step, Outcome, Goes, Throws, Spent, give}
 use Rattle.ce_algorithms.specs.State.{State}
 use Rattle.ce_algorithms.specs.Calls.{Again}
 use Rattle.ce_frames.specs.Frames.{Frame}
-use Rattle.ce_frames.specs.Rest.{End, Went, Threw, Over, outcome_of, rest}
+use Rattle.ce_frames.specs.Rest.{WaitEnd, Went, Threw, Over, outcome_of, rest}
 use Rattle.ce_frames.specs.Work.{work}
 
 -- what a turn comes to
 pub record Turned : Type 0 where
   pub pushed : List Frame  -- the frames that it pushed, the lowest first
-  pub end : End  -- what the topmost frame is handed
+  pub end : WaitEnd  -- what the topmost frame is handed
   pub state : State
 
 -- what the machine does from a state on, up to the next wait

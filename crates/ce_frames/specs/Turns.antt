@@ -14,7 +14,7 @@ use Rattle.ce_algorithms.specs.Session.{reply}
 use Rattle.ce_frames.specs.Frames.{Frame, Replying, Checking, DrainingBackup, Naming, Stepping, Draining}
 use Rattle.ce_frames.specs.Frames.{InReaction, CreatingFit, CreatingExtended, Upgrading, Constructing, InBody}
 use Rattle.ce_frames.specs.Handing.{node_in}
-use Rattle.ce_frames.specs.Rest.{End, Went, Threw, Over}
+use Rattle.ce_frames.specs.Rest.{WaitEnd, Went, Threw, Over}
 use Rattle.ce_frames.specs.Turned.{Turn, ended, ◌>>=◌, ◌>>◌, hand_down, go_on}
 use Rattle.ce_frames.specs.ConstructTurns.{fitting_given, created_turn, same_given, upgraded_turn}
 use Rattle.ce_frames.specs.OperateTurns.{pop_turn}
@@ -48,7 +48,7 @@ turn_threw (InBody class args this true actions) x = log (Caught x) >> body_turn
 turn_threw f x = hand_down (throw x)
 
 -- where the session has ended, all frames hand that down
-unfoldable pub turn : Frame → End → Turn
+unfoldable pub turn : Frame → WaitEnd → Turn
 turn f (Went given) = turn_went f given
 turn f (Threw x) = turn_threw f x
 turn f Over = λ s. ended (Spent s)

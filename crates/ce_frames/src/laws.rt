@@ -15,7 +15,7 @@ ghost use Rattle.ce_frames.specs.Frames.{Frame};
 ghost use Rattle.ce_frames.specs.Handing.{nothing};
 ghost use Rattle.ce_frames.specs.After.{after};
 ghost use Rattle.ce_frames.specs.Places.{Behaviour, Body, Held, Homes, IsTopmost, NoneOf, Place, Stands, Wait, held_in, holding, home_of, seen};
-ghost use Rattle.ce_frames.specs.Rest.{End, Over, Threw, Went, outcome_of, rest};
+ghost use Rattle.ce_frames.specs.Rest.{WaitEnd, Over, Threw, Went, outcome_of, rest};
 ghost use Rattle.ce_frames.specs.Work.{work};
 ghost use Rattle.ce_frames.specs.Turned.{left, to_come};
 ghost use Rattle.ce_frames.specs.Turns.{turn};
@@ -38,8 +38,8 @@ pub fn a_command_begins()
 /// A turn of the topmost frame leaves what is still to come as it was, and lowers what is left to do.
 #[tactic(auto, using(crate::proofs::TurnComes::turn_leaves, crate::proofs::TurnCosts::turn_lowers))]
 pub fn a_turn_goes_on()
-    ensures rest { (frames : List Frame) (f : Frame) (e : End) (s : State) → to_come frames (turn f e s) ≡ rest (frames ++ f ∷ []) (outcome_of e s) }
-    ensures work { (frames : List Frame) (f : Frame) (e : End) (s : State) → left frames (turn f e s) < work (frames ++ f ∷ []) s }
+    ensures rest { (frames : List Frame) (f : Frame) (e : WaitEnd) (s : State) → to_come frames (turn f e s) ≡ rest (frames ++ f ∷ []) (outcome_of e s) }
+    ensures work { (frames : List Frame) (f : Frame) (e : WaitEnd) (s : State) → left frames (turn f e s) < work (frames ++ f ∷ []) s }
 {}
 
 /// What the frames still do depends on nothing that was logged before it. So the log may be written out and
@@ -47,7 +47,7 @@ pub fn a_turn_goes_on()
 #[tactic(auto, using(crate::proofs::Behind::rest_behind, crate::proofs::Behind::rest_forgotten, crate::proofs::Behind::work_forgotten))]
 pub fn no_frame_reads_the_log()
     ensures behind { (frames : List Frame) (log : List Event) (o : Outcome State Given) → rest frames (behind_in log o) ≡ behind_in log (rest frames o) }
-    ensures forgotten { (frames : List Frame) (e : End) (s : State)
+    ensures forgotten { (frames : List Frame) (e : WaitEnd) (s : State)
         → rest frames (outcome_of e s) ≡ behind_in s.log (rest frames (outcome_of e (record s { log = [] }))) }
     ensures work { (frames : List Frame) (s : State) → work frames (record s { log = [] }) ≡ work frames s }
 {}

@@ -15,7 +15,7 @@ use Rattle.rule_lines.specs.Acts.{Act, Both}
 use Rattle.class_bodies.proofs.Resumes.{body_resumes}
 use Rattle.class_bodies.specs.declared.next.Next.{Next}
 use Rattle.behaviours.specs.Next.{stop_of}
-use Rattle.behaviours.specs.Resume.{Doing, Resumed, Returning, Stop, Throwing, resumed}
+use Rattle.behaviours.specs.Resume.{Doing, Resumed, Returning, BodyStop, Throwing, resumed}
 use Rattle.behaviours.specs.Turns.{remembering, stop_turn}
 use Rattle.ce_algorithms.specs.Body.{Ended, told}
 use Rattle.ce_events.specs.declared.event.Event.TheVariants.{Caught}
@@ -244,7 +244,7 @@ module _ (old new : Stacked) (s s1 : State) (next : Next) (h : Resumes old new s
 
   stops : stop_turn r.class r.args r.this came.left came.stop (session new s1) ≡ stopped_turn (stop_of next) (frame_on_top new) (session new s1)
   stops =
-      ap (λ (x : Stop). stop_turn r.class r.args r.this came.left x (session new s1)) (sym h.stop)
+      ap (λ (x : BodyStop). stop_turn r.class r.args r.this came.left x (session new s1)) (sym h.stop)
       ∙ sym (ap (λ (f : Frame). stopped_turn (stop_of next) f (session new s1)) (on_top new new_body))
 
   runs : running_turn (frame_on_top old) (session old s) ≡ body_turn r.class r.args r.this r.actions (session old s)
@@ -299,21 +299,21 @@ stopped old new s s1 is h paired rest = subst (StopsAt old new s s1) (ap stop_of
 
 -- what is done where it has stopped is what it does
 
-pub stops_turns : (old mid : Stacked) (s s1 t : State) (stop : Stop) (new : List Frame) (o : Option Came) → StopsAt old mid s s1 stop
+pub stops_turns : (old mid : Stacked) (s s1 t : State) (stop : BodyStop) (new : List Frame) (o : Option Came) → StopsAt old mid s s1 stop
     → IfSome o (λ (now : Came). Turns (below_top (frames_of mid)) new now t (stopped_turn stop (frame_on_top mid) (session mid s1)))
     → IfSome o (λ (now : Came). Turns (below_top (frames_of old)) new now t (running_turn (frame_on_top old) (session old s)))
 stops_turns old mid s s1 t stop new o k h =
     subst (λ (u : Turned). IfSome o (λ (now : Came). Turns (below_top (frames_of old)) new now t u)) k.same
     (subst (λ (l : List Frame). IfSome o (λ (now : Came). Turns l new now t (stopped_turn stop (frame_on_top mid) (session mid s1)))) k.below h)
 
-pub stops_lasts : (old mid : Stacked) (s s1 : State) (stop : Stop) (o : Option Came) → StopsAt old mid s s1 stop → s1 ≡ record s { fuel = s1.fuel }
+pub stops_lasts : (old mid : Stacked) (s s1 : State) (stop : BodyStop) (o : Option Came) → StopsAt old mid s s1 stop → s1 ≡ record s { fuel = s1.fuel }
     → IfSome o (λ (now : Came). Lasts s1.page.forest (stopped_turn stop (frame_on_top mid) (session mid s1)))
     → IfSome o (λ (now : Came). Lasts s.page.forest (running_turn (frame_on_top old) (session old s)))
 stops_lasts old mid s s1 stop o k is h =
     subst (λ (F : Trees). IfSome o (λ (now : Came). Lasts F (running_turn (frame_on_top old) (session old s)))) (ap (λ (x : State). x.page.forest) is)
     (subst (λ (u : Turned). IfSome o (λ (now : Came). Lasts s1.page.forest u)) k.same h)
 
-pub stops_goes_on : (old mid new : Stacked) (s s1 t : State) (stop : Stop) (o : Option Came) → StopsAt old mid s s1 stop → s1 ≡ record s { fuel = s1.fuel }
+pub stops_goes_on : (old mid new : Stacked) (s s1 t : State) (stop : BodyStop) (o : Option Came) → StopsAt old mid s s1 stop → s1 ≡ record s { fuel = s1.fuel }
     → IfNone o (s1.fuel < s.fuel) → IfNone o (GoesOn mid new s1 t (stopped_turn stop)) → IfNone o (GoesOn old new s t running_turn)
 stops_goes_on old mid new s s1 t stop (Some now) k is less h = tt
 stops_goes_on old mid new s s1 t stop None k is less h =
@@ -328,7 +328,7 @@ stops_goes_on old mid new s s1 t stop None k is less h =
       fuel = let x = h.fuel in omega (arith, x, less);
     }
 
-pub stops_spends : (s s1 : State) (next : Next) (stop : Stop) (o : Option Came) → stop_of next ≡ stop → (Proceeds (stop_of next) → s1.fuel < s.fuel)
+pub stops_spends : (s s1 : State) (next : Next) (stop : BodyStop) (o : Option Came) → stop_of next ≡ stop → (Proceeds (stop_of next) → s1.fuel < s.fuel)
     → IfNone o (Proceeds stop) → IfNone o (s1.fuel < s.fuel)
 stops_spends s s1 next stop (Some now) is spends h = tt
 stops_spends s s1 next stop None is spends h = spends (subst Proceeds (sym is) h)

@@ -4,13 +4,13 @@ use Rattle.std.specs.Io.KnownBytes.{Appends}
 use Rattle.ce_base.specs.Outside.{AppendsPart}
 use Rattle.ce_algorithms.specs.declared.given.Given.{Given}
 use Rattle.ce_algorithms.specs.Session.{log_of}
-use Rattle.ce_algorithms.specs.State.{State}
+use Rattle.ce_algorithms.specs.State.{State, forgotten}
 use Rattle.ce_algorithms.specs.Steps.{Outcome}
 use Rattle.ce_events.specs.Text.{text}
 use Rattle.ce_algorithms.specs.Written.{Did}
 use Rattle.ce_algorithms.proofs.Growth.{Grows, log_of-behind}
 use Rattle.ce_algorithms.proofs.Writing.{did_through, part_through, part_grows}
-use Rattle.ce_frames.specs.Rest.{End, outcome_of, rest}
+use Rattle.ce_frames.specs.Rest.{WaitEnd, outcome_of, rest}
 use Rattle.ce_frames.specs.Turned.{Turned}
 use Rattle.ce_frames.specs.Turns.{turn}
 use Rattle.ce_frames.specs.Work.{potential, work}
@@ -20,7 +20,6 @@ use Rattle.ce_frames.proofs.TurnCosts.{turn_lowers}
 use Rattle.frame_stack.specs.Sessions.{session}
 use Rattle.frame_stack.specs.Stacked.{Stacked, frames_of}
 use Rattle.reaction_queue.specs.ElementQueues.{is_empty}
-use Rattle.ce_outcomes.specs.Steps.{forgotten}
 use Rattle.ce_frames.specs.Frames.{Frame}
 use Rattle.ce_outcomes.specs.declared.came.Came.{Came}
 use Rattle.ce_outcomes.specs.Turns.{Turns, came_in, end_of}
@@ -52,14 +51,14 @@ turned_left old new under f end now s s1 popped h =
 
 -- the log is written out
 
-flush_did : {t : Bool} {h0 h1 h2 : Option (List ℕ)} {o : Outcome State Given} (frames : List Frame) (end : End) (s : State)
+flush_did : {t : Bool} {h0 h1 h2 : Option (List ℕ)} {o : Outcome State Given} (frames : List Frame) (end : WaitEnd) (s : State)
     → Did t h0 h1 o (rest frames (outcome_of end s)) → Appends h1 h2 (text t s.log) → Did t h0 h2 o (rest frames (outcome_of end (forgotten s)))
 flush_did {t} {h0} {h1} {h2} {o} frames end s d w =
     let more : Did t h1 h2 (rest frames (outcome_of end s)) (rest frames (outcome_of end (forgotten s))) =
     record { events = s.log; written = w; same = rest_forgotten frames end s } in
     did_through (λ x. x) d (λ events. refl) more
 
-flush_part : {t : Bool} {h0 h1 : Option (List ℕ)} {o : Outcome State Given} (h2 : Option (List ℕ)) (frames : List Frame) (end : End) (s : State)
+flush_part : {t : Bool} {h0 h1 : Option (List ℕ)} {o : Outcome State Given} (h2 : Option (List ℕ)) (frames : List Frame) (end : WaitEnd) (s : State)
     → Did t h0 h1 o (rest frames (outcome_of end s)) → AppendsPart h1 h2 (text t s.log) → AppendsPart h0 h2 (text t (log_of o))
 flush_part {t} {h0} {h1} {o} h2 frames end s d p =
     let grows : Grows s.log (log_of (rest frames (outcome_of end s))) =

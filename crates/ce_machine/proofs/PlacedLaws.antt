@@ -22,7 +22,7 @@ use Rattle.ce_algorithms.specs.Steps.{found, settle}
 use Rattle.ce_frames.specs.Frames as waiting
 use Rattle.ce_frames.specs.Handing.{node_in}
 use Rattle.ce_frames.specs.Rest as ends
-use Rattle.ce_frames.specs.Rest.{End}
+use Rattle.ce_frames.specs.Rest.{WaitEnd}
 use Rattle.ce_frames.specs.Turned.{Turned, ended}
 use Rattle.ce_frames.specs.OperateTurns.{next_turn, pop_turn}
 use Rattle.ce_frames.specs.DrainTurns.{call_turn, reaction_turn, taken_turn, next_backup_turn, taken_backup_turn, checked_turn}
@@ -62,7 +62,7 @@ this_grows F G le (Some n) h = record { low = h.low; high = let x = h.high in om
 
 -- frames on frames
 
-given_below : (F G : Trees) → size F ≤ size G → (xs above above' : List Frame) (e e' : End) → (Gives F above e → Gives G above' e') → Gives F (xs ++ above) e
+given_below : (F G : Trees) → size F ≤ size G → (xs above above' : List Frame) (e e' : WaitEnd) → (Gives F above e → Gives G above' e') → Gives F (xs ++ above) e
     → Gives G (xs ++ above') e'
 given_below F G le [] above above' e e' g h = g h
 given_below F G le (waiting.Draining queue ns kept ∷ xs) above above' e e' g h = kept_grows F G le kept h
@@ -73,7 +73,7 @@ given_below F G le (waiting.Constructing ∷ xs) above above' e e' g h = given_b
 given_below F G le (waiting.InBody class args this guarded actions ∷ xs) above above' e e' g h = tt
 given_below F G le (x ∷ xs) above above' e e' g h = h
 
-named_below : (F G : Trees) → size F ≤ size G → (x : Frame) (xs above above' : List Frame) (e e' : End) → (Gives F above e → Gives G above' e')
+named_below : (F G : Trees) → size F ≤ size G → (x : Frame) (xs above above' : List Frame) (e e' : WaitEnd) → (Gives F above e → Gives G above' e')
     → IsNamed F x (xs ++ above) e → IsNamed G x (xs ++ above') e'
 named_below F G le (waiting.Naming var) xs above above' e e' g h = given_below F G le xs above above' e e' g h
 named_below F G le (waiting.Stepping queue) xs above above' e e' g h = given_below F G le xs above above' e e' g h
@@ -83,19 +83,19 @@ named_below F G le (waiting.InBody class args this guarded actions) xs above abo
 named_below F G le x xs above above' e e' g h = h
 
 -- other frames above the same ones
-placed_below : (F G : Trees) → size F ≤ size G → (xs above above' : List Frame) (e e' : End) → (Gives F above e → Gives G above' e') → ArePlaced G above' e'
+placed_below : (F G : Trees) → size F ≤ size G → (xs above above' : List Frame) (e e' : WaitEnd) → (Gives F above e → Gives G above' e') → ArePlaced G above' e'
     → ArePlaced F (xs ++ above) e → ArePlaced G (xs ++ above') e'
 placed_below F G le [] above above' e e' g p h = p
 placed_below F G le (x ∷ xs) above above' e e' g p h = (named_below F G le x xs above above' e e' g h.0, placed_below F G le xs above above' e e' g p h.1)
 
-placed_above : (F : Trees) (xs above : List Frame) (e : End) → ArePlaced F (xs ++ above) e → ArePlaced F above e
+placed_above : (F : Trees) (xs above : List Frame) (e : WaitEnd) → ArePlaced F (xs ++ above) e → ArePlaced F above e
 placed_above F [] above e h = h
 placed_above F (x ∷ xs) above e h = placed_above F xs above e h.1
 
 -- a turn
 
 -- what it hands down to a variable stays there, where the forest has grown
-record Stays (F G : Trees) (f : Frame) (e : End) (t : Turned) : Type 0 where
+record Stays (F G : Trees) (f : Frame) (e : WaitEnd) (t : Turned) : Type 0 where
   pub gives : Gives F (f ∷ []) e → Gives G t.pushed t.end
   pub placed : ArePlaced G t.pushed t.end
 
@@ -149,40 +149,40 @@ taken n number ws s = logged (Started number) (record s { page = with_queues (wi
 -- drains
 
 -- what was kept
-kept_gives : (F G : Trees) → size F ≤ size G → (kept : Result Given Fault) (s : State) (f : Frame) (e : End) → (Gives F (f ∷ []) e → IsKeptThere F kept)
+kept_gives : (F G : Trees) → size F ≤ size G → (kept : Result Given Fault) (s : State) (f : Frame) (e : WaitEnd) → (Gives F (f ∷ []) e → IsKeptThere F kept)
     → Stays F G f e (ended (settle kept s))
 kept_gives F G le (Ok given) s f e k = record { gives = λ h. there_grows F G le given (k h); placed = tt }
 kept_gives F G le (Err x) s f e k = record { gives = λ _. tt; placed = tt }
 
 -- a queue was popped
-next_stays : (F G : Trees) → size F ≤ size G → (f : Frame) (e : End) (queue : ℕ) (es : List ℕ) (kept : Result Given Fault) (s : State)
+next_stays : (F G : Trees) → size F ≤ size G → (f : Frame) (e : WaitEnd) (queue : ℕ) (es : List ℕ) (kept : Result Given Fault) (s : State)
     → (Gives F (f ∷ []) e → IsKeptThere F kept) → Stays F G f e (next_turn queue es kept s)
 next_stays F G le f e queue [] kept s k = kept_gives F G le kept (logged (QueueClosed queue) s) f e k
 next_stays F G le f e queue (n ∷ ns) kept s k = record { gives = λ h. kept_grows F G le kept (k h); placed = (tt, tt) }
 
-stepped_stays : (F G : Trees) → size F ≤ size G → (queue : ℕ) (kept : Result Given Fault) (e : End) (s : State)
+stepped_stays : (F G : Trees) → size F ≤ size G → (queue : ℕ) (kept : Result Given Fault) (e : WaitEnd) (s : State)
     → (Gives F (waiting.Stepping queue ∷ []) e → IsKeptThere F kept) → Stays F G (waiting.Stepping queue) e (pop_turn queue kept s)
 stepped_stays F G le queue kept e s k =
     next_stays F G le (waiting.Stepping queue) e queue (current_elements s.page.queues) kept
     (logged (DrainBegun queue) (record s { page = with_queues popped_queue s.page })) k
 
-drain_stays : (G : Trees) (queue n : ℕ) (ns : List ℕ) (kept : Result Given Fault) (e : End) (s : State) (ws : List (ℕ × Reaction))
+drain_stays : (G : Trees) (queue n : ℕ) (ns : List ℕ) (kept : Result Given Fault) (e : WaitEnd) (s : State) (ws : List (ℕ × Reaction))
     → HasRows s.page.elements s.page.forest → size s.page.forest ≤ size G
     → Stays s.page.forest G (waiting.Draining queue (n ∷ ns) kept) e (taken_turn queue n ns kept ws s)
 drain_stays G queue n ns kept e s [] rows le = next_stays s.page.forest G le (waiting.Draining queue (n ∷ ns) kept) e queue ns kept s (λ h. h)
 drain_stays G queue n ns kept e s (w ∷ ws) rows le =
     record { gives = λ h. kept_grows s.page.forest G le kept h; placed = (tt, (tt, reaction_placed G n w.1 (taken n w.0 ws s) rows le)) }
 
-next_backup_stays : (F G : Trees) (f : Frame) (e : End) (es : List ℕ) (s : State) → (Gives F (f ∷ []) e → ⊥) → Stays F G f e (next_backup_turn es s)
+next_backup_stays : (F G : Trees) (f : Frame) (e : WaitEnd) (es : List ℕ) (s : State) → (Gives F (f ∷ []) e → ⊥) → Stays F G f e (next_backup_turn es s)
 next_backup_stays F G f e [] s never = record { gives = λ h. absurd (never h); placed = tt }
 next_backup_stays F G f e (n ∷ ns) s never = record { gives = λ h. absurd (never h); placed = (tt, tt) }
 
-backup_stays : (G : Trees) (n : ℕ) (e : End) (s : State) (ws : List (ℕ × Reaction)) → HasRows s.page.elements s.page.forest → size s.page.forest ≤ size G
+backup_stays : (G : Trees) (n : ℕ) (e : WaitEnd) (s : State) (ws : List (ℕ × Reaction)) → HasRows s.page.elements s.page.forest → size s.page.forest ≤ size G
     → Stays s.page.forest G (waiting.DrainingBackup n) e (taken_backup_turn n ws s)
 backup_stays G n e s [] rows le = next_backup_stays s.page.forest G (waiting.DrainingBackup n) e s.page.queues.backup s (λ k. k)
 backup_stays G n e s (w ∷ ws) rows le = record { gives = λ k. absurd k; placed = (tt, (tt, reaction_placed G n w.1 (taken n w.0 ws s) rows le)) }
 
-check_stays : (F G : Trees) (line : ℕ) (kept : Result Given Fault) (e : End) (s : State) (es : List ℕ)
+check_stays : (F G : Trees) (line : ℕ) (kept : Result Given Fault) (e : WaitEnd) (s : State) (es : List ℕ)
     → Stays F G (waiting.Replying line) e (checked_turn line kept es s)
 check_stays F G line kept e s [] = record { gives = λ h. absurd h; placed = tt }
 check_stays F G line kept e s (n ∷ ns) = record { gives = λ h. absurd h; placed = (tt, (tt, tt)) }
@@ -254,7 +254,7 @@ stays G w (Threw x) s rows le q = threw_stays s.page.forest G le w x s q
 stays G w Over s rows le q = over_stays s.page.forest G (waiting_of w) s
 
 -- the topmost of them
-pub topmost_placed : (F : Trees) (old under : List Frame) (f : Frame) (e : End) → old ≡ under ++ f ∷ [] → ArePlaced F old e → ArePlaced F (f ∷ []) e
+pub topmost_placed : (F : Trees) (old under : List Frame) (f : Frame) (e : WaitEnd) → old ≡ under ++ f ∷ [] → ArePlaced F old e → ArePlaced F (f ∷ []) e
 topmost_placed F old under f e popped h = placed_above F under (f ∷ []) e (subst (λ l. ArePlaced F l e) popped h)
 
 -- a turn keeps it
@@ -314,7 +314,7 @@ turned_placed old under new Constructing end now s s1 rows le popped h c placed 
 
 -- a turn of a body keeps it
 
-pub body_placed : (old : Stacked) (new : List Frame) (end : End) (now : Came) (F : Trees) (s1 : State) (t : Turned) → HasBody (frames_of old)
+pub body_placed : (old : Stacked) (new : List Frame) (end : WaitEnd) (now : Came) (F : Trees) (s1 : State) (t : Turned) → HasBody (frames_of old)
     → Turns (below_top (frames_of old)) new now s1 t → Lasts F t → ArePlaced F (frames_of old) end → ArePlaced s1.page.forest new (end_of now)
 body_placed old new end now F s1 t b h k placed =
     let G : Trees = t.state.page.forest in
@@ -326,7 +326,7 @@ body_placed old new end now F s1 t b h k placed =
     subst (λ G. ArePlaced G new (end_of now)) at (subst (λ e. ArePlaced G new e) (sym h.end) (subst (λ l. ArePlaced G l t.end) (sym h.frames) after))
 
 -- what `this` is in it is there
-pub body_there : (old : Stacked) (end : End) (F : Trees) → HasBody (frames_of old) → ArePlaced F (frames_of old) end
+pub body_there : (old : Stacked) (end : WaitEnd) (F : Trees) → HasBody (frames_of old) → ArePlaced F (frames_of old) end
     → IfSome (this_of (top_of (frames_of old))) (IsNode F)
 body_there old end F b placed =
     let top = topmost_placed F (frames_of old) (below_top (frames_of old)) (frame_on_top old) end (popped_body old b) placed in

@@ -11,7 +11,7 @@ use Rattle.ce_algorithms.specs.Body.{Next}
 use Rattle.ce_algorithms.specs.Operands.{node}
 use Rattle.ce_algorithms.specs.State.{State, view}
 use Rattle.ce_algorithms.specs.Steps.{◌>>◌, give, throw_if}
-use Rattle.behaviours.specs.Resume.{Stop}
+use Rattle.behaviours.specs.Resume.{BodyStop}
 use Rattle.behaviours.specs.Turns.{fixed_turn, stop_turn}
 use Rattle.ce_frames.specs.Frames.{Frame, Constructing, InBody}
 use Rattle.ce_frames.specs.Handing.{given_of}
@@ -36,7 +36,7 @@ running_turn (InBody class args this guarded actions) = body_turn class args thi
 running_turn f = go_on
 
 -- it goes on where it has stopped
-abbrev pub stopped_turn : Stop → Frame → Turn
+abbrev pub stopped_turn : BodyStop → Frame → Turn
 stopped_turn stop (InBody class args this guarded actions) = stop_turn class args this actions stop
 stopped_turn stop f = go_on
 
@@ -72,7 +72,7 @@ pub record GoesOn (old new : Stacked) (s s1 : State) (turn : Frame → Turn) : T
   pub fuel : s1.fuel ≤ s.fuel
 
 -- the body on top has gone on, up to a stop
-pub record StopsAt (old new : Stacked) (s s1 : State) (stop : Stop) : Type 0 where
+pub record StopsAt (old new : Stacked) (s s1 : State) (stop : BodyStop) : Type 0 where
   pub body : HasBody (frames_of new)
   pub below : below_top (frames_of new) ≡ below_top (frames_of old)
   pub this : this_of (top_of (frames_of new)) ≡ this_of (top_of (frames_of old))

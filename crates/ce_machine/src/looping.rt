@@ -9,7 +9,7 @@ ghost use Rattle.ce_algorithms.specs.Written.{Did};
 ghost use Rattle.ce_page.specs.Settled.{IsSettled};
 ghost use Rattle.frame_stack.specs.Sessions.{ArePaired, session};
 ghost use Rattle.frame_stack.specs.Stacked.{frames_of};
-ghost use Rattle.ce_outcomes.specs.Steps.{forgotten};
+ghost use Rattle.ce_algorithms.specs.State.{forgotten};
 ghost use Rattle.ce_outcomes.specs.Placed.{ArePlaced};
 ghost use Rattle.ce_machine.specs.Turns.{over};
 ghost use Rattle.ce_outcomes.specs.Turns.{came_in, end_of};

@@ -5,7 +5,7 @@ use Rattle.node_trees.specs.Nodes.{IsNode, size}
 use Rattle.node_trees.specs.Trees.{Trees}
 use Rattle.ce_algorithms.specs.declared.given.Given.{Given}
 use Rattle.ce_frames.specs.Frames.{Frame, Naming, Stepping, Draining, CreatingFit, CreatingExtended, Constructing, InBody}
-use Rattle.ce_frames.specs.Rest.{End, Went, Threw, Over}
+use Rattle.ce_frames.specs.Rest.{WaitEnd, Went, Threw, Over}
 use Rattle.ce_frames.specs.Turned.{Turned}
 use Rattle.session_state.specs.Given.{IsThere}
 use Rattle.ce_outcomes.specs.declared.came.Came.{Came}
@@ -21,13 +21,13 @@ abbrev pub IsKeptThere : Trees → Result Given Fault → Type 0
 IsKeptThere f (Ok given) = IsThere f given
 IsKeptThere f (Err x) = Unit {0}
 
-abbrev pub Reaches : Trees → End → Type 0
+abbrev pub Reaches : Trees → WaitEnd → Type 0
 Reaches f (Went given) = IsThere f given
 Reaches f (Threw x) = Unit {0}
 Reaches f Over = Unit {0}
 
 -- what these frames will hand down, with this end, is there. A body gives only what is there
-abbrev pub Gives : Trees → List Frame → End → Type 0
+abbrev pub Gives : Trees → List Frame → WaitEnd → Type 0
 Gives f [] end = Reaches f end
 Gives f (Draining queue elements kept ∷ frames) end = IsKeptThere f kept
 Gives f (Stepping queue ∷ frames) end = Gives f frames end
@@ -39,7 +39,7 @@ Gives f (g ∷ frames) end = ⊥
 
 -- a variable, the steps of an operation, a creation by an autonomous definition and a construction wait only for a node
 -- that is there; what `this` is in a body is there
-abbrev pub IsNamed : Trees → Frame → List Frame → End → Type 0
+abbrev pub IsNamed : Trees → Frame → List Frame → WaitEnd → Type 0
 IsNamed f (Naming var) above end = Gives f above end
 IsNamed f (Stepping queue) above end = Gives f above end
 IsNamed f (CreatingFit local document) above end = Gives f above end
@@ -47,7 +47,7 @@ IsNamed f Constructing above end = Gives f above end
 IsNamed f (InBody class args this guarded actions) above end = IfSome this (IsNode f)
 IsNamed f g above end = Unit {0}
 
-abbrev pub ArePlaced : Trees → List Frame → End → Type 0
+abbrev pub ArePlaced : Trees → List Frame → WaitEnd → Type 0
 ArePlaced f [] end = Unit {0}
 ArePlaced f (g ∷ above) end = IsNamed f g above end × ArePlaced f above end
 

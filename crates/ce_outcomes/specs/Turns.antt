@@ -5,13 +5,13 @@ use Rattle.ce_algorithms.specs.declared.given.Given.{Given}
 use Rattle.ce_algorithms.specs.State.{State}
 use Rattle.ce_algorithms.specs.Steps.{Outcome}
 use Rattle.ce_frames.specs.Frames.{Frame}
-use Rattle.ce_frames.specs.Rest.{End, outcome_of}
+use Rattle.ce_frames.specs.Rest.{WaitEnd, outcome_of}
 use Rattle.ce_frames.specs.Rest as ends
 use Rattle.ce_frames.specs.Turned.{Turned}
 use Rattle.ce_outcomes.specs.declared.came.Came.{Came}
 use Rattle.ce_outcomes.specs.declared.came.Came.TheVariants.{Went, Threw, Over}
 
-abbrev pub end_of : Came → End
+abbrev pub end_of : Came → WaitEnd
 end_of (Went given) = ends.Went given
 end_of (Threw f) = ends.Threw f
 end_of Over = ends.Over

@@ -15,7 +15,7 @@ use Rattle.ce_frames.specs.After.{guard}
 use Rattle.ce_frames.specs.Turned.{Turn, Turned, ◌>>◌, turn_after, below}
 use Rattle.ce_frames.specs.OperateTurns.{operate_turn}
 use Rattle.ce_frames.specs.BodyTurns.{flow_turn, act_turn, body_turn}
-use Rattle.class_bodies.specs.Resume.{Stop, Acted, acted, goes_on, spending, stop_or, resumed}
+use Rattle.class_bodies.specs.Resume.{BodyStop, Acted, acted, goes_on, spending, stop_or, resumed}
 use Rattle.class_bodies.specs.Turns.{remembering, stop_turn, resumed_turn}
 use Rattle.ce_base.proofs.Places.{set_found}
 
@@ -52,7 +52,7 @@ module _ (class : ℕ) (args : Args) (s : State) (k : Class) (at : slice_get s.c
       (set-set s.classes class (record (class_of s class) { memory = memory }) (record (class_of s class) { memory = f memory }))
 
   -- the turn after an action
-  abbrev next_turn : Option ℕ → List Act → Option Stop → Turn
+  abbrev next_turn : Option ℕ → List Act → Option BodyStop → Turn
   next_turn this left None = body_turn class args this left
   next_turn this left (Some stop) = stop_turn class args this left stop
 
@@ -125,7 +125,7 @@ module _ (class : ℕ) (args : Args) (s : State) (k : Class) (at : slice_get s.c
       ∙ go (body_stops this left) (acted args false a memory n).stop (acted args false a memory n).memory (acted args false a memory n).fuel
     where
       go : ((m : Memory) (f : ℕ) → body_turn class args this left (remembering class m f s) ≡ resumed_turn class args this (resumed args left m f) s)
-          → (o : Option Stop) (m : Memory) (f : ℕ)
+          → (o : Option BodyStop) (m : Memory) (f : ℕ)
           → next_turn this left o (remembering class m f s) ≡ resumed_turn class args this (stop_or o m f left (resumed args left)) s
       go on None m f = on m f
       go on (Some stop) m f = refl

@@ -4,9 +4,9 @@ use Rattle.rule_lines.specs.Acts.{Act, act_of}
 use Rattle.ce_algorithms.specs.State.{Memory}
 use Rattle.class_bodies.specs.declared.next.Next.{Next}
 use Rattle.class_bodies.specs.declared.next.Next.TheVariants.{Do, Return, Throw, FuelSpent}
-use Rattle.class_bodies.specs.Resume.{Stop, Doing, Returning, Throwing, OutOfFuel, Acted, Resumed}
+use Rattle.class_bodies.specs.Resume.{BodyStop, Doing, Returning, Throwing, OutOfFuel, Acted, Resumed}
 
-abbrev pub stop_of : Next → Stop
+abbrev pub stop_of : Next → BodyStop
 stop_of (Do action guarded) = Doing (act_of action) guarded
 stop_of (Return value guarded) = Returning value guarded
 stop_of (Throw fault guarded) = Throwing fault guarded

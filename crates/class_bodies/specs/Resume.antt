@@ -9,25 +9,25 @@ use Rattle.ce_algorithms.specs.Values.{Args, text_of, fixed, fixed_value}
 use Rattle.ce_algorithms.specs.Body.{bumped, holds}
 
 -- where a body stops; `guarded` says that it is in a `try`
-pub data Stop : Type 0 where
+pub data BodyStop : Type 0 where
   -- this action is next, with its texts as they are now
-  Doing : (action : Act) → (guarded : Bool) → Stop
+  Doing : (action : Act) → (guarded : Bool) → BodyStop
   -- the body returns this, or what `this` is
-  Returning : (value : Option Operand) → (guarded : Bool) → Stop
-  Throwing : (fault : Fault) → (guarded : Bool) → Stop
+  Returning : (value : Option Operand) → (guarded : Bool) → BodyStop
+  Throwing : (fault : Fault) → (guarded : Bool) → BodyStop
   -- a unit of fuel is to be spent, and none is left
-  OutOfFuel : Stop
+  OutOfFuel : BodyStop
 
 -- an action of a body: where the body stops, or none where it goes on; and what the class remembers and the fuel then
 pub record Acted : Type 0 where
-  pub stop : Option Stop
+  pub stop : Option BodyStop
   pub memory : Memory
   pub fuel : ℕ
 
 abbrev pub goes_on : Memory → ℕ → Acted
 goes_on memory fuel = record { stop = None; memory = memory; fuel = fuel }
 
-abbrev pub stops : Stop → Memory → ℕ → Acted
+abbrev pub stops : BodyStop → Memory → ℕ → Acted
 stops stop memory fuel = record { stop = Some stop; memory = memory; fuel = fuel }
 
 -- a unit of fuel is spent, and then comes this; or the body stops
@@ -50,13 +50,13 @@ acted args guarded (If equal left right action) memory fuel =
 
 -- where a body has stopped, with what the class remembers, the fuel, and the actions that are left
 pub record Resumed : Type 0 where
-  pub stop : Stop
+  pub stop : BodyStop
   pub memory : Memory
   pub fuel : ℕ
   pub left : List Act
 
 -- after an action the body stops, or goes on with what is left of it
-abbrev pub stop_or : Option Stop → Memory → ℕ → List Act → (Memory → ℕ → Resumed) → Resumed
+abbrev pub stop_or : Option BodyStop → Memory → ℕ → List Act → (Memory → ℕ → Resumed) → Resumed
 stop_or None memory fuel left next = next memory fuel
 stop_or (Some stop) memory fuel left next = record { stop = stop; memory = memory; fuel = fuel; left = left }
 

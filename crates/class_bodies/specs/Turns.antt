@@ -10,7 +10,7 @@ use Rattle.ce_frames.specs.Frames.{InBody}
 use Rattle.ce_frames.specs.Turned.{Turn, ◌>>=◌, ◌>>◌, below, ended}
 use Rattle.ce_frames.specs.BodyTurns.{guarded_step, flow_turn, act_turn, body_turn}
 use Rattle.ce_frames.specs.OperateTurns.{operate_turn}
-use Rattle.class_bodies.specs.Resume.{Stop, Doing, Returning, Throwing, OutOfFuel, Resumed}
+use Rattle.class_bodies.specs.Resume.{BodyStop, Doing, Returning, Throwing, OutOfFuel, Resumed}
 
 -- the state in which the class remembers this, with this fuel
 abbrev pub remembering : ℕ → Memory → ℕ → State → State
@@ -22,7 +22,7 @@ fixed_turn class args this guarded left (Both op) = below (InBody class args thi
 fixed_turn class args this guarded left (Log vals) = log (Logged (map fixed_text vals)) >> body_turn class args this left
 fixed_turn class args this guarded left action = act_turn class args this guarded left (λ next. body_turn class args next left) action
 
-abbrev pub stop_turn : ℕ → Args → Option ℕ → List Act → Stop → Turn
+abbrev pub stop_turn : ℕ → Args → Option ℕ → List Act → BodyStop → Turn
 stop_turn class args this left (Doing action guarded) = fixed_turn class args this guarded left action
 stop_turn class args this left (Returning value guarded) = guarded_step guarded this (returned this value)
     >>= flow_turn (λ next. body_turn class args next left)

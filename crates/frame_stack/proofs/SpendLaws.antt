@@ -5,7 +5,7 @@ use Rattle.rule_lines.specs.Acts.{Act, Both, Log, Super, Return, Throw, Bump, Ke
 use Rattle.ce_algorithms.specs.Body.{holds}
 use Rattle.ce_algorithms.specs.State.{Memory}
 use Rattle.ce_algorithms.specs.Values.{Args, text_of}
-use Rattle.behaviours.specs.Resume.{Stop, acted, spending, goes_on, stop_or, resumed}
+use Rattle.behaviours.specs.Resume.{BodyStop, acted, spending, goes_on, stop_or, resumed}
 use Rattle.class_bodies.specs.declared.next.Next.{Next}
 use Rattle.behaviours.specs.Next.{stop_of}
 use Rattle.frame_stack.specs.Resumes.{Proceeds, Resumes}
@@ -41,7 +41,7 @@ spends args (a ∷ actions) memory (suc n) h =
     go (acted args false a memory n).stop (acted args false a memory n).memory (acted args false a memory n).fuel (acted_falls args false a memory n)
     (spends args actions) h
   where
-    go : (o : Option Stop) (m : Memory) (f : ℕ) → f ≤ n
+    go : (o : Option BodyStop) (m : Memory) (f : ℕ) → f ≤ n
         → ((m : Memory) (f : ℕ) → Proceeds (resumed args actions m f).stop → (resumed args actions m f).fuel < f)
         → Proceeds (stop_or o m f actions (resumed args actions)).stop → (stop_or o m f actions (resumed args actions)).fuel < suc n
     go None m f le rest h = let r = rest m f h in omega (arith, le, r)

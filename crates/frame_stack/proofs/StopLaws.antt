@@ -5,13 +5,13 @@ use Rattle.rule_lines.specs.Acts.{Act, Both, Log, Super, Return, Throw, Bump, Ke
 use Rattle.ce_algorithms.specs.Body.{holds}
 use Rattle.ce_algorithms.specs.State.{Memory}
 use Rattle.ce_algorithms.specs.Values.{Args, text_of}
-use Rattle.behaviours.specs.Resume.{Stop, acted, spending, goes_on, stop_or, resumed}
+use Rattle.behaviours.specs.Resume.{BodyStop, acted, spending, goes_on, stop_or, resumed}
 use Rattle.class_bodies.specs.declared.next.Next.{Next}
 use Rattle.behaviours.specs.Next.{stop_of}
 use Rattle.frame_stack.specs.Resumes.{IsForSession, Resumes}
 use Rattle.frame_stack.specs.Stacked.{Stacked}
 
-abbrev StopsFor : Option Stop → Type 0
+abbrev StopsFor : Option BodyStop → Type 0
 StopsFor None = Unit {0}
 StopsFor (Some stop) = IsForSession stop
 
@@ -41,7 +41,7 @@ resumed_stops args (a ∷ actions) memory (suc n) =
     go (acted args false a memory n).stop (acted args false a memory n).memory (acted args false a memory n).fuel (acted_stops args false a memory n)
     (resumed_stops args actions)
   where
-    go : (o : Option Stop) (m : Memory) (f : ℕ) → StopsFor o → ((m : Memory) (f : ℕ) → IsForSession (resumed args actions m f).stop)
+    go : (o : Option BodyStop) (m : Memory) (f : ℕ) → StopsFor o → ((m : Memory) (f : ℕ) → IsForSession (resumed args actions m f).stop)
         → IsForSession (stop_or o m f actions (resumed args actions)).stop
     go None m f here rest = rest m f
     go (Some stop) m f here rest = here

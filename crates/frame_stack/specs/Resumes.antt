@@ -4,19 +4,19 @@ use Rattle.rule_lines.specs.Acts.{Both, Log, Super}
 use Rattle.ce_frames.specs.Places.{Behaviour}
 use Rattle.class_bodies.specs.declared.next.Next.{Next}
 use Rattle.behaviours.specs.Next.{stop_of}
-use Rattle.behaviours.specs.Resume.{Stop, Doing, Returning, Throwing, OutOfFuel, Resumed, resumed}
+use Rattle.behaviours.specs.Resume.{BodyStop, Doing, Returning, Throwing, OutOfFuel, Resumed, resumed}
 use Rattle.body_frames.specs.Resumes.{is_guarded}
 use Rattle.frame_stack.specs.Stacked.{Stacked, Running, behaviour_at, behaviours_of, below_top, frames_of, in_body, top_of}
 
 -- the body may go on behind it: an action is next, or its `try` catches what is thrown
-abbrev pub Proceeds : Stop → Type 0
+abbrev pub Proceeds : BodyStop → Type 0
 Proceeds (Doing action guarded) = Unit {0}
 Proceeds (Returning value guarded) = guarded ≡ true
 Proceeds (Throwing fault guarded) = guarded ≡ true
 Proceeds OutOfFuel = ⊥
 
 -- where it stops at an action, that is an operation, a log or a base call: each other action the body does itself
-abbrev pub IsForSession : Stop → Type 0
+abbrev pub IsForSession : BodyStop → Type 0
 IsForSession (Doing (Both op) guarded) = Unit {0}
 IsForSession (Doing (Log vals) guarded) = Unit {0}
 IsForSession (Doing Super guarded) = Unit {0}

@@ -34,10 +34,6 @@ abbrev pub after_call : Bool → State → State
 after_call false s = with_work (work_of s) s
 after_call true s = logged FuelLine (with_work (work_of s) s)
 
--- the log was written out
-abbrev pub forgotten : State → State
-forgotten s = record s { log = [] }
-
 -- a definition has the class
 abbrev pub with_frozen : ℕ → State → State
 with_frozen k s = record s { classes = changed k frozen_class s.classes }

@@ -4,7 +4,7 @@ ghost use Rattle.std.specs.Io.KnownBytes.{Appends};
 ghost use Rattle.ce_base.specs.Faults.{Rose};
 ghost use Rattle.ce_base.specs.Outside.{AppendsPart};
 ghost use Rattle.ce_events.specs.Text.{text};
-ghost use Rattle.session_state.specs.Steps.{forgotten};
+ghost use Rattle.ce_algorithms.specs.State.{forgotten};
 
 use crate::State;
 use ce_base::{Sink, Stop};
