@@ -62,8 +62,8 @@ this_grows F G le (Some n) h = record { low = h.low; high = let x = h.high in om
 
 -- frames on frames
 
-given_below : (F G : Trees) → size F ≤ size G → (xs above above' : List Frame) (e e' : WaitEnd) → (Gives F above e → Gives G above' e') → Gives F (xs ++ above) e
-    → Gives G (xs ++ above') e'
+given_below : (F G : Trees) → size F ≤ size G → (xs above above' : List Frame) (e e' : WaitEnd) → (Gives F above e → Gives G above' e')
+    → Gives F (xs ++ above) e → Gives G (xs ++ above') e'
 given_below F G le [] above above' e e' g h = g h
 given_below F G le (waiting.Draining queue ns kept ∷ xs) above above' e e' g h = kept_grows F G le kept h
 given_below F G le (waiting.Stepping queue ∷ xs) above above' e e' g h = given_below F G le xs above above' e e' g h

@@ -47,12 +47,16 @@ pub last_part-piece : (taken part piece : List ℕ) → part ≡ last_part taken
 last_part-piece taken part piece is h =
     part_from-append [] taken piece ∙ (ap (λ l. part_from l piece) (sym is) ∙ sym (part_from-no_feed [] part piece (recursion_from_All _ part h)))
 
--- the whole lines of a front are the first lines of all
+-- the whole lines of a front are the first whole lines of all
+pub whole_lines-front : (front rest : List ℕ) → (more : List (List ℕ)) × (whole_lines (front ++ rest) ≡ whole_lines front ++ more)
+whole_lines-front front rest = (whole_from (last_part front) rest, whole_from-append [] front rest)
+
+-- and the first lines of all
 pub lines_of-front : (front rest : List ℕ) → (more : List (List ℕ)) × (lines_of (front ++ rest) ≡ whole_lines front ++ more)
 lines_of-front front rest =
-    let more = whole_from (last_part front) rest in
+    let more = whole_lines-front front rest in
     let last = last_line (last_part (front ++ rest)) in
-    (more ++ last, ap (λ l. l ++ last) (whole_from-append [] front rest) ∙ append_assoc (whole_lines front) more last)
+    (more.0 ++ last, ap (λ l. l ++ last) more.1 ∙ append_assoc (whole_lines front) more.0 last)
 
 -- what is left, if anything, is the last line
 pub last_line-some : (feed line : List ℕ) → line ≡ last_part feed → All (λ b. b ≢ 10) feed → 0 < length line → last_line feed ≡ line ∷ []

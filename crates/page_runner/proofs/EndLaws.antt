@@ -1,5 +1,5 @@
 -- What a run over a script says of the whole script, however long that is.
-use Rattle.std.proofs.Common.{◌≡◌, ◌≤◌, ◌<◌, ◌+◌, ◌-◌, ◌==◌, inl, inr, cond, nat_le, nat_lt, ℕ, Bool, true, false, List, [], ◌∷◌, ◌++◌, length, take, refl, sym}
+use Rattle.std.proofs.Common.{◌≡◌, ◌≤◌, ◌<◌, ◌+◌, ◌-◌, inl, inr, cond, nat_le, nat_lt, ℕ, Bool, true, false, List, [], ◌++◌, length, take, refl, sym}
 use Rattle.std.proofs.Common.{ap, subst, ◌∙◌, append-nil, arith, length-append, None, Some}
 use Rattle.std.proofs.Math.Seq.{take-append-add}
 use Rattle.std.proofs.lemmas.Bool.{cases_lt}
@@ -9,7 +9,7 @@ use Rattle.std.specs.Io.KnownBytes.{Appends, Consumes, IsAtEnd}
 use Rattle.std.specs.declared.option.Option.{Option}
 use Rattle.ce_base.specs.Faults.{Rose}
 use Rattle.ce_base.specs.Outside.{AppendsPart, IsPrefix}
-use Rattle.ce_algorithms.specs.Lines.{lines_of, whole_from, whole_lines}
+use Rattle.ce_algorithms.specs.Lines.{lines_of, whole_lines}
 use Rattle.ce_algorithms.specs.Session.{start, log_of}
 use Rattle.ce_algorithms.specs.State.{State}
 use Rattle.ce_algorithms.specs.Steps.{Outcome, is_spent}
@@ -18,7 +18,7 @@ use Rattle.ce_algorithms.proofs.Writing.{part_then}
 use Rattle.ce_events.specs.Text.{text}
 use Rattle.command_words.specs.declared.words.Options.{Options}
 use Rattle.command_words.specs.declared.words.Meaning.TheVariants.{Script}
-use Rattle.line_feed.proofs.LineLaws.{lines_of-front}
+use Rattle.line_feed.proofs.LineLaws.{lines_of-front, whole_lines-front}
 use Rattle.page_runner.specs.Ending.{Ends, end_status, script_lines, script_transcript}
 use Rattle.script_runner.proofs.WholeLaws.{all_taken, then_spent}
 use Rattle.script_runner.proofs.PieceLaws.{counted-ended, counted-within}
@@ -45,17 +45,6 @@ counted_beyond : (ended : Bool) (taken : List ℕ) → limit < length taken → 
 counted_beyond true taken long = ap (λ t. cond t (lines_of taken) (whole_lines (take limit taken))) (beyond_limit (length taken) long)
 counted_beyond false taken long = refl
 
--- the whole lines of a front are the first ones of all
-whole_from-front : (part front rest : List ℕ) → (more : List (List ℕ)) × (whole_from part (front ++ rest) ≡ whole_from part front ++ more)
-whole_from-front part [] rest = (whole_from part rest, refl)
-whole_from-front part (b ∷ front) rest =
-    elim (b == 10) as (λ t. (more : List (List ℕ))
-    × (cond t (part ∷ whole_from [] (front ++ rest)) (whole_from (part ++ b ∷ []) (front ++ rest))
-    ≡ cond t (part ∷ whole_from [] front) (whole_from (part ++ b ∷ []) front) ++ more)) [
-      | true ↦ let more = whole_from-front [] front rest in (more.0, ap (λ l. part ∷ l) more.1)
-      | false ↦ whole_from-front (part ++ b ∷ []) front rest
-    ]
-
 -- a script that was cut within the limit, and goes on beyond it
 cut_within : (taken rest : List ℕ) → length taken ≤ limit → limit < length (taken ++ rest)
     → (more : List (List ℕ)) × (script_lines (taken ++ rest) ≡ whole_lines taken ++ more)
@@ -63,7 +52,7 @@ cut_within taken rest short long =
     let sum : limit ≡ length taken + (limit - length taken) = omega (arith, short) in
     let cut : take limit (taken ++ rest) ≡ taken ++ take (limit - length taken) rest =
     ap (λ k. take k (taken ++ rest)) sum ∙ take-append-add taken rest (limit - length taken) in
-    let more = whole_from-front [] taken (take (limit - length taken) rest) in
+    let more = whole_lines-front taken (take (limit - length taken) rest) in
     (more.0, counted_beyond true (taken ++ rest) long ∙ (ap whole_lines cut ∙ more.1))
 
 -- a script that was cut somewhere
