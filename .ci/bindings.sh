@@ -5,6 +5,7 @@
 # are run. What is not there is left out, and named: a language without its tool, and the library without the archive of
 # cepage_c. CEPAGE names another program than that of the gate, and CEPAGE_C_ARCHIVE another archive.
 
+unset CDPATH
 cd "$(dirname "$0")/.." || exit 1
 CEPAGE=${CEPAGE:-$(pwd)/crates/cepage/out/cepage}
 LC_ALL=C.UTF-8
@@ -25,9 +26,10 @@ library=$room/library
 tab=$(printf '\t')
 mkdir "$cases" "$room/worked" "$library" || exit 1
 
-# Writes each worked script of these files to a file of its own.
+# Writes each worked script of these files to a file of its own; `…` stands for a value of 4000 bytes there.
 worked() {
     awk -v folder="$room/worked" '
+        BEGIN { for (k = 0; k < 4000; k++) value = value "v" }
         /(^| )const [A-Z]+: &str = r#"/ {
             split(FILENAME, path, "/")
             name = FILENAME
@@ -42,6 +44,7 @@ worked() {
             if (match($0, /^[0-9]*> /)) {
                 times = RLENGTH > 2 ? substr($0, 1, RLENGTH - 2) : 1
                 line = substr($0, RLENGTH + 1)
+                gsub(/…/, value, line)
                 if (last) sub(/"#;$/, "", line)
                 while (times-- > 0) print line > out
             }
@@ -67,7 +70,7 @@ add_both() {
     script=$2
     shift 2
     if [ -f "${script%.script}.words" ]; then
-        while IFS= read -r word; do
+        while IFS= read -r word || [ -n "$word" ]; do
             [ "$word" = --trace ] || set -- "$@" "$word"
         done <"${script%.script}.words"
     fi
@@ -107,9 +110,13 @@ elif sh bindings/c/build.sh "$library" >"$room/build" 2>&1; then
         echo "bindings: left out: the library from Node: $(tail -n 1 "$room/build")"
         addon=
     fi
-else
+elif grep -q '^build: there is no ' "$room/build"; then
     echo "bindings: left out: the library: $(tail -n 1 "$room/build")"
     shared= archive= addon=
+else
+    echo "bindings: the library cannot be made of $archive:" >&2
+    tail -n 60 "$room/build" >&2
+    exit 1
 fi
 
 # Whether the code of this language that docs/checking.md has first is that of the file.

@@ -8,12 +8,14 @@
 # The archive is crates/cepage_c/out/libcepage_c.a, as `rt lib` in crates/cepage_c makes it, or what CEPAGE_C_ARCHIVE names. The
 # heap is that of the Rattle kit, beside `rt`, or what CEPAGE_C_HEAP names.
 set -e
+unset CDPATH
 top=$(cd "$(dirname "$0")/../.." && pwd)
 here=$top/bindings/c
 folder=${1:-$here/out}
 archive=${CEPAGE_C_ARCHIVE:-$top/crates/cepage_c/out/libcepage_c.a}
 CC=${CC:-cc}
 
+command -v "${CC%% *}" >/dev/null || { echo "build: there is no $CC" >&2; exit 1; }
 if [ ! -f "$archive" ]; then
     echo "build: there is no $archive: run rt lib in crates/cepage_c" >&2
     exit 1

@@ -1,5 +1,5 @@
-/* The program once more, over the library: the same words, the same bytes, the same status. Words that are no words of it
- * end with status 2.
+/* The program once more, over the library: for the words of the gate's cases the same bytes and the same status. It reads
+ * words less strictly than the program, and takes none of the form --fuel=N. Where one says nothing it ends with status 2.
  */
 #include "runs.h"
 
