@@ -1,6 +1,5 @@
 //! Links the library where the environment variable CEPAGE_ARCHIVE names it, which is the `libcepage.a` that
 //! bindings/c/build.sh makes. Without it the crate starts the program.
-use std::path::PathBuf;
 
 fn main() {
     println!("cargo::rustc-check-cfg=cfg(cepage_library)");
@@ -9,9 +8,11 @@ fn main() {
     let Some(archive) = std::env::var_os("CEPAGE_ARCHIVE").filter(|it| !it.is_empty()) else {
         return;
     };
-    let archive = PathBuf::from(archive).canonicalize().expect("CEPAGE_ARCHIVE names libcepage.a");
+    // As it is named: a link may lead to another archive later.
+    let archive = std::env::current_dir().expect("a build has a folder").join(archive);
+    let is_named_so = archive.file_name().is_some_and(|it| it == "libcepage.a");
+    assert!(is_named_so && archive.is_file(), "CEPAGE_ARCHIVE names libcepage.a, and not {}", archive.display());
     let folder = archive.parent().expect("a file lies in a folder");
-    assert_eq!(archive.file_name().and_then(|it| it.to_str()), Some("libcepage.a"), "CEPAGE_ARCHIVE names libcepage.a");
     println!("cargo::rerun-if-changed={}", archive.display());
     println!("cargo::rustc-link-search=native={}", folder.display());
     println!("cargo::rustc-link-lib=static=cepage");

@@ -1,4 +1,5 @@
 //! A script run by a call of the library.
+use crate::error::Error;
 use crate::options::Options;
 use crate::status::Status;
 
@@ -23,17 +24,20 @@ extern "C" {
 }
 
 /// The status and the transcript of a script. It is run again with more room where its transcript is longer.
-pub(crate) fn run(script: &[u8], options: &Options) -> (Status, Vec<u8>) {
+pub(crate) fn run(script: &[u8], options: &Options) -> Result<(Status, Vec<u8>), Error> {
     let mut room = FIRST_ROOM;
     loop {
         let mut out: Vec<u8> = Vec::new();
         if out.try_reserve_exact(room).is_err() {
-            return (Status::NoMemory, out);
+            return Ok((Status::NoMemory, out));
         }
         let number = call(script, options, &mut out);
         match Status::of(number.into()) {
-            Some(status) if number != MORE_ROOM => return (status, out),
-            _ => room = room.saturating_mul(8),
+            Some(_) if number == MORE_ROOM => room = room.saturating_mul(8),
+            Some(status) => return Ok((status, out)),
+            None => {
+                return Err(Error::ProgramDied { name: "the library".into(), how: format!("with status {number}") })
+            }
         }
     }
 }

@@ -91,7 +91,7 @@ impl Options {
     pub(crate) fn transcript_of(&self, script: &[u8]) -> Result<(Status, Vec<u8>), Error> {
         #[cfg(cepage_library)]
         if self.uses_library {
-            return Ok(crate::library::run(script, self));
+            return crate::library::run(script, self);
         }
         Program::of(self).run(script)
     }

@@ -2,7 +2,7 @@
 use std::io::{self, BufRead, BufReader, Write};
 use std::process::{Child, ChildStdin, ExitStatus};
 use std::sync::mpsc::{channel, Receiver};
-use std::thread::{self, JoinHandle};
+use std::thread::{Builder, JoinHandle};
 
 /// A program that was started. It is written to and read a line at a time. A thread reads it all the while, since a program
 /// that waits until its answers are taken reads nothing.
@@ -14,10 +14,11 @@ pub(crate) struct Pipe {
 }
 
 impl Pipe {
-    pub(crate) fn new(mut child: Child) -> Pipe {
+    /// Where no thread can be had the program is ended.
+    pub(crate) fn new(mut child: Child) -> io::Result<Pipe> {
         let (sender, lines) = channel();
-        let output = child.stdout.take();
-        let reader = thread::spawn(move || {
+        let (input, output) = (child.stdin.take(), child.stdout.take());
+        let reader = Builder::new().spawn(move || {
             let Some(mut output) = output.map(BufReader::new) else { return };
             loop {
                 let mut line = Vec::new();
@@ -28,7 +29,14 @@ impl Pipe {
                 }
             }
         });
-        Pipe { input: child.stdin.take(), child, lines, reader: Some(reader) }
+        match reader {
+            Ok(reader) => Ok(Pipe { child, input, lines, reader: Some(reader) }),
+            Err(error) => {
+                let _ = child.kill();
+                let _ = child.wait();
+                Err(error)
+            }
+        }
     }
 
     pub(crate) fn process(&self) -> u32 {
@@ -65,11 +73,13 @@ impl Pipe {
 }
 
 impl Drop for Pipe {
-    /// Ends the program wherever it is.
+    /// Ends the program wherever it is. The reader is not waited for: a process that the program has started may hold the
+    /// other end of its pipe.
     fn drop(&mut self) {
         if self.reader.is_some() {
+            self.stop_giving();
             let _ = self.child.kill();
-            let _ = self.ended();
+            let _ = self.child.wait();
         }
     }
 }

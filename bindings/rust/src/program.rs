@@ -5,6 +5,7 @@ use crate::status::Status;
 use std::ffi::OsString;
 use std::io::{self, Write};
 use std::process::{Child, Command, Stdio};
+use std::thread::{self, Builder};
 
 /// The program and its words.
 pub(crate) struct Program {
@@ -45,9 +46,14 @@ impl Program {
     pub(crate) fn run(&self, script: &[u8]) -> Result<(Status, Vec<u8>), Error> {
         let mut child = self.start(Stdio::piped())?;
         let input = child.stdin.take();
-        let ended = std::thread::scope(|threads| {
+        let ended = thread::scope(|threads| {
             // A program that ends before it has read the script closes the pipe: its status tells why.
-            threads.spawn(move || input.map(|mut input| input.write_all(script)));
+            let writes = move || input.map(|mut input| input.write_all(script));
+            if let Err(error) = Builder::new().spawn_scoped(threads, writes) {
+                let _ = child.kill();
+                let _ = child.wait();
+                return Err(error);
+            }
             child.wait_with_output()
         })?;
         match status_of(ended.status) {

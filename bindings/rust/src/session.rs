@@ -33,7 +33,7 @@ impl Session {
 
     pub(crate) fn begin(options: Options) -> Result<Session, Error> {
         let program = Program::of(&options);
-        let pipe = Pipe::new(program.start(Stdio::null())?);
+        let pipe = Pipe::new(program.start(Stdio::null())?)?;
         let past = Past::new(Vec::new(), options);
         let (line, lines, wrote) = (0, 0, Vec::new());
         Ok(Session { program: program.name(), pipe, past, line, lines, wrote, over: None, ended: None })
