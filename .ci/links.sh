@@ -6,6 +6,7 @@
 
 LC_ALL=C
 export LC_ALL
+unset CDPATH
 cd "$(dirname "$0")/.." || exit 1
 set -- README.md CHANGELOG.md docs/*.md bindings/*/README.md
 
@@ -30,9 +31,33 @@ rows() {
         }
         return folder path
     }
-    FNR == 1 { fenced = 0 }
-    /^ *```/ { fenced = !fenced; next }
-    fenced { next }
+    # Adds a row for a link.
+    function follow(link,    folder, path, anchor) {
+        if (link ~ /^[a-z]+:/) return
+        folder = FILENAME
+        sub(/[^\/]*$/, "", folder)
+        path = anchor = link
+        sub(/#.*/, "", path)
+        path = path == "" ? FILENAME : place(folder, path)
+        if (sub(/^[^#]*#/, "", anchor) == 0) anchor = "-"
+        row[++rows] = FILENAME ":" FNR " " link " " path " " anchor
+    }
+    FNR == 1 { fence = "" }
+    # A fence is closed by one of the same sign that is as long, and has nothing behind it.
+    match($0, /^ *(```+|~~~+)/) {
+        mark = substr($0, RSTART, RLENGTH)
+        behind = substr($0, RSTART + RLENGTH)
+        gsub(/ /, "", mark)
+        if (fence == "" && (mark ~ /~/ || behind !~ /`/)) {
+            fence = mark
+            next
+        }
+        if (fence != "" && index(mark, fence) == 1 && behind ~ /^ *$/) {
+            fence = ""
+            next
+        }
+    }
+    fence != "" { next }
     /^#+ / {
         name = slug($0)
         key = FILENAME "#" name
@@ -57,14 +82,20 @@ rows() {
         while (match(rest, /\]\([^)]*\)/)) {
             link = substr(rest, RSTART + 2, RLENGTH - 3)
             rest = substr(rest, RSTART + RLENGTH)
-            if (link ~ /^[a-z]+:/) continue
-            folder = FILENAME
-            sub(/[^\/]*$/, "", folder)
-            path = anchor = link
-            sub(/#.*/, "", path)
-            path = path == "" ? FILENAME : place(folder, path)
-            if (sub(/^[^#]*#/, "", anchor) == 0) anchor = "-"
-            row[++rows] = FILENAME ":" FNR " " link " " path " " anchor
+            follow(link)
+        }
+        rest = $0
+        gsub(/`[^`]*`/, "", rest)
+        if (match(rest, /^ *\[[^]]*\]: +/)) {
+            link = substr(rest, RSTART + RLENGTH)
+            sub(/ .*/, "", link)
+            follow(link)
+        }
+        while (match(rest, /(href|src)="[^"]*"/)) {
+            link = substr(rest, RSTART, RLENGTH - 1)
+            rest = substr(rest, RSTART + RLENGTH)
+            sub(/^[^"]*"/, "", link)
+            follow(link)
         }
     }
     END {
