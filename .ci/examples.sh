@@ -10,6 +10,7 @@ program=crates/cepage/out/cepage
 LC_ALL=C
 export LC_ALL
 
+unset CDPATH
 cd "$(dirname "$0")/.." || exit 1
 if [ ! -x "$program" ]; then
     echo "examples: the program $program is missing: run rt ci first" >&2
@@ -78,7 +79,7 @@ traces() {
 # Runs the script with the fuel of each row.
 spends() {
     wanted=3
-    while read -r units count last; do
+    while read -r units count last || [ -n "$units" ]; do
         case $units in
         '' | '#') continue ;;
         esac
@@ -107,7 +108,7 @@ compare() {
     traced=
     set -- "$1"
     if [ -f "$name.words" ]; then
-        while IFS= read -r word; do
+        while IFS= read -r word || [ -n "$word" ]; do
             if [ "$word" = --trace ]; then
                 traced=--trace
             else
