@@ -87,7 +87,7 @@ def difference(rows):
     """Where the file is not what it should be: None where it is."""
     if not FILE.is_file():
         return "there is no such file"
-    text = FILE.read_text(encoding="utf-8")
+    text = FILE.read_bytes().decode("utf-8", "replace")
     if text == HEAD + "".join(rows) + TAIL:
         return None
     there = {name_of(line): line for line in text.splitlines(keepends=True)}

@@ -7,6 +7,7 @@
 # An edit is a file as those of must-fail/: a line 'file: src/NAME.rt', and then pairs of lines 'old: TEXT' and
 # 'new: TEXT', each TEXT one line; the old text stands in that file once.
 
+unset CDPATH
 cd "$(dirname "$0")/.." || exit 1
 top=$(pwd)
 room=$(mktemp -d) || exit 1
@@ -40,7 +41,10 @@ put_in() {
             text[path] = all
         }
         /^file: / { path = substr($0, 7); load(path) }
-        /^old: / { old = substr($0, 6) }
+        /^old: / {
+            if (old != "") fail("an old text has no new one")
+            old = substr($0, 6)
+        }
         /^new:/ {
             new = substr($0, 5)
             sub(/^ /, "", new)
@@ -54,7 +58,7 @@ put_in() {
         }
         END {
             if (failed) exit 1
-            if (!pairs) { print "it has no pair of old and new"; exit 1 }
+            if (!pairs || old != "") { print "it has no pair of old and new, or a half of one"; exit 1 }
             for (path in text) printf "%s", text[path] > (ENVIRON["EDITED"] "/" path)
         }' "$1"
 }
