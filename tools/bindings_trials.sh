@@ -4,6 +4,7 @@
 # calls (2,000 without it), C, Python, Node and Rust run a script of 20 lines, beside starting the program. CEPAGE names another
 # program than that of the gate. What is not there is left out, and named. They stand outside of the gate.
 
+unset CDPATH
 cd "$(dirname "$0")/.." || exit 1
 calls=${1:-2000}
 CEPAGE=${CEPAGE:-$(pwd)/crates/cepage/out/cepage}
