@@ -287,6 +287,8 @@ export class Session {
   feed(script: string): Promise<Command[]>;
   /** Ends the script, and gives the whole session as a run. */
   close(): Promise<Run>;
+  /** Ends the script, where `await using` does. */
+  [Symbol.asyncDispose](): Promise<void>;
 }
 
 /** The value of a line, without its line feed. */

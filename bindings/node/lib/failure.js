@@ -11,19 +11,21 @@ export class Failure extends AssertionError {
   }
 }
 
-/** The title, and the lines below it, set in; of very many the first ones. */
-export function block(title, lines) {
-  const shown = lines.slice(0, MOST_LINES).map((line) => `    ${line}`);
-  const more = lines.length - MOST_LINES;
-  return [title, ...(lines.length ? shown : ["    nothing"]), ...(more > 0 ? [`    and ${more} lines more`] : [])];
+/** The title, and the lines below it, set in; of very many the first ones, or those from a place on. */
+export function block(title, lines, first = 0) {
+  const shown = lines.slice(first, first + MOST_LINES).map((line) => `    ${line}`);
+  const more = lines.length - first - MOST_LINES;
+  const before = first > 0 ? [`    behind ${first} lines`] : [];
+  return [title, ...before, ...(lines.length ? shown : ["    nothing"]), ...(more > 0 ? [`    and ${more} lines more`] : [])];
 }
 
-/** What was expected and what came, with a sign before the first line that differs. */
+/** What was expected and what came, with a sign before the first line that differs; of very many lines those about it. */
 export function differing(expected, came) {
   const same = expected.findIndex((line, at) => line !== came[at]);
   const at = same < 0 ? expected.length : same;
   const marked = (lines) => lines.map((line, index) => (index === at ? `> ${line}` : `  ${line}`));
-  return [...block("expected:", marked(expected)), ...block("came:", marked(came))];
+  const first = Math.max(0, at - MOST_LINES / 2);
+  return [...block("expected:", marked(expected), first), ...block("came:", marked(came), first)];
 }
 
 /** A trace as an outline: what stands deeper ran within what stands around it. */

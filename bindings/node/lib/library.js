@@ -35,8 +35,8 @@ function callOf(library) {
   }
 }
 
-// A buffer that is kept for the next call, as long as it is of the first size.
-let kept = Buffer.allocUnsafe(FIRST_ROOM);
+// The room that each call begins with.
+const kept = Buffer.allocUnsafe(FIRST_ROOM);
 
 /** The status and the transcript of a script. It is run again with more room where its transcript is longer. */
 export function runLibrary(library, script, { fuel, trace, url, boundary }) {

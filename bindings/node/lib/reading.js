@@ -159,7 +159,7 @@ function other(where) {
 /** The lines of a transcript, each with the number of the script's line that it answers.
  *
  * What stands before a reply answers the same line. What stands behind the last one answers the command behind that. A
- * last line without a line feed was cut off. */
+ * last line without a line feed was cut off; where its number is whole, it is that of the command. */
 export function readLines(transcript, commandBehind, place = 1) {
   const whole = transcript.split("\n");
   const cut = whole.pop();
@@ -174,7 +174,7 @@ export function readLines(transcript, commandBehind, place = 1) {
     readUpTo(at + 1, reply);
     last = reply;
   });
-  const command = read.length < whole.length || cut ? commandBehind(last) : null;
+  const command = read.length < whole.length || cut ? (replied(cut) ?? commandBehind(last)) : null;
   readUpTo(whole.length, command);
   if (cut) read.push(other({ text: cut, number: place + whole.length, command }));
   return read;

@@ -74,7 +74,7 @@ export class Run extends Selection {
 
   /** The commands that are spelled so, in their order. */
   find(source) {
-    return this.commands.filter((command) => command.source.replace(/^ +| +$/g, "") === source);
+    return this.commands.filter((command) => command.source.replace(/^ +|(?<! ) +$/g, "") === source);
   }
 
   /** The run with its trace: this one, or one more of the same script. */
@@ -105,7 +105,7 @@ export class Run extends Selection {
 
 /** Runs a script, and gives what it did. */
 export function run(script, options = {}) {
-  const library = options.program === undefined ? findLibrary(options.library) : null;
+  const library = options.program === undefined || options.program === null ? findLibrary(options.library) : null;
   const program = library === null ? findProgram(options.program) : null;
   const door = library === null ? runProgram.bind(null, program) : runLibrary.bind(null, library);
   const [bytes, said] = [scriptBytes(script), optionsOf(options)];

@@ -9,6 +9,9 @@ import { Run } from "./run.js";
 import { cutLines, isUnanswered } from "./script.js";
 import { STATUSES } from "./status.js";
 
+const CLOSED = "it was closed";
+const LINE_FEED = 10;
+
 /** A page that is talked to, a line at a time.
  *
  * The program answers each line before it reads the next one. A session that waits for nothing keeps no process of Node
@@ -20,10 +23,12 @@ export class Session {
   #closed;
   #script = [];
   #wrote = [];
-  #rest = "";
+  #rest = []; // pieces of what was written last, and not ended by a line feed
   #given = 0; // how many of the lines that were written have been given with a command
-  #waiting = []; // commands whose reply has not come: { number, line, resolve, reject }
+  #waiting = []; // commands whose reply has not come: { number, line, resolve, reject }; before the first, null
+  #first = 0; // the place of the first of them: to shift a long list takes a time that grows with it
   #over = null; // why no line is taken any more
+  #isClosing = false;
   #ended = null; // { code, signal }
   #failed = null; // the program could not be started
 
@@ -33,11 +38,8 @@ export class Session {
     this.#program = findProgram(options.program);
     this.#child = this.#started();
     this.#closed = new Promise((resolve) => this.#child.on("close", (code, signal) => resolve(this.#end({ code, signal }))));
-    this.#child.on("error", (error) => {
-      this.#failed = startFailed(this.#program, error);
-    });
     this.#child.stdin.on("error", () => {}); // the program has ended, which its close tells
-    this.#child.stdout.setEncoding("utf8").on("data", (piece) => this.#take(piece));
+    this.#child.stdout.on("data", (piece) => this.#take(piece));
     this.#hold(false);
   }
 
@@ -70,14 +72,15 @@ export class Session {
 
   /** Gives each line of a script, and gives what each command among them wrote. */
   async feed(script) {
-    const given = [];
-    for (const line of cutLines(script)) given.push(await this.command(line));
+    if (typeof script !== "string" || !script.isWellFormed()) throw new TypeError("a script is a string of Unicode scalar values");
+    const given = await Promise.all(cutLines(script).map((line) => this.command(line)));
     return given.filter((command) => command.lines.length);
   }
 
   /** Ends the script, and gives the whole session as a run. */
   async close() {
-    this.#over ??= "it was closed";
+    this.#isClosing = true;
+    this.#over ??= CLOSED;
     this.#hold(true);
     this.#child.stdin.end();
     await this.#closed;
@@ -86,13 +89,19 @@ export class Session {
     return this.#run(this.#script.length, this.#wrote.length, this.#status, this.#rest);
   }
 
-  async [Symbol.asyncDispose ?? Symbol.for("nodejs.asyncDispose")]() {
+  async [Symbol.asyncDispose]() {
     await this.close();
   }
 
   #started() {
     try {
-      return spawn(this.#program.name, wordsOf(this.#options), { stdio: ["pipe", "pipe", "ignore"] });
+      const child = spawn(this.#program.name, wordsOf(this.#options), { stdio: ["pipe", "pipe", "ignore"] });
+      child.on("error", (error) => {
+        this.#failed = startFailed(this.#program, error);
+      });
+      // Where no file can be opened any more there is none, and the error comes later.
+      if (!child.stdin) throw new Error("no pipe to it could be opened");
+      return child;
     } catch (error) {
       throw startFailed(this.#program, error);
     }
@@ -104,50 +113,61 @@ export class Session {
 
   // A line of a transcript ends at a line feed, and at nothing else.
   #take(piece) {
-    const lines = (this.#rest + piece).split("\n");
-    this.#rest = lines.pop();
-    for (const line of lines) {
-      this.#wrote.push(line);
-      if (line === "fuel") this.#spent();
-      else if (this.#waiting.length && line.startsWith(`${this.#waiting[0].number}: `)) this.#answer();
+    let from = 0;
+    for (let end = piece.indexOf(LINE_FEED); end >= 0; end = piece.indexOf(LINE_FEED, from)) {
+      this.#takeLine(Buffer.concat([...this.#rest.splice(0), piece.subarray(from, end)]).toString());
+      from = end + 1;
     }
+    this.#rest.push(piece.subarray(from));
+  }
+
+  #takeLine(line) {
+    this.#wrote.push(line);
+    if (line === "fuel") this.#spent();
+    else if (this.#waiting.length && line.startsWith(`${this.#waiting[this.#first].number}: `)) this.#answer();
   }
 
   // Gives the command that waits longest what has come since the last one.
   #answer() {
-    const { number, line, resolve } = this.#waiting.shift();
+    const { number, line, resolve } = this.#waiting[this.#first];
+    this.#waiting[this.#first++] = null;
+    if (this.#first === this.#waiting.length) {
+      this.#waiting = [];
+      this.#first = 0;
+    }
     const wrote = this.#wrote.slice(this.#given).map((text) => `${text}\n`).join("");
     const lines = readLines(wrote, () => number, this.#given + 1);
     this.#given = this.#wrote.length;
     resolve(new Command(this.#untilNow(number), number, line, lines));
-    if (!this.#waiting.length) this.#hold(false);
+    if (!this.#waiting.length && !this.#isClosing) this.#hold(false);
   }
 
   #spent() {
     if (!this.#waiting.length) return;
-    const { number, line } = this.#waiting[0];
+    const { number, line } = this.#waiting[this.#first];
     this.#over = `the fuel was spent in line ${number}: ${cut(line)}`;
     this.#answer();
   }
 
   #end(ended) {
     this.#ended = ended;
-    const first = this.#waiting[0];
+    const waiting = this.#waiting.splice(0).slice(this.#first);
+    const [first] = waiting;
     const where = first ? `, at line ${first.number}: ${cut(first.line)}` : "";
-    this.#over ??= `the program ended ${howItEnded(ended)}${where}`;
-    for (const { reject } of this.#waiting.splice(0)) reject(this.#failed ?? new SessionEnded(this.#over, this.#status));
+    if (this.#over === null || (first && this.#over === CLOSED)) this.#over = `the program ended ${howItEnded(ended)}${where}`;
+    for (const { reject } of waiting) reject(this.#failed ?? new SessionEnded(this.#over, this.#status));
   }
 
   // The session as a run, up to this line and to what has been given.
   #untilNow(number = this.#script.length) {
     const given = this.#given;
-    return () => this.#run(number, given, null, "");
+    return () => this.#run(number, given, null, []);
   }
 
   #run(number, given, status, rest) {
-    const text = (lines) => lines.map((line) => `${line}\n`).join("");
-    const bytes = Buffer.from(text(this.#wrote.slice(0, given)) + rest);
-    const script = Buffer.from(text(this.#script.slice(0, number)));
+    const whole = (lines) => Buffer.from(lines.map((line) => `${line}\n`).join(""));
+    const bytes = Buffer.concat([whole(this.#wrote.slice(0, given)), ...rest]);
+    const script = whole(this.#script.slice(0, number));
     return new Run(script, this.#options, { status, bytes }, runProgram.bind(null, this.#program));
   }
 

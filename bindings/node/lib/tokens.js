@@ -9,7 +9,7 @@ export class Unfit extends Error {}
 const NUMBER = "(?:0|[1-9][0-9]{0,14})";
 const BARE = new RegExp(`#(${NUMBER})|([^ "#][^ "]*)`, "y");
 // A piece of a quoted text. A pattern takes room for each run and each escape that it repeats, and a text has up to 16 million.
-const PIECE = /(?:[^"\\\x00-\x1f\x7f]+|\\[\\"nrt]|\\u\{[0-9a-f]{1,2}\}){1,4096}/y;
+const PIECE = /(?:[^"\\\x00-\x1f\x7f]+|\\[\\"nrt]|\\u\{(?:[0-8bcef]|1[0-9a-f]|7f)\}){1,4096}/y;
 const WHOLE_NUMBER = new RegExp(`^${NUMBER}$`);
 const REPLY = new RegExp(`^(${NUMBER}):`);
 const SIGNS = { n: "\n", r: "\r", t: "\t" };

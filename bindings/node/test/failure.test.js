@@ -120,6 +120,14 @@ test("a status", () => {
   assert.match(told(() => spent.expectStatus("Done")), /line 4, in which the fuel of 3 was spent: create \$b p/);
 });
 
+test("of very many lines those about the difference are told", () => {
+  const parts = `class A\n${"on A connected : log in\n".repeat(300)}define x-a A\n`;
+  const many = run(`${parts}create $h html\nappend doc $h\ncreate $a x-a\nappend $h $a\n`).commands.at(-1);
+  const message = told(() => many.expect(...many.texts.slice(0, -2), 'log "out"', "ok"));
+  assert.match(message, /    > log "out"\n      306: ok\ncame:\n    behind 200 lines\n/);
+  assert.match(message, /    > log "in"\n      306: ok\ntrace/);
+});
+
 test("of very many lines the first are told", () => {
   const script = "class A\nobserve A k\non A attribute : setattr this k v\ndefine x-a A\ncreate $a x-a\nsetattr $a k v\n";
   const message = told(() => run(script, { fuel: 1000 }).commands.at(-1).expect("ok"));

@@ -71,7 +71,7 @@ const OTHERS = [
   "call #3 constructor", "call #3 toString", "call #3 connected ", "call  #3 connected", "call #03 connected",
   "call #3 adopted #1", "call #3 adopted #1 null", 'call #3 attribute "k" null', 'call #3 attribute null null ""', "call #3 formDisabled yes",
   'call #3 formStateRestore "s" other', "log a", 'log"a"', 'log "a', 'log "a""b"', 'log "a"x"b"', 'log "\\u{007f}"', 'log "\\q"', 'log "\\u{}"',
-  'log "\\u{7F}"', 'log "\t"', "ask", "ask ok", "ask a", "caught", "caught Error", "caught user", "report TypeError x",
+  'log "\\u{7F}"', 'log "\\u{41}"', 'log "\\u{a}"', 'log "\\u{01}"', 'log "\\u{80}"', 'log "\t"', "ask", "ask ok", "ask a", "caught", "caught Error", "caught user", "report TypeError x",
   "submit #3", "submit #3 get", "submit #3 get http://h/", 'submit #3 post "u" "t"', "submit #3 blocked",
   "submit #3 blocked late", "submit #3 blocked invalid x", "7:", "7: ", "7 : ok", "07: ok", "x7: ok", "7: OK", "7: ok ok",
   "7: throw", "7: throw user", "7: bad", "7: bad later", "7: #1 x", '7: "a" #1', "7: valid valueMissing",
@@ -140,6 +140,8 @@ test("what the fuel cuts off belongs to the next command", () => {
 test("a line that is cut off is other", () => {
   const lines = readTranscript("1: #2\n2: #1", "create $a p\ncreate $b p\n");
   assert.deepEqual(lines.map((line) => [line.kind, line.command]), [["reply", 1], ["other", 2]]);
+  const part = readTranscript("1: #2\n2: bad ar", "create $a p\nclass\ncreate $b p\n");
+  assert.deepEqual(part.map((line) => [line.kind, line.command]), [["reply", 1], ["other", 2]]);
 });
 
 test("a line ends at a line feed alone", () => {

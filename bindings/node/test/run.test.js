@@ -1,5 +1,6 @@
 // A script that is run.
 import assert from "node:assert/strict";
+import { spawnSync } from "node:child_process";
 import { once } from "node:events";
 import { mkdtempSync, rmSync, symlinkSync, writeFileSync } from "node:fs";
 import { tmpdir } from "node:os";
@@ -95,6 +96,12 @@ test("what an element heard", () => {
   assert.deepEqual(component.heard(4), []);
 });
 
+test("a command is found by its spelling", () => {
+  const found = run(`  create $a p  \ncreate   $b p\nlog a${" ".repeat(1_000_000)}b\n`);
+  assert.deepEqual(["create $a p", "create   $b p"].map((source) => found.find(source)[0].number), [1, 2]);
+  for (const source of ["  create $a p  ", "create $b p"]) assert.deepEqual(found.find(source), []);
+});
+
 test("what a form sent", () => {
   const [first, second, third] = run(example("review.script")).submissions(3);
   assert.deepEqual([first.blocked, first.invalid], ["invalid", [5]]);
@@ -133,6 +140,19 @@ test("the option comes before the environment, and that before the path", () => 
   withEnvironment({ CEPAGE: "", PATH: path }, () => assert.equal(run("", { library: false }).transcript, 'log "path"\n'));
 });
 
+test("it is found from another folder", () => {
+  const file = programOf("cat > /dev/null; echo '1: #2'");
+  const before = process.cwd();
+  try {
+    process.chdir(dirname(file));
+    const came = run("create $a p", { program: "./cepage" });
+    process.chdir(before);
+    assert.deepEqual(came.traced().bytes, came.bytes);
+  } finally {
+    process.chdir(before);
+  }
+});
+
 test("a program that is not there", () => {
   assert.throws(() => run("", { program: "/nowhere/cepage" }), ProgramMissing);
   assert.throws(() => run("", { program: "/nowhere/cepage" }), /no program "\/nowhere\/cepage", which the option program names/);
@@ -156,6 +176,17 @@ test("a program that does not start", async () => {
     await new Session({ program }).command("create $a p");
   }, isTold);
   rmSync(folder, { recursive: true });
+  for (const name of ["", "a\0b"]) assert.throws(() => run("", { program: name }), CepageError);
+});
+
+test("a session for which no file can be opened", () => {
+  const code = `import { openSync } from "node:fs";
+import { CepageError, Session } from "${new URL("../index.js", import.meta.url)}";
+new Session();
+try { for (;;) openSync("/dev/null"); } catch {}
+try { new Session(); } catch (error) { process.exitCode = error instanceof CepageError ? 0 : 1; }`;
+  const ended = spawnSync("sh", ["-c", 'ulimit -n 60; exec "$0" --input-type=module -e "$1"', process.execPath, code]);
+  assert.equal(ended.status, 0, ended.stderr.toString());
 });
 
 test("a library that is missing or another", () => {
@@ -168,7 +199,9 @@ test("a library that is missing or another", () => {
     const told = (asker) => (error) =>
       error instanceof CepageError && error.cause && error.message.startsWith(`the library "${library}" of ${asker} could not be used: `);
     assert.throws(() => run("", { library }), told("the option library"));
-    withEnvironment({ CEPAGE_ADDON: library }, () => assert.throws(() => run(""), told("CEPAGE_ADDON")));
+    withEnvironment({ CEPAGE_ADDON: library }, () => {
+      for (const program of [undefined, null]) assert.throws(() => run("", { program }), told("CEPAGE_ADDON"));
+    });
   }
   rmSync(folder, { recursive: true });
 });

@@ -94,6 +94,16 @@ test("commands that are given at once are answered each", async () => {
   await page.close();
 });
 
+test("nothing comes between the lines of a feed", async () => {
+  const page = new Session();
+  const fed = page.feed("class A\non A connected : log in\ndefine x-a A\ncreate $a x-a\n");
+  const last = page.command("ask state $a");
+  const whole = page.close();
+  assert.deepEqual((await fed).map((command) => command.number), [3, 4]);
+  assert.deepEqual((await last).texts, ["5: custom"]);
+  assert.equal((await whole).status, "Done");
+});
+
 test("the fuel ends it", async () => {
   const page = new Session({ fuel: 1 });
   await page.command("ask kids doc");
@@ -103,11 +113,30 @@ test("the fuel ends it", async () => {
   assert.equal((await page.close()).status, "Fuel");
 });
 
+test("one that is disposed of is closed", async () => {
+  const page = new Session();
+  await page[Symbol.asyncDispose]();
+  await assert.rejects(page.command("create $a p"), /it was closed/);
+});
+
 test("a closed one takes no line", async () => {
   const page = new Session();
   assert.equal((await page.close()).status, "Done");
   assert.equal((await page.close()).status, "Done");
   await assert.rejects(page.command("create $a p"), /it was closed/);
+});
+
+test("one that is closed while commands wait answers them", async () => {
+  for (let k = 0; k < 20; k += 1) {
+    const page = new Session();
+    const given = page.command("create $a p");
+    const { transcript } = await page.close();
+    assert.deepEqual([transcript, (await given).texts], ["1: #2\n", ["1: #2"]]);
+  }
+  const refused = new Session({ boundary: "a-b" });
+  const given = refused.command("create $a p");
+  refused.close();
+  await assert.rejects(given, /with status 2, Usage, at line 1: create/);
 });
 
 test("refused options end it", async () => {
@@ -162,6 +191,8 @@ test("a line that is cut off is kept", async () => {
   assert.equal((await page.command("create $a p")).node, 2);
   const { status, transcript } = await page.close();
   assert.deepEqual([status, transcript], ["NoMemory", "1: #2\n2: #"]);
+  const within = new Session({ program: programOf("printf 'log \"\\303'; exit 6") });
+  assert.deepEqual((await within.close()).bytes, Buffer.from('log "\xc3', "latin1"));
 });
 
 test("one that is not closed keeps no process alive", async () => {

@@ -15,7 +15,8 @@ test("each member of the classes is declared, and nothing else", () => {
   const below = types.slice(types.indexOf("interface Selection"));
   const members = (name) => {
     const body = below.match(new RegExp(`(?:class|interface) ${name} {\n(.*?)\n}`, "s"))[1];
-    return [...body.matchAll(/^  (?:readonly )?(\w+)[(?:<]/gm)].map((found) => found[1]).filter((it) => it !== "constructor");
+    const found = [...body.matchAll(/^  (?:readonly )?(?:(\w+)|\[Symbol\.(\w+)\])[(?:<]/gm)];
+    return found.map(([, name, symbol]) => name ?? Symbol[symbol]).filter((it) => it !== "constructor");
   };
   const page = new cepage.Session();
   const run = cepage.run("create $a p");
@@ -33,7 +34,7 @@ test("each member of the classes is declared, and nothing else", () => {
 function inherited(value) {
   const names = [];
   for (let it = Object.getPrototypeOf(value); it !== Object.prototype; it = Object.getPrototypeOf(it)) {
-    names.push(...Object.getOwnPropertyNames(it).filter((name) => name !== "constructor"));
+    names.push(...Reflect.ownKeys(it).filter((name) => name !== "constructor"));
   }
   return names;
 }
