@@ -1,7 +1,7 @@
 """What goes wrong outside of a script."""
 import os
 import signal
-from typing import NamedTuple, Optional
+from typing import Any, NamedTuple, Optional, Tuple, Type
 
 from .status import Status
 
@@ -18,6 +18,15 @@ class Named(NamedTuple):
 
 class CepageError(Exception):
     """The program or its library could not be used."""
+
+    def __reduce__(self) -> Tuple[Any, ...]:
+        """It is told from process to process as it is, where `pickle` would make it anew from its message alone."""
+        return empty, (type(self),), {**vars(self), "args": self.args}
+
+
+def empty(kind: Type[CepageError]) -> CepageError:
+    """An error of which nothing is said yet."""
+    return kind.__new__(kind)
 
 
 class ProgramMissing(CepageError, FileNotFoundError):

@@ -8,18 +8,19 @@ class Failure(AssertionError):
     """A script did something else than was expected."""
 
 
-def block(title: str, lines: Sequence[str]) -> List[str]:
-    """The title, and the lines below it, set in; of very many the first ones."""
-    shown = [f"    {line}" for line in lines[:MOST_LINES]] or ["    nothing"]
-    more = len(lines) - MOST_LINES
-    return [title, *shown] + [f"    and {more} lines more"] * (more > 0)
+def block(title: str, lines: Sequence[str], first: int = 0) -> List[str]:
+    """The title, and the lines below it, set in; of very many the first ones, or those from a place on."""
+    shown = [f"    {line}" for line in lines[first : first + MOST_LINES]] or ["    nothing"]
+    more = len(lines) - first - MOST_LINES
+    return [title, *[f"    behind {first} lines"] * (first > 0), *shown] + [f"    and {more} lines more"] * (more > 0)
 
 
 def differing(expected: Sequence[str], came: Sequence[str]) -> List[str]:
-    """What was expected and what came, with a sign before the first line that differs."""
+    """What was expected and what came, with a sign before the first line that differs; of very many lines those about it."""
     at = next((k for k, (one, other) in enumerate(zip(expected, came)) if one != other), min(len(expected), len(came)))
     marked = [[("> " if k == at else "  ") + line for k, line in enumerate(lines)] for lines in (expected, came)]
-    return block("expected:", marked[0]) + block("came:", marked[1])
+    first = max(0, at - MOST_LINES // 2)
+    return block("expected:", marked[0], first) + block("came:", marked[1], first)
 
 
 def indented(trace: Sequence[str]) -> List[str]:

@@ -6,9 +6,8 @@ from typing import Any, Optional, Tuple, Union
 
 from .errors import Named, unfit
 from .options import MOST_FUEL_SAID, Options
+from .program import Path
 from .status import Status
-
-Path = Union[str, "os.PathLike[str]"]
 
 FIRST_ROOM = 65_536
 MORE_ROOM = 5

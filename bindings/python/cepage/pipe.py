@@ -3,6 +3,7 @@ import collections
 import contextlib
 import os
 import select
+import socket
 import subprocess
 from typing import Deque, List, Optional
 
@@ -15,16 +16,23 @@ class Pipe:
     """
 
     def __init__(self, words: List[bytes]) -> None:
-        self._started = subprocess.Popen(
-            words, bufsize=0, stdin=subprocess.PIPE, stdout=subprocess.PIPE, stderr=subprocess.DEVNULL
-        )
-        assert self._started.stdin and self._started.stdout
-        self._into, self._from = self._started.stdin, self._started.stdout
-        os.set_blocking(self._into.fileno(), False)
+        # A pair of sockets can be shut, where a pipe ends with its last writer, which may be a process that was forked since.
+        self._into, taken = socket.socketpair()
+        with taken, contextlib.ExitStack() as failed:
+            failed.callback(self._into.close)
+            self._started = subprocess.Popen(words, bufsize=0, stdin=taken, stdout=subprocess.PIPE, stderr=subprocess.DEVNULL)
+            failed.pop_all()
+        assert self._started.stdout
+        self._from = self._started.stdout
+        self._into.setblocking(False)
         self.process = self._started.pid
         self._unread: Deque[bytes] = collections.deque()
-        self.rest = b""
+        self._rest = bytearray()
+
+    @property
+    def rest(self) -> bytes:
         """What was written last, and not ended by a line feed."""
+        return bytes(self._rest)
 
     def give(self, text: bytes) -> None:
         """Writes to the program. One that has ended takes nothing, which the next line tells."""
@@ -32,12 +40,12 @@ class Pipe:
         try:
             while left:
                 left = left[self._give_some(left) :]
-        except BrokenPipeError:
+        except ConnectionError:
             pass
 
     def _give_some(self, text: memoryview) -> int:
         try:
-            return os.write(self._into.fileno(), text)
+            return self._into.send(text)
         except BlockingIOError:
             poll = select.poll()
             poll.register(self._into, select.POLLOUT)
@@ -56,18 +64,21 @@ class Pipe:
     def _read(self) -> bool:
         """Takes a piece of what the program wrote, or says that there is no more."""
         piece = os.read(self._from.fileno(), PIECE)
-        *whole, self.rest = (self.rest + piece).split(b"\n")
-        self._unread.extend(whole)
+        first, *others = piece.split(b"\n")
+        self._rest += first
+        for line in others:
+            self._unread.append(self.rest)
+            self._rest = bytearray(line)
         return bool(piece)
 
     def stop_giving(self) -> None:
         """Ends what the program reads."""
-        with contextlib.suppress(BrokenPipeError):
-            self._into.close()
+        with contextlib.suppress(OSError):
+            self._into.shutdown(socket.SHUT_WR)
 
     def ended(self) -> int:
         """The status of the program, which ends when it is read to its end."""
-        self.stop_giving()
+        self._into.close()
         self._from.close()
         return self._started.wait()
 

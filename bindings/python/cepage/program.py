@@ -1,10 +1,11 @@
 """A script run by starting the program."""
 import os
 import shutil
+import signal
 import subprocess
 from typing import Optional, Tuple, Union
 
-from .errors import Named, ProgramDied, ProgramMissing, is_of_cepage, one_line, unfit
+from .errors import CepageError, Named, ProgramDied, ProgramMissing, is_of_cepage, one_line, unfit
 from .options import Options
 from .status import Status
 
@@ -12,7 +13,9 @@ Path = Union[str, "os.PathLike[str]"]
 
 
 def find_program(program: Optional[Path]) -> Named:
-    """The program: the one that is given, else that of the environment variable CEPAGE, else `cepage` on the path."""
+    """The program: the one that is given, else that of the environment variable CEPAGE, else `cepage` on the path. It stays
+    the same where another folder is gone to.
+    """
     if program is not None:
         name, asked_by = os.fspath(program), "program="
     elif os.environ.get("CEPAGE"):
@@ -22,11 +25,18 @@ def find_program(program: Optional[Path]) -> Named:
     found = shutil.which(name)
     if found is None:
         raise ProgramMissing(name, asked_by)
-    return Named(found, asked_by)
+    return Named(os.path.abspath(found), asked_by)
+
+
+def want_statuses() -> None:
+    """Refuses where SIGCHLD is ignored: the system keeps no status then, and `subprocess` takes it for 0."""
+    if signal.getsignal(signal.SIGCHLD) is signal.SIG_IGN:
+        raise CepageError("SIGCHLD is ignored, so no status of a program is kept: set it to signal.SIG_DFL")
 
 
 def run_program(program: Named, script: bytes, options: Options) -> Tuple[Status, bytes]:
     """The status and the transcript of a script."""
+    want_statuses()
     try:
         ended = subprocess.run([program.path, *options.words()], input=script, capture_output=True, check=False)
     except OSError as error:

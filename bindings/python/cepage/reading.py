@@ -26,7 +26,7 @@ class Unfit(ValueError):
 NUMBER = r"(?:0|[1-9][0-9]{0,14})"
 BARE = re.compile(rf'#({NUMBER})|([^ "#][^ "]*)')
 # A piece of a quoted text. A pattern takes room for each run and each escape that it repeats, and a text has up to 16 million.
-PIECE = re.compile(r'(?:[^"\\\x00-\x1f\x7f]+|\\[\\"nrt]|\\u\{[0-9a-f]{1,2}\}){1,4096}')
+PIECE = re.compile(r'(?:[^"\\\x00-\x1f\x7f]+|\\[\\"nrt]|\\u\{(?:[0-8bcef]|1[0-9a-f]|7f)\}){1,4096}')
 ESCAPE = re.compile(r"\\(?:u\{([0-9a-f]+)\}|(.))")
 SIGNS = {"n": "\n", "r": "\r", "t": "\t"}
 REPLY = re.compile(rf"({NUMBER}):")
@@ -283,7 +283,7 @@ def read_lines(transcript: str, command_behind: CommandBehind, place: int = 1) -
     """The lines of a transcript, each with the number of the script's line that it answers.
 
     What stands before a reply answers the same line. What stands behind the last one answers the command behind that. A
-    last line without a line feed was cut off.
+    last line without a line feed was cut off; where its number is whole, it is that of the command.
     """
     *whole, cut = transcript.split("\n")
     read: List[Line] = []
@@ -293,7 +293,9 @@ def read_lines(transcript: str, command_behind: CommandBehind, place: int = 1) -
         if reply is not None:
             read += [read_line(it, place + first + k, reply) for k, it in enumerate(whole[first : index + 1])]
             first, last = index + 1, reply
-    command = command_behind(last) if first < len(whole) or cut else None
+    command = replied(cut)
+    if command is None and (first < len(whole) or cut):
+        command = command_behind(last)
     read += [read_line(it, place + first + k, command) for k, it in enumerate(whole[first:])]
     return (*read, Other(cut, place + len(whole), command)) if cut else tuple(read)
 

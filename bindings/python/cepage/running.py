@@ -5,10 +5,10 @@ from typing import Callable, Dict, List, Optional, Tuple, Union
 
 from .command import Command
 from .failure import Failure, block
-from .library import Path, find_library, run_library
+from .library import find_library, run_library
 from .lines import Line
 from .options import PLAIN_FUEL, Options
-from .program import find_program, run_program
+from .program import Path, find_program, run_program
 from .reading import read_lines
 from .script import is_unanswered, next_command, script_bytes, source_lines
 from .selection import Selection

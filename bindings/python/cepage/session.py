@@ -1,5 +1,6 @@
 """A session: a command in, what it answered out, over the program's own pipe."""
 import contextlib
+import os
 from types import TracebackType
 from typing import Optional, Tuple, Type
 
@@ -8,7 +9,7 @@ from .errors import ProgramDied, SessionEnded, cut, how_it_ended, is_of_cepage, 
 from .history import History
 from .options import PLAIN_FUEL, Options
 from .pipe import Pipe
-from .program import Path, find_program
+from .program import Path, find_program, want_statuses
 from .reading import read_lines
 from .running import Run
 from .script import is_unanswered
@@ -35,11 +36,12 @@ class Session:
         """The options are those of `run`; the program is started in any case."""
         options = Options(fuel, trace, url, boundary)
         self._program = find_program(program)
+        want_statuses()
         self._history = History(self._program, options)
         self._over = ""
         self._status: Optional[int] = None
         try:
-            self._pipe = Pipe([self._program.path.encode("utf-8", "surrogateescape"), *options.words()])
+            self._pipe = Pipe([os.fsencode(self._program.path), *options.words()])
         except OSError as error:
             raise unfit("program", self._program, error) from error
         self._process = self._pipe.process

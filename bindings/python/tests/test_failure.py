@@ -117,3 +117,10 @@ class Failures(unittest.TestCase):
         told = self.fails(run(script, fuel=1000).commands[-1].expect, "ok")
         self.assertRegex(told, "and [0-9]+ lines more")
         self.assertLess(told.count("\n"), 500)
+
+    def test_of_very_many_lines_those_about_the_difference_are_told(self) -> None:
+        script = "class A\n" + "on A connected : log in\n" * 300 + "define x-a A\ncreate $h html\nappend doc $h\ncreate $a x-a\nappend $h $a\n"
+        last = run(script).commands[-1]
+        told = self.fails(last.expect, *last.texts[:-2], 'log "out"', "ok")
+        self.assertIn('    > log "out"\n      306: ok\ncame:\n    behind 200 lines\n', told)
+        self.assertIn('    > log "in"\n      306: ok\ntrace', told)

@@ -68,7 +68,7 @@ OTHERS = [
     "", " ", "construct", "construct card", "construct A B", "construct " + "A" * 33, "call", "call #3", "call 3 connected", "call #3 clicked",
     "call #3 connected ", "call  #3 connected", "call #03 connected", "call #3 adopted #1", "call #3 adopted #1 null", 'call #3 attribute "k" null',
     'call #3 attribute null null ""', "call #3 formDisabled yes", 'call #3 formStateRestore "s" other', "log a", 'log"a"',
-    'log "a', 'log "a""b"', 'log "a"x"b"', r'log "\u{007f}"', r'log "\q"', r'log "\u{}"', r'log "\u{7F}"', 'log "\t"', "ask", "ask ok", "ask a", "caught",
+    'log "a', 'log "a""b"', 'log "a"x"b"', r'log "\u{007f}"', r'log "\q"', r'log "\u{}"', r'log "\u{7F}"', r'log "\u{41}"', r'log "\u{a}"', r'log "\u{01}"', r'log "\u{80}"', 'log "\t"', "ask", "ask ok", "ask a", "caught",
     "caught Error", "caught user", "report TypeError x", "submit #3", "submit #3 get", "submit #3 get http://h/",
     'submit #3 post "u" "t"', "submit #3 blocked", "submit #3 blocked late", "submit #3 blocked invalid x", "7:", "7: ",
     "7 : ok", "07: ok", "x7: ok", "7: OK", "7: ok ok", "7: throw", "7: throw user", "7: bad", "7: bad later", "7: #1 x",
@@ -139,6 +139,8 @@ class Commands(unittest.TestCase):
 
     def test_a_line_that_is_cut_off_is_other(self) -> None:
         lines = read_transcript("1: #2\n2: #1", "create $a p\ncreate $b p\n")
+        self.assertEqual([(line.kind, line.command) for line in lines], [("reply", 1), ("other", 2)])
+        lines = read_transcript("1: #2\n2: bad ar", "create $a p\nclass\ncreate $b p\n")
         self.assertEqual([(line.kind, line.command) for line in lines], [("reply", 1), ("other", 2)])
 
     def test_a_line_ends_at_a_line_feed_alone(self) -> None:

@@ -1,14 +1,16 @@
 """A script that is run."""
 import atexit
 import os
+import pickle
 import shutil
+import signal
 import stat
 import tempfile
 import unittest
 from concurrent.futures import ThreadPoolExecutor
 from unittest import mock
 
-from cepage import CepageError, Node, ProgramDied, ProgramMissing, Session, Status, run
+from cepage import CepageError, Node, ProgramDied, ProgramMissing, Session, SessionEnded, Status, run
 
 from . import example
 
@@ -132,6 +134,16 @@ class Finding(unittest.TestCase):
             del os.environ["CEPAGE"]
             self.assertEqual(run("", library=False).transcript, "")
 
+    def test_it_is_found_from_another_folder(self) -> None:
+        before = os.getcwd()
+        file = program_of("cat > /dev/null; echo '1: #2'")
+        try:
+            os.chdir(os.path.dirname(file))
+            came = run("create $a p", program="./program")
+        finally:
+            os.chdir(before)
+        self.assertEqual(came.traced().bytes, came.bytes)
+
     def test_a_program_that_is_not_there(self) -> None:
         with self.assertRaisesRegex(ProgramMissing, "no program '/nowhere/cepage', which program= names"):
             run("", program="/nowhere/cepage")
@@ -143,6 +155,20 @@ class Finding(unittest.TestCase):
         for text, told in (("kill -9 $$", "by the signal SIGKILL"), ("echo no room >&2; exit 127", "with status 127: no room")):
             with self.assertRaisesRegex(ProgramDied, told):
                 run("", program=program_of(text))
+
+    def test_where_no_status_is_kept(self) -> None:
+        before = signal.signal(signal.SIGCHLD, signal.SIG_IGN)
+        try:
+            for start in (lambda: run("frob", library=False), Session):
+                with self.assertRaisesRegex(CepageError, "SIGCHLD is ignored"):
+                    start()
+        finally:
+            signal.signal(signal.SIGCHLD, before)
+
+    def test_an_error_is_told_to_another_process(self) -> None:
+        for error in (ProgramMissing("cepage", "PATH"), ProgramDied("cepage", -9), SessionEnded("it was closed", Status.FUEL)):
+            came = pickle.loads(pickle.dumps(error))
+            self.assertEqual((type(came), str(came), vars(came)), (type(error), str(error), vars(error)))
 
     def test_a_program_that_does_not_start(self) -> None:
         file = program_of("")

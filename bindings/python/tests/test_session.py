@@ -166,6 +166,26 @@ class Ends(unittest.TestCase):
         whole = page.close()
         self.assertEqual((whole.status, whole.transcript), (Status.NO_MEMORY, "1: #2\n2: #"))
 
+    def test_a_line_that_is_long_takes_no_time_that_grows_faster(self) -> None:
+        program = program_of("read line; head -c 48000000 /dev/zero | tr '\\0' a; echo; echo '1: ok'; read line")
+        with Session(program=program) as page:
+            began = time.process_time()
+            self.assertEqual(len(page.command("create $a p").texts[0]), 48_000_000)
+            self.assertLess(time.process_time() - began, 8)
+
+    def test_one_that_another_process_has_too(self) -> None:
+        page = Session()
+        child = os.fork()
+        if child == 0:
+            time.sleep(20)
+            os._exit(0)
+        page.command("create $a p")
+        began = time.monotonic()
+        self.assertIs(page.close().status, Status.DONE)
+        self.assertLess(time.monotonic() - began, 10)
+        os.kill(child, signal.SIGKILL)
+        os.waitpid(child, 0)
+
     def test_two_sessions_at_once(self) -> None:
         wrote = {}
 
