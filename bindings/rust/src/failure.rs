@@ -3,24 +3,33 @@ const MOST_LINES: usize = 200;
 
 /// The title, and the lines below it, set in; of very many the first ones.
 pub(crate) fn block<T: AsRef<str>>(title: &str, lines: &[T]) -> Vec<String> {
+    block_from(0, title, lines)
+}
+
+/// The same, where the lines before a place are left out.
+fn block_from<T: AsRef<str>>(first: usize, title: &str, lines: &[T]) -> Vec<String> {
     let mut block = vec![title.to_string()];
-    block.extend(lines.iter().take(MOST_LINES).map(|line| format!("    {}", line.as_ref())));
+    if first > 0 {
+        block.push(format!("    behind {first} lines"));
+    }
+    block.extend(lines.iter().skip(first).take(MOST_LINES).map(|line| format!("    {}", line.as_ref())));
     if lines.is_empty() {
         block.push("    nothing".into());
     }
-    if lines.len() > MOST_LINES {
-        block.push(format!("    and {} lines more", lines.len() - MOST_LINES));
+    if lines.len() > first + MOST_LINES {
+        block.push(format!("    and {} lines more", lines.len() - first - MOST_LINES));
     }
     block
 }
 
-/// What was expected and what came, with a sign before the first line that differs.
+/// What was expected and what came, with a sign before the first line that differs; of very many lines those about it.
 pub(crate) fn differing(expected: &[&str], came: &[&str]) -> Vec<String> {
     let at = expected.iter().zip(came).take_while(|(one, other)| one == other).count();
     let marked = |lines: &[&str]| -> Vec<String> {
         lines.iter().enumerate().map(|(k, line)| format!("{} {line}", if k == at { '>' } else { ' ' })).collect()
     };
-    [block("expected:", &marked(expected)), block("came:", &marked(came))].concat()
+    let first = at.saturating_sub(MOST_LINES / 2);
+    [block_from(first, "expected:", &marked(expected)), block_from(first, "came:", &marked(came))].concat()
 }
 
 /// A trace as an outline: what stands deeper ran within what stands around it.

@@ -24,7 +24,7 @@ pub fn read_transcript(transcript: &str, script: &str) -> Lines {
 /// The lines of a transcript, each with the number of the script's line that it answers.
 ///
 /// What stands before a reply answers the same line. What stands behind the last one answers the command behind that. A last
-/// line without a line feed was cut off.
+/// line without a line feed was cut off; where its number is whole, it is that of the command.
 pub(crate) fn read_lines(transcript: &str, command_behind: impl Fn(usize) -> Option<usize>, first: usize) -> Lines {
     let (whole, cut) = transcript.rsplit_once('\n').map_or((None, transcript), |(whole, cut)| (Some(whole), cut));
     let mut lines: Vec<Line> = Vec::new();
@@ -40,7 +40,7 @@ pub(crate) fn read_lines(transcript: &str, command_behind: impl Fn(usize) -> Opt
         lines.push(Line { text: cut.into(), number: first + lines.len(), command: None, kind: Kind::Other });
     }
     if unanswered < lines.len() {
-        let command = command_behind(last);
+        let command = replied(cut).or_else(|| command_behind(last));
         lines[unanswered..].iter_mut().for_each(|line| line.command = command);
     }
     Lines(lines)

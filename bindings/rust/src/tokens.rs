@@ -54,7 +54,8 @@ fn text_of(quoted: &str) -> Option<(String, &str)> {
     }
 }
 
-/// The character that an escape says, and what stands behind it. Of `\u{h}` a transcript has one or two digits.
+/// The character that an escape says, and what stands behind it. A transcript has `\u{h}` for the control characters that have
+/// no sign of their own.
 fn escape_of(rest: &str) -> Option<(char, &str)> {
     let sign = rest.chars().next()?;
     let behind = &rest[sign.len_utf8()..];
@@ -65,10 +66,9 @@ fn escape_of(rest: &str) -> Option<(char, &str)> {
         't' => '\t',
         'u' => {
             let (digits, behind) = behind.strip_prefix('{')?.split_once('}')?;
-            let fits =
-                (1..=2).contains(&digits.len()) && digits.bytes().all(|it| matches!(it, b'0'..=b'9' | b'a'..=b'f'));
-            let code = u8::from_str_radix(digits, 16).ok().filter(|_| fits)?;
-            return Some((char::from(code), behind));
+            let code = u8::from_str_radix(digits, 16).ok()?;
+            let fits = matches!(code, 0..=8 | 11 | 12 | 14..=31 | 127) && digits == format!("{code:x}");
+            return fits.then_some((char::from(code), behind));
         }
         _ => return None,
     };

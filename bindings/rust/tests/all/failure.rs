@@ -142,3 +142,16 @@ fn of_very_many_lines_the_first_are_told() {
     let message = told(move || spent.expect(["ok"]));
     assert!(message.contains(" lines more") && message.lines().count() < 500);
 }
+
+#[test]
+fn of_very_many_lines_those_about_the_difference_are_told() {
+    let parts = format!("class A\n{}define x-a A\n", "on A connected : log in\n".repeat(300));
+    let script = format!("{parts}create $h html\nappend doc $h\ncreate $a x-a\nappend $h $a\n");
+    let many = run(&script).unwrap().commands().pop().unwrap();
+    let mut wanted: Vec<String> = many.texts().iter().map(|text| text.to_string()).collect();
+    let place = wanted.len() - 2;
+    wanted[place] = "log \"out\"".into();
+    let message = told(move || many.expect(wanted.iter().map(String::as_str)));
+    assert!(message.contains("    > log \"out\"\n      306: ok\ncame:\n    behind 200 lines\n"), "{message}");
+    assert!(message.contains("    > log \"in\"\n      306: ok\ntrace"), "{message}");
+}

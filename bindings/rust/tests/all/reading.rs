@@ -123,6 +123,10 @@ log "\q"
 log "\u{}"
 log "\u{7F}"
 log "\u{+7}"
+log "\u{41}"
+log "\u{a}"
+log "\u{01}"
+log "\u{80}"
 ask
 ask ok
 ask a
@@ -258,6 +262,8 @@ fn a_line_that_is_cut_off_is_other() {
     assert_eq!(lines.len(), 2);
     assert_eq!((&lines[1].kind, lines[1].command, lines[1].number), (&Kind::Other, Some(2), 2));
     assert_eq!(read_transcript("1: #", "create $a p")[0].command, Some(1));
+    let part = read_transcript("1: #2\n2: bad ar", "create $a p\nclass\ncreate $b p\n");
+    assert_eq!((&part[1].kind, part[1].command), (&Kind::Other, Some(2)));
     assert!(read_transcript("", "create $a p").is_empty());
 }
 
