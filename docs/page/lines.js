@@ -159,12 +159,20 @@ globalThis.Cepage ??= {};
         return left.split(" ").map((value) => value === QUOTED ? quoted[at++] : value);
     }
 
+    // A text in pieces, each a quoted text or what stands between two.
+    function piecesOf(text) {
+        const cut = cutQuoted(text);
+        if (!cut) return [text];
+        return cut.left.split(QUOTED).flatMap((left, at) => [left, cut.quoted[at] ?? ""]).filter(Boolean);
+    }
+
     const ESCAPES = { n: "\n", r: "\r", t: "\t", '"': '"', "\\": "\\" };
 
-    // The text that a quoted text says.
+    // The text that a quoted text says; an escape that says no character stays.
     function unquoted(text) {
+        const character = (all, code) => parseInt(code, 16) <= 0x10ffff ? String.fromCodePoint(parseInt(code, 16)) : all;
         return text.slice(1, -1).replace(/\\(?:u\{([0-9a-f]+)\}|(.))/g,
-            (all, code, letter) => code ? String.fromCodePoint(parseInt(code, 16)) : ESCAPES[letter]);
+            (all, code, letter) => code ? character(all, code) : ESCAPES[letter]);
     }
 
     Cepage.readEvent = readEvent;
@@ -172,5 +180,6 @@ globalThis.Cepage ??= {};
     Cepage.unquoted = unquoted;
     Cepage.quotedTexts = (text) => cutQuoted(text)?.quoted ?? [];
     Cepage.valuesIn = valuesIn;
+    Cepage.piecesOf = piecesOf;
     Cepage.nodesIn = (text) => Array.from(text.matchAll(NODES), (found) => Number(found[1]));
 })();

@@ -115,7 +115,8 @@ globalThis.Cepage ??= {};
             const text = this.texts[at].replace(/\r/g, "␍");
             line.setAttribute("aria-label", `${this.numbers(at)}: ${text || "blank"}`);
             line.title = text.length > 40 ? text.slice(0, 2000) : "";
-            line.append(Cepage.make("span", "number", this.numbers(at)), Cepage.make("span", "code", text.slice(0, 2000)));
+            line.append(Cepage.make("span", "number", this.numbers(at)),
+                Cepage.write(Cepage.make("span", "code"), text.slice(0, 2000)));
             return line;
         }
 

@@ -85,8 +85,9 @@ globalThis.Cepage ??= {};
         }
 
         problem(line, text) {
-            this.problems.push({ line, text });
-            this.faults.push(this.add("problem", line, { text }));
+            const row = this.add("problem", line, { text });
+            this.problems.push({ line, text, row });
+            this.faults.push(row);
         }
 
         // Closes the innermost bracket of this kind and number, and tells what stood open within it.

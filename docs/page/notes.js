@@ -89,7 +89,7 @@ globalThis.Cepage ??= {};
             const [first] = problems;
             const all = Cepage.many(problems.length, "line of the transcript does", "lines of the transcript do");
             const which = problems.length > 1 ? "The first is line" : "It is line";
-            notes.unshift({ text: `${all} not fit. ${which} ${first.line + 1}: ${first.text}.`, row: run.rowOfLine[first.line] });
+            notes.unshift({ text: `${all} not fit. ${which} ${first.line + 1}: ${first.text}.`, row: first.row });
         }
         return notes;
     }

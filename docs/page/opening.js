@@ -87,12 +87,17 @@ globalThis.Cepage ??= {};
             if (texts.length > 0) this.take(texts);
         }
 
-        // Takes one text or several. A script that comes alone begins anew; a transcript joins the script that is there.
+        // Takes one text or several. A transcript joins the script that is there. A script that comes alone begins anew,
+        // unless a transcript waits for one.
         take(texts) {
             const sorted = texts.map(({ text, name }) => ({ text, name, transcript: isTranscript(text) }));
             const script = sorted.find((one) => !one.transcript);
             const transcript = sorted.find((one) => one.transcript);
-            if (script) this.own = { script: script.text, transcript: "", names: { script: script.name } };
+            if (script) {
+                const { own } = this;
+                const waits = own.script === "" ? own : { transcript: "", names: {} };
+                this.own = { script: script.text, transcript: waits.transcript, names: { ...waits.names, script: script.name } };
+            }
             if (transcript) {
                 this.own.transcript = transcript.text;
                 this.own.names.transcript = transcript.name;

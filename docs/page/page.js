@@ -145,7 +145,7 @@ globalThis.Cepage ??= {};
 
         // Writes the line below the drawing.
         say(text) {
-            find("words").textContent = text;
+            Cepage.write(find("words"), text);
         }
 
         // Tells of the row in focus, and lights its lines.
@@ -232,14 +232,17 @@ globalThis.Cepage ??= {};
 
         // Goes to the next row, or the one before, of which a line of the transcript has this text.
         seek(text, forward) {
-            const { lines, rows, rowOfLine } = this.run;
+            const { run, run: { lines, rows, rowOfLine }, sought } = this;
             if (!text || lines.length === 0) return;
-            const here = this.outline.index;
+            // Of a row that is left out the focus does not tell where it was found.
+            const isOn = sought?.run === run && sought.focus === this.outline.index;
+            const here = isOn ? sought.row : this.outline.index;
             const from = rows[here]?.line ?? 0;
             for (let step = 1; step <= lines.length; step++) {
                 const at = (from + (forward ? step : lines.length - step)) % lines.length;
                 if (!lines[at].includes(text) || (rowOfLine[at] === here && step < lines.length)) continue;
                 this.goTo(rowOfLine[at]);
+                this.sought = { run, row: rowOfLine[at], focus: this.outline.index };
                 return;
             }
             this.say(`No line of the transcript has: ${text}`);

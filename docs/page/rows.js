@@ -14,6 +14,14 @@ globalThis.Cepage ??= {};
         return element;
     }
 
+    // Puts a text into an element. Each quoted text stands in a `bdi`: one that is written from right to left would change
+    // places with what stands beside it.
+    function write(element, text) {
+        const quoted = (piece) => piece.startsWith('"') ? make("bdi", "", piece) : piece;
+        element.replaceChildren(...Cepage.piecesOf(text).map(quoted));
+        return element;
+    }
+
     // The hue of an element, in degrees: its number times the golden angle, so that neighbours lie far apart.
     const hueOf = (node) => (node * 137.508) % 360;
 
@@ -32,7 +40,7 @@ globalThis.Cepage ??= {};
     const queueName = (number) => number === 0 ? "backup queue" : `queue ${number}`;
     const queue = (number) => make("span", "queue", queueName(number));
     const soft = (text) => make("span", "soft", text);
-    const code = (text) => make("span", "code", text);
+    const code = (text) => write(make("span", "code"), text);
     const strong = (text) => make("b", "what", text);
     const fault = (text) => make("span", "fault", text);
     const mark = (text, name) => make("span", `mark ${name ?? ""}`, text);
@@ -116,6 +124,7 @@ globalThis.Cepage ??= {};
     }
 
     Cepage.make = make;
+    Cepage.write = write;
     Cepage.hueOf = hueOf;
     Cepage.rowElement = rowElement;
 })();

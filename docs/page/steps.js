@@ -45,7 +45,7 @@ globalThis.Cepage ??= {};
             return;
         }
         bracket.drained = true;
-        const { nodes } = run.queues.get(event.queue);
+        const nodes = run.queues.get(event.queue)?.nodes;
         if (nodes) run.add("drain", line, { queue: event.queue, nodes: [...nodes] });
         else run.join(line, bracket.row);
     }
