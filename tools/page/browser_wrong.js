@@ -18,7 +18,9 @@ function wrongInPage(name, transcript) {
     if (answer in others) return [begin + others[answer]];
     if (answer[0] === '"') return [`${begin}"x${answer.slice(1)}`];
     if (/^throw /.test(answer)) return [`${begin}${answer === 'throw TypeError' ? 'throw NotSupportedError' : 'ok'}`];
-    if (/^#\d+$/.test(answer)) return begin === 'ask ' ? ['ask null'] : [`${begin}throw TypeError`];
+    if (/^#\d+$/.test(answer)) {
+      return [begin === 'ask ' ? 'ask null' : `${begin}throw TypeError`, `${begin}${answer === '#1' ? '#2' : '#1'}`];
+    }
     return [];
   }
   const found = { wrong: 0, explained: {} };

@@ -9,24 +9,31 @@ globalThis.CepageBrowser ??= {};
     let pane = null;
 
     function open() {
-        const { texts: { script, transcript }, example } = Cepage.page;
+        const { texts: { script }, run, example } = Cepage.page;
+        // The lines as the page reads them, without a byte order mark and carriage returns.
+        const transcript = run.lines.map((line) => `${line}\n`).join("");
         document.body.classList.add("compares");
         pane = CepageBrowser.show(find("browser-pane"), { script, words: example ? example.words : [], transcript });
         find("browser-close").focus();
         pane.start();
     }
 
-    function close() {
+    // Another script that is chosen leaves the focus where it is.
+    function leave() {
         if (!pane) return;
         if (pane.running) pane.running.stop();
         pane = null;
         document.body.classList.remove("compares");
         find("browser-pane").replaceChildren();
+    }
+
+    function close() {
+        leave();
         find("compare").focus();
     }
 
     find("compare").addEventListener("click", open);
     find("browser-close").addEventListener("click", close);
     find("browser").addEventListener("keydown", (event) => { if (event.key === "Escape") close(); });
-    Cepage.page.onShown = close;
+    Cepage.page.onShown = leave;
 })();

@@ -111,7 +111,7 @@ globalThis.CepageBrowser ??= {};
     function compare(result, transcript) {
         const commands = CepageBrowser.align(result.forms, transcript, result.lines);
         const context = contextOf(result.forms);
-        const last = Math.max(0, ...result.lines.map(({ line }) => line));
+        const last = result.lines.reduce((most, { line }) => Math.max(most, line), 0);
         let fuelEnded = false;
         for (const command of commands) {
             fuelEnded = fuelEnded || command.rows.some(({ program }) => program && program.text === "fuel");

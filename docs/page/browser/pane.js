@@ -55,14 +55,21 @@ globalThis.CepageBrowser ??= {};
         return script.split("\n").map(asRead).join("\n");
     }
 
+    // A line of a transcript: each quoted text stands in a `bdi`, as in the page's other lists.
+    function lineElement(className, line) {
+        const element = make("code", className);
+        const quoted = (piece) => (piece[0] === '"' ? make("bdi", "", piece) : piece);
+        if (line) element.append(...CepageBrowser.pieces(cut(line.text, WIDEST)).map(quoted));
+        return element;
+    }
+
     function rowElement(row) {
         const { sign, label } = MARKS[row.mark];
         const element = make("div", `browser-row browser-${row.mark}`);
         const mark = make("span", "browser-mark", sign);
         mark.setAttribute("role", "img");
         mark.setAttribute("aria-label", label);
-        element.append(mark, make("code", "browser-program", row.program ? cut(row.program.text, WIDEST) : ""),
-            make("code", "browser-browser", row.browser ? cut(row.browser.text, WIDEST) : ""));
+        element.append(mark, lineElement("browser-program", row.program), lineElement("browser-browser", row.browser));
         return element;
     }
 

@@ -54,6 +54,8 @@ globalThis.CepageBrowser ??= {};
         constructor(code, message, limits, host) {
             Object.assign(this, { message, limits, lines: [], loads: 0, token: nonce(), begun: performance.now() });
             this.focused = document.activeElement;
+            this.hearFocus = ({ target }) => { if (target !== this.frame) this.focused = target; };
+            document.addEventListener("focusin", this.hearFocus);
             this.frame = makeFrame(code);
             this.result = new Promise((resolve) => { this.resolve = resolve; });
             this.hear = this.hear.bind(this);
@@ -89,9 +91,11 @@ globalThis.CepageBrowser ??= {};
         end(ended, steps = null) {
             clearTimeout(this.timer);
             window.removeEventListener("message", this.hear);
-            this.frame.remove();
+            document.removeEventListener("focusin", this.hearFocus);
             const { focused } = this;
-            if (focused && focused !== document.activeElement && focused.isConnected) focused.focus({ preventScroll: true });
+            const hasFocus = document.activeElement === this.frame;
+            this.frame.remove();
+            if (hasFocus && focused && focused.isConnected) focused.focus({ preventScroll: true });
             this.resolve({ lines: this.lines, ended, steps, milliseconds: Math.round(performance.now() - this.begun) });
         }
     }

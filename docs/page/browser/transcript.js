@@ -5,6 +5,7 @@ globalThis.CepageBrowser ??= {};
 
 (() => {
     const LARGEST = 4000000;
+    const MAKING = ["create", "new", "text", "doc", "shadow", "clone"];
     const isReply = (text) => /^\d+: /.test(text);
 
     // A line cut into its quoted texts, with their quotes, and what stands between them.
@@ -23,15 +24,17 @@ globalThis.CepageBrowser ??= {};
     function commandsOf(transcript, forms) {
         const commands = new Map();
         let lines = [];
+        let last = 0;
         for (const text of transcript.split("\n")) {
             if (text === "" || text[0] === "~") continue;
             lines.push({ text });
             if (!isReply(text)) continue;
-            commands.set(Number(text.split(":")[0]), lines);
+            const line = Number(text.split(":")[0]);
+            commands.set(line, lines);
+            last = Math.max(last, line);
             lines = [];
         }
         if (lines.length) {
-            const last = Math.max(0, ...commands.keys());
             const next = forms.find((form) => form.line > last && !form.part);
             commands.set(next ? next.line : Infinity, lines);
         }
@@ -56,6 +59,7 @@ globalThis.CepageBrowser ??= {};
         }
 
         of(number) {
+            if (number < 1) return number;
             let below = Math.min(number, this.highest);
             while (!this.known.has(below)) below--;
             return this.known.get(below) + number - below;
@@ -67,7 +71,7 @@ globalThis.CepageBrowser ??= {};
                 const renumber = (whole, before, number) => `${before}#${this.of(Number(number))}`;
                 if (piece[0] !== '"') return piece.replace(/(^|\s)#(\d+)/g, renumber);
                 const logged = quoted && /^"#(\d+)"$/.exec(piece);
-                return logged && logged[1] !== "0" ? `"#${this.of(Number(logged[1]))}"` : piece;
+                return logged ? `"#${this.of(Number(logged[1]))}"` : piece;
             }).join("");
         }
 
@@ -86,11 +90,13 @@ globalThis.CepageBrowser ??= {};
             });
         }
 
-        // A node that both replied is the same, before anything that the command wrote is looked at.
-        bindReplies(program, browser) {
-            const node = /^\d+: #\d+$/;
-            const isBoth = program && browser && node.test(program.text) && node.test(browser.text);
-            if (isBoth) this.bind(program.text, browser.text);
+        // A node that a command has made on both sides is the same, before anything that the command wrote is looked at.
+        // What a question answers is no new node: it is compared.
+        bindReplies(program, browser, form) {
+            if (!program || !browser || !form || !MAKING.includes(form.word)) return;
+            const node = /^\d+: #(\d+)$/;
+            const [made, theirs] = [node.exec(program.text), node.exec(browser.text)];
+            if (made && theirs && !this.known.has(Number(made[1]))) this.bind(program.text, browser.text);
         }
     }
 
@@ -136,16 +142,17 @@ globalThis.CepageBrowser ??= {};
     // Lines between two equal ones: beside each other where they are of one kind, else one above the other.
     function besides(program, browser) {
         const rows = [];
-        const left = [...browser];
+        const kinds = browser.map(kindOf);
+        let next = 0;
         for (const line of program) {
-            const at = left.findIndex((other) => kindOf(other) === kindOf(line));
+            const at = kinds.indexOf(kindOf(line), next);
             if (at < 0) rows.push({ program: line });
             else {
-                for (const other of left.splice(0, at)) rows.push({ browser: other });
-                rows.push({ program: line, browser: left.shift() });
+                while (next < at) rows.push({ browser: browser[next++] });
+                rows.push({ program: line, browser: browser[next++] });
             }
         }
-        return [...rows, ...left.map((browserLine) => ({ browser: browserLine }))];
+        return [...rows, ...browser.slice(next).map((browserLine) => ({ browser: browserLine }))];
     }
 
     // What a browser doesn't show can be any answer of its kind.
@@ -165,8 +172,8 @@ globalThis.CepageBrowser ??= {};
 
     // The rows of one command: { program, browser, same }. A line of the program's has a `reading`: with the browser's
     // numbers.
-    function rowsOf(program, browser, numbers) {
-        numbers.bindReplies(program.at(-1), browser.at(-1));
+    function rowsOf(program, browser, numbers, form) {
+        numbers.bindReplies(program.at(-1), browser.at(-1), form);
         const readings = program.map(({ text }) => numbers.readings(text));
         program.forEach((line, row) => { [line.reading] = readings[row]; });
         const isSame = (row, column) => readings[row].includes(browser[column].text);
@@ -192,9 +199,9 @@ globalThis.CepageBrowser ??= {};
         return [...new Set([...program.keys(), ...browser.keys()])].sort((a, b) => a - b).map((line) => ({
             line,
             form: formAt.get(line),
-            rows: rowsOf(program.get(line) || [], browser.get(line) || [], numbers),
+            rows: rowsOf(program.get(line) || [], browser.get(line) || [], numbers, formAt.get(line)),
         }));
     }
 
-    Object.assign(CepageBrowser, { align });
+    Object.assign(CepageBrowser, { align, pieces });
 })();

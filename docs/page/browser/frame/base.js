@@ -16,15 +16,25 @@ CepageBrowser.frame.push(function base(run) {
     const escaped = (sign) => ESCAPES[sign] || `\\u{${sign.charCodeAt(0).toString(16)}}`;
     const quote = (text) => `"${text.replace(SPECIAL, escaped)}"`;
 
+    // What a node has by its interface: the controls of a form hide what has their names.
+    const taken = (node, name) => {
+        const value = Reflect.get(HTMLFormElement.prototype, name, node);
+        return typeof value === "function" ? value.bind(node) : value;
+    };
+    const bare = (node) => (node instanceof HTMLFormElement ? new Proxy(node, { get: taken }) : node);
+
     // Numbers a node that is not known, and all of its tree in order: so a copy whose constructor runs before
-    // `cloneNode` has returned gets the number that it has in the transcript.
-    function numberTree(node) {
-        if (!numbers.has(node)) numbers.set(node, ++last);
-        for (const child of node.childNodes) numberTree(child);
+    // `cloneNode` has returned gets the number that it has in the transcript. A tree may be deeper than calls can stand.
+    function numberTree(top) {
+        for (const left = [top]; left.length;) {
+            const node = left.pop();
+            if (!numbers.has(node)) numbers.set(node, ++last);
+            for (const child of [...bare(node).childNodes].reverse()) left.push(child);
+        }
     }
 
     function number(node) {
-        if (!numbers.has(node)) numberTree(node.getRootNode());
+        if (!numbers.has(node)) numberTree(bare(node).getRootNode());
         return `#${numbers.get(node)}`;
     }
 
@@ -78,7 +88,7 @@ CepageBrowser.frame.push(function base(run) {
 
     Object.assign(run, {
         lines: [], line: 0, steps: 0, depth: 0, ended: null, variables: new Map(), operations: {},
-        UserFault, quote, number, write, stop, step, within, fault, isOverflow,
+        UserFault, bare, quote, number, write, stop, step, within, fault, isOverflow,
         skipNumber: () => { last++; },
     });
 });

@@ -160,8 +160,8 @@ CepageBrowser.frame.push(function classes(run) {
     // The class by whose definition the node is what it is; one that its upgrade has lost has none any more. One that
     // its constructor gave without a base call has the definition, and not the prototype.
     run.classOf = (node) => {
-        const owner = byPrototype.get(Object.getPrototypeOf(node)) || byName.get(node.localName);
-        return owner && owner.defined && (constructing.has(node) || node.matches(":defined")) ? owner : null;
+        const owner = byPrototype.get(Object.getPrototypeOf(node)) || byName.get(run.bare(node).localName);
+        return owner && owner.defined && (constructing.has(node) || run.bare(node).matches(":defined")) ? owner : null;
     };
     run.isAssociated = (node) => {
         const owner = run.classOf(node);

@@ -11,7 +11,7 @@ CepageBrowser.frame.push(function controls(run) {
 
     const MESSAGED = [HTMLButtonElement, HTMLFieldSetElement, HTMLInputElement, HTMLSelectElement, HTMLTextAreaElement];
 
-    const typeOf = (node) => (node.getAttribute("type") || "").toLowerCase();
+    const typeOf = (node) => (run.bare(node).getAttribute("type") || "").toLowerCase();
     const isInput = (node, types) => node instanceof HTMLInputElement && types.includes(typeOf(node));
     const isOne = (node, kinds) => kinds.some((kind) => node instanceof kind);
     const is = {

@@ -18,7 +18,7 @@ CepageBrowser.frame.push(function derived(run) {
     // The radio buttons of a group, in tree order; one without a name is alone.
     function groupOf(node) {
         const name = node.getAttribute("name");
-        const root = node.getRootNode();
+        const root = run.bare(node.getRootNode());
         if (!name || !root.querySelectorAll) return [node];
         return [root, ...root.querySelectorAll("input")].filter((other) => isRadio(other) && other.form === node.form
             && other.getAttribute("name") === name);
@@ -52,12 +52,12 @@ CepageBrowser.frame.push(function derived(run) {
 
     // ---- form owners and disabled states, by the tree as it is
 
-    const formAbove = (node) => (node.parentNode instanceof Element ? node.parentNode.closest("form") : null);
+    const formAbove = (node) => (node.parentNode instanceof Element ? run.bare(node.parentNode).closest("form") : null);
 
     function ownerOf(node) {
         if (!node.isConnected || !node.hasAttribute("form")) return formAbove(node);
         const id = node.getAttribute("form");
-        const found = id ? node.getRootNode().querySelector(`[id="${CSS.escape(id)}"]`) : null;
+        const found = id ? run.bare(node.getRootNode()).querySelector(`[id="${CSS.escape(id)}"]`) : null;
         return found instanceof HTMLFormElement ? found : null;
     }
 
@@ -68,7 +68,7 @@ CepageBrowser.frame.push(function derived(run) {
 
     function isOffByTree(node) {
         if (node.hasAttribute("disabled")) return true;
-        for (let above = node.parentNode; above instanceof Element; above = above.parentNode) {
+        for (let above = node.parentNode; above instanceof Element; above = run.bare(above).parentNode) {
             const isFieldset = above instanceof HTMLFieldSetElement;
             if (isFieldset && above.hasAttribute("disabled") && !isSpared(node, above)) return true;
         }

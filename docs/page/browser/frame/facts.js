@@ -65,28 +65,30 @@ CepageBrowser.frame.push(function facts(run) {
     function formFacts(node) {
         if (!run.is.submittable(node)) return {};
         const [above, owner] = [formAbove(node), ownerOf(node)].map((form) => (form ? run.number(form) : "null"));
-        const isCut = run.is.text(node) && node.maxLength >= 0;
+        const isCut = run.is.text(node) && node.maxLength >= 0 && node.value.length <= node.maxLength
+            && keptValue(node).startsWith(node.value);
         return {
             formAbove: above, owner, offByTree: isOffByTree(node), empty: run.is.text(node) && node.value === "",
-            cut: isCut ? run.quote(keptValue(node).slice(0, node.maxLength)) : null,
+            cut: isCut,
         };
     }
 
     // A class that disables shadow is that of the `is` value, and not of the local name.
     function isOfAnother(node) {
         const owner = isValues.has(node) && run.definitionNamed(isValues.get(node));
-        return Boolean(owner && owner.disabled.includes("shadow") && owner.defined.extended !== node.localName);
+        return Boolean(owner && owner.disabled.includes("shadow") && owner.defined.extended !== run.bare(node).localName);
     }
 
     run.facts = (node) => {
         if (!(node instanceof Element)) return { kind: node.nodeName, number: run.number(node) };
-        const has = (name) => node.hasAttribute(name);
+        const bare = run.bare(node);
+        const has = (name) => bare.hasAttribute(name);
         const owner = run.classOf(node);
         return {
-            kind: node.localName, type: run.typeOf(node), number: run.number(node),
-            named: Boolean(node.getAttribute("name")), disabled: node.matches(":disabled"),
+            kind: bare.localName, type: run.typeOf(node), number: run.number(node),
+            named: Boolean(bare.getAttribute("name")), disabled: bare.matches(":disabled"),
             readonly: has("readonly"), required: has("required"),
-            form: has("form"), connected: node.isConnected, defined: node.matches(":defined"), lost: run.isLost(node),
+            form: has("form"), connected: bare.isConnected, defined: bare.matches(":defined"), lost: run.isLost(node),
             constructing: run.isConstructing(node), internals: run.internals.has(node), associated: run.isAssociated(node),
             extendsAssociated: Boolean(owner && owner.associated && owner.defined.extended !== undefined),
             isOfAnother: isOfAnother(node), is: isValues.get(node),

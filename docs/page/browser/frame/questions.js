@@ -25,7 +25,8 @@ CepageBrowser.frame.push(function questions(run) {
         if (run.is.messaged(node)) return numbered(node.form);
         const attached = run.internals.get(node);
         if (attached) return numbered(attached.form);
-        const forms = node.getRootNode().querySelectorAll ? [...node.getRootNode().querySelectorAll("form")] : [];
+        const root = run.bare(node.getRootNode());
+        const forms = root.querySelectorAll ? [...root.querySelectorAll("form")] : [];
         const above = node.getRootNode() instanceof HTMLFormElement ? [node.getRootNode()] : [];
         return numbered([...above, ...forms].find((form) => run.elementsOf(form).includes(node)));
     }
@@ -56,7 +57,7 @@ CepageBrowser.frame.push(function questions(run) {
 
     // Of the states a browser shows one bit: `:defined`.
     function state(node) {
-        if (!node.matches(":defined")) return notShown("not defined");
+        if (!run.bare(node).matches(":defined")) return notShown("not defined");
         return run.classOf(node) ? "custom" : "uncustomized";
     }
 
@@ -81,8 +82,8 @@ CepageBrowser.frame.push(function questions(run) {
     run.is.associated = (node) => node instanceof Element && run.isAssociated(node);
 
     const answers = {
-        parent: ask("node", (node) => numbered(node.parentNode)),
-        kids: ask("node", (node) => listed([...node.childNodes].map(run.number))),
+        parent: ask("node", (node) => numbered(run.bare(node).parentNode)),
+        kids: ask("node", (node) => listed([...run.bare(node).childNodes].map(run.number))),
         state: ask("element", state),
         owner: ask("listed", owner),
         controls: ask("form", (form) => listed(run.elementsOf(form).map(run.number))),

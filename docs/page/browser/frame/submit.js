@@ -8,7 +8,7 @@ CepageBrowser.frame ??= [];
 
 CepageBrowser.frame.push(function submit(run) {
     const { prototype } = HTMLFormElement;
-    const isInPage = (form) => form.isConnected && form.ownerDocument === document;
+    const isInPage = (form) => run.bare(form).isConnected && run.bare(form).ownerDocument === document;
     const withLineEnds = (text) => text.replace(/\r\n|\r|\n/g, "\r\n");
 
     // What the form or its submitter says, as the browser reads it: `method`, `enctype`, `action`.
@@ -18,22 +18,26 @@ CepageBrowser.frame.push(function submit(run) {
             if (name === "action") return submitter.getAttribute(attribute);
             return submitter[`form${name[0].toUpperCase()}${name.slice(1)}`];
         }
-        return name === "action" ? form.getAttribute("action") || "" : run.get(prototype, name, form);
+        return name === "action" ? run.bare(form).getAttribute("action") || "" : run.get(prototype, name, form);
     }
 
-    // The document's base URL, had the page the URL of the run.
-    function baseUrl() {
-        const base = document.querySelector("base[href]");
-        return base ? new URL(base.getAttribute("href"), run.words.url) : new URL(run.words.url);
-    }
-
-    function urlOf(action) {
+    function parsed(url, base) {
         try {
-            return action === "" ? new URL(run.words.url) : new URL(action, baseUrl());
+            return new URL(url, base);
         } catch {
             return null;
         }
     }
+
+    // The document's base URL, had the page the URL of the run: a `base` whose URL does not parse, or is of the schemes
+    // `data` or `javascript`, doesn't count.
+    function baseUrl() {
+        const base = document.querySelector("base[href]");
+        const url = base && parsed(base.getAttribute("href"), run.words.url);
+        return url && !/^(data|javascript):$/.test(url.protocol) ? url : new URL(run.words.url);
+    }
+
+    const urlOf = (action) => (action === "" ? new URL(run.words.url) : parsed(action, baseUrl()));
 
     const nameOf = (value) => (typeof value === "string" ? value : value.name);
 
@@ -135,7 +139,8 @@ CepageBrowser.frame.push(function submit(run) {
         const controls = run.elementsOf(form);
         if (controls.some(isChoice)) variants.derived = { url, entries: withDerived(entries, controls) };
         const action = said(form, submitter, "action");
-        if (document.querySelector("base[href]") && action) variants.base = { entries, url: new URL(action, run.words.url) };
+        const ofPage = parsed(action, run.words.url);
+        if (document.querySelector("base[href]") && action && ofPage) variants.base = { entries, url: ofPage };
         if (/\|/.test(action)) variants.bar = { entries, url: { href: url.href.replace(/%7C/g, "|") } };
         return variants;
     }
@@ -164,7 +169,7 @@ CepageBrowser.frame.push(function submit(run) {
     // What is heard of a form while the browser tries to submit it: the event, or which controls are invalid.
     function listen(form, act) {
         const heard = { submitted: false, submitter: null, invalid: [] };
-        const root = form.getRootNode();
+        const root = run.bare(run.bare(form).getRootNode());
         const onSubmit = (event) => {
             event.preventDefault();
             Object.assign(heard, { submitted: true, submitter: event.submitter });
@@ -173,12 +178,12 @@ CepageBrowser.frame.push(function submit(run) {
             event.preventDefault();
             heard.invalid.push(event.target);
         };
-        form.addEventListener("submit", onSubmit);
+        run.bare(form).addEventListener("submit", onSubmit);
         root.addEventListener("invalid", onInvalid, true);
         try {
             act();
         } finally {
-            form.removeEventListener("submit", onSubmit);
+            run.bare(form).removeEventListener("submit", onSubmit);
             root.removeEventListener("invalid", onInvalid, true);
         }
         return heard;
@@ -212,15 +217,18 @@ CepageBrowser.frame.push(function submit(run) {
         else button.click();
     }
 
-    // The user's reset is that of a button, which stands in the form for as long as it is pressed.
+    // The user's reset is that of a button, which stands in the form for as long as it is pressed. Where a fieldset around
+    // the form disables it, the form is reset by a call.
     function userReset([operand], here) {
         const form = run.one("form", operand, here);
         if (!isInPage(form)) return void prototype.reset.call(form);
         const button = document.createElement("button");
         button.type = "reset";
         Node.prototype.appendChild.call(form, button);
+        const isOff = button.matches(":disabled");
         button.click();
         button.remove();
+        if (isOff) prototype.reset.call(form);
     }
 
     Object.assign(run.operations, {

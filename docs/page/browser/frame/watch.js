@@ -34,6 +34,7 @@ CepageBrowser.frame.push(function watched(run) {
             const text = run.value(args[1], here);
             return () => {
                 sets.valueSet.add(node);
+                sets.moved.delete(node);
                 rawValues.set(node, text);
                 if (isTyped) sets.edited.add(node);
                 else sets.edited.delete(node);
@@ -50,7 +51,7 @@ CepageBrowser.frame.push(function watched(run) {
             return () => entries.set(node, set);
         });
     }
-    run.entriesOf = (node) => entries.get(node) || [];
+    run.entriesOf = (node) => (entries.has(node) ? entries.get(node)() : []);
 
     function watchFlag(word) {
         watch(word, (args, here) => {
@@ -72,7 +73,16 @@ CepageBrowser.frame.push(function watched(run) {
         }
     }
 
-    function copied(node, copy, deep) {
+    function copied(top, copyOfTop, deep) {
+        for (const left = [[top, copyOfTop]]; left.length;) {
+            const [node, copy] = left.pop();
+            copiedOne(node, copy, deep);
+            const made = run.bare(copy).childNodes;
+            if (deep) [...run.bare(node).childNodes].forEach((child, index) => left.push([child, made[index]]));
+        }
+    }
+
+    function copiedOne(node, copy, deep) {
         const isSet = sets.valueSet.has(node);
         if (node instanceof HTMLInputElement || node instanceof HTMLTextAreaElement) {
             if (flags.has(node)) flags.set(copy, flags.get(node));
@@ -82,7 +92,6 @@ CepageBrowser.frame.push(function watched(run) {
             if (!deep && !isSet && node instanceof HTMLTextAreaElement) sets.shallowCopy.add(copy);
         }
         if (isValues.has(node)) isValues.set(copy, isValues.get(node));
-        if (deep) [...node.childNodes].forEach((child, index) => copied(child, copy.childNodes[index], true));
     }
 
     function watchType(word) {
@@ -112,7 +121,7 @@ CepageBrowser.frame.push(function watched(run) {
 
     // What the browser enqueues nothing for: an element that is custom, or whose constructor runs.
     const isUpgraded = (node) => node instanceof Element && Boolean(run.classOf(node));
-    const hasUpgraded = (node, test) => test(node) || [...node.childNodes].some((child) => hasUpgraded(child, test));
+    const hasUpgraded = (node, test) => test(node) || [...run.bare(node).childNodes].some((child) => hasUpgraded(child, test));
 
     function watchUpgrade(word, index, test) {
         watch(word, (args, here) => {
@@ -121,9 +130,13 @@ CepageBrowser.frame.push(function watched(run) {
         });
     }
 
-    watchValue("formvalue", ([, value], here, node) => [[node.getAttribute("name"), run.value(value, here)]]);
-    watchValue("formlist", ([, pairs]) => pairs);
-    watchValue("formnull", () => []);
+    // Of one value the name is the element's when it is sent.
+    watchValue("formvalue", ([, value], here, node) => {
+        const text = run.value(value, here);
+        return () => [[node.getAttribute("name"), text]];
+    });
+    watchValue("formlist", ([, pairs]) => () => pairs);
+    watchValue("formnull", () => () => []);
     watchSet("value", false);
     watchSet("user edit", true);
     for (const word of ["check", "choose", "user check", "user choose"]) watchFlag(word);
@@ -152,14 +165,14 @@ CepageBrowser.frame.push(function watched(run) {
         append: 1, before: 1, remove: 1, detach: 0, adopt: 1,
     };
     const MOVING = ["append", "before", "remove", "detach", "adopt"];
-    const formsWithin = (node) => [node, ...node.querySelectorAll("form")].filter(run.is.form).map(run.number);
+    const formsWithin = (node) => [node, ...run.bare(node).querySelectorAll("form")].filter(run.is.form).map(run.number);
 
     function factsOfReply(word, args, here) {
         const node = run.node(args.filter(Boolean).at(ABOUT[word]), here);
         const subject = run.facts(node);
         if (["append", "before"].includes(word)) {
             subject.parent = run.number(run.node(args[0], here));
-            subject.children = [...node.childNodes].map(run.number);
+            subject.children = [...run.bare(node).childNodes].map(run.number);
         }
         if (node instanceof Element && MOVING.includes(word)) subject.forms = formsWithin(node);
         return subject;

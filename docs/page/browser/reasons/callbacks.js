@@ -30,6 +30,16 @@ globalThis.CepageBrowser ??= {};
 
     const formTold = (block) => (/^call (#\d+) formAssociated (\S+)\n/.exec(block.text) || []).slice(1);
 
+    // The blocks that tell an element of its form owner, by the element.
+    function byElement(blocks) {
+        const found = new Map();
+        for (const block of blocks) {
+            const [node] = formTold(block);
+            if (node) found.set(node, [...(found.get(node) || []), block]);
+        }
+        return found;
+    }
+
     // What the browser told of an element besides what the program told, compared from the end.
     function besides(told, blocks) {
         const left = [...told];
@@ -44,9 +54,9 @@ globalThis.CepageBrowser ??= {};
     // The blocks of an element with a `form` attribute that has left, or moved, with the form above it, where two are
     // besides: of no form or of that one, and then of the one that is told last, which is its form owner.
     function toldTwice(program, browser, left) {
-        const nodes = new Set(browser.map((block) => formTold(block)[0]).filter(Boolean));
-        return [...nodes].flatMap((node) => {
-            const [there, blocks] = [program, browser].map((side) => side.filter((block) => formTold(block)[0] === node));
+        const ofProgram = byElement(program);
+        return [...byElement(browser)].flatMap(([node, blocks]) => {
+            const there = ofProgram.get(node) || [];
             const told = there.map((block) => formTold(block)[1]);
             const { form, formAbove, owner } = blocks.at(-1).rows[0].browser.subject || {};
             const more = besides(told, blocks);

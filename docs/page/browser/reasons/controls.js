@@ -62,7 +62,7 @@ globalThis.CepageBrowser ??= {};
         ({ was, what, facts }) => what === "value" && facts.kind === "textarea" && facts.shallowCopy && was === '""');
 
     row("typing is cut", browsers("limits-that-are-no-digits"), "in a browser what the user types is cut at `maxlength`",
-        ({ was, is, what, facts }) => what === "value" && facts.edited && was === facts.kept && is === facts.cut);
+        ({ was, what, facts }) => what === "value" && facts.edited && was === facts.kept && facts.cut);
 
     row("a change of type", profile("left-out"), "a browser moves the value where the type of an input changes",
         ({ was, what, facts }) => what === "value" && facts.kind === "input" && facts.moved && was === facts.kept);
