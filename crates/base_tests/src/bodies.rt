@@ -1,5 +1,5 @@
 // Entry lists as bodies of requests.
-use crate::rows::{cut, same, sides};
+use crate::rows::{cut, same, sides, text_of};
 use ce_base::{Entries, Entry, Text};
 use std::alloc::{AllocError, Global};
 use std::process::Abort;
@@ -15,27 +15,6 @@ plain a"␊=aXXb|u=1|v= => a"␍␊=aXXb␍␊u=1␍␊v=␍␊
 multipart => --XX--␍␊
 multipart a"␊=p␊q|u=1|v= => --XX␍␊Content-Disposition: form-data; name="a%22%0D%0A"␍␊␍␊p␍␊q␍␊--XX␍␊Content-Disposition: form-data; name="u"␍␊␍␊1␍␊--XX␍␊Content-Disposition: form-data; name="v"␍␊␍␊␍␊--XX--␍␊
 multipart a"␊=aXXb|u=1|v= => Occurs"#;
-
-// The character that a sign of a table stands for.
-fn spelled(c: char) -> char {
-    match c {
-        '␍' => '\r',
-        '␊' => '\n',
-        '·' => ' ',
-        other => other,
-    }
-}
-
-// The text that a word spells.
-pub(crate) fn text_of(alloc: Global, word: &str) -> Result<Text, AllocError> {
-    let mut text = String::new(alloc);
-    for c in word.chars() {
-        if c != '∅' {
-            text.push(spelled(c))?;
-        }
-    }
-    Ok(Text::from(text))
-}
 
 fn entry_of(alloc: Global, name: &str, value: &str) -> Result<Entry, AllocError> {
     let name = text_of(alloc, name)?;

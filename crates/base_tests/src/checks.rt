@@ -48,8 +48,29 @@ const UPGRADE_ENDS_EARLY: &str = r#"~ close 5
 9: ok
 "#;
 
-// Checks a trace that comes in pieces of seven bytes, where a read and a write may fail, and sees how it ended and what
-// was written. No call has the number 0.
+// A source of a trace in pieces of seven bytes, of which a read may fail. No read has the number 0.
+fn source_of(alloc: Global, trace: &str, fails: u64) -> Result<MemSource, Fail> {
+    let reads = vec![in alloc; fails]?;
+    Ok(MemSource::make(trace.as_bytes().to_vec(alloc)?, 7, reads))
+}
+
+// Checks what a source gives, where a write may fail, and sees how it ended and what was written.
+fn sees(
+    rt: &impl Abort,
+    alloc: Global,
+    source: &mut MemSource,
+    fails: u64,
+    status: CheckStatus,
+    written: &str,
+) -> Result<(), Fail> {
+    let mut sink = MemSink::make(alloc, vec![in alloc; fails]?);
+    let ended = check_run(alloc, &Vec::new(alloc), source, &mut sink);
+    assert_eq!(rt; ended, status);
+    assert!(rt; sink.bytes() == written.as_bytes());
+    Ok(())
+}
+
+// Checks a trace, where a read and a write may fail, and sees how it ended and what was written.
 fn ends(
     rt: &impl Abort,
     alloc: Global,
@@ -58,14 +79,8 @@ fn ends(
     status: CheckStatus,
     written: &str,
 ) -> Result<(), Fail> {
-    let (reads, writes) = (vec![in alloc; fails.0]?, vec![in alloc; fails.1]?);
-    let bytes = trace.as_bytes().to_vec(alloc)?;
-    let mut source = MemSource::make(bytes, 7, reads);
-    let mut sink = MemSink::make(alloc, writes);
-    let ended = check_run(alloc, &Vec::new(alloc), &mut source, &mut sink);
-    assert_eq!(rt; ended, status);
-    assert!(rt; sink.bytes() == written.as_bytes());
-    Ok(())
+    let mut source = source_of(alloc, trace, fails.0)?;
+    sees(rt, alloc, &mut source, fails.1, status, written)
 }
 
 // The same, where no call fails.

@@ -1,53 +1,31 @@
 // How long texts are as controls read them, and whether anything is left.
-use crate::rows::{same, sides, word};
+use crate::rows::{same, sides, text_of};
 use control_texts::*;
 use std::alloc::{AllocError, Global};
 use std::process::Abort;
 use std::test::Fail;
 
-// Each row is a text in pieces, and then its length in code units of UTF-16, that without newlines, with normalized
-// newlines and with collapsed white space; and whether it is empty without newlines, and without white space.
+// Each row is a text in pieces, with signs for spaces and newlines, and then its length in code units of UTF-16, that without
+// newlines, with normalized newlines and with collapsed white space; and whether it is empty without newlines, and without
+// white space.
 const LENGTHS: &str = "\
-'' => 0 0 0 0 true true
+∅ => 0 0 0 0 true true
 abc => 3 3 3 3 false false
-aRLb => 4 2 3 3 false false
-aRRLLb => 6 2 5 3 false false
-LRa => 3 1 3 1 false false
-RL => 2 0 1 0 true true
-_TaF__bL => 8 7 8 3 false false
-_R_ => 3 2 3 0 false true
-TF => 2 2 2 0 false true
-aV_Nb => 5 5 5 5 false false
-é€😀R😀 => 7 6 7 7 false false
-aR|Lb => 4 2 3 3 false false
-a|R||L|b => 4 2 3 3 false false
-R|L|R|L => 4 0 2 0 true true
-a_|_b => 4 4 4 3 false false
-_|a|b|_|c_ => 6 6 6 4 false false
-L|😀|😀 => 5 4 5 4 false false";
-
-// The character that a letter of the table stands for.
-fn spelled(c: char) -> char {
-    match c {
-        'R' => '\r',
-        'L' => '\n',
-        'T' => '\t',
-        'F' => '\u{C}',
-        'V' => '\u{B}',
-        'N' => '\u{A0}',
-        '_' => ' ',
-        other => other,
-    }
-}
-
-// The text of a word.
-fn text_of(alloc: Global, word: &str) -> Result<String, AllocError> {
-    let mut text = String::new(alloc);
-    for c in word.chars() {
-        text.push(spelled(c))?;
-    }
-    Ok(text)
-}
+a␍␊b => 4 2 3 3 false false
+a␍␍␊␊b => 6 2 5 3 false false
+␊␍a => 3 1 3 1 false false
+␍␊ => 2 0 1 0 true true
+·\ta\u{c}··b␊ => 8 7 8 3 false false
+·␍· => 3 2 3 0 false true
+\t\u{c} => 2 2 2 0 false true
+a\u{b}·\u{a0}b => 5 5 5 5 false false
+é€😀␍😀 => 7 6 7 7 false false
+a␍|␊b => 4 2 3 3 false false
+a|␍||␊|b => 4 2 3 3 false false
+␍|␊|␍|␊ => 4 0 2 0 true true
+a·|·b => 4 4 4 3 false false
+·|a|b|·|c· => 6 6 6 4 false false
+␊|😀|😀 => 5 4 5 4 false false";
 
 // What is told of a text by itself.
 fn tell(alloc: Global, text: &str, normal: u64, words: u64) -> Result<String, AllocError> {
@@ -57,17 +35,17 @@ fn tell(alloc: Global, text: &str, normal: u64, words: u64) -> Result<String, Al
 }
 
 fn same_lengths(rt: &impl Abort, alloc: Global, row: &str) -> Result<(), Fail> {
-    let (step, want) = sides(row);
+    let (pieces, want) = sides(row);
     let mut normal = NormalizedUnits::make();
     let mut words = CollapsedUnits::make();
-    for piece in word(step, 0).split('|') {
+    for piece in pieces.split('|') {
         let piece = text_of(alloc, piece)?;
         normal.take(piece.as_str());
         words.take(piece.as_str());
     }
-    let text = text_of(alloc, word(step, 0).replace(alloc, "|", "")?.as_str())?;
+    let text = text_of(alloc, pieces.replace(alloc, "|", "")?.as_str())?;
     let told = tell(alloc, text.as_str(), normal.count(), words.count())?;
-    same(rt, told.as_str(), want, step);
+    same(rt, told.as_str(), want, pieces);
     Ok(())
 }
 

@@ -6,9 +6,8 @@ ghost use Rattle.node_trees.specs.Spots.{kind_at};
 ghost use Rattle.form_owner.specs.Stands.{StandsFor, StoodBefore};
 ghost use Rattle.form_owner.specs.declared.touch.Touch.TheVariants.{Attr, Inserted};
 
-use crate::bodies::text_of;
 use crate::calls::{element, node};
-use crate::rows::{cut, same, sides};
+use crate::rows::{cut, same, sides, text_of};
 use ce_base::{NodeNo, Text};
 use control_state::ControlTable;
 use element_internals::InternalsTable;

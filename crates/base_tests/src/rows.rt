@@ -1,4 +1,6 @@
 // Rows of sessions and tables: a step in words, and what it gives.
+use ce_base::Text;
+use std::alloc::{AllocError, Global};
 use std::process::Abort;
 
 // A text before and behind the first place where another stands in it; all of it, and nothing, where there is none.
@@ -37,4 +39,25 @@ pub(crate) fn word_or_none(step: &str, i: usize) -> Option<&str> {
 // Compares what a step gave with what is wanted.
 pub(crate) fn same(rt: &impl Abort, given: &str, want: &str, step: &str) {
     assert_eq!(rt; given, want, "at {step}");
+}
+
+// The character that a sign of a table stands for.
+fn spelled(c: char) -> char {
+    match c {
+        '␍' => '\r',
+        '␊' => '\n',
+        '·' => ' ',
+        other => other,
+    }
+}
+
+// The text that a word spells. `∅` is the empty one.
+pub(crate) fn text_of(alloc: Global, word: &str) -> Result<Text, AllocError> {
+    let mut text = String::new(alloc);
+    for c in word.chars() {
+        if c != '∅' {
+            text.push(spelled(c))?;
+        }
+    }
+    Ok(Text::from(text))
 }
