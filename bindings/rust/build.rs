@@ -14,6 +14,10 @@ fn main() {
     assert!(is_named_so && archive.is_file(), "CEPAGE_ARCHIVE names libcepage.a, and not {}", archive.display());
     let folder = archive.parent().expect("a file lies in a folder");
     println!("cargo::rerun-if-changed={}", archive.display());
+    if archive.canonicalize().is_ok_and(|it| it != archive) {
+        // The archive that a link leads to from now on may be an older one: of a folder cargo asks the links themselves.
+        println!("cargo::rerun-if-changed={}", folder.display());
+    }
     println!("cargo::rustc-link-search=native={}", folder.display());
     println!("cargo::rustc-link-lib=static=cepage");
     println!("cargo::rustc-cfg=cepage_library");

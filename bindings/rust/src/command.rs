@@ -1,5 +1,5 @@
 //! One command, and what it wrote.
-use crate::failure::{block, differing, indented};
+use crate::failure::{block, block_from, differing, indented, place, told_from};
 use crate::lines::{Answer, Callback, Kind, Node, Reply};
 use crate::past::Past;
 use crate::selection::Lines;
@@ -124,7 +124,9 @@ impl Command {
             let calls: Vec<&str> =
                 self.lines.iter().filter(|it| is_of_it(&it.kind)).map(|it| it.text.as_str()).collect();
             let joined = expected.join(" ");
-            self.fail(if expected.is_empty() { "no callback" } else { &joined }, &calls);
+            let wanted = if expected.is_empty() { "no callback" } else { &joined };
+            let first = told_from(place(&expected, &heard), calls.len());
+            self.fail_with([block("expected:", &[wanted]), block_from(first, "came:", &calls)].concat());
         }
     }
 
@@ -151,7 +153,9 @@ impl Command {
             }
         }
         let wanted = [vec!["one submission with".to_string()], spelled(&expected)].concat();
-        self.fail_with([block("expected:", &wanted), block("came:", &came)].concat())
+        let at = 1 + place(&wanted[1..], came.get(1..).unwrap_or(&[]));
+        let first = told_from(at, wanted.len().max(came.len()));
+        self.fail_with([block_from(first, "expected:", &wanted), block_from(first, "came:", &came)].concat())
     }
 
     #[track_caller]

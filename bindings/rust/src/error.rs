@@ -19,6 +19,15 @@ pub enum Error {
         /// What names it.
         asked_by: &'static str,
     },
+    /// The program could not be started.
+    ProgramUnfit {
+        /// The name.
+        name: String,
+        /// What names it.
+        asked_by: &'static str,
+        /// Why.
+        error: io::Error,
+    },
     /// The program ended as cepage does not: by a signal, or with another status.
     ProgramDied {
         /// The program.
@@ -37,7 +46,7 @@ pub enum Error {
     LineFeed,
     /// A URL or a boundary has a U+0000, which no word of a command line can have.
     Nul,
-    /// The program could not be started, or not be talked to.
+    /// The program could not be talked to.
     Io(io::Error),
 }
 
@@ -48,6 +57,9 @@ impl fmt::Display for Error {
                 out,
                 "there is no program `{name}`, which {asked_by} names; say Options::program, or set CEPAGE, to cepage"
             ),
+            Error::ProgramUnfit { name, asked_by, error } => {
+                write!(out, "the program `{name}` of {asked_by} could not be used: {error}")
+            }
             Error::ProgramDied { name, how } => write!(out, "{name} ended {how}"),
             Error::SessionEnded { why, .. } => write!(out, "the session has ended: {why}"),
             Error::LineFeed => {

@@ -7,7 +7,7 @@ pub(crate) fn block<T: AsRef<str>>(title: &str, lines: &[T]) -> Vec<String> {
 }
 
 /// The same, where the lines before a place are left out.
-fn block_from<T: AsRef<str>>(first: usize, title: &str, lines: &[T]) -> Vec<String> {
+pub(crate) fn block_from<T: AsRef<str>>(first: usize, title: &str, lines: &[T]) -> Vec<String> {
     let mut block = vec![title.to_string()];
     if first > 0 {
         block.push(format!("    behind {first} lines"));
@@ -22,13 +22,27 @@ fn block_from<T: AsRef<str>>(first: usize, title: &str, lines: &[T]) -> Vec<Stri
     block
 }
 
+/// Where the first one stands that differs.
+pub(crate) fn place<T: PartialEq>(expected: &[T], came: &[T]) -> usize {
+    expected.iter().zip(came).take_while(|(one, other)| one == other).count()
+}
+
+/// From where on lines are told, so that those about a place are: from the first on, unless there are very many.
+pub(crate) fn told_from(at: usize, lines: usize) -> usize {
+    if lines > MOST_LINES {
+        at.saturating_sub(MOST_LINES / 2)
+    } else {
+        0
+    }
+}
+
 /// What was expected and what came, with a sign before the first line that differs; of very many lines those about it.
 pub(crate) fn differing(expected: &[&str], came: &[&str]) -> Vec<String> {
-    let at = expected.iter().zip(came).take_while(|(one, other)| one == other).count();
+    let at = place(expected, came);
     let marked = |lines: &[&str]| -> Vec<String> {
         lines.iter().enumerate().map(|(k, line)| format!("{} {line}", if k == at { '>' } else { ' ' })).collect()
     };
-    let first = at.saturating_sub(MOST_LINES / 2);
+    let first = told_from(at, expected.len().max(came.len()));
     [block_from(first, "expected:", &marked(expected)), block_from(first, "came:", &marked(came))].concat()
 }
 

@@ -1,7 +1,7 @@
 //! What may be said of a run, by name.
 use crate::error::Error;
 use crate::past::Past;
-use crate::program::Program;
+use crate::program::{Named, Program};
 use crate::run::Run;
 use crate::session::Session;
 use crate::status::Status;
@@ -18,7 +18,7 @@ pub struct Options {
     pub(crate) trace: bool,
     pub(crate) url: String,
     pub(crate) boundary: String,
-    pub(crate) program: Option<OsString>,
+    pub(crate) program: Option<Named>,
     #[cfg_attr(not(cepage_library), allow(dead_code))]
     pub(crate) uses_library: bool,
 }
@@ -58,7 +58,8 @@ impl Options {
 
     /// The program, which is started then, also where the library was built in.
     pub fn program(self, program: impl Into<OsString>) -> Options {
-        Options { program: Some(program.into()), uses_library: false, ..self }
+        let program = Named { name: program.into(), asked_by: "Options::program" };
+        Options { program: Some(program), uses_library: false, ..self }
     }
 
     /// Starts the program also where the library was built in.
@@ -69,15 +70,22 @@ impl Options {
     /// Runs a script. What is refused of the options gives the status `Usage` and an empty transcript.
     pub fn run(&self, script: impl AsRef<[u8]>) -> Result<Run, Error> {
         self.check()?;
-        let past = Past::new(script.as_ref().to_vec(), self.clone());
-        let (status, bytes) = self.transcript_of(script.as_ref())?;
+        let options = self.settled();
+        let (status, bytes) = options.transcript_of(script.as_ref())?;
+        let past = Past::new(script.as_ref().to_vec(), options);
         Ok(Run::new(past, status, bytes))
     }
 
     /// Begins a session, which is the program's in any case.
     pub fn session(&self) -> Result<Session, Error> {
         self.check()?;
-        Session::begin(Options { uses_library: false, ..self.clone() })
+        Session::begin(Options { uses_library: false, ..self.clone() }.settled())
+    }
+
+    /// The same, with the program that it is now: what is run once more, for its trace, is run by that.
+    fn settled(&self) -> Options {
+        let program = if self.uses_library { None } else { Some(Named::of(self.program.as_ref())) };
+        Options { program, ..self.clone() }
     }
 
     fn check(&self) -> Result<(), Error> {

@@ -4,42 +4,74 @@ use crate::options::Options;
 use crate::status::Status;
 use std::ffi::OsString;
 use std::io::{self, Write};
+use std::path::{Path, PathBuf};
 use std::process::{Child, Command, Stdio};
 use std::thread::{self, Builder};
 
+/// A program, and what names it.
+#[derive(Debug, Clone)]
+pub(crate) struct Named {
+    pub(crate) name: OsString,
+    pub(crate) asked_by: &'static str,
+}
+
+impl Named {
+    /// The program that is given, else that of the environment variable CEPAGE, else `cepage` on the path. It stays the same
+    /// where another folder is gone to; a name alone is sought on the path.
+    pub(crate) fn of(given: Option<&Named>) -> Named {
+        let named = std::env::var_os("CEPAGE").filter(|name| !name.is_empty());
+        let found = match (given, named) {
+            (Some(given), _) => given.clone(),
+            (None, Some(name)) => Named { name, asked_by: "CEPAGE" },
+            (None, None) => Named { name: "cepage".into(), asked_by: "PATH" },
+        };
+        match std::env::current_dir() {
+            Ok(here) if found.is_path() => {
+                Named { name: here.join(found.name).components().collect::<PathBuf>().into(), ..found }
+            }
+            _ => found,
+        }
+    }
+
+    fn is_path(&self) -> bool {
+        self.name.as_encoded_bytes().contains(&b'/')
+    }
+}
+
 /// The program and its words.
 pub(crate) struct Program {
-    name: OsString,
-    asked_by: &'static str,
+    named: Named,
     words: Vec<String>,
 }
 
 impl Program {
-    /// The program that is given, else that of the environment variable CEPAGE, else `cepage` on the path.
     pub(crate) fn of(options: &Options) -> Program {
-        let named = std::env::var_os("CEPAGE").filter(|name| !name.is_empty());
-        let (name, asked_by) = match (&options.program, named) {
-            (Some(program), _) => (program.clone(), "Options::program"),
-            (None, Some(name)) => (name, "CEPAGE"),
-            (None, None) => ("cepage".into(), "PATH"),
-        };
-        Program { name, asked_by, words: options.words() }
+        Program { named: Named::of(options.program.as_ref()), words: options.words() }
     }
 
     pub(crate) fn name(&self) -> String {
-        self.name.to_string_lossy().into_owned()
+        self.named.name.to_string_lossy().into_owned()
     }
 
     /// Starts it, with pipes to and from it.
     pub(crate) fn start(&self, standard_error: Stdio) -> Result<Child, Error> {
-        let mut command = Command::new(&self.name);
+        let mut command = Command::new(&self.named.name);
         command.args(&self.words).stdin(Stdio::piped()).stdout(Stdio::piped()).stderr(standard_error);
-        command.spawn().map_err(|error| match error.kind() {
-            io::ErrorKind::NotFound | io::ErrorKind::PermissionDenied => {
-                Error::ProgramMissing { name: self.name(), asked_by: self.asked_by }
-            }
-            _ => Error::Io(error),
-        })
+        command.spawn().map_err(|error| self.failed(error))
+    }
+
+    /// What a failed start says. What a program wants may be missing, too, as the interpreter of a script.
+    fn failed(&self, error: io::Error) -> Error {
+        let (name, asked_by) = (self.name(), self.named.asked_by);
+        let is_missing = match error.kind() {
+            io::ErrorKind::NotFound => !(self.named.is_path() && Path::new(&self.named.name).exists()),
+            kind => kind == io::ErrorKind::PermissionDenied,
+        };
+        if is_missing {
+            Error::ProgramMissing { name, asked_by }
+        } else {
+            Error::ProgramUnfit { name, asked_by, error }
+        }
     }
 
     /// The status and the transcript of a script.

@@ -82,7 +82,11 @@ impl Run {
     /// Where that line answers nothing.
     #[track_caller]
     pub fn command(&self, number: usize) -> Command {
-        self.get(number).unwrap_or_else(|| panic!("{}", self.unanswered(number)))
+        // Not in a closure, which would be told as the place in place of the caller.
+        match self.get(number) {
+            Some(command) => command,
+            None => panic!("{}", self.unanswered(number)),
+        }
     }
 
     fn unanswered(&self, number: usize) -> String {

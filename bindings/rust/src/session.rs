@@ -103,12 +103,15 @@ impl Session {
             if is_fuel {
                 self.over = Some(format!("the fuel was spent in line {number}: {}", cut(line)));
             }
-            if is_fuel || wrote.starts_with(reply.as_bytes()) {
+            if is_fuel || (wrote.starts_with(reply.as_bytes()) && wrote.ends_with(b"\n")) {
                 break;
             }
         }
         let lines = read_lines(&String::from_utf8_lossy(&self.wrote[before..]), |_| Some(number), self.lines + 1);
         self.lines += lines.len();
+        if self.over.is_some() {
+            self.take_rest()?;
+        }
         Ok(lines)
     }
 

@@ -155,3 +155,37 @@ fn of_very_many_lines_those_about_the_difference_are_told() {
     assert!(message.contains("    > log \"out\"\n      306: ok\ncame:\n    behind 200 lines\n"), "{message}");
     assert!(message.contains("    > log \"in\"\n      306: ok\ntrace"), "{message}");
 }
+
+#[test]
+fn of_many_lines_all_are_told() {
+    let parts = format!("class A\n{}define x-a A\n", "on A connected : log in\n".repeat(150));
+    let many = run(format!("{parts}create $h html\nappend doc $h\ncreate $a x-a\nappend $h $a\n")).unwrap();
+    let message = told(move || {
+        let last = many.commands().pop().unwrap();
+        let texts = last.texts();
+        last.expect(texts[..texts.len() - 2].iter().copied().chain(["log \"out\"", "ok"]))
+    });
+    assert!(!message.contains("behind"), "{message}");
+}
+
+#[test]
+fn of_very_many_callbacks_and_entries_those_about_the_difference_are_told() {
+    let parts = "on A connected : setattr this k v\n".repeat(300);
+    let class = format!("class A\nobserve A k\nhas A attribute\n{parts}define x-a A\n");
+    let many = run(format!("{class}create $h html\nappend doc $h\ncreate $a x-a\nappend $h $a\n")).unwrap();
+    let heard = ["connected"].into_iter().chain(["attribute"; 299]).chain(["connected"]);
+    let message = told(move || many.commands().pop().unwrap().expect_heard(3, heard));
+    assert!(message.contains("came:\n    behind 200 lines\n"), "{message}");
+    assert_eq!(message.split("trace of").next().unwrap().matches("    call #3 attribute").count(), 101);
+    let numbers: Vec<String> = (0..300).map(|k| k.to_string()).collect();
+    let input = |k: &String| format!("create $i input\nsetattr $i name n\nsetattr $i value {k}\nappend $f $i\n");
+    let inputs: String = numbers.iter().map(input).collect();
+    let page = format!("create $h html\nappend doc $h\ncreate $f form\nappend $h $f\n{inputs}submit $f\n");
+    let sent = run(page).unwrap().commands().pop().unwrap();
+    let entries: Vec<(&str, &str)> = numbers.iter().map(|k| ("n", k.as_str())).collect();
+    sent.expect_sent(entries.clone());
+    let other = entries[..299].iter().copied().chain([("n", "other")]);
+    let message = told(std::panic::AssertUnwindSafe(|| sent.expect_sent(other)));
+    assert!(message.contains("    (\"n\", \"other\")\ncame:\n    behind 200 lines\n"), "{message}");
+    assert!(message.contains("    (\"n\", \"299\")\ntrace"), "{message}");
+}

@@ -155,6 +155,20 @@ fn a_program_that_is_not_there() {
 }
 
 #[test]
+fn a_program_that_does_not_start() {
+    let file = program_of("");
+    for text in ["\x7fELF", "#!/nowhere/sh\n"] {
+        let written =
+            std::process::Command::new("sh").args(["-c", "printf %s \"$1\" > \"$0\""]).arg(&file).arg(text).status();
+        assert!(written.is_ok_and(|it| it.success()));
+        let unfit = Options::new().program(&file).run("").unwrap_err();
+        assert!(matches!(unfit, Error::ProgramUnfit { .. }), "{unfit}");
+        let wanted = format!("the program `{}` of Options::program could not be used: ", file.display());
+        assert!(unfit.to_string().starts_with(&wanted), "{unfit}");
+    }
+}
+
+#[test]
 fn a_program_that_dies() {
     let died = |text: &str| Options::new().program(program_of(text)).run("").unwrap_err().to_string();
     assert!(died("kill -9 $$").ends_with("by the signal 9"));

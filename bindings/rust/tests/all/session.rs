@@ -91,7 +91,9 @@ fn the_fuel_ends_it() {
     let spent = page.command("create $a p").unwrap();
     assert_eq!((spent.texts(), spent.reply()), (vec!["fuel"], None));
     assert_eq!(spent.lines()[0].command, Some(2));
+    assert!(!is_running(page.process()));
     let over = page.command("create $a p").unwrap_err();
+    assert!(matches!(over, Error::SessionEnded { status: Some(Status::Fuel), .. }));
     assert!(over.to_string().contains("the fuel was spent in line 2: create $a p"));
     assert_eq!(page.close().unwrap().status(), Status::Fuel);
 }
@@ -166,6 +168,8 @@ fn a_line_that_is_cut_off_is_kept() {
     let program = program_of("read line; printf '1: #2\\n2: #'; exit 6");
     let mut page = Options::new().program(program).session().unwrap();
     assert_eq!(page.command("create $a p").unwrap().node(), Node(2));
+    let over = page.command("create $b p").unwrap_err();
+    assert!(over.to_string().contains("with status 6, NoMemory, at line 2: create $b p"), "{over}");
     let whole = page.close().unwrap();
     assert_eq!((whole.status(), whole.transcript()), (Status::NoMemory, "1: #2\n2: #"));
 }
