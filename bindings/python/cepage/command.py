@@ -2,7 +2,7 @@
 from typing import TYPE_CHECKING, Any, Callable, List, Optional, Sequence, Tuple, Union
 
 from .errors import CepageError
-from .failure import Failure, block, differing, indented
+from .failure import Failure, block, differing, indented, place, told_from
 from .lines import Answer, Line, Node, Reply
 from .selection import Selection
 
@@ -76,15 +76,19 @@ class Command(Selection):
     def expect_heard(self, element: Union[int, Node], *callbacks: str) -> None:
         """Fails unless the element heard just these callbacks, said by their names, in this order."""
         calls = self.heard(element)
-        if [call.callback for call in calls] != list(callbacks):
-            raise self.failure(" ".join(callbacks) or "no callback", [call.text for call in calls])
+        heard = [call.callback for call in calls]
+        if heard != list(callbacks):
+            came = block("came:", [call.text for call in calls], told_from(place(callbacks, heard), heard))
+            raise self.failed(block("expected:", [" ".join(callbacks) or "no callback"]) + came)
 
     def expect_sent(self, *entries: Tuple[str, str]) -> None:
         """Fails unless one form was submitted in it, and sent just these names and values, in this order."""
         submissions = self.submissions()
         if len(submissions) != 1 or submissions[0].entries != entries:
             came = [line for it in submissions for line in [it.text, *map(repr, it.entries or ())]]
-            raise self.failed(block("expected:", ["one submission with"] + [*map(repr, entries)]) + block("came:", came))
+            wanted = ["one submission with", *map(repr, entries)]
+            first = told_from(1 + place(wanted[1:], came[1:]), wanted, came)
+            raise self.failed(block("expected:", wanted, first) + block("came:", came, first))
 
     def failure(self, expected: str, came: Sequence[str]) -> Failure:
         """A failure of this command: the script's line, what was expected, what came, and the trace of the line."""

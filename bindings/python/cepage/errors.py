@@ -7,6 +7,7 @@ from .status import Status
 
 
 MOST_TOLD = 300
+STATUS_TAKEN = "somebody else has taken the program's status, as a handler of SIGCHLD that waits for all processes"
 
 
 class Named(NamedTuple):

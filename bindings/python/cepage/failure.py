@@ -15,11 +15,21 @@ def block(title: str, lines: Sequence[str], first: int = 0) -> List[str]:
     return [title, *[f"    behind {first} lines"] * (first > 0), *shown] + [f"    and {more} lines more"] * (more > 0)
 
 
+def place(expected: Sequence[str], came: Sequence[str]) -> int:
+    """Where the first one stands that differs."""
+    return next((k for k, (one, other) in enumerate(zip(expected, came)) if one != other), min(len(expected), len(came)))
+
+
+def told_from(at: int, *lists: Sequence[str]) -> int:
+    """From where on lines are told, so that those about a place are: from the first on, unless there are very many."""
+    return max(0, at - MOST_LINES // 2) if max(map(len, lists)) > MOST_LINES else 0
+
+
 def differing(expected: Sequence[str], came: Sequence[str]) -> List[str]:
     """What was expected and what came, with a sign before the first line that differs; of very many lines those about it."""
-    at = next((k for k, (one, other) in enumerate(zip(expected, came)) if one != other), min(len(expected), len(came)))
+    at = place(expected, came)
     marked = [[("> " if k == at else "  ") + line for k, line in enumerate(lines)] for lines in (expected, came)]
-    first = max(0, at - MOST_LINES // 2)
+    first = told_from(at, expected, came)
     return block("expected:", marked[0], first) + block("came:", marked[1], first)
 
 

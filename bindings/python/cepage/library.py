@@ -4,7 +4,7 @@ import functools
 import os
 from typing import Any, Optional, Tuple, Union
 
-from .errors import Named, unfit
+from .errors import Named, ProgramDied, is_of_cepage, unfit
 from .options import MOST_FUEL_SAID, Options
 from .program import Path
 from .status import Status
@@ -56,6 +56,9 @@ def run_library(library: Named, script: bytes, options: Options) -> Tuple[Status
     while True:
         out = ctypes.create_string_buffer(room)
         status = call(script, len(script), fuel, bool(options.trace), url, len(url), boundary, len(boundary), out, room, written)
-        if status != MORE_ROOM:
+        if status == MORE_ROOM:
+            room *= 8
+        elif is_of_cepage(status):
             return Status(status), out[: written.value]
-        room *= 8
+        else:
+            raise ProgramDied(library.path, status)

@@ -7,6 +7,9 @@ import socket
 import subprocess
 from typing import Deque, List, Optional
 
+from .errors import CepageError
+from .program import Started
+
 PIECE = 65_536
 
 
@@ -20,7 +23,7 @@ class Pipe:
         self._into, taken = socket.socketpair()
         with taken, contextlib.ExitStack() as failed:
             failed.callback(self._into.close)
-            self._started = subprocess.Popen(words, bufsize=0, stdin=taken, stdout=subprocess.PIPE, stderr=subprocess.DEVNULL)
+            self._started = Started(words, bufsize=0, stdin=taken, stdout=subprocess.PIPE, stderr=subprocess.DEVNULL)
             failed.pop_all()
         assert self._started.stdout
         self._from = self._started.stdout
@@ -85,4 +88,5 @@ class Pipe:
     def kill(self) -> None:
         """Ends the program wherever it is."""
         self._started.kill()
-        self.ended()
+        with contextlib.suppress(CepageError):
+            self.ended()

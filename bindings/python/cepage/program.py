@@ -1,11 +1,12 @@
 """A script run by starting the program."""
+import contextlib
 import os
 import shutil
 import signal
 import subprocess
 from typing import Optional, Tuple, Union
 
-from .errors import CepageError, Named, ProgramDied, ProgramMissing, is_of_cepage, one_line, unfit
+from .errors import STATUS_TAKEN, CepageError, Named, ProgramDied, ProgramMissing, is_of_cepage, one_line, unfit
 from .options import Options
 from .status import Status
 
@@ -34,13 +35,35 @@ def want_statuses() -> None:
         raise CepageError("SIGCHLD is ignored, so no status of a program is kept: set it to signal.SIG_DFL")
 
 
+class Started(subprocess.Popen[bytes]):
+    """A program that was started. `subprocess` takes its status for 0 where somebody else has taken it; here that is told."""
+
+    def wait(self, timeout: Optional[float] = None) -> int:
+        if self.returncode is None:
+            try:
+                told = os.waitid(os.P_PID, self.pid, os.WEXITED | os.WNOWAIT)
+            except ChildProcessError:
+                raise CepageError(STATUS_TAKEN) from None
+            if told is not None:
+                self.returncode = told.si_status if told.si_code == os.CLD_EXITED else -told.si_status
+            with contextlib.suppress(ChildProcessError):
+                os.waitpid(self.pid, 0)
+        return super().wait(timeout)
+
+
 def run_program(program: Named, script: bytes, options: Options) -> Tuple[Status, bytes]:
     """The status and the transcript of a script."""
     want_statuses()
     try:
-        ended = subprocess.run([program.path, *options.words()], input=script, capture_output=True, check=False)
+        started = Started([program.path, *options.words()], stdin=subprocess.PIPE, stdout=subprocess.PIPE, stderr=subprocess.PIPE)
     except OSError as error:
         raise unfit("program", program, error) from error
-    if not is_of_cepage(ended.returncode):
-        raise ProgramDied(program.path, ended.returncode, one_line(ended.stderr))
-    return Status(ended.returncode), ended.stdout
+    with started:
+        try:
+            wrote, told = started.communicate(script)
+        except BaseException:
+            started.kill()
+            raise
+    if not is_of_cepage(started.returncode):
+        raise ProgramDied(program.path, started.returncode, one_line(told))
+    return Status(started.returncode), wrote

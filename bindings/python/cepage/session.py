@@ -1,11 +1,10 @@
 """A session: a command in, what it answered out, over the program's own pipe."""
-import contextlib
 import os
 from types import TracebackType
 from typing import Optional, Tuple, Type
 
 from .command import Command
-from .errors import ProgramDied, SessionEnded, cut, how_it_ended, is_of_cepage, unfit
+from .errors import STATUS_TAKEN, CepageError, ProgramDied, SessionEnded, cut, how_it_ended, is_of_cepage, unfit
 from .history import History
 from .options import PLAIN_FUEL, Options
 from .pipe import Pipe
@@ -40,6 +39,7 @@ class Session:
         self._history = History(self._program, options)
         self._over = ""
         self._status: Optional[int] = None
+        self._owner = os.getpid()
         try:
             self._pipe = Pipe([os.fsencode(self._program.path), *options.words()])
         except OSError as error:
@@ -67,11 +67,16 @@ class Session:
         text = line.encode("utf-8")
         if self._over or self._pipe is None:
             raise SessionEnded(self._over, self._named())
-        self._history.script.append(text)
-        self._pipe.give(text + b"\n")
         before = len(self._history.wrote)
-        if not is_unanswered(line):
-            self._wait(self._pipe, line)
+        self._history.script.append(text)
+        try:
+            self._pipe.give(text + b"\n")
+            if not is_unanswered(line):
+                self._wait(self._pipe, line)
+        except BaseException as error:
+            # A part of the line may have been given, and a part of the answer taken.
+            self._over = self._over or f"{type(error).__name__} came within line {self.line}: {cut(line)}"
+            raise
         wrote = b"".join(it + b"\n" for it in self._history.wrote[before:]).decode("utf-8", "replace")
         number = self.line
         lines = read_lines(wrote, lambda _: number, before + 1)
@@ -90,8 +95,10 @@ class Session:
             self._take_rest(self._pipe)
             self._over = self._over or "it was closed"
         status = self._named()
+        if self._status is None:
+            raise CepageError(STATUS_TAKEN)
         if status is None:
-            raise ProgramDied(self._program.path, self._status or 0)
+            raise ProgramDied(self._program.path, self._status)
         return self._history.run(status)
 
     def _wait(self, pipe: Pipe, line: str) -> None:
@@ -106,6 +113,7 @@ class Session:
             self._history.wrote.append(wrote)
             if wrote == b"fuel":
                 self._over = f"the fuel was spent in line {self.line}: {cut(line)}"
+                self._take_rest(pipe)
                 return
             if wrote.startswith(reply):
                 return
@@ -114,8 +122,8 @@ class Session:
         """Takes what the program writes to its end, and its status."""
         self._history.wrote.extend(iter(pipe.line, None))
         self._history.rest = pipe.rest
-        self._status = pipe.ended()
         self._pipe = None
+        self._status = pipe.ended()
 
     def _named(self) -> Optional[Status]:
         return Status(self._status) if self._status is not None and is_of_cepage(self._status) else None
@@ -126,10 +134,20 @@ class Session:
     def __exit__(
         self, kind: Optional[Type[BaseException]], error: Optional[BaseException], trace: Optional[TracebackType]
     ) -> None:
-        with contextlib.suppress(ProgramDied):
+        if self._is_of_another_process():
+            return
+        is_told = kind is not None or bool(self._over)
+        try:
             self.close()
+        except CepageError:
+            if not is_told:
+                raise
 
     def __del__(self) -> None:
-        if self._pipe is not None:
+        if self._pipe is not None and not self._is_of_another_process():
             self._pipe.kill()
             self._pipe = None
+
+    def _is_of_another_process(self) -> bool:
+        """Whether this process was forked since the session began, which goes on where it began."""
+        return os.getpid() != self._owner

@@ -124,3 +124,24 @@ class Failures(unittest.TestCase):
         told = self.fails(last.expect, *last.texts[:-2], 'log "out"', "ok")
         self.assertIn('    > log "out"\n      306: ok\ncame:\n    behind 200 lines\n', told)
         self.assertIn('    > log "in"\n      306: ok\ntrace', told)
+
+    def test_of_many_lines_all_are_told(self) -> None:
+        script = "class A\n" + "on A connected : log in\n" * 150 + "define x-a A\ncreate $h html\nappend doc $h\ncreate $a x-a\nappend $h $a\n"
+        last = run(script).commands[-1]
+        self.assertNotIn("behind", self.fails(last.expect, *last.texts[:-2], 'log "out"', "ok"))
+
+    def test_of_very_many_callbacks_and_entries_those_about_the_difference_are_told(self) -> None:
+        script = "class A\nobserve A k\nhas A attribute\n" + "on A connected : setattr this k v\n" * 300 + "define x-a A\ncreate $h html\n"
+        last = run(script + "append doc $h\ncreate $a x-a\nappend $h $a\n").commands[-1]
+        told = self.fails(last.expect_heard, 3, "connected", *["attribute"] * 299, "connected")
+        self.assertIn('came:\n    behind 200 lines\n', told)
+        self.assertEqual(told.partition("trace of")[0].count("    call #3 attribute"), 101)
+        script = "create $h html\nappend doc $h\ncreate $f form\nappend $h $f\n"
+        for k in range(300):
+            script += f"create $i input\nsetattr $i name n\nsetattr $i value {k}\nappend $f $i\n"
+        sent = [("n", str(k)) for k in range(300)]
+        last = run(script + "submit $f\n").commands[-1]
+        last.expect_sent(*sent)
+        told = self.fails(last.expect_sent, *sent[:-1], ("n", "other"))
+        self.assertIn("    ('n', 'other')\ncame:\n    behind 200 lines\n", told)
+        self.assertIn("    ('n', '299')\ntrace", told)

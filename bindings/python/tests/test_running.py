@@ -1,5 +1,6 @@
 """A script that is run."""
 import atexit
+import contextlib
 import os
 import pickle
 import shutil
@@ -177,6 +178,29 @@ class Finding(unittest.TestCase):
         for start in (run, lambda _, program: Session(program=program)):
             with self.assertRaisesRegex(CepageError, f"program '{file}' of program= could not be used: .*Exec format error"):
                 start("", program=file)
+
+    def test_a_status_that_somebody_else_takes_is_told(self) -> None:
+        def take(*_: object) -> None:
+            with contextlib.suppress(ChildProcessError):
+                while os.waitpid(-1, os.WNOHANG)[0]:
+                    pass
+
+        before = signal.signal(signal.SIGCHLD, take)
+        try:
+            for _ in range(10):
+                with self.assertRaises(CepageError):
+                    run("", program=program_of("cat > /dev/null; exit 42"))
+                page = Session(program=program_of("read line; exit 42"))
+                for _ in range(2):
+                    with self.assertRaises(CepageError):
+                        page.close()
+        finally:
+            signal.signal(signal.SIGCHLD, before)
+
+    def test_a_library_with_a_status_that_is_none(self) -> None:
+        with mock.patch("cepage.library.call_of", return_value=lambda *_: 99):
+            with self.assertRaisesRegex(ProgramDied, "^/lib.so ended with status 99$"):
+                run("", library="/lib.so")
 
     def test_a_library_that_is_missing_or_another(self) -> None:
         for library, told in (("/nowhere/cepage.so", "No such file"), (__file__, "ELF"), ("libc.so.6", "undefined symbol")):

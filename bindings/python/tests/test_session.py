@@ -93,8 +93,10 @@ class Ends(unittest.TestCase):
             spent = page.command("create $a p")
             self.assertEqual((spent.texts, spent.reply), (("fuel",), None))
             self.assertEqual(spent.lines[0].command, 2)
-            with self.assertRaisesRegex(SessionEnded, r"the fuel was spent in line 2: create \$a p"):
+            self.assertFalse(is_running(page.process))
+            with self.assertRaisesRegex(SessionEnded, r"the fuel was spent in line 2: create \$a p") as ended:
                 page.command("create $a p")
+            self.assertIs(ended.exception.status, Status.FUEL)
         self.assertIs(page.close().status, Status.FUEL)
 
     def test_a_closed_one_takes_no_line(self) -> None:
@@ -128,6 +130,32 @@ class Ends(unittest.TestCase):
         page.command("class A")
         with self.assertRaisesRegex(SessionEnded, "SIGKILL"):
             page.command("create $b p")
+
+    def test_a_program_that_dies_behind_the_last_command(self) -> None:
+        program = program_of("read line; echo '1: #2'; exit 42")
+        with self.assertRaisesRegex(ProgramDied, "with status 42"), Session(program=program) as page:
+            page.command("create $a p")
+        with self.assertRaises(KeyError), Session(program=program) as page:
+            page.command("create $a p")
+            raise KeyError
+
+    def test_what_comes_within_a_command_ends_it(self) -> None:
+        class Late(Exception):
+            pass
+
+        def late(*_: object) -> None:
+            raise Late
+
+        before = signal.signal(signal.SIGALRM, late)
+        self.addCleanup(signal.signal, signal.SIGALRM, before)
+        for line in ("create $a p", "#" * 3_000_000):
+            page = Session(program=program_of("sleep 0.5; read line; echo '1: #2'; cat > /dev/null"))
+            signal.setitimer(signal.ITIMER_REAL, 0.1)
+            with self.assertRaises(Late):
+                page.command(line)
+            with self.assertRaisesRegex(SessionEnded, "Late came within line 1: "):
+                page.command("create $b p")
+            self.assertEqual(page.close().transcript, "1: #2\n")
 
     def test_a_script_that_is_too_long(self) -> None:
         with Session() as page:
@@ -185,6 +213,20 @@ class Ends(unittest.TestCase):
         self.assertLess(time.monotonic() - began, 10)
         os.kill(child, signal.SIGKILL)
         os.waitpid(child, 0)
+
+    def test_one_that_another_process_leaves(self) -> None:
+        with Session() as page:
+            child = os.fork()
+            if child == 0:
+                try:
+                    with page:
+                        raise KeyError
+                except KeyError:
+                    del page
+                finally:
+                    os._exit(0)
+            os.waitpid(child, 0)
+            self.assertEqual(page.command("create $a p").texts, ("1: #2",))
 
     def test_two_sessions_at_once(self) -> None:
         wrote = {}
