@@ -1,7 +1,7 @@
 // One command, and what it wrote.
 import { isDeepStrictEqual } from "node:util";
 import { CepageError } from "./errors.js";
-import { Failure, block, differing, indented } from "./failure.js";
+import { Failure, block, differing, indented, place, toldFrom } from "./failure.js";
 import { Selection } from "./selection.js";
 
 /** A command of a script, or a line that was refused: its number, its text and the lines that it wrote. */
@@ -63,8 +63,11 @@ export class Command extends Selection {
   /** Fails unless the element heard just these callbacks, said by their names, in this order. */
   expectHeard(element, ...callbacks) {
     const calls = this.heard(element);
-    if (isDeepStrictEqual(calls.map((call) => call.callback), callbacks)) return;
-    throw this.#failure(callbacks.join(" ") || "no callback", calls.map((call) => call.text));
+    const heard = calls.map((call) => call.callback);
+    if (isDeepStrictEqual(heard, callbacks)) return;
+    const [wanted, came] = [callbacks.join(" ") || "no callback", calls.map((call) => call.text)];
+    const told = [...block("expected:", [wanted]), ...block("came:", came, toldFrom(place(callbacks, heard), came))];
+    throw this.#failed(told, wanted, came.join("\n"));
   }
 
   /** Fails unless one form was submitted in it, and sent just these names and values, in this order. */
@@ -73,7 +76,9 @@ export class Command extends Selection {
     if (submissions.length === 1 && isDeepStrictEqual(submissions[0].entries, entries)) return;
     const spelled = (list) => (list ?? []).map((entry) => JSON.stringify(entry));
     const came = submissions.flatMap((line) => [line.text, ...spelled(line.entries)]);
-    const told = [...block("expected:", ["one submission with", ...spelled(entries)]), ...block("came:", came)];
+    const wanted = ["one submission with", ...spelled(entries)];
+    const first = toldFrom(1 + place(wanted.slice(1), came.slice(1)), wanted, came);
+    const told = [...block("expected:", wanted, first), ...block("came:", came, first)];
     throw this.#failed(told, entries, submissions.map((line) => line.entries));
   }
 

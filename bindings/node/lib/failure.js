@@ -19,12 +19,22 @@ export function block(title, lines, first = 0) {
   return [title, ...before, ...(lines.length ? shown : ["    nothing"]), ...(more > 0 ? [`    and ${more} lines more`] : [])];
 }
 
+/** Where the first one stands that differs. */
+export function place(expected, came) {
+  const at = expected.findIndex((it, index) => it !== came[index]);
+  return at < 0 ? expected.length : at;
+}
+
+/** From where on lines are told, so that those about a place are: from the first on, unless there are very many. */
+export function toldFrom(at, ...lists) {
+  return lists.some((lines) => lines.length > MOST_LINES) ? Math.max(0, at - MOST_LINES / 2) : 0;
+}
+
 /** What was expected and what came, with a sign before the first line that differs; of very many lines those about it. */
 export function differing(expected, came) {
-  const same = expected.findIndex((line, at) => line !== came[at]);
-  const at = same < 0 ? expected.length : same;
+  const at = place(expected, came);
   const marked = (lines) => lines.map((line, index) => (index === at ? `> ${line}` : `  ${line}`));
-  const first = Math.max(0, at - MOST_LINES / 2);
+  const first = toldFrom(at, expected, came);
   return [...block("expected:", marked(expected), first), ...block("came:", marked(came), first)];
 }
 

@@ -3,7 +3,7 @@ import { existsSync } from "node:fs";
 import { createRequire } from "node:module";
 import { resolve } from "node:path";
 import { fileURLToPath } from "node:url";
-import { unfit } from "./errors.js";
+import { ProgramDied, unfit } from "./errors.js";
 import { STATUSES } from "./status.js";
 
 const BESIDE = fileURLToPath(new URL("../cepage.node", import.meta.url));
@@ -44,6 +44,8 @@ export function runLibrary(library, script, { fuel, trace, url, boundary }) {
   const said = fuel >= 0 && fuel <= MOST_FUEL_SAID ? fuel : 0;
   for (let room = kept; ; room = Buffer.allocUnsafe(room.length * 8)) {
     const [status, written] = run(script, said, trace, Buffer.from(url), Buffer.from(boundary), room);
-    if (status !== MORE_ROOM) return { status: STATUSES[status], bytes: Buffer.from(room.subarray(0, written)) };
+    if (status === MORE_ROOM) continue;
+    if (STATUSES[status] === undefined) throw new ProgramDied(library.name, { code: status, signal: null });
+    return { status: STATUSES[status], bytes: Buffer.from(room.subarray(0, written)) };
   }
 }

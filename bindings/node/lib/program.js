@@ -1,5 +1,6 @@
 // A script run by starting the program.
 import { spawnSync } from "node:child_process";
+import { existsSync } from "node:fs";
 import { resolve } from "node:path";
 import { ProgramDied, ProgramMissing, unfit } from "./errors.js";
 import { wordsOf } from "./options.js";
@@ -17,9 +18,10 @@ function fromHere(name) {
   return name.includes("/") ? resolve(name) : name;
 }
 
-/** What a failed start says. */
+/** What a failed start says. What a program wants may be missing, too, as the interpreter of a script. */
 export function startFailed(program, error) {
-  const isMissing = error.code === "ENOENT" || error.code === "EACCES";
+  const isThere = program.name.includes("/") && existsSync(program.name);
+  const isMissing = error.code === "EACCES" || (error.code === "ENOENT" && !isThere);
   return isMissing ? new ProgramMissing(program.name, program.askedBy) : unfit("program", program, error);
 }
 

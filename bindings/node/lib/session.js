@@ -11,6 +11,7 @@ import { STATUSES } from "./status.js";
 
 const CLOSED = "it was closed";
 const LINE_FEED = 10;
+const END = Buffer.from([LINE_FEED]);
 
 /** A page that is talked to, a line at a time.
  *
@@ -29,6 +30,7 @@ export class Session {
   #first = 0; // the place of the first of them: to shift a long list takes a time that grows with it
   #over = null; // why no line is taken any more
   #isClosing = false;
+  #isSpent = false; // the fuel
   #ended = null; // { code, signal }
   #failed = null; // the program could not be started
 
@@ -60,7 +62,7 @@ export class Session {
   async command(line) {
     if (typeof line !== "string" || !line.isWellFormed()) throw new TypeError("a line is a string of Unicode scalar values");
     if (line.includes("\n")) throw new TypeError("a line has no line feed: give each line by itself, or all of them to feed()");
-    if (this.#over !== null) throw this.#failed ?? new SessionEnded(this.#over, this.#status);
+    if (this.#over !== null) return this.#refuse();
     const number = this.#script.push(line);
     this.#child.stdin.write(`${line}\n`);
     if (isUnanswered(line)) return new Command(this.#untilNow(), number, line, []);
@@ -68,6 +70,15 @@ export class Session {
       this.#waiting.push({ number, line, resolve, reject });
       this.#hold(true);
     });
+  }
+
+  // Fails with why no line is taken any more. Where the fuel was spent the program ends, and its status is waited for.
+  async #refuse() {
+    if (this.#isSpent) {
+      this.#hold(true);
+      await this.#closed;
+    }
+    throw this.#failed ?? new SessionEnded(this.#over, this.#status);
   }
 
   /** Gives each line of a script, and gives what each command among them wrote. */
@@ -115,14 +126,15 @@ export class Session {
   #take(piece) {
     let from = 0;
     for (let end = piece.indexOf(LINE_FEED); end >= 0; end = piece.indexOf(LINE_FEED, from)) {
-      this.#takeLine(Buffer.concat([...this.#rest.splice(0), piece.subarray(from, end)]).toString());
+      this.#takeLine(Buffer.concat([...this.#rest.splice(0), piece.subarray(from, end)]));
       from = end + 1;
     }
     this.#rest.push(piece.subarray(from));
   }
 
-  #takeLine(line) {
-    this.#wrote.push(line);
+  #takeLine(bytes) {
+    this.#wrote.push(bytes);
+    const line = bytes.toString();
     if (line === "fuel") this.#spent();
     else if (this.#waiting.length && line.startsWith(`${this.#waiting[this.#first].number}: `)) this.#answer();
   }
@@ -135,7 +147,7 @@ export class Session {
       this.#waiting = [];
       this.#first = 0;
     }
-    const wrote = this.#wrote.slice(this.#given).map((text) => `${text}\n`).join("");
+    const wrote = this.#wrote.slice(this.#given).map((bytes) => `${bytes}\n`).join("");
     const lines = readLines(wrote, () => number, this.#given + 1);
     this.#given = this.#wrote.length;
     resolve(new Command(this.#untilNow(number), number, line, lines));
@@ -146,6 +158,7 @@ export class Session {
     if (!this.#waiting.length) return;
     const { number, line } = this.#waiting[this.#first];
     this.#over = `the fuel was spent in line ${number}: ${cut(line)}`;
+    this.#isSpent = true;
     this.#answer();
   }
 
@@ -165,14 +178,14 @@ export class Session {
   }
 
   #run(number, given, status, rest) {
-    const whole = (lines) => Buffer.from(lines.map((line) => `${line}\n`).join(""));
-    const bytes = Buffer.concat([whole(this.#wrote.slice(0, given)), ...rest]);
-    const script = whole(this.#script.slice(0, number));
+    const bytes = Buffer.concat([...this.#wrote.slice(0, given).flatMap((line) => [line, END]), ...rest]);
+    const script = Buffer.from(this.#script.slice(0, number).map((line) => `${line}\n`).join(""));
     return new Run(script, this.#options, { status, bytes }, runProgram.bind(null, this.#program));
   }
 
   // Whether Node goes on as long as the program does.
   #hold(held) {
+    if (this.#ended) return;
     for (const it of [this.#child, this.#child.stdin, this.#child.stdout]) it[held ? "ref" : "unref"]();
   }
 }

@@ -128,6 +128,28 @@ test("of very many lines those about the difference are told", () => {
   assert.match(message, /    > log "in"\n      306: ok\ntrace/);
 });
 
+test("of many lines all are told", () => {
+  const parts = `class A\n${"on A connected : log in\n".repeat(150)}define x-a A\n`;
+  const many = run(`${parts}create $h html\nappend doc $h\ncreate $a x-a\nappend $h $a\n`).commands.at(-1);
+  assert.doesNotMatch(told(() => many.expect(...many.texts.slice(0, -2), 'log "out"', "ok")), /behind/);
+});
+
+test("of very many callbacks and entries those about the difference are told", () => {
+  const parts = `class A\nobserve A k\nhas A attribute\n${"on A connected : setattr this k v\n".repeat(300)}define x-a A\n`;
+  const many = run(`${parts}create $h html\nappend doc $h\ncreate $a x-a\nappend $h $a\n`).commands.at(-1);
+  const heard = told(() => many.expectHeard(3, "connected", ...Array(299).fill("attribute"), "connected"));
+  assert.match(heard, /came:\n    behind 200 lines\n/);
+  assert.equal(heard.split("trace of")[0].split("    call #3 attribute").length - 1, 101);
+  const numbers = Array.from({ length: 300 }, (_, k) => String(k));
+  const inputs = numbers.map((k) => `create $i input\nsetattr $i name n\nsetattr $i value ${k}\nappend $f $i\n`).join("");
+  const sent = run(`create $h html\nappend doc $h\ncreate $f form\nappend $h $f\n${inputs}submit $f\n`).commands.at(-1);
+  const entries = numbers.map((k) => ["n", k]);
+  sent.expectSent(...entries);
+  const message = told(() => sent.expectSent(...entries.slice(0, -1), ["n", "other"]));
+  assert.match(message, /    \["n","other"\]\ncame:\n    behind 200 lines\n/);
+  assert.match(message, /    \["n","299"\]\ntrace/);
+});
+
 test("of very many lines the first are told", () => {
   const script = "class A\nobserve A k\non A attribute : setattr this k v\ndefine x-a A\ncreate $a x-a\nsetattr $a k v\n";
   const message = told(() => run(script, { fuel: 1000 }).commands.at(-1).expect("ok"));

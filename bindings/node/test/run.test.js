@@ -169,12 +169,16 @@ test("a program that does not start", async () => {
   const folder = mkdtempSync(join(tmpdir(), "cepage-"));
   const program = join(folder, "round");
   symlinkSync(program, program);
-  const told = `the program "${program}" of the option program could not be used: `;
-  const isTold = (error) => error instanceof CepageError && error.message.startsWith(told);
-  assert.throws(() => run("", { program }), isTold);
-  await assert.rejects(async () => {
-    await new Session({ program }).command("create $a p");
-  }, isTold);
+  const script = join(folder, "script");
+  writeFileSync(script, "#!/nowhere/sh\n", { mode: 0o700 });
+  for (const name of [program, script]) {
+    const told = `the program "${name}" of the option program could not be used: `;
+    const isTold = (error) => error instanceof CepageError && error.message.startsWith(told);
+    assert.throws(() => run("", { program: name }), isTold);
+    await assert.rejects(async () => {
+      await new Session({ program: name }).command("create $a p");
+    }, isTold);
+  }
   rmSync(folder, { recursive: true });
   for (const name of ["", "a\0b"]) assert.throws(() => run("", { program: name }), CepageError);
 });
@@ -203,5 +207,7 @@ test("a library that is missing or another", () => {
       for (const program of [undefined, null]) assert.throws(() => run("", { program }), told("CEPAGE_ADDON"));
     });
   }
+  const library = file("status.js", "exports.run = () => [99, 0];");
+  assert.throws(() => run("", { library }), (error) => error instanceof ProgramDied && error.message === `${library} ended with status 99`);
   rmSync(folder, { recursive: true });
 });

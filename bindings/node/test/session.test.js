@@ -109,7 +109,10 @@ test("the fuel ends it", async () => {
   await page.command("ask kids doc");
   const spent = await page.command("create $a p");
   assert.deepEqual([spent.texts, spent.reply, spent.lines[0].command], [["fuel"], null, 2]);
-  await assert.rejects(page.command("create $a p"), /the fuel was spent in line 2: create \$a p/);
+  await assert.rejects(page.command("create $a p"), (error) => {
+    assert.match(error.message, /the fuel was spent in line 2: create \$a p/);
+    return error.status === "Fuel";
+  });
   assert.equal((await page.close()).status, "Fuel");
 });
 
@@ -193,6 +196,9 @@ test("a line that is cut off is kept", async () => {
   assert.deepEqual([status, transcript], ["NoMemory", "1: #2\n2: #"]);
   const within = new Session({ program: programOf("printf 'log \"\\303'; exit 6") });
   assert.deepEqual((await within.close()).bytes, Buffer.from('log "\xc3', "latin1"));
+  const whole = new Session({ program: programOf("read line; printf 'log \"\\303\"\\n1: ok\\n'") });
+  assert.deepEqual((await whole.command("create $a p")).lines[0].texts, ["\ufffd"]);
+  assert.deepEqual((await whole.close()).bytes, Buffer.from('log "\xc3"\n1: ok\n', "latin1"));
 });
 
 test("one that is not closed keeps no process alive", async () => {
