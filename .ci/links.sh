@@ -31,8 +31,10 @@ rows() {
         }
         return folder path
     }
-    # Adds a row for a link.
+    # Adds a row for a link, which may have a title behind it.
     function follow(link,    folder, path, anchor) {
+        sub(/ +["\047(].*/, "", link)
+        gsub(/^<|>$/, "", link)
         if (link ~ /^[a-z]+:/) return
         folder = FILENAME
         sub(/[^\/]*$/, "", folder)
@@ -91,10 +93,10 @@ rows() {
             sub(/ .*/, "", link)
             follow(link)
         }
-        while (match(rest, /(href|src)="[^"]*"/)) {
+        while (match(rest, /(href|src)=("[^"]*"|\047[^\047]*\047)/)) {
             link = substr(rest, RSTART, RLENGTH - 1)
             rest = substr(rest, RSTART + RLENGTH)
-            sub(/^[^"]*"/, "", link)
+            sub(/^[a-z]*=./, "", link)
             follow(link)
         }
     }
