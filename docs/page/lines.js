@@ -16,6 +16,8 @@ globalThis.Cepage ??= {};
     const whole = (pattern) => new RegExp("^" + pattern + "$", "s");
 
     const NODES = new RegExp("#" + NUMBER, "g");
+    // A number; one that a number of JavaScript can't be stays its digits.
+    const numberOf = (digits) => Number.isSafeInteger(Number(digits)) ? Number(digits) : digits;
     const VALUE = "(?:null|" + QUOTED + ")";
 
     // The arguments of each callback, as they stand behind its name.
@@ -88,23 +90,23 @@ globalThis.Cepage ??= {};
 
     // What each line tells, from the parts that its pattern has found, and from the line itself where it may have texts.
     const TELLS = {
-        open: (found) => ({ kind: "open", queue: Number(found[1]) }),
-        enq: (found) => ({ kind: "enq", reaction: Number(found[1]), node: Number(found[2]), what: found[3],
-            queue: Number(found[4]) }),
-        drain: (found) => ({ kind: "drain", queue: Number(found[1]) }),
-        start: (found) => ({ kind: "start", reaction: Number(found[1]) }),
-        finish: (found) => ({ kind: "finish", reaction: Number(found[1]) }),
-        up: (found) => ({ kind: "up", node: Number(found[1]) }),
-        done: (found) => ({ kind: "done", node: Number(found[1]) }),
-        drop: (found) => ({ kind: "drop", reaction: Number(found[1]) }),
-        threw: (found) => ({ kind: "threw", node: Number(found[1]) }),
-        close: (found) => ({ kind: "close", queue: Number(found[1]) }),
+        open: (found) => ({ kind: "open", queue: numberOf(found[1]) }),
+        enq: (found) => ({ kind: "enq", reaction: numberOf(found[1]), node: numberOf(found[2]), what: found[3],
+            queue: numberOf(found[4]) }),
+        drain: (found) => ({ kind: "drain", queue: numberOf(found[1]) }),
+        start: (found) => ({ kind: "start", reaction: numberOf(found[1]) }),
+        finish: (found) => ({ kind: "finish", reaction: numberOf(found[1]) }),
+        up: (found) => ({ kind: "up", node: numberOf(found[1]) }),
+        done: (found) => ({ kind: "done", node: numberOf(found[1]) }),
+        drop: (found) => ({ kind: "drop", reaction: numberOf(found[1]) }),
+        threw: (found) => ({ kind: "threw", node: numberOf(found[1]) }),
+        close: (found) => ({ kind: "close", queue: numberOf(found[1]) }),
         construct: (found) => ({ kind: "construct", name: found[1] }),
-        call: (found, line) => ARGUMENTS[found[2]].test(found[3]) ? { kind: "call", node: Number(found[1]), what: found[2],
+        call: (found, line) => ARGUMENTS[found[2]].test(found[3]) ? { kind: "call", node: numberOf(found[1]), what: found[2],
             args: line.slice(found[0].length - found[3].length + 1) } : null,
         log: (found, line) => ({ kind: "log", text: line.slice(4) }),
         ask: (found, line) => ANSWER.test(found[1]) ? { kind: "ask", text: line.slice(4) } : null,
-        submit: (found, line) => ({ kind: "submit", node: Number(found[1]), text: line.slice(line.indexOf(" ", 7) + 1) }),
+        submit: (found, line) => ({ kind: "submit", node: numberOf(found[1]), text: line.slice(line.indexOf(" ", 7) + 1) }),
         caught: (found, line) => ({ kind: "caught", fault: line.slice(7) }),
         report: (found, line) => ({ kind: "report", fault: line.slice(7) }),
         fuel: () => ({ kind: "fuel" }),
@@ -113,7 +115,7 @@ globalThis.Cepage ??= {};
     function readReply(left, line) {
         const found = REPLY.exec(left);
         if (!found) return null;
-        const reply = { kind: "reply", line: Number(found[1]), text: line.slice(found[1].length + 2), answer: "asked" };
+        const reply = { kind: "reply", line: numberOf(found[1]), text: line.slice(found[1].length + 2), answer: "asked" };
         if (found[2] === "ok" || found[2] === "ignored") reply.answer = found[2];
         else if (/^#[0-9]+$/.test(found[2])) reply.answer = "node";
         else if (BAD.test(found[2])) reply.answer = "bad";
@@ -176,10 +178,11 @@ globalThis.Cepage ??= {};
     }
 
     Cepage.readEvent = readEvent;
+    Cepage.numberOf = numberOf;
     Cepage.cutLines = cutLines;
     Cepage.unquoted = unquoted;
     Cepage.quotedTexts = (text) => cutQuoted(text)?.quoted ?? [];
     Cepage.valuesIn = valuesIn;
     Cepage.piecesOf = piecesOf;
-    Cepage.nodesIn = (text) => Array.from(text.matchAll(NODES), (found) => Number(found[1]));
+    Cepage.nodesIn = (text) => Array.from(text.matchAll(NODES), (found) => numberOf(found[1]));
 })();

@@ -116,7 +116,7 @@ globalThis.Cepage ??= {};
             line.setAttribute("aria-label", `${this.numbers(at)}: ${text || "blank"}`);
             line.title = text.length > 40 ? text.slice(0, 2000) : "";
             line.append(Cepage.make("span", "number", this.numbers(at)),
-                Cepage.write(Cepage.make("span", "code"), text.slice(0, 2000)));
+                Cepage.write(Cepage.make("span", "code"), text.slice(0, 2000), this.look(at) === "comment"));
             return line;
         }
 
@@ -142,7 +142,8 @@ globalThis.Cepage ??= {};
             const moves = { ArrowDown: 1, ArrowUp: -1, PageDown: page, PageUp: -page, Home: -Infinity, End: Infinity };
             if (!Object.hasOwn(moves, event.key) || event.ctrlKey || event.altKey || event.metaKey) return;
             event.preventDefault();
-            this.choose(Math.max(0, this.chosen) + moves[event.key]);
+            const from = this.chosen < 0 && event.key === "ArrowDown" ? -1 : Math.max(0, this.chosen);
+            this.choose(from + moves[event.key]);
         }
     }
 

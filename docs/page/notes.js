@@ -41,6 +41,19 @@ globalThis.Cepage ??= {};
         return notes;
     }
 
+    // Tells whether a trace would have lines here: a callback was called, or a command was done that pushes a queue.
+    function lacksTrace(run) {
+        if (run.traced || run.counts.due > 0) return false;
+        const isDone = ({ reply }) => reply !== null && (["ok", "node"].includes(reply.answer)
+            || (reply.answer === "throw" && !/^throw (Type|Reference)Error$/.test(reply.text)));
+        return run.script.lines.length === 0 || run.rows.some(({ kind }) => kind === "call")
+            || run.commands.some((index) => isDone(run.rows[index]) && run.script.pushes(run.rows[index].scriptLine));
+    }
+
+    // The first command behind the last one that is answered, or 0.
+    const unanswered = (run) => run.script.commandAfter(run.commands.reduce(
+        (most, index) => Math.max(most, run.rows[index].reply?.line ?? 0), 0));
+
     function endNotes(run) {
         const notes = [];
         const open = [...run.open].filter((index) => run.rows[index].kind !== "command").length;
@@ -50,6 +63,8 @@ globalThis.Cepage ??= {};
         if (open > 0 || waits) notes.push(`${where}, ${[left, waits].filter(Boolean).join(", and ")}.`);
         else if (run.command >= 0 && !run.spent) {
             notes.push("The transcript ends within a command: its last line is no reply.");
+        } else if (run.command < 0 && !run.spent && run.left === 0 && unanswered(run) > 0) {
+            notes.push(`The transcript has no answer to line ${unanswered(run)} of the script: it may be cut off there.`);
         }
         if (!run.ended && run.left === 0 && run.lines.length > 0) {
             notes.push("The last line of the transcript has no line feed: it may be cut off there.");
@@ -72,7 +87,7 @@ globalThis.Cepage ??= {};
         if (run.returns) {
             notes.push("The lines of the transcript end in CR LF. The carriage returns are left out here; cepage writes none.");
         }
-        if (!run.traced && run.counts.due === 0) {
+        if (lacksTrace(run)) {
             notes.push("The transcript has no lines of the trace, so the page can't tell what ran within what, or what waited. "
                 + "Run the script with --trace.");
         }

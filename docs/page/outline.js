@@ -197,7 +197,7 @@ globalThis.Cepage ??= {};
         pointed(target) {
             const element = target?.closest(".row, [data-lane], [data-stub]");
             const { due, end, lane, stub } = element?.dataset ?? {};
-            const hover = Number(due ?? end ?? lane ?? stub ?? 0);
+            const hover = Cepage.numberOf(due ?? end ?? lane ?? stub ?? "0");
             if (hover === this.hover) return;
             this.hover = hover;
             this.render();

@@ -62,7 +62,12 @@ globalThis.Cepage ??= {};
             const words = example.words.length > 0 ? `, run with ${example.words.join(" ")}` : "";
             const source = `examples/${example.name}.script${words}, status ${example.status}`;
             this.show(example.script, example.trace, source, example);
-            if (line) this.choseTranscript(this.places.indexOf(Number(line) - 1));
+            if (!line) return;
+            // A line of the trace that is not listed has its row all the same.
+            const at = this.places.indexOf(Number(line) - 1);
+            const row = this.run.rowOfLine[Number(line) - 1] ?? -1;
+            if (at >= 0) this.choseTranscript(at);
+            else if (row >= 0) this.goTo(row);
         }
 
         showOwn({ script, transcript, names }) {
@@ -131,21 +136,24 @@ globalThis.Cepage ??= {};
             this.view = new Cepage.View(this.run, find("brief").checked);
             this.outline.show(this.view, this.view.nearest(before));
             this.showStrip();
-            if (this.view.shown.length === 0) this.say("There is nothing to draw.");
+            if (this.view.shown.length > 0) return;
+            find("path").textContent = "";
+            find("waiting").textContent = "";
+            this.say("There is nothing to draw.");
         }
 
         seen(seen) {
             const top = Math.floor(this.outline.top / Cepage.ROW_HEIGHT);
             const index = this.view.shown[Math.min(top, this.view.shown.length - 1)];
-            find("path").textContent = Cepage.pathWords(this.view, index);
+            Cepage.write(find("path"), Cepage.pathWords(this.view, index));
             const waits = top > 0 ? seen.lanes.waiting[this.view.shown[top - 1]] : 0;
             find("waiting").textContent = waits > 0 ? `${Cepage.grouped(waits)} ${waits === 1 ? "waits" : "wait"}` : "";
             if (this.strip.view === this.view) this.strip.seen(this.outline.top, this.outline.height);
         }
 
         // Writes the line below the drawing.
-        say(text) {
-            Cepage.write(find("words"), text);
+        say(text, isComment) {
+            Cepage.write(find("words"), text, isComment);
         }
 
         // Tells of the row in focus, and lights its lines.
@@ -196,7 +204,10 @@ globalThis.Cepage ??= {};
             const heading = this.rowOfScriptLine.get(at + 1);
             const row = heading ?? this.namedAfter(at + 1);
             if (row >= 0) this.goTo(row);
-            else this.say(`Line ${at + 1} of the script has no row of its own: ${this.run.script.line(at + 1) ?? ""}`);
+            else {
+                const text = this.run.script.line(at + 1) ?? "";
+                this.say(`Line ${at + 1} of the script has no row of its own: ${text}`, this.run.script.kinds[at] === "comment");
+            }
         }
 
         // The next row behind the one in focus that is named after an action of this line; from the top behind the last.
@@ -238,29 +249,36 @@ globalThis.Cepage ??= {};
             const isOn = sought?.run === run && sought.focus === this.outline.index;
             const here = isOn ? sought.row : this.outline.index;
             const from = rows[here]?.line ?? 0;
-            for (let step = 1; step <= lines.length; step++) {
+            let found = -1;
+            for (let step = 1; step <= lines.length && (found < 0 || found === here); step++) {
                 const at = (from + (forward ? step : lines.length - step)) % lines.length;
-                if (!lines[at].includes(text) || (rowOfLine[at] === here && step < lines.length)) continue;
-                this.goTo(rowOfLine[at]);
-                this.sought = { run, row: rowOfLine[at], focus: this.outline.index };
+                if (lines[at].includes(text)) found = rowOfLine[at];
+            }
+            if (found < 0) {
+                this.say(`No line of the transcript has: ${text}`);
                 return;
             }
-            this.say(`No line of the transcript has: ${text}`);
+            // Where no other row has it, this one is found again.
+            this.goTo(found);
+            this.sought = { run, row: found, focus: this.outline.index };
         }
 
         toDrawing(index) {
+            // Where the run in the browser stands in its place, that goes.
+            this.onShown?.();
             this.tabs.choose("drawing");
             if (index >= 0) this.goTo(index);
             this.outline.tree.focus();
         }
 
         pressed(event) {
-            if (event.ctrlKey || event.altKey || event.metaKey || this.view.shown.length === 0) return;
+            if (event.ctrlKey || event.altKey || event.metaKey) return;
             if (event.key === "/") {
                 event.preventDefault();
                 find("find").focus();
                 return;
             }
+            if (this.view.shown.length === 0) return;
             const act = this.outline.act(event.key);
             if (!act) return;
             event.preventDefault();

@@ -14,11 +14,19 @@ globalThis.Cepage ??= {};
         return element;
     }
 
-    // Puts a text into an element. Each quoted text stands in a `bdi`: one that is written from right to left would change
-    // places with what stands beside it.
-    function write(element, text) {
-        const quoted = (piece) => piece.startsWith('"') ? make("bdi", "", piece) : piece;
-        element.replaceChildren(...Cepage.piecesOf(text).map(quoted));
+    // A piece of this length or more is no line of a script, and stays whole.
+    const LONG = 5000;
+    const isBeyond = (text) => /[^ -~]/.test(text);
+
+    // Puts a text into an element. Each quoted text, and each other word beyond ASCII, stands in a `bdi`: one that is written
+    // from right to left would change places with what stands beside it. The words of a comment stay together.
+    function write(element, text, isComment = false) {
+        const parted = (piece) => {
+            if (piece.startsWith('"')) return [make("bdi", "", piece)];
+            if (isComment || piece.length >= LONG || !isBeyond(piece)) return [piece];
+            return piece.split(/( +)/).map((word) => isBeyond(word) ? make("bdi", "", word) : word);
+        };
+        element.replaceChildren(...Cepage.piecesOf(text).flatMap(parted));
         return element;
     }
 
@@ -47,7 +55,7 @@ globalThis.Cepage ??= {};
 
     function command(run, row) {
         const line = run.script.line(row.scriptLine);
-        const parts = [make("span", "number", row.scriptLine || "?"), make("b", "code", line?.trim() ?? "a command")];
+        const parts = [make("span", "number", row.scriptLine || "?"), write(make("b", "code"), line?.trim() ?? "a command")];
         const { reply } = row;
         const wrong = !reply || reply.answer === "bad" || reply.answer === "throw";
         return [...parts, make("span", wrong ? "answer fault" : "answer", `→ ${reply?.text ?? "no reply"}`)];

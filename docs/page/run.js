@@ -22,7 +22,7 @@ globalThis.Cepage ??= {};
     // Names the node that a command has made, from its line.
     function nameNode(run, command, reply) {
         const making = Cepage.readMaking(run.script.line(reply.line) ?? "");
-        const node = Number(reply.text.slice(1));
+        const node = Cepage.numberOf(reply.text.slice(1));
         if (!making || run.elements.get(node)?.line) return;
         const element = run.element(node);
         element.variable = making.variable;

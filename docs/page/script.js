@@ -77,6 +77,11 @@ globalThis.Cepage ??= {};
             return this.lines[number - 1];
         }
 
+        // Tells whether the command of a line pushes an element queue.
+        pushes(number) {
+            return PUSHING.has(/^ *([^ ]*)/.exec(this.line(number) ?? "")[1]);
+        }
+
         // The number of the first command behind a line, or 0.
         commandAfter(number) {
             const index = this.kinds.indexOf("command", number);

@@ -6,6 +6,32 @@ const WIDTHS = [390, 620, 900, 1280];
 const LONG = `create $html html\n${'setattr $html k v\n'.repeat(700)}`;
 const LONG_TRANSCRIPT = `1: #2\n${Array.from({ length: 700 }, (none, at) => `${at + 2}: ok\n`).join('')}`;
 
+// Scripts with the transcripts of the program: names by which a form hides what a document has; nodes that a constructor
+// makes before its element is seen, and one that leaves the copy that it stands in.
+const ODD = [
+  [[
+    'create $html html', 'append doc $html', 'create $f form', 'setattr $f name createElement', 'append $html $f',
+    'create $g form', 'setattr $g name querySelector', 'append $html $g', 'create $k form',
+    'setattr $k name childNodes', 'append $html $k', 'create $e constructor', 'setattr $e name execCommand',
+    'append $f $e', 'ask kids doc', 'create $i input', 'setattr $i name a', 'append $f $i', 'user edit $i b',
+    'submit $f',
+  ], [
+    '1: #2', '2: ok', '3: #3', '4: ok', '5: ok', '6: #4', '7: ok', '8: ok', '9: #5', '10: ok', '11: ok', '12: #6',
+    '13: ok', '14: ok', '15: #2', '16: #7', '17: ok', '18: ok', '19: ok', 'submit #3 get "http://page.test/?a=b"',
+    '20: ok',
+  ]],
+  [[
+    'create $box div', 'create $x x-b', 'create $i input', 'append $box $x', 'append $box $i', 'check $i on',
+    'class B', 'on B constructor : create $p p', 'on B constructor : super', 'on B constructor : detach this',
+    'define x-b B', 'clone $copy $box deep', 'ask kids $copy', 'ask parent $p', 'class C',
+    'on C constructor : create $q p', 'on C constructor : super', 'on C constructor : append this $q',
+    'define x-c C extends div', 'create $d div is x-c', 'ask kids $d',
+  ], [
+    '1: #2', '2: #3', '3: #4', '4: ok', '5: ok', '6: throw TypeError', '11: ok', 'construct B', '12: #5', '13: #7',
+    '14: null', '19: ok', 'construct C', '20: #9', '21: #10',
+  ]],
+];
+
 async function choose(page, name) {
   await page.evaluate(`location.hash = ${JSON.stringify(name)}`);
   await page.until(`Cepage.page.example && Cepage.page.example.name === ${JSON.stringify(name)}`);
@@ -66,6 +92,23 @@ async function checkDifferences(page, faults) {
   faults.same('behind another script', (await state(page)).open, false);
 }
 
+async function checkOdd(page, faults) {
+  for (const [script, transcript] of ODD.map((texts) => texts.map((lines) => `${lines.join('\n')}\n`))) {
+    const counts = await page.evaluate(async (one, other) => (
+      CepageBrowser.compare(await CepageBrowser.run(one), other).counts), script, transcript);
+    faults.same('lines that are not the same', [counts.unexplained, counts.explained, counts.notRun], [0, 0, 0]);
+  }
+}
+
+// Escape goes back also where the focus is on nothing.
+async function checkEscape(page, faults) {
+  await choose(page, 'trace');
+  await run(page);
+  await page.click('.browser-summary');
+  await page.key('Escape');
+  faults.same('behind a press on a text and Escape', (await state(page)).open, false);
+}
+
 async function checkBytes(page, faults) {
   for (const name of ['lines/limits', 'lines/tokens_bytes_are_counted', 'lines/tokens_first_fault']) {
     await choose(page, name);
@@ -100,6 +143,8 @@ async function checkUse(page) {
   const faults = new Faults();
   await checkKeys(page, faults);
   await checkDifferences(page, faults);
+  await checkOdd(page, faults);
+  await checkEscape(page, faults);
   await checkBytes(page, faults);
   await checkLong(page, faults);
   return faults.list;

@@ -17,6 +17,7 @@ function wrongTexts({ script, trace }) {
     ['without the trace', script, lines.filter((line) => !line.startsWith('~')).join('\n'), 'no lines of the trace'],
     ['cut within a line', script, trace.slice(0, trace.indexOf('~ enq 3') + 9), 'does not fit. It is line'],
     ['cut within a command', script, `${lines.slice(0, 33).join('\n')}\n`, 'reactions wait'],
+    ['cut behind an answer', script, trace.slice(0, trace.indexOf('15: ok') + 7), 'no answer to line 18'],
     ['cut without a line feed', script, lines.slice(0, 30).join('\n'), 'no line feed'],
     ['a line too many', script, trace.replace('~ finish 1', '~ finish 1\nhello'), 'it is the text of no event'],
     ['a line twice', script, trace.replace('~ finish 2', '~ finish 2\n~ finish 2'), 'which is not open'],
@@ -109,6 +110,26 @@ async function checkDrops(page, faults, { script, trace }) {
   faults.same('a file that is chosen keeps its line ends', notes.includes('ends in a carriage return'), true);
 }
 
+// Numbers that no number of JavaScript can be are told apart, and shown as they stand.
+async function checkLarge(page, faults) {
+  const [one, other] = ['9007199254740992', '9007199254740993'];
+  const text = `~ open ${other}\n~ enq ${one} #${other} connected ${other}\n~ enq ${other} #${one} connected ${other}\n`;
+  const shown = await page.evaluate(`(() => {
+    const run = Cepage.readRun('', ${JSON.stringify(text)});
+    const view = new Cepage.View(run, false);
+    const wanted = 'Reaction ${other} becomes due: connected of #${one}, in queue ${other}.';
+    return [run.problems.length, Cepage.rowWords(view, 2).startsWith(wanted)];
+  })()`);
+  faults.same('large numbers', shown, [0, true]);
+}
+
+// What was run with the trace, and writes none, lacks none.
+async function checkNotes(page, faults) {
+  const told = await page.evaluate(`Cepage.examples.filter(({ script, trace }) => Cepage.notesOn(Cepage.readRun(script, trace))
+    .some(({ text }) => /no lines of the trace|no answer to/.test(text))).map(({ name }) => name)`);
+  faults.same('examples of which a note is wrong', told, []);
+}
+
 // Each example's script is taken for a script, and its transcript for a transcript, with and without the trace.
 async function checkGuesses(page, faults) {
   const wrong = await page.evaluate(`Cepage.examples.flatMap(({ name, script, trace }) => {
@@ -142,6 +163,8 @@ async function checkOpened(page) {
   const examples = await page.evaluate('Cepage.examples');
   const example = examples.find(({ name }) => name === 'trace');
   await checkGuesses(page, faults);
+  await checkLarge(page, faults);
+  await checkNotes(page, faults);
   const wrong = await checkWrong(page, faults, example);
   const broken = await checkDamaged(page, faults, examples);
   await checkDrops(page, faults, example);

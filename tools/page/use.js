@@ -113,6 +113,25 @@ async function checkFind(page, faults) {
   faults.same('what is not there', words, 'No line of the transcript has: connected nowhere');
 }
 
+// What only the row in focus has is found there; and where nothing is drawn, `/` leads to the field all the same.
+async function checkFindAgain(page, faults) {
+  await show(page, 'trace');
+  const words = () => page.evaluate('document.getElementById("words").textContent');
+  await page.evaluate('document.getElementById("find").value = "18: ok"; document.getElementById("find").focus()');
+  const told = [];
+  for (const key of ['Enter', 'Enter', 'Shift+Enter']) {
+    await page.key(key);
+    told.push((await words()).startsWith('Line 18: '));
+  }
+  faults.same('18: ok is found', told, [true, true, true]);
+  await page.evaluate(`Cepage.page.opener.onOpen({ script: 'create $a p', transcript: '1: #2', names: {} })`);
+  await page.evaluate('document.getElementById("tree").focus()');
+  await page.key('/');
+  const left = await page.evaluate('[document.activeElement.id, document.getElementById("path").textContent]');
+  faults.same('where nothing is drawn', left, ['find', '']);
+  await page.evaluate('document.getElementById("find").value = ""');
+}
+
 // The row in focus stays in the page where it is scrolled out of sight.
 async function keepsFocus(page, faults) {
   await show(page, 'abandoned');
@@ -227,6 +246,7 @@ async function checkUse(page) {
   await checkKeys(page, faults);
   await checkLinks(page, faults);
   await checkFind(page, faults);
+  await checkFindAgain(page, faults);
   await checkReader(page, faults);
   await checkWidths(page, faults);
   await checkContrast(page, faults);

@@ -34,6 +34,7 @@ globalThis.CepageBrowser ??= {};
 
     find("compare").addEventListener("click", open);
     find("browser-close").addEventListener("click", close);
-    find("browser").addEventListener("keydown", (event) => { if (event.key === "Escape") close(); });
+    // Also where the focus is on nothing, as behind a press on a text.
+    addEventListener("keydown", (event) => { if (pane && event.key === "Escape" && !find("opener").open) close(); });
     Cepage.page.onShown = leave;
 })();

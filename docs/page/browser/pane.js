@@ -55,13 +55,17 @@ globalThis.CepageBrowser ??= {};
         return script.split("\n").map(asRead).join("\n");
     }
 
-    // A line of a transcript: each quoted text stands in a `bdi`, as in the page's other lists.
-    function lineElement(className, line) {
+    // A text in code: each quoted text, and each word beyond ASCII, stands in a `bdi`, as in the page's other lists.
+    function codeElement(className, text) {
         const element = make("code", className);
-        const quoted = (piece) => (piece[0] === '"' ? make("bdi", "", piece) : piece);
-        if (line) element.append(...CepageBrowser.pieces(cut(line.text, WIDEST)).map(quoted));
+        const isApart = (part) => part[0] === '"' || /[^ -~]/.test(part);
+        const parted = (piece) => (piece[0] !== '"' && isApart(piece) ? piece.split(/( +)/) : [piece]);
+        const parts = CepageBrowser.pieces(text).flatMap(parted);
+        element.append(...parts.map((part) => (isApart(part) ? make("bdi", "", part) : part)));
         return element;
     }
+
+    const lineElement = (className, line) => codeElement(className, line ? cut(line.text, WIDEST) : "");
 
     function rowElement(row) {
         const { sign, label } = MARKS[row.mark];
@@ -87,7 +91,7 @@ globalThis.CepageBrowser ??= {};
         const element = make("section", `browser-command${differs(command) ? " browser-differs" : ""}`);
         const head = make("h3");
         const number = Number.isFinite(command.line) ? String(command.line) : "";
-        head.append(make("span", "browser-number", number), make("code", "", text));
+        head.append(make("span", "browser-number", number), codeElement("", text));
         element.append(head);
         // A reason stands once, behind the last row that it explains.
         command.rows.forEach((row, at) => {

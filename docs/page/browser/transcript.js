@@ -60,9 +60,14 @@ globalThis.CepageBrowser ??= {};
 
         of(number) {
             if (number < 1) return number;
-            let below = Math.min(number, this.highest);
-            while (!this.known.has(below)) below--;
+            const below = this.below(Math.min(number, this.highest));
             return this.known.get(below) + number - below;
+        }
+
+        // The nearest known number at this one or below. In a transcript of another engine it may be far.
+        below(number) {
+            for (let near = number; near > number - this.known.size; near--) if (this.known.has(near)) return near;
+            return [...this.known.keys()].reduce((most, known) => (known <= number && known > most ? known : most), 1);
         }
 
         // A line of the program's with the browser's numbers; `quoted`: also those that a body has logged.

@@ -16,20 +16,53 @@ CepageBrowser.frame.push(function base(run) {
     const escaped = (sign) => ESCAPES[sign] || `\\u{${sign.charCodeAt(0).toString(16)}}`;
     const quote = (text) => `"${text.replace(SPECIAL, escaped)}"`;
 
-    // What a node has by its interface: the controls of a form hide what has their names.
-    const taken = (node, name) => {
-        const value = Reflect.get(HTMLFormElement.prototype, name, node);
-        return typeof value === "function" ? value.bind(node) : value;
-    };
-    const bare = (node) => (node instanceof HTMLFormElement ? new Proxy(node, { get: taken }) : node);
+    // What a node has by its interface: the controls of a form hide what has their names, and the forms of a document do.
+    const HIDING = [HTMLFormElement, Document];
+    function bare(node) {
+        const hiding = HIDING.find((kind) => node instanceof kind);
+        if (!hiding) return node;
+        const get = (of, name) => {
+            const value = Reflect.get(hiding.prototype, name, of);
+            return typeof value === "function" ? value.bind(of) : value;
+        };
+        return new Proxy(node, { get });
+    }
 
-    // Numbers a node that is not known, and all of its tree in order: so a copy whose constructor runs before
-    // `cloneNode` has returned gets the number that it has in the transcript. A tree may be deeper than calls can stand.
-    function numberTree(top) {
+    // A tree in its order. It may be deeper than calls can stand.
+    function* inOrder(top) {
         for (const left = [top]; left.length;) {
             const node = left.pop();
-            if (!numbers.has(node)) numbers.set(node, ++last);
+            yield node;
             for (const child of [...bare(node).childNodes].reverse()) left.push(child);
+        }
+    }
+
+    // The operations that make nodes, the innermost last: the numbers that it has kept, and the nodes that have them.
+    const making = [];
+
+    // Makes nodes. So many stand before the first constructor runs, which may make others: their numbers are kept.
+    function make(count, act) {
+        const kept = { first: last + 1, count, nodes: [] };
+        last += count;
+        making.push(kept);
+        try {
+            return act(kept);
+        } finally {
+            making.pop();
+            if (!kept.nodes.length && last === kept.first + count - 1) last -= count;
+        }
+    }
+
+    // Numbers a node that is not known, and all of its tree in order: so a copy whose constructor runs before
+    // `cloneNode` has returned gets the number that it has in the transcript.
+    function numberTree(top) {
+        const kept = making.at(-1);
+        const takes = kept && !kept.nodes.length && kept.count && !numbers.has(top);
+        for (const node of inOrder(top)) {
+            if (numbers.has(node)) continue;
+            const isKept = takes && kept.nodes.length < kept.count;
+            numbers.set(node, isKept ? kept.first + kept.nodes.length : ++last);
+            if (isKept) kept.nodes.push(node);
         }
     }
 
@@ -88,7 +121,7 @@ CepageBrowser.frame.push(function base(run) {
 
     Object.assign(run, {
         lines: [], line: 0, steps: 0, depth: 0, ended: null, variables: new Map(), operations: {},
-        UserFault, bare, quote, number, write, stop, step, within, fault, isOverflow,
+        UserFault, bare, inOrder, make, quote, number, write, stop, step, within, fault, isOverflow,
         skipNumber: () => { last++; },
     });
 });

@@ -127,7 +127,7 @@ CepageBrowser.frame.push(function classes(run) {
     function baseFor(extended) {
         if (extended === undefined) return HTMLElement;
         try {
-            return document.implementation.createHTMLDocument("").createElement(extended).constructor;
+            return run.bare(document).implementation.createHTMLDocument("").createElement(extended).constructor;
         } catch {
             return HTMLElement;
         }
@@ -152,9 +152,11 @@ CepageBrowser.frame.push(function classes(run) {
     run.operations.define = define;
     run.operations.new = ([variable, className]) => {
         const owner = classNamed(className);
-        const node = Reflect.construct(classFor(owner, HTMLElement), []);
-        run.variables.set(variable, node);
-        return run.number(node);
+        return run.make(0, () => {
+            const node = Reflect.construct(classFor(owner, HTMLElement), []);
+            run.variables.set(variable, node);
+            return run.number(node);
+        });
     };
 
     // The class by whose definition the node is what it is; one that its upgrade has lost has none any more. One that
@@ -170,6 +172,11 @@ CepageBrowser.frame.push(function classes(run) {
     run.constructed = () => [...constructing];
     run.isConstructing = (node) => constructing.has(node);
     run.isLost = (node) => byPrototype.has(Object.getPrototypeOf(node)) && !run.classOf(node);
+    // Whether an element is made first and then upgraded: by a definition that extends one.
+    run.isUpgradedAtOnce = (name, is) => {
+        const extended = run.definitionNamed(is)?.defined.extended;
+        return extended !== undefined && extended === name.toLowerCase() && !byName.has(extended);
+    };
     run.definitionNamed = (name) => [...known.values()].find((owner) => owner.defined && owner.defined.name === name);
     run.part = ({ word, args }) => parts[word](...args);
 });

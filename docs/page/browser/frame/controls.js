@@ -38,7 +38,7 @@ CepageBrowser.frame.push(function controls(run) {
         return internals.get(node);
     }
 
-    const isFocused = (node) => node.getRootNode().activeElement === node;
+    const isFocused = (node) => run.bare(node.getRootNode()).activeElement === node;
 
     // As near to typing as a script comes: the text takes the place of what is there, and is cut at `maxlength`. No newline
     // can be typed into an input. What can't be focused gets its value set.
@@ -47,7 +47,7 @@ CepageBrowser.frame.push(function controls(run) {
         node.focus({ preventScroll: true });
         if (isFocused(node)) {
             node.select();
-            document.execCommand(text ? "insertText" : "delete", false, text);
+            run.bare(document).execCommand(text ? "insertText" : "delete", false, text);
             if (!text) node.value = "";
             node.blur();
         } else node.value = text;

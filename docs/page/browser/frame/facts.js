@@ -80,7 +80,7 @@ CepageBrowser.frame.push(function facts(run) {
     }
 
     run.facts = (node) => {
-        if (!(node instanceof Element)) return { kind: node.nodeName, number: run.number(node) };
+        if (!(node instanceof Element)) return { kind: run.bare(node).nodeName, number: run.number(node) };
         const bare = run.bare(node);
         const has = (name) => bare.hasAttribute(name);
         const owner = run.classOf(node);

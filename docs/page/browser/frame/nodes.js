@@ -7,7 +7,7 @@ CepageBrowser.frame ??= [];
 
 CepageBrowser.frame.push(function nodes(run) {
     // Attributes by which an element would fetch, or go elsewhere, without a policy that could hold it back.
-    const LEAVING = { meta: ["http-equiv"], link: ["rel"] };
+    const LEAVING = new Map([["meta", ["http-equiv"]], ["link", ["rel"]]]);
 
     function set(variable, node) {
         run.variables.set(variable, node);
@@ -26,14 +26,27 @@ CepageBrowser.frame.push(function nodes(run) {
     };
 
     function emptyDocument() {
-        const made = document.implementation.createHTMLDocument("");
+        const made = run.bare(document).implementation.createHTMLDocument("");
         made.replaceChildren();
         return made;
     }
 
     function create([variable, name, is, within], here) {
         const owner = documentOf(within, here);
-        return set(variable, is === undefined ? owner.createElement(name) : owner.createElement(name, { is }));
+        const isFirst = is !== undefined && owner === document && run.isUpgradedAtOnce(name, is);
+        const options = is === undefined ? [] : [{ is }];
+        return run.make(isFirst ? 1 : 0, () => set(variable, run.bare(owner).createElement(name, ...options)));
+    }
+
+    // All copies stand before a constructor runs. `copies` has each node with its copy.
+    function clone([variable, operand, deep], here) {
+        const node = run.node(operand, here);
+        const originals = deep ? [...run.inOrder(node)] : [node];
+        return run.make(originals.length, (kept) => {
+            const reply = set(variable, Node.prototype.cloneNode.call(node, Boolean(deep)));
+            run.copies = originals.map((original, at) => [original, kept.nodes[at]]).filter(([, copy]) => copy);
+            return reply;
+        });
     }
 
     function detach([operand], here) {
@@ -44,18 +57,19 @@ CepageBrowser.frame.push(function nodes(run) {
 
     function setAttribute([operand, name, value], here) {
         const node = elementOf(operand, here);
-        const leaving = LEAVING[node.localName] || [];
+        const leaving = LEAVING.get(node.localName) || [];
         if (leaving.includes(name.toLowerCase())) run.stop("leaves", `${node.localName} ${name}`);
         Element.prototype.setAttribute.call(node, name, run.value(value, here));
     }
 
     Object.assign(run.operations, {
         create,
-        text: ([variable, text, within], here) => set(variable, documentOf(within, here).createTextNode(text)),
-        doc: ([variable]) => set(variable, emptyDocument()),
-        shadow: ([variable, host], here) => set(variable, elementOf(host, here).attachShadow({ mode: "open" })),
-        clone: ([variable, node, deep], here) => (
-            set(variable, Node.prototype.cloneNode.call(run.node(node, here), Boolean(deep)))),
+        text: ([variable, text, within], here) => (
+            run.make(0, () => set(variable, run.bare(documentOf(within, here)).createTextNode(text)))),
+        doc: ([variable]) => run.make(0, () => set(variable, emptyDocument())),
+        shadow: ([variable, host], here) => (
+            run.make(0, () => set(variable, elementOf(host, here).attachShadow({ mode: "open" })))),
+        clone,
         append: ([parent, node], here) => {
             Node.prototype.appendChild.call(run.node(parent, here), run.node(node, here));
         },

@@ -32,7 +32,7 @@ CepageBrowser.frame.push(function submit(run) {
     // The document's base URL, had the page the URL of the run: a `base` whose URL does not parse, or is of the schemes
     // `data` or `javascript`, doesn't count.
     function baseUrl() {
-        const base = document.querySelector("base[href]");
+        const base = run.bare(document).querySelector("base[href]");
         const url = base && parsed(base.getAttribute("href"), run.words.url);
         return url && !/^(data|javascript):$/.test(url.protocol) ? url : new URL(run.words.url);
     }
@@ -140,7 +140,7 @@ CepageBrowser.frame.push(function submit(run) {
         if (controls.some(isChoice)) variants.derived = { url, entries: withDerived(entries, controls) };
         const action = said(form, submitter, "action");
         const ofPage = parsed(action, run.words.url);
-        if (document.querySelector("base[href]") && action && ofPage) variants.base = { entries, url: ofPage };
+        if (run.bare(document).querySelector("base[href]") && action && ofPage) variants.base = { entries, url: ofPage };
         if (/\|/.test(action)) variants.bar = { entries, url: { href: url.href.replace(/%7C/g, "|") } };
         return variants;
     }
@@ -222,7 +222,7 @@ CepageBrowser.frame.push(function submit(run) {
     function userReset([operand], here) {
         const form = run.one("form", operand, here);
         if (!isInPage(form)) return void prototype.reset.call(form);
-        const button = document.createElement("button");
+        const button = run.bare(document).createElement("button");
         button.type = "reset";
         Node.prototype.appendChild.call(form, button);
         const isOff = button.matches(":disabled");

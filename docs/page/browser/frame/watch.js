@@ -73,15 +73,6 @@ CepageBrowser.frame.push(function watched(run) {
         }
     }
 
-    function copied(top, copyOfTop, deep) {
-        for (const left = [[top, copyOfTop]]; left.length;) {
-            const [node, copy] = left.pop();
-            copiedOne(node, copy, deep);
-            const made = run.bare(copy).childNodes;
-            if (deep) [...run.bare(node).childNodes].forEach((child, index) => left.push([child, made[index]]));
-        }
-    }
-
     function copiedOne(node, copy, deep) {
         const isSet = sets.valueSet.has(node);
         if (node instanceof HTMLInputElement || node instanceof HTMLTextAreaElement) {
@@ -121,7 +112,18 @@ CepageBrowser.frame.push(function watched(run) {
 
     // What the browser enqueues nothing for: an element that is custom, or whose constructor runs.
     const isUpgraded = (node) => node instanceof Element && Boolean(run.classOf(node));
-    const hasUpgraded = (node, test) => test(node) || [...run.bare(node).childNodes].some((child) => hasUpgraded(child, test));
+
+    // Whether a tree has such a node, its shadow trees too.
+    function hasUpgraded(top, test) {
+        for (const left = [top]; left.length;) {
+            for (const node of run.inOrder(left.pop())) {
+                if (test(node)) return true;
+                const { shadowRoot } = run.bare(node);
+                if (shadowRoot) left.push(shadowRoot);
+            }
+        }
+        return false;
+    }
 
     function watchUpgrade(word, index, test) {
         watch(word, (args, here) => {
@@ -148,9 +150,8 @@ CepageBrowser.frame.push(function watched(run) {
         const button = nodeOf(args, here);
         return () => { if (button.type === "reset" && button.form) forget(button.form); };
     });
-    watch("clone", ([variable, operand, deep], here) => {
-        const node = run.node(operand, here);
-        return () => copied(node, run.variables.get(variable), Boolean(deep));
+    watch("clone", ([, , deep]) => () => {
+        for (const [node, copy] of run.copies) copiedOne(node, copy, Boolean(deep));
     });
     watch("create", ([variable, , is]) => () => { if (is !== undefined) isValues.set(run.variables.get(variable), is); });
     for (const word of ["setattr", "delattr"]) {
@@ -162,7 +163,7 @@ CepageBrowser.frame.push(function watched(run) {
     // The facts of a reply: which operand they are about.
     const ABOUT = {
         internals: 0, formvalue: 0, formlist: 0, formnull: 0, validity: 0, shadow: 1, clone: 1, "user press": 0, request: -1,
-        append: 1, before: 1, remove: 1, detach: 0, adopt: 1,
+        "user choose": 0, append: 1, before: 1, remove: 1, detach: 0, adopt: 1,
     };
     const MOVING = ["append", "before", "remove", "detach", "adopt"];
     const formsWithin = (node) => [node, ...run.bare(node).querySelectorAll("form")].filter(run.is.form).map(run.number);

@@ -13,15 +13,18 @@ globalThis.CepageBrowser ??= {};
 
     // ---- options and selects
 
+    // An option that is disabled in a browser alone: the question says so, and the user may not choose it.
+    const isDisabledThere = ({ was, is, what, facts, command: { form } }) => facts.kind === "option"
+        && (what === "disabled" ? was === "no" && is === "yes"
+            : Boolean(form) && form.word === "user choose" && was === "ok" && is === "ignored");
+
     row("an option of a group further up", browsers("an-option-further-down-in-a-disabled-optgroup"),
         "in Chromium a disabled optgroup disables the options further down too",
-        ({ was, is, what, facts }) => what === "disabled" && facts.kind === "option" && facts.groupFurtherUp
-            && was === "no" && is === "yes");
+        (one) => isDisabledThere(one) && one.facts.groupFurtherUp);
 
     row("an option of a disabled select", browsers("an-option-of-a-disabled-select"),
         "in Chromium an option of a select that is disabled is disabled too",
-        ({ was, is, what, facts }) => what === "disabled" && facts.kind === "option" && facts.selectOff
-            && was === "no" && is === "yes");
+        (one) => isDisabledThere(one) && one.facts.selectOff);
 
     row("an option further down in a select", browsers("an-option-further-down-in-a-select"),
         "in Chromium the options of a select are those further down too",
@@ -76,6 +79,11 @@ globalThis.CepageBrowser ??= {};
     row("a type that is not here", profile("types"), "a browser reads the value as its type wants it",
         ({ was, what, facts }) => what === "value" && facts.kind === "input" && CONVERTED.includes(facts.type)
             && was === facts.kept);
+
+    row("the value of an input of the type `file`", browsers("inputs-of-the-types-file-and-image"),
+        "in a browser its value is the name of the file that was chosen",
+        ({ was, is, what, facts }) => what === "value" && facts.kind === "input" && facts.type === "file"
+            && was === facts.kept && is === '""');
 
     // ---- what a form owns
 
