@@ -159,6 +159,7 @@ export class Session {
     const { number, line } = this.#waiting[this.#first];
     this.#over = `the fuel was spent in line ${number}: ${cut(line)}`;
     this.#isSpent = true;
+    this.#child.stdin.end();
     this.#answer();
   }
 

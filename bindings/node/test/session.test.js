@@ -116,6 +116,12 @@ test("the fuel ends it", async () => {
   assert.equal((await page.close()).status, "Fuel");
 });
 
+test("the fuel ends one that reads on", async () => {
+  const page = new Session({ program: programOf("read line; echo fuel; cat > /dev/null; exit 3") });
+  assert.deepEqual((await page.command("create $a p")).texts, ["fuel"]);
+  await assert.rejects(page.command("create $b p"), ({ status }) => status === "Fuel");
+});
+
 test("one that is disposed of is closed", async () => {
   const page = new Session();
   await page[Symbol.asyncDispose]();

@@ -1,5 +1,4 @@
 """A script run by starting the program."""
-import contextlib
 import os
 import shutil
 import signal
@@ -41,14 +40,11 @@ class Started(subprocess.Popen[bytes]):
     def wait(self, timeout: Optional[float] = None) -> int:
         if self.returncode is None:
             try:
-                told = os.waitid(os.P_PID, self.pid, os.WEXITED | os.WNOWAIT)
+                self.returncode = os.waitstatus_to_exitcode(os.waitpid(self.pid, 0)[1])
             except ChildProcessError:
+                self.returncode = 0  # so that `subprocess` does not say that it still runs
                 raise CepageError(STATUS_TAKEN) from None
-            if told is not None:
-                self.returncode = told.si_status if told.si_code == os.CLD_EXITED else -told.si_status
-            with contextlib.suppress(ChildProcessError):
-                os.waitpid(self.pid, 0)
-        return super().wait(timeout)
+        return self.returncode
 
 
 def run_program(program: Named, script: bytes, options: Options) -> Tuple[Status, bytes]:

@@ -68,8 +68,8 @@ class Session:
         if self._over or self._pipe is None:
             raise SessionEnded(self._over, self._named())
         before = len(self._history.wrote)
-        self._history.script.append(text)
         try:
+            self._history.script.append(text)
             self._pipe.give(text + b"\n")
             if not is_unanswered(line):
                 self._wait(self._pipe, line)
@@ -91,9 +91,8 @@ class Session:
     def close(self) -> Run:
         """Ends the script, and gives the whole session as a run."""
         if self._pipe is not None:
-            self._pipe.stop_giving()
-            self._take_rest(self._pipe)
             self._over = self._over or "it was closed"
+            self._take_rest(self._pipe)
         status = self._named()
         if self._status is None:
             raise CepageError(STATUS_TAKEN)
@@ -119,7 +118,8 @@ class Session:
                 return
 
     def _take_rest(self, pipe: Pipe) -> None:
-        """Takes what the program writes to its end, and its status."""
+        """Ends what the program reads, and takes what it writes to its end, and its status."""
+        pipe.stop_giving()
         self._history.wrote.extend(iter(pipe.line, None))
         self._history.rest = pipe.rest
         self._pipe = None

@@ -8,6 +8,7 @@ import signal
 import stat
 import tempfile
 import unittest
+import warnings
 from concurrent.futures import ThreadPoolExecutor
 from unittest import mock
 
@@ -79,7 +80,6 @@ class Running(unittest.TestCase):
         script = "create $a p\n" + 'text $t "' + "é" * 2000 + '"\n' + "append $a $t\nclone $t $t\n" + "ask value $a\n" * 9_000
         self.assertEqual(run(script).bytes, run(script, library=False).bytes)
         self.assertGreater(len(run(script).bytes), 65_536)
-
 
     def test_eight_threads_at_once(self) -> None:
         script = example("review.script")
@@ -187,13 +187,18 @@ class Finding(unittest.TestCase):
 
         before = signal.signal(signal.SIGCHLD, take)
         try:
-            for _ in range(10):
-                with self.assertRaises(CepageError):
-                    run("", program=program_of("cat > /dev/null; exit 42"))
-                page = Session(program=program_of("read line; exit 42"))
-                for _ in range(2):
+            with warnings.catch_warnings(record=True) as warned:
+                warnings.simplefilter("always")
+                for _ in range(10):
                     with self.assertRaises(CepageError):
-                        page.close()
+                        run("", program=program_of("cat > /dev/null; exit 42"))
+                    page = Session(program=program_of("read line; exit 42"))
+                    for _ in range(2):
+                        with self.assertRaises(CepageError):
+                            page.close()
+                    with self.assertRaisesRegex(SessionEnded, "it was closed"):
+                        page.command("create $a p")
+            self.assertEqual(warned, [])
         finally:
             signal.signal(signal.SIGCHLD, before)
 

@@ -99,6 +99,13 @@ class Ends(unittest.TestCase):
             self.assertIs(ended.exception.status, Status.FUEL)
         self.assertIs(page.close().status, Status.FUEL)
 
+    def test_the_fuel_ends_one_that_reads_on(self) -> None:
+        page = Session(program=program_of("read line; echo fuel; cat > /dev/null; exit 3"))
+        self.assertEqual(page.command("create $a p").texts, ("fuel",))
+        with self.assertRaises(SessionEnded) as ended:
+            page.command("create $b p")
+        self.assertIs(ended.exception.status, Status.FUEL)
+
     def test_a_closed_one_takes_no_line(self) -> None:
         page = Session()
         self.assertIs(page.close().status, Status.DONE)
@@ -149,8 +156,7 @@ class Ends(unittest.TestCase):
         before = signal.signal(signal.SIGALRM, late)
         self.addCleanup(signal.signal, signal.SIGALRM, before)
         for line in ("create $a p", "#" * 3_000_000):
-            page = Session(program=program_of("sleep 0.5; read line; echo '1: #2'; cat > /dev/null"))
-            signal.setitimer(signal.ITIMER_REAL, 0.1)
+            page = Session(program=program_of("head -c 9 > /dev/null; kill -ALRM $PPID; cat > /dev/null; echo '1: #2'"))
             with self.assertRaises(Late):
                 page.command(line)
             with self.assertRaisesRegex(SessionEnded, "Late came within line 1: "):

@@ -185,7 +185,7 @@ fn of_very_many_callbacks_and_entries_those_about_the_difference_are_told() {
     let entries: Vec<(&str, &str)> = numbers.iter().map(|k| ("n", k.as_str())).collect();
     sent.expect_sent(entries.clone());
     let other = entries[..299].iter().copied().chain([("n", "other")]);
-    let message = told(std::panic::AssertUnwindSafe(|| sent.expect_sent(other)));
+    let message = told(|| sent.expect_sent(other));
     assert!(message.contains("    (\"n\", \"other\")\ncame:\n    behind 200 lines\n"), "{message}");
     assert!(message.contains("    (\"n\", \"299\")\ntrace"), "{message}");
 }

@@ -99,6 +99,15 @@ fn the_fuel_ends_it() {
 }
 
 #[test]
+fn the_fuel_ends_one_that_reads_on() {
+    let program = program_of("read line; echo fuel; cat > /dev/null; exit 3");
+    let mut page = Options::new().program(program).session().unwrap();
+    assert_eq!(page.command("create $a p").unwrap().texts(), ["fuel"]);
+    let over = page.command("create $b p").unwrap_err();
+    assert!(matches!(over, Error::SessionEnded { status: Some(Status::Fuel), .. }));
+}
+
+#[test]
 fn refused_options_end_it() {
     let mut page = Options::new().boundary("a-b").session().unwrap();
     let over = page.command("create $a p").unwrap_err();
