@@ -30,15 +30,22 @@ CepageBrowser.frame.push(function facts(run) {
             derivedMissing: isMissing(select, options, derived), noneFlagged: !options.some(isFlagged),
             deepOption: shown.some((option) => selectOf(option) !== select),
             setOff: shown.some((option) => isSetOff(option) && option.hasAttribute("selected") && option.selected),
+            placeholderBehind: isBehind(select, placeholderOf(select, options)),
         };
+    }
+
+    const placeholderOf = (select, [first]) => (first && first.parentNode === select && first.value === "" ? first : null);
+
+    // Whether an `hr` or an optgroup stands before a child of a select.
+    function isBehind(select, child) {
+        const children = [...select.children];
+        return children.slice(0, children.indexOf(child) + 1).some((one) => ["hr", "optgroup"].includes(one.localName));
     }
 
     // Whether a required select has nothing chosen, or its placeholder alone.
     function isMissing(select, options, chosen) {
         if (!select.hasAttribute("required")) return false;
-        const [first] = options;
-        const isPlaceholder = (option) => option === first && option.parentNode === select && option.value === "";
-        return !chosen.length || (!select.multiple && isPlaceholder(chosen[0]));
+        return !chosen.length || (!select.multiple && placeholderOf(select, options) === chosen[0]);
     }
 
     function optionFacts(option) {

@@ -45,7 +45,7 @@ globalThis.CepageBrowser ??= {};
     row("a select that is missing", browsers("the-first-option-that-is-enabled"),
         "in a browser the choice is made once and kept",
         ({ was, is, what, facts }) => what === "valid" && isSelect(facts) && facts.required && facts.noneFlagged
-            && was === (facts.derivedMissing ? "valueMissing" : "valid")
+            && !facts.placeholderBehind && was === (facts.derivedMissing ? "valueMissing" : "valid")
             && is === (facts.derivedMissing ? "valid" : "valueMissing"));
 
     // ---- radio buttons

@@ -23,6 +23,11 @@ globalThis.CepageBrowser ??= {};
             && !facts.named && facts.required && !facts.derived
             && was.includes("valueMissing") && less(was, "valueMissing") === is);
 
+    row("a placeholder behind others", browsers("a-placeholder-behind-an-hr"),
+        "in Chromium an `hr` or an optgroup before it keeps an option from being the placeholder",
+        ({ was, is, what, facts }) => what === "valid" && facts.kind === "select" && facts.required && facts.placeholderBehind
+            && was.includes("valueMissing") && less(was, "valueMissing") === is);
+
     row("`readonly` on other inputs than texts", browsers("readonly-on-a-checkbox"),
         "Chromium bars every input that has it",
         ({ was, is, what, facts }) => what === "candidate" && facts.kind === "input" && facts.readonly
@@ -38,6 +43,8 @@ globalThis.CepageBrowser ??= {};
         "typed by the user": ({ edited }, isHere) => isHere && edited,
         "a required radio button without a name": (facts, isHere) => isHere && isInput(facts, "radio")
             && !facts.named && facts.required,
+        "a placeholder behind others": (facts, isHere) => isHere && facts.kind === "select" && facts.required
+            && facts.placeholderBehind,
         "`readonly` on other inputs than texts": (facts, isHere) => isHere && facts.kind === "input" && facts.readonly
             && !isInput(facts, ...TEXTS, ...OTHER_TYPES),
         "a select that is missing": (facts, isHere) => facts.kind === "select" && facts.required && facts.noneFlagged
