@@ -8,7 +8,7 @@ CepageBrowser.frame ??= [];
 
 CepageBrowser.frame.push(function derived(run) {
     const flags = new WeakMap();
-    const SETS = ["edited", "valueSet", "retyped", "moved", "shallowCopy"];
+    const SETS = ["edited", "valueSet", "retyped", "moved", "shallowCopy", "notReset", "copied"];
     const sets = Object.fromEntries(SETS.map((name) => [name, new WeakSet()]));
     const isValues = new WeakMap();
     const rawValues = new WeakMap();
@@ -78,7 +78,8 @@ CepageBrowser.frame.push(function derived(run) {
     // The value of an input where what was set stays with it, whatever its type is since; of a textarea what was set.
     function keptValue(node) {
         if (node instanceof HTMLTextAreaElement) {
-            return rawValues.has(node) ? rawValues.get(node).replace(/\r\n|\r/g, "\n") : node.value;
+            if (!rawValues.has(node)) return sets.notReset.has(node) ? node.defaultValue : node.value;
+            return rawValues.get(node).replace(/\r\n|\r/g, "\n");
         }
         const own = ownAttributes.has(node) ? ownAttributes.get(node) : node.getAttribute("value");
         const attribute = (otherwise) => (own === null ? otherwise : own);

@@ -97,8 +97,9 @@ CepageBrowser.frame.push(function facts(run) {
             readonly: has("readonly"), required: has("required"),
             form: has("form"), connected: bare.isConnected, defined: bare.matches(":defined"), lost: run.isLost(node),
             constructing: run.isConstructing(node), internals: run.internals.has(node), associated: run.isAssociated(node),
+            autonomous: Boolean(owner && owner.defined.extended === undefined),
             extendsAssociated: Boolean(owner && owner.associated && owner.defined.extended !== undefined),
-            isOfAnother: isOfAnother(node), is: isValues.get(node),
+            isOfAnother: isOfAnother(node), is: isValues.get(node), viewed: Boolean(bare.ownerDocument.defaultView),
             ...Object.fromEntries(Object.entries(sets).map(([name, set]) => [name, set.has(node)])),
             ...formFacts(node), ...kindFacts(node),
         };

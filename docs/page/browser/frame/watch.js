@@ -34,7 +34,7 @@ CepageBrowser.frame.push(function watched(run) {
             const text = run.value(args[1], here);
             return () => {
                 sets.valueSet.add(node);
-                sets.moved.delete(node);
+                for (const set of [sets.moved, sets.notReset]) set.delete(node);
                 rawValues.set(node, text);
                 if (isTyped) sets.edited.add(node);
                 else sets.edited.delete(node);
@@ -64,8 +64,11 @@ CepageBrowser.frame.push(function watched(run) {
         });
     }
 
+    // A reset, which Chromium leaves undone in a document without a view.
     function forget(form) {
+        const isDone = Boolean(run.bare(form).ownerDocument.defaultView);
         for (const control of run.elementsOf(form)) {
+            if (!isDone) sets.notReset.add(control);
             for (const node of control instanceof HTMLSelectElement ? optionsOf(control) : [control]) flags.delete(node);
             sets.valueSet.delete(control);
             rawValues.delete(control);
@@ -74,6 +77,7 @@ CepageBrowser.frame.push(function watched(run) {
     }
 
     function copiedOne(node, copy, deep) {
+        sets.copied.add(copy);
         const isSet = sets.valueSet.has(node);
         if (node instanceof HTMLInputElement || node instanceof HTMLTextAreaElement) {
             if (flags.has(node)) flags.set(copy, flags.get(node));
@@ -163,7 +167,7 @@ CepageBrowser.frame.push(function watched(run) {
     // The facts of a reply: which operand they are about.
     const ABOUT = {
         internals: 0, formvalue: 0, formlist: 0, formnull: 0, validity: 0, shadow: 1, clone: 1, "user press": 0, request: -1,
-        "user choose": 0, append: 1, before: 1, remove: 1, detach: 0, adopt: 1,
+        "user choose": 0, append: 1, before: 1, remove: 1, detach: 0, adopt: 1, reset: 0, "user reset": 0,
     };
     const MOVING = ["append", "before", "remove", "detach", "adopt"];
     const formsWithin = (node) => [node, ...run.bare(node).querySelectorAll("form")].filter(run.is.form).map(run.number);

@@ -215,6 +215,16 @@ globalThis.CepageBrowser ??= {};
 
     // ---- behind one that threw
 
+    // Nobody is told in the browser, so all that the program wrote before the reply follows from what it told.
+    command("who is told of a reset in another document", browsers("a-reset-in-another-document"),
+        "in Chromium a form isn't reset in a document without a view", (rows, { form }) => {
+            if (!form || !["reset", "user reset"].includes(form.word)) return [];
+            const isNotReset = rows.some(({ browser }) => browser?.reply && browser.subject?.viewed === false);
+            const program = blocksOf(rows, "program");
+            const isOfReset = program.length && /^call #\d+ formReset\n/.test(program[0].text);
+            return isNotReset && isOfReset && !blocksOf(rows, "browser").length ? differing(program) : [];
+        });
+
     row("internals behind an upgrade that threw", browsers("internals-behind-an-upgrade-that-threw"),
         "in Chromium an element that its upgrade has lost takes a submission value and flags",
         ({ was, is, facts, command: { form } }) => Boolean(form)

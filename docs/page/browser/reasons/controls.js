@@ -11,6 +11,13 @@ globalThis.CepageBrowser ??= {};
     const isRadio = (facts) => facts.kind === "input" && facts.type === "radio";
     const yes = (truth) => (truth ? "yes" : "no");
 
+    // ---- resets
+
+    row("a reset in another document", browsers("a-reset-in-another-document"),
+        "in Chromium a form isn't reset in a document without a view",
+        ({ was, what, facts }) => facts.notReset && (what === "value" ? was === (isSelect(facts) ? facts.derived : facts.kept)
+            : what === "checked" && was === yes(facts.derived)));
+
     // ---- options and selects
 
     // An option that is disabled in a browser alone: the question says so, and the user may not choose it.

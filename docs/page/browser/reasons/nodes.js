@@ -43,6 +43,11 @@ globalThis.CepageBrowser ??= {};
         ({ was, is, facts, command }) => isWord(command, "shadow") && isNode(was) && is === "throw NotSupportedError"
             && facts.isOfAnother);
 
+    row("an `is` value that a clone keeps", browsers("an-is-value-that-is-kept"),
+        "in Chromium a clone by an autonomous definition has no `is` value",
+        ({ was, is, facts, command }) => isWord(command, "internals") && was === "throw NotSupportedError" && is === "ok"
+            && facts.copied && facts.is !== undefined && facts.autonomous);
+
     const isSelectWithoutShadow = (command, run) => isWord(command, "create")
         && command.form.args[1].toLowerCase() === "select" && run.disablesShadow(command.form.args[2]);
     anyRow("a select whose class disables shadow", browsers("a-select-whose-class-disables-shadow"),
