@@ -1,4 +1,4 @@
-// Rows of sessions and tables: a step in words, and what it gives.
+// Rows of tables: a step in words, and what it gives.
 use ce_base::Text;
 use std::alloc::{AllocError, Global};
 use std::process::Abort;

@@ -29,6 +29,13 @@ set_put s t n m u = let at = u.0 m in let e = number_test n m in grind (arith, a
 set_taken : (s t : BTreeSet ℕ) (n m : ℕ) → sets.UpdatesBy nat_cmp (nat_cmp n) s t false → contains nat_cmp t m ≡ (contains nat_cmp s m && not (n == m))
 set_taken s t n m u = let at = u.0 m in let e = number_test n m in grind (arith, at, e)
 
+nothing_found : (t : BTreeSet ℕ) → ((m : ℕ) → contains nat_cmp t m ≡ false) → sets.btree_set_len t ≡ 0
+nothing_found t none = go t.keys none
+  where
+    go : (ks : List ℕ) → ((m : ℕ) → list_any (λ k. is_eq (nat_cmp m k)) ks ≡ false) → length ks ≡ 0
+    go [] e = refl
+    go (k ∷ ks) e = let same = number_test k k in let found = e k in grind (arith, same, found)
+
 -- this group was written at the id, and none at another
 abbrev Puts : {Y : Type 0} → BTreeMap (String Y) (BTreeSet ℕ) → BTreeMap (String Y) (BTreeSet ℕ) → List ℕ → BTreeSet ℕ → Type 0
 Puts old new id t = (q : List ℕ) → get_by_text new q ≡ cond (bytes_eq id q) (Some t) (get_by_text old q)
@@ -84,6 +91,9 @@ module _ {Y : Type 0} (old new : BTreeMap (String Y) (BTreeSet ℕ)) (id : List 
   pub now_there : get_by_text new id ≡ Some t
   now_there = (writes.3 (subst IsSome was refl)).1
 
+  pub held_by_none : ((m : ℕ) → holds new id m ≡ false) → sets.btree_set_len t ≡ 0
+  held_by_none none = nothing_found t (λ m. sym (ap (λ o. option_map_or (λ g. contains nat_cmp g m) o false) now_there) ∙ none m)
+
   pub kept : sets.IsUnchanged s t → (q : List ℕ) (m : ℕ) → holds new q m ≡ holds old q m
   kept e = changed old new id t puts (λ a b. a) n (λ b. refl) (λ m. ap (λ ks. contains nat_cmp (record { keys = ks }) m) e ∙ held m)
 
@@ -105,6 +115,12 @@ module _ {Y : Type 0} (old new : BTreeMap (String Y) (BTreeSet ℕ)) (id : List 
         ∙ sym (ap (λ o. option_map_or (λ s. contains nat_cmp s m) o false) there ∙ no_keys t m none)
     | false ↦ λ e. ap (λ o. option_map_or (λ s. contains nat_cmp s m) o false) (gone q ∙ ap (λ b. cond b None (get_by_text old q)) e)
   ] refl
+
+  pub forgotten : is_some (get_by_text new id) ≡ false
+  forgotten = ap is_some (gone id ∙ ap (λ b. cond b None (get_by_text old id)) ((bytes_eq-Decides id id).1 refl))
+
+  pub others_stay : (q : List ℕ) → bytes_eq id q ≡ false → is_some (get_by_text new q) ≡ is_some (get_by_text old q)
+  others_stay q e = ap is_some (gone q ∙ ap (λ b. cond b None (get_by_text old q)) e)
 
 -- in a new group, where the look-up left the map as it was
 module _ {Y : Type 0} (old mid new : BTreeMap (String Y) (BTreeSet ℕ)) (id : List ℕ) (s t : BTreeSet ℕ) (n : ℕ) (same : mid ≡ old)

@@ -39,6 +39,7 @@ impl IdIndex {
         ensures ok { OnOk result ((q : List ℕ) (m : ℕ) → is_held self.new q m ≡ (is_held self.old q m || (bytes_eq id.now q && node == m))) }
         ensures known { OnOk result ((q : List ℕ) → is_known self.new q ≡ (is_known self.old q || bytes_eq id.now q)) }
         ensures err { OnErr result ((q : List ℕ) (m : ℕ) → is_held self.new q m ≡ is_held self.old q m) }
+        ensures unlearned { OnErr result ((q : List ℕ) → is_known self.new q ≡ is_known self.old q) }
     {
         if let Some(group) = self.groups.get_mut(id) {
             group.insert(node.0)?;
@@ -61,9 +62,11 @@ impl IdIndex {
         }
     }
 
-    /// Notes a node for an id no more. An id of no node is forgotten.
+    /// Notes a node for an id no more. An id of no node is forgotten, and no other one.
     pub fn remove(&mut self, id: &str, node: NodeNo)
-        ensures { (q : List ℕ) (m : ℕ) → is_held self.new q m ≡ (is_held self.old q m && not (bytes_eq id.now q && node == m)) }
+        ensures held { (q : List ℕ) (m : ℕ) → is_held self.new q m ≡ (is_held self.old q m && not (bytes_eq id.now q && node == m)) }
+        ensures forgotten { ((m : ℕ) → is_held self.new id.now m ≡ false) → is_known self.new id.now ≡ false }
+        ensures others { (q : List ℕ) → bytes_eq id.now q ≡ false → is_known self.new q ≡ is_known self.old q }
     {
         let Some(group) = self.groups.get_mut(id) else {
             return;

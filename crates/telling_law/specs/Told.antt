@@ -3,7 +3,7 @@
 use Rattle.std.specs.Prelude.{◌≡◌, ℕ, Bool, true, false, if◌then◌else◌, List, [], ◌∷◌, ◌++◌, map, filter, take, Option, Some, None}
 use Rattle.node_trees.specs.Nodes.{IsNode}
 use Rattle.reaction_queue.specs.declared.reaction.Reaction.{Reaction}
-use Rattle.reaction_queue.specs.declared.reaction.Reaction.TheVariants.{FormAssociated, FormDisabled}
+use Rattle.reaction_queue.specs.declared.reaction.Reaction.TheVariants.{FormAssociated, FormDisabled, FormReset, FormStateRestore}
 use Rattle.reaction_queue.specs.Queues.{waiting_at}
 use Rattle.form_controls.specs.declared.change.Change.{Change}
 use Rattle.form_controls.specs.Changes.{form_change}
@@ -11,10 +11,12 @@ use Rattle.ce_algorithms.specs.Page.{Page, definition_of}
 use Rattle.ce_algorithms.specs.Forms.{forms_of, is_custom_form_associated}
 use Rattle.ce_algorithms.specs.Enqueue.{gives_reaction}
 
--- the reaction tells of a form owner, or of a disabled state
+-- the reaction calls one of the four callbacks of form-associated custom elements
 abbrev pub is_form_reaction : Reaction → Bool
 is_form_reaction (FormAssociated owner) = true
 is_form_reaction (FormDisabled disabled) = true
+is_form_reaction FormReset = true
+is_form_reaction (FormStateRestore state mode) = true
 is_form_reaction r = false
 
 -- what waits to tell a node of these, the oldest first

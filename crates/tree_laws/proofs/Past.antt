@@ -129,9 +129,9 @@ module _ (p h p' h' : Option ℕ) (n : ℕ) (f part : Trees) (row : Spot) (rest 
             ∙ ap (option_or (after n up.shadow)) (option_or-assoc (first_of up.children) (past q part) rest ∙ ap (option_or (first_of up.children)) (sym w.2)))
       ]
 
-option_or-none : (o : Option ℕ) → option_or o None ≡ o
-option_or-none None = refl
-option_or-none (Some n) = refl
+option_or-nothing : (o : Option ℕ) → option_or o None ≡ o
+option_or-nothing None = refl
+option_or-nothing (Some n) = refl
 
 module _ (p h : Option ℕ) (n m : ℕ) (x : Facts) (s k r : Trees) (row : Spot) (apart : IsApart (tree m x s k r)) (ne : m ≢ n) where
   abbrev all : Trees
@@ -172,7 +172,7 @@ module _ (p h : Option ℕ) (n m : ℕ) (x : Facts) (s k r : Trees) (row : Spot)
         (λ q there. let one = apart q in (
           omega (arith, there),
           spot-rest p h q m x s k r (grind (arith, nat_tests)) (grind (arith, nat_tests)) (grind (arith, nat_tests)),
-          past-rest q m x s k r (grind (arith, nat_tests)) (grind (arith, nat_tests)) (grind (arith, nat_tests)) ∙ sym (option_or-none (past q r)),
+          past-rest q m x s k r (grind (arith, nat_tests)) (grind (arith, nat_tests)) (grind (arith, nat_tests)) ∙ sym (option_or-nothing (past q r)),
         )) low u)
   ]
 
