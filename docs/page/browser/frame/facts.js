@@ -26,7 +26,7 @@ CepageBrowser.frame.push(function facts(run) {
         const shown = [...select.options];
         const derived = chosenOf(select);
         return {
-            multiple: select.multiple, derived: run.quote(derived.length ? derived[0].value : ""),
+            multiple: select.multiple, sized: select.size > 1, derived: run.quote(derived.length ? derived[0].value : ""),
             derivedMissing: isMissing(select, options, derived), noneFlagged: !options.some(isFlagged),
             deepOption: shown.some((option) => selectOf(option) !== select),
             setOff: shown.some((option) => isSetOff(option) && option.hasAttribute("selected") && option.selected),

@@ -28,6 +28,11 @@ globalThis.CepageBrowser ??= {};
         ({ was, is, what, facts }) => what === "valid" && facts.kind === "select" && facts.required && facts.placeholderBehind
             && was.includes("valueMissing") && less(was, "valueMissing") === is);
 
+    row("a placeholder of a select with a size", profile("left-out"),
+        "in a browser a select that shows several options has no placeholder",
+        ({ was, is, what, facts }) => what === "valid" && facts.kind === "select" && facts.required && facts.sized
+            && !facts.noneFlagged && was.includes("valueMissing") && less(was, "valueMissing") === is);
+
     row("`readonly` on other inputs than texts", browsers("readonly-on-a-checkbox"),
         "Chromium bars every input that has it",
         ({ was, is, what, facts }) => what === "candidate" && facts.kind === "input" && facts.readonly
@@ -45,6 +50,8 @@ globalThis.CepageBrowser ??= {};
             && !facts.named && facts.required,
         "a placeholder behind others": (facts, isHere) => isHere && facts.kind === "select" && facts.required
             && facts.placeholderBehind,
+        "a placeholder of a select with a size": (facts, isHere) => isHere && facts.kind === "select" && facts.required
+            && facts.sized && !facts.noneFlagged,
         "`readonly` on other inputs than texts": (facts, isHere) => isHere && facts.kind === "input" && facts.readonly
             && !isInput(facts, ...TEXTS, ...OTHER_TYPES),
         "a select that is missing": (facts, isHere) => facts.kind === "select" && facts.required && facts.noneFlagged
