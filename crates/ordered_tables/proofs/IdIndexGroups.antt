@@ -4,7 +4,7 @@ use Rattle.std.specs.Prelude.{◌||◌, ◌&&◌, bytes_eq, string_bytes, is_som
 use Rattle.std.specs.Option.{option_map_or}
 use Rattle.std.specs.Ordering.{nat_cmp, is_eq}
 use Rattle.std.specs.Cmp.Lexicographic.{slice_cmp}
-use Rattle.std.specs.BTreeMap.{BTreeMap, get_by_text, WritesThrough}
+use Rattle.std.specs.BTreeMap.{BTreeMap, get_by_text, UpdatesBy, WritesThrough}
 use Rattle.std.specs.BTreeSet as sets
 use Rattle.std.specs.List.{list_any}
 use Rattle.std.specs.BTreeSet.{BTreeSet, contains}
@@ -35,6 +35,13 @@ nothing_found t none = go t.keys none
     go : (ks : List ℕ) → ((m : ℕ) → list_any (λ k. is_eq (nat_cmp m k)) ks ≡ false) → length ks ≡ 0
     go [] e = refl
     go (k ∷ ks) e = let same = number_test k k in let found = e k in grind (arith, same, found)
+
+no_keys : (t : BTreeSet ℕ) (m : ℕ) → sets.btree_set_len t ≡ 0 → contains nat_cmp t m ≡ false
+no_keys t m none = go t.keys none
+  where
+    go : (ks : List ℕ) → length ks ≡ 0 → list_any (λ k. is_eq (nat_cmp m k)) ks ≡ false
+    go [] e = refl
+    go (k ∷ ks) e = absurd (omega (arith, e))
 
 -- this group was written at the id, and none at another
 abbrev Puts : {Y : Type 0} → BTreeMap (String Y) (BTreeSet ℕ) → BTreeMap (String Y) (BTreeSet ℕ) → List ℕ → BTreeSet ℕ → Type 0
@@ -97,30 +104,27 @@ module _ {Y : Type 0} (old new : BTreeMap (String Y) (BTreeSet ℕ)) (id : List 
   pub kept : sets.IsUnchanged s t → (q : List ℕ) (m : ℕ) → holds new q m ≡ holds old q m
   kept e = changed old new id t puts (λ a b. a) n (λ b. refl) (λ m. ap (λ ks. contains nat_cmp (record { keys = ks }) m) e ∙ held m)
 
-no_keys : (t : BTreeSet ℕ) (m : ℕ) → sets.btree_set_len t ≡ 0 → contains nat_cmp t m ≡ false
-no_keys t m none = go t.keys none
-  where
-    go : (ks : List ℕ) → length ks ≡ 0 → list_any (λ k. is_eq (nat_cmp m k)) ks ≡ false
-    go [] e = refl
-    go (k ∷ ks) e = absurd (omega (arith, e))
-
--- a group without a number, taken away
-module _ {Y : Type 0} (old new : BTreeMap (String Y) (BTreeSet ℕ)) (id : List ℕ) (t : BTreeSet ℕ) (was : get_by_text old id ≡ Some t)
-    (none : sets.btree_set_len t ≡ 0) (gone : (q : List ℕ) → get_by_text new q ≡ cond (bytes_eq id q) None (get_by_text old q)) where
-  pub emptied : (q : List ℕ) (m : ℕ) → holds new q m ≡ holds old q m
-  emptied q m = elim (bytes_eq id q) as (λ b. bytes_eq id q ≡ b → holds new q m ≡ holds old q m) [
-    | true ↦ λ e.
-        let there : get_by_text old q ≡ Some t = ap (get_by_text old) (sym (same_text id q e)) ∙ was in
-        ap (λ o. option_map_or (λ s. contains nat_cmp s m) o false) (gone q ∙ ap (λ b. cond b None (get_by_text old q)) e)
-        ∙ sym (ap (λ o. option_map_or (λ s. contains nat_cmp s m) o false) there ∙ no_keys t m none)
-    | false ↦ λ e. ap (λ o. option_map_or (λ s. contains nat_cmp s m) o false) (gone q ∙ ap (λ b. cond b None (get_by_text old q)) e)
-  ] refl
+-- a group that is taken away
+module _ {Y : Type 0} (old new : BTreeMap (String Y) (BTreeSet ℕ)) (id : List ℕ)
+    (taken_away : UpdatesBy string_cmp (λ k. slice_cmp nat_cmp id (string_bytes k)) old new None) where
+  gone : (q : List ℕ) → get_by_text new q ≡ cond (bytes_eq id q) None (get_by_text old q)
+  gone = btree_map_updates_text id old new None taken_away
 
   pub forgotten : is_some (get_by_text new id) ≡ false
   forgotten = ap is_some (gone id ∙ ap (λ b. cond b None (get_by_text old id)) ((bytes_eq-Decides id id).1 refl))
 
   pub others_stay : (q : List ℕ) → bytes_eq id q ≡ false → is_some (get_by_text new q) ≡ is_some (get_by_text old q)
   others_stay q e = ap is_some (gone q ∙ ap (λ b. cond b None (get_by_text old q)) e)
+
+  -- no node was noted there
+  pub emptied : (t : BTreeSet ℕ) → get_by_text old id ≡ Some t → sets.btree_set_len t ≡ 0 → (q : List ℕ) (m : ℕ) → holds new q m ≡ holds old q m
+  emptied t was none q m = elim (bytes_eq id q) as (λ b. bytes_eq id q ≡ b → holds new q m ≡ holds old q m) [
+    | true ↦ λ e.
+        let there : get_by_text old q ≡ Some t = ap (get_by_text old) (sym (same_text id q e)) ∙ was in
+        ap (λ o. option_map_or (λ s. contains nat_cmp s m) o false) (gone q ∙ ap (λ b. cond b None (get_by_text old q)) e)
+        ∙ sym (ap (λ o. option_map_or (λ s. contains nat_cmp s m) o false) there ∙ no_keys t m none)
+    | false ↦ λ e. ap (λ o. option_map_or (λ s. contains nat_cmp s m) o false) (gone q ∙ ap (λ b. cond b None (get_by_text old q)) e)
+  ] refl
 
 -- in a new group, where the look-up left the map as it was
 module _ {Y : Type 0} (old mid new : BTreeMap (String Y) (BTreeSet ℕ)) (id : List ℕ) (s t : BTreeSet ℕ) (n : ℕ) (same : mid ≡ old)

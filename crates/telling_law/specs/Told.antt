@@ -19,7 +19,7 @@ is_form_reaction FormReset = true
 is_form_reaction (FormStateRestore state mode) = true
 is_form_reaction r = false
 
--- what waits to tell a node of these, the oldest first
+-- what waits at a node of these, the oldest first
 abbrev pub told_at : Page → ℕ → List Reaction
 told_at p n = filter is_form_reaction (map (λ (w : ℕ × Reaction). w.1) (waiting_at p.queues n))
 
