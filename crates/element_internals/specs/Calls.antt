@@ -11,8 +11,8 @@ abbrev pub Changes : Result (Unit {0}) Fault → Option Fault → List (Option I
 Changes (Ok done) refusal old new to_be = (refusal ≡ None) × (new ≡ to_be)
 Changes (Err f) refusal old new to_be = (refusal ≡ Some f) × (new ≡ old)
 
--- the same, unless memory was refused
+-- the same, or memory was refused, which comes only where no fault is thrown
 abbrev pub Writes : Result (Unit {0}) Refused → Option Fault → List (Option Internals) → List (Option Internals) → List (Option Internals) → Type 0
 Writes (Ok done) refusal old new to_be = (refusal ≡ None) × (new ≡ to_be)
 Writes (Err (HasFault f)) refusal old new to_be = (refusal ≡ Some f) × (new ≡ old)
-Writes (Err NoMemory) refusal old new to_be = Unit {0}
+Writes (Err NoMemory) refusal old new to_be = refusal ≡ None

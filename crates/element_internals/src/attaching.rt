@@ -55,8 +55,8 @@ impl InternalsTable {
 
     /// Attaches internals to an element (HTML Standard, section "Element internals", `attachInternals`). It throws
     /// NotSupportedError where the element has an `is` value, has no definition or one that disables internals, has
-    /// internals already, or is neither precustomized nor custom. After a fault nothing has changed; after NoMemory the
-    /// table is only dropped.
+    /// internals already, or is neither precustomized nor custom, and then nothing has changed. NoMemory comes only where
+    /// it throws nothing; then the table is only dropped.
     pub fn attach(&mut self, alloc: Global, n: NodeNo, c: Attach) -> Result<(), Refused>
         ensures { Writes result (may_attach self.old n c) self.old self.new (attach self.old n) }
     {

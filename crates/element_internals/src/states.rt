@@ -50,7 +50,8 @@ fn leave_out_all(rows: &mut [Option<Internals>], n: NodeNo)
 impl InternalsTable {
     /// Adds a custom state to those of an element, behind the others; one that is there stays where it is (HTML
     /// Standard, section "Custom state pseudo-class", `CustomStateSet`, "add"). It throws TypeError where the element
-    /// has no internals. After a fault nothing has changed; after NoMemory the table is only dropped.
+    /// has no internals, and then nothing has changed. NoMemory comes only where it throws nothing; then the table is
+    /// only dropped.
     pub fn add_state(&mut self, alloc: Global, n: NodeNo, s: Text) -> Result<(), Refused>
         ensures { Writes result (may_change_states self.old n) self.old self.new (add_state self.old n s) }
     {

@@ -68,8 +68,8 @@ impl InternalsTable {
     /// Sets all validity flags of an element, and their message (HTML Standard, section "Form-associated custom
     /// elements", `setValidity`). Without a flag no message is kept. It throws TypeError where the element has no
     /// internals, else NotSupportedError where it is not form-associated, else TypeError where a flag is set and the
-    /// message is empty.
-    /// After a fault nothing has changed; after NoMemory the table is only dropped.
+    /// message is empty; then nothing has changed. NoMemory comes only where it throws nothing; then the table is only
+    /// dropped.
     pub fn set_validity(
         &mut self,
         alloc: Global,

@@ -45,7 +45,8 @@ impl InternalsTable {
 
     /// Sets the submission value and the state of an element (HTML Standard, section "Form-associated custom elements",
     /// `setFormValue`). It throws TypeError where the element has no internals, and else NotSupportedError where it is
-    /// not form-associated. After a fault nothing has changed; after NoMemory the table is only dropped.
+    /// not form-associated; then nothing has changed. NoMemory comes only where it throws nothing; then the table is only
+    /// dropped.
     pub fn set_form_value(
         &mut self,
         _alloc: Global,
