@@ -33,7 +33,7 @@ fn reads(
     Ok(())
 }
 
-// The third read, with no whole line before it, and the read behind the script.
+// The third read, with no line before it that is answered, and the read behind the script.
 #[test]
 fn a_failing_read_ends_the_run(rt: HostRuntime) -> Result<(), Fail> {
     let transcript = transcript_of(rt.alloc(), FIRST)?;

@@ -1,4 +1,4 @@
-// Reads and writes that fail, each in its turn, sources without end, and callbacks within callbacks.
+// Reads and writes that fail, each in its turn, sources without end, callbacks within callbacks, and a deep chain of elements.
 use crate::devices::{failing_source, status_into};
 use crate::script::{
     ends, put_line, put_words, ran_by, ran_from, same_status, script_of, transcript_of,
@@ -87,7 +87,7 @@ fn short_sink(alloc: Global, write: u64) -> Result<ShortSink, Fail> {
     Ok(ShortSink::make(7, vec![in alloc; write]?))
 }
 
-// Sees that no more than the writes before this one took is written, and that it is a front of the transcript.
+// Sees that what the writes before this one took is written, and no more, and that it is a front of the transcript.
 fn stops_at_write(
     rt: &impl Abort,
     alloc: Global,
@@ -97,7 +97,7 @@ fn stops_at_write(
     let mut sink = short_sink(alloc, write as u64)?;
     let status = status_into(alloc, SUBMITTED, &mut sink)?;
     same_status(rt, status, Status::WriteFault);
-    assert!(rt; sink.bytes().len() <= write.saturating_sub(1).saturating_mul(7));
+    assert!(rt; sink.bytes().len() == write.saturating_sub(1).saturating_mul(7));
     assert!(rt; transcript.as_bytes().starts_with(sink.bytes()));
     Ok(())
 }

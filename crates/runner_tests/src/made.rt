@@ -1,6 +1,8 @@
 // Scripts that are made, by words: the summary stands in place of the transcript, and the source is not read. And one that
 // is made as a text.
-use crate::script::{ends, ran_with, same_status};
+use crate::devices::failing_source;
+use crate::script::{ends, put_words, ran_by, ran_with, same_status};
+use ce_base::Source;
 use made_scripts::made_script;
 use page_runner::Status;
 use std::alloc::Global;
@@ -45,19 +47,21 @@ fn short_by_default(rt: &impl Abort, alloc: Global, script: &[u8]) -> Result<(),
     Ok(())
 }
 
+// Sees that the source is not read, whose first read would fail.
+fn whole_without_a_read(rt: &impl Abort, alloc: Global) -> Result<(), Fail> {
+    let mut words = Vec::new(alloc);
+    put_words(alloc, &mut words, "--make 2000 --fuel 20008")?;
+    let mut source = failing_source(alloc, "no line", 1, 1)?;
+    ran_by(alloc, &words, &mut source)?.is(rt, Status::Done, WHOLE);
+    assert!(rt; source.faults() == 0);
+    Ok(())
+}
+
 #[test]
 fn a_script_is_made_and_run(rt: HostRuntime) -> Result<(), Fail> {
     let alloc = rt.alloc();
     let bad = "no line".as_bytes();
-    ends(
-        &rt,
-        alloc,
-        "--make 2000 --fuel 20008",
-        bad,
-        1,
-        Status::Done,
-        WHOLE,
-    )?;
+    whole_without_a_read(&rt, alloc)?;
     ends(
         &rt,
         alloc,

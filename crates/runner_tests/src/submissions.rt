@@ -2,7 +2,8 @@
 use crate::script::comes;
 use std::test::Fail;
 
-// The empty list, and one of a textarea and of a custom element's entries, by each encoding; a boundary that occurs blocks.
+// The empty list, as multipart, and one of a textarea and of a custom element's entries, by each encoding; a boundary that
+// occurs blocks.
 const ENCODED: &str = r#"> create $h html
 > append doc $h
 > create $f form
@@ -57,7 +58,8 @@ const ENCODED: &str = r#"> create $h html
 < submit #3 get "http://page.test/?a%22%0D%0A=aXXb&u=1&v="
 < 26: ok"#;
 
-// A form with nothing to send, before it has controls and after they are removed, and by each encoding in between.
+// A form with nothing to send, before it has controls and after they are removed; in between it is sent as multipart and as
+// plain text.
 const EMPTIED: &str = r#"> create $h html
 > append doc $h
 > create $f form
@@ -122,7 +124,7 @@ fn a_form_is_sent_by_each_encoding(rt: HostRuntime) -> Result<(), Fail> {
     comes(&rt, rt.alloc(), "--boundary XX", EMPTIED)
 }
 
-// The action is parsed against the page's URL, whose query goes with GET; a character that pieces cut is whole.
+// The action is parsed against the page's URL; with GET the entries take the place of its query; a character that pieces cut is whole.
 const RELATIVE: &str = r#"> create $h html
 > append doc $h
 > create $f form

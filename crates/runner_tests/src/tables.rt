@@ -65,7 +65,7 @@ fn same_state(rt: &impl Abort, page: &Page, number: u64, line: &str) {
     assert!(rt; same, "of {number} at {line}");
 }
 
-// Sees that the table has of it the controls that are.
+// Sees that the table has of a node the controls that the walk finds.
 fn same_controls(rt: &impl Abort, alloc: Global, page: &Page, number: u64) -> Result<(), Fail> {
     let n = node(rt, page.tree(), number);
     let controls = plain_controls(rt, alloc, page, n)?;

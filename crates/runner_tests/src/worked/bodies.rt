@@ -1,4 +1,4 @@
-// Bodies of classes, and classes that extend elements.
+// Bodies of classes, classes that extend elements, and moves that tell of form owners.
 use crate::script::comes;
 use std::test::Fail;
 
@@ -31,7 +31,7 @@ pub(crate) const EXTENDED: &str = r#"> class P
 < 12: #5
 < 13: undefined"#;
 
-// Constructors that call their base, and that make others.
+// A constructor that makes the base call twice, in an upgrade and by `new`; a class without one; and a class that was never made.
 pub(crate) const CONSTRUCTORS: &str = r#"> class C
 > on C constructor : super
 > on C constructor : super
@@ -89,7 +89,7 @@ pub(crate) const TRIED: &str = r#"> class A
 < report HierarchyRequestError
 < 11: ok"#;
 
-// Moves below and out of forms and fieldsets, and attributes that come and go.
+// Moves into a form and a fieldset, and of the tree that has the form; and attributes that come and go.
 pub(crate) const MOVED: &str = r#"> class A
 > associate A
 > has A formAssociated

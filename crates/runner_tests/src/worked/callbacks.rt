@@ -2,7 +2,7 @@
 use crate::script::comes;
 use std::test::Fail;
 
-// What a callback enqueues runs before its next action.
+// An element that a callback takes out hears that it came in, and then that it left.
 pub(crate) const INNER: &str = r#"> class A
 > on A connected : detach $q
 > class B
@@ -56,7 +56,7 @@ pub(crate) const REENTERED: &str = r#"> class A
 < 9: ok
 < 10: "2""#;
 
-// An element whose constructor throws is made all the same, and is no custom element.
+// Where a constructor throws, the creation gives another element, which is failed; the one that the base call made stays custom.
 pub(crate) const FAILED: &str = r#"> class A
 > observe A k
 > has A attribute
@@ -79,7 +79,7 @@ pub(crate) const FAILED: &str = r#"> class A
 < 11: ok
 < 12: ok"#;
 
-// Elements are told that they were connected, disconnected and connected again.
+// An element, and one in its shadow tree, are told that they were connected, and both that they were disconnected.
 pub(crate) const CONNECTED: &str = r#"> class A
 > on A connected : log in
 > on A disconnected : log out

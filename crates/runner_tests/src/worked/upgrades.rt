@@ -1,4 +1,4 @@
-// Definitions, and the construction of elements by upgrade and by `new`.
+// Definitions, and the construction of elements by upgrade, by `new` and by `create`.
 use crate::script::comes;
 use std::test::Fail;
 
@@ -94,7 +94,8 @@ const THROWN: &str = r#"> create $h html
 < 15: ok"#;
 
 // A constructor that makes an element of its own class first gives that one what is upgraded, and its own base call throws;
-// without a base call, or with two, nothing is made; another element may be returned to `new`, and not to `create`.
+// `new` throws where there is no base call, and where there are two, of which each makes an element; another element may be
+// returned to `new`, and not to `create`.
 const CONSTRUCTED: &str = r#"> create $e x-a
 > class A
 > on A constructor : bump
