@@ -1,9 +1,9 @@
 #!/bin/sh
 # Holds the bindings to the program: for each script of examples/ with its words, and each worked script of runner_tests, all
-# once more with the trace or without it, the bytes and the status that C, Python, Node and Rust give have to be the program's,
-# by the program and by the library; and the three readers have to make the same of each line. Then each package's own tests
-# are run. What is not there is left out, and named: a language without its tool, and the library without the archive of
-# cepage_c. CEPAGE names another program than that of the gate, and CEPAGE_C_ARCHIVE another archive.
+# once more with the trace or without it, the bytes and the status that Python, Node and Rust give by the program and by the
+# library, and C by the library, have to be the program's; and the three readers have to make the same of each line. Each
+# package's own tests are run too. What is not there is left out, and named: a language without its tool, and the library
+# without the archive of cepage_c. CEPAGE names another program than that of the gate, and CEPAGE_C_ARCHIVE another archive.
 
 unset CDPATH
 cd "$(dirname "$0")/.." || exit 1
@@ -163,7 +163,7 @@ in_rust() {
     cargo test --offline --quiet
 }
 
-# Runs each case by the library from C, and three trials.
+# Runs each case by the library from C, and two trials.
 in_c() {
     for trial in program many threads; do
         cc -std=gnu11 -O1 -Wall -Wextra -Werror -pthread -o "$room/$trial" "bindings/c/trials/$trial.c" "$archive" || return

@@ -8,7 +8,8 @@ one variable, `Cepage.examples`, a row an example: its name, its words without `
 program ended, the script and the trace. A byte that is no UTF-8 stands in a script as U+FFFD.
 
 With --check nothing is written: where docs/page/examples.js is not what would be written, the first example that differs
-is named, and the status is 1. Where the program can't be run, or its two runs disagree, the status is 2.
+is named, and the status is 1. Where the program can't be run, or ends with a status other than 0, 1 and 3, or its two
+runs disagree, the status is 2.
 """
 import argparse
 import json

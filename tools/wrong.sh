@@ -1,6 +1,6 @@
 #!/bin/sh
 # tools/wrong.sh [NAME..]: tries the wrong bodies crates/NAME/wrong/*.edit, of all crates where none is named. Each is
-# put into a copy of the repository, beside this one and over what `rt check` has kept in out/, and checked. The check
+# put into a copy of the repository, in a temporary folder and over what `rt check` has kept in out/, and checked. The check
 # must refuse it with an open goal of a contract: the line of the edit names the function and the goal. An edit that
 # cannot be put in, or is refused only since a proof names what it took away, was not tried: mend it.
 #

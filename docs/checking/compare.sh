@@ -1,5 +1,5 @@
 #!/bin/sh
-# Runs each *.script of a folder, of this one where none is named: sh compare.sh [FOLDER]
+# Runs each *.script of a folder, of the current one where none is named: sh compare.sh [FOLDER]
 # Compares what it writes with NAME.transcript, and its status with NAME.status (0 where there is none); NAME.words has
 # the program's words, one a line. What was written stays in NAME.out. CEPAGE names the program.
 cepage=${CEPAGE:-cepage}

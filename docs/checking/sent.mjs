@@ -17,7 +17,7 @@ function quotedTexts(line) {
   return escaped.match(/"[^"]*"/g).map((text) => JSON.parse(text));
 }
 
-// A text/plain body can't be told apart in general: it is left as it is.
+// A text/plain body can't be taken apart in general: it is left as it is.
 async function entries(type, text) {
   if (type === "text/plain") return null;
   const data = await new Response(text, { headers: { "content-type": type } }).formData();

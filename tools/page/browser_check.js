@@ -1,7 +1,8 @@
 'use strict';
 // Runs each script of examples/ in a headless Chromium by the page's own runner, and compares what it did with the
 // program's transcript. It prints the counts of the marks of each; a difference without a reason is an error. Then
-// come what docs/ say of it, wrong transcripts, which no reason may explain, and runs that must be ended.
+// come what docs/ say of it, how the pane is used, wrong transcripts, of which a reason may explain one in a hundred, runs
+// that must be ended, and scripts that would fetch something.
 //
 //   node tools/page/browser_check.js             all of it
 //   node tools/page/browser_check.js NAME ..     the examples whose names have NAME in them, with each row that differs

@@ -1,6 +1,7 @@
 'use strict';
 // Wrong transcripts: one line of each example's is made wrong, left out, or changes places with the next one, and the
-// comparison has to find a line without a reason. What a reason explains all the same is counted by its name.
+// comparison has to find a line without a reason. What a reason explains all the same is counted by its name, and may be
+// one in a hundred.
 
 // Runs in the page, with the result of an example's run: what becomes of each wrong line.
 function wrongInPage(name, transcript) {

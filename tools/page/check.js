@@ -3,7 +3,7 @@
 // checks that it draws the runs of examples/ as their traces say, that it names actions rightly, that long traces stay
 // usable, that it is used by keys alone and read in order, that it stands what it can't read, that nothing leaves it and
 // nothing is said on its console. PATH is the program cepage, by default crates/cepage/out/cepage, which makes traces. CHROMIUM names another
-// Chromium. With --quick the drawing is not scrolled through; with --pictures those of docs/page/pictures are made too. The status is 1 where a check fails.
+// Chromium. With --quick the examples are not scrolled through; with --pictures those of docs/page/pictures are made too. The status is 1 where a check fails.
 
 const path = require('path');
 const { launch } = require('./chromium.js');

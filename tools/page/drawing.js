@@ -178,7 +178,7 @@ async function showOwn(page, script, trace) {
   }, [{ text: script, name: 'made.script' }, { text: trace, name: 'made.transcript' }]);
 }
 
-// Jumps about, and tells how long the longest jump took, and how many rows there were at most.
+// Jumps about, and tells how long the middle jump and the longest one took, and how many rows there were at most.
 function jump() {
   const tree = document.getElementById('tree');
   const times = [];

@@ -1,6 +1,6 @@
 'use strict';
 // node tools/page/pictures.js [--program PATH] [FOLDER]: pictures of docs/page/ in a headless Chromium, wide and narrow,
-// light and dark, to docs/page/pictures/. PATH is the program cepage, by default crates/cepage/out/cepage, which makes
+// light and dark, to FOLDER, or to docs/page/pictures/ without it. PATH is the program cepage, by default crates/cepage/out/cepage, which makes
 // the long trace.
 
 const fs = require('fs');
@@ -49,7 +49,7 @@ async function take(page, folder, name, show) {
   return taken;
 }
 
-// Takes all of them, and tells how long each is.
+// Takes all of them, and tells how many there are, and the bytes of the least and of the largest.
 async function takePictures(browser, runs, folder = path.join(PAGE, 'pictures')) {
   const page = await browser.open(path.join(PAGE, 'index.html'));
   const taken = [];

@@ -1,7 +1,7 @@
 'use strict';
 // Are rows named after the right actions? Scripts are made at random, with bodies of actions that are tried, tested and
-// refused, and run by the program twice: as they are, and with a log before each action, which tells the action behind
-// it. A row may be left without a name; where it has one, it has to be that of the action that the log told.
+// refused, and run by the program as they are, whole and cut off, and with a log before each action, which tells the action
+// behind it. A row may be left without a name; where it has one, it has to be that of the action that the log told.
 
 const { trace } = require('./made.js');
 
@@ -12,7 +12,7 @@ const ACTIONS = ['setattr $p t v', 'setattr $p t v', 'setattr doc t v', 'setattr
 const TESTS = ['if eq @3 1 : ', 'if ne @1 k : ', 'if eq @2 "" : ', 'if eq @count 1 : ', 'if ne @kept x : '];
 const CALLBACKS = ['attribute', 'connected', 'disconnected', 'constructor'];
 
-// The lines of a class, each with its action or none.
+// The lines of the bodies of a class, each with its action.
 function bodies(next) {
   const lines = [];
   for (const callback of CALLBACKS) {

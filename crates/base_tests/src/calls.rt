@@ -1,4 +1,4 @@
-// Calls that no program makes, each on its happy path.
+// Single calls of crates below the page and the session, each on its happy path.
 ghost use Rattle.std.specs.Prelude.{◌≡◌};
 ghost use Rattle.node_trees.specs.declared.kind.NodeKind.TheVariants.{Element as ElementKind};
 ghost use Rattle.node_trees.specs.Nodes.{IsNode};

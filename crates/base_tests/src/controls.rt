@@ -1,4 +1,4 @@
-// What is asked of controls by no program: which options are chosen, what was set, and how long values are.
+// What no line of a script asks of controls: which options are chosen, what was set, and how long values are.
 use crate::calls::{make, node};
 use ce_base::{NodeNo, Text};
 use control_state::*;

@@ -31,7 +31,7 @@ quote = 34
 abbrev pub is_bare : ℕ → Bool
 is_bare b = nat_le 33 b && nat_le b 126 && not (b == ampersand) && not (b == plus) && not (b == equals) && not (b == percent)
 
--- a byte of a name or a value is spelled by itself, a space by +, any byte by % and two hexadecimal digits
+-- of a name or a value a bare byte is spelled by itself, a space by +, any byte by % and two hexadecimal digits
 abbrev pub IsSpelling : ℕ → List ℕ → Type 0
 IsSpelling c cell =
     ((is_bare c ≡ true) × (cell ≡ c ∷ []))

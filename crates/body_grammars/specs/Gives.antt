@@ -4,13 +4,13 @@ use Rattle.ce_base.specs.declared.entries.Entry.{Entry}
 use Rattle.body_grammars.specs.declared.refused.BodyRefused.{BodyRefused}
 use Rattle.body_grammars.specs.declared.refused.BodyRefused.TheVariants.{NotABody, NoMemory}
 
--- the same, where what was returned is seen as this
+-- what was returned, as it is seen, is what the reading gives, unless memory was refused
 abbrev pub GivesSeen : {X Y : Type 0} → (X → Y) → Result X BodyRefused → Option Y → Type 0
 GivesSeen see (Ok x) read = read ≡ Some (see x)
 GivesSeen see (Err NotABody) read = read ≡ None
 GivesSeen see (Err NoMemory) read = Unit {0}
 
--- what was returned is what the reading gives, unless memory was refused
+-- the same of what was returned as it is
 abbrev pub Gives : {X : Type 0} → Result X BodyRefused → Option X → Type 0
 Gives result read = GivesSeen (λ x. x) result read
 

@@ -26,11 +26,11 @@ cut_quote (Some bytes) = cut_at 34 bytes
 abbrev pub name_cut : List ℕ → Option (List ℕ × List ℕ)
 name_cut bytes = cut_quote (behind before_name bytes)
 
--- what stands before the line end and the dashes at the end
 abbrev pub kept_if : Option (List ℕ) → List ℕ → Option (List ℕ)
 kept_if None text = None
 kept_if (Some end) text = Some text
 
+-- what stands before the line end and the dashes at the end
 abbrev pub before_dashes : List ℕ → Option (List ℕ)
 before_dashes text = kept_if (behind dashes (drop (length text - 4) text)) (take (length text - 4) text)
 
@@ -99,10 +99,10 @@ behind_dashes boundary (Some rest) = behind boundary rest
 abbrev pub multipart_entries : List ℕ → List ℕ → Option (List Entry)
 multipart_entries boundary bytes = tail_behind boundary (behind_dashes boundary (behind (codes "--") bytes))
 
--- a step of the loop
 abbrev pub see_part : {A : Type 0} → A × Bor (List ℕ) → A × List ℕ
 see_part (e, rest) = (e, rest.now)
 
+-- a step of the loop
 abbrev pub IsAddedPart : List ℕ → List Entry → List ℕ → List Entry → Result (Bor (List ℕ)) BodyRefused → Type 0
 IsAddedPart boundary old bytes new (Ok rest) =
     (more : List ℕ → Option (List Entry)) → with_front old (then_parts (read_part boundary bytes) more) ≡ with_front new (more rest.now)

@@ -5,7 +5,7 @@ use Rattle.ce_base.specs.declared.entries.Entry.{Entry}
 use Rattle.body_grammars.specs.Gives.{then_one, paired}
 use Rattle.body_grammars.specs.Cuts.{is_byte, cut_at, behind, only_utf8}
 
--- what stands before the first =, and behind it up to a CR at the end
+-- a line that is cut at its first =
 abbrev pub read_line_cut : Option (List ℕ × List ℕ) → Option Entry
 read_line_cut None = None
 read_line_cut (Some (name, value)) = paired (only_utf8 name) (only_utf8 value)

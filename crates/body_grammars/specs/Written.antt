@@ -8,6 +8,6 @@ use Rattle.form_submission.specs.LineEnds.{with_full_newlines}
 abbrev pub as_sent : Entry → Entry
 as_sent e = entry (with_full_newlines e.name) (with_full_newlines e.value)
 
--- the entry with its name as a multipart body has it
+-- the entry as a multipart body has it: its name escaped, and the line ends of its value as they are sent
 abbrev pub as_part : Entry → Entry
 as_part e = entry (escaped e.name) (with_full_newlines e.value)

@@ -1,6 +1,6 @@
-//! Bodies of requests read back as entry lists: urlencoded, plain text and multipart, each exactly the bodies that spell a
-//! list as the encoders do (URL Standard, section "application/x-www-form-urlencoded"; HTML Standard, section "Plain text
-//! form data"; RFC 7578).
+//! Bodies of requests read back as entry lists: urlencoded, plain text and multipart, each exactly the bytes that are the body
+//! of a list (URL Standard, section "application/x-www-form-urlencoded"; HTML Standard, section "Plain text form data";
+//! RFC 7578). `specs/Bodies.antt` says which these are; some of them no encoder writes, as `a=%62`.
 #![tactic(auto)]
 
 mod cuts;

@@ -19,7 +19,8 @@ copy_attribute n a = do
   spend
   set_attribute n a.0 a.1
 
--- "clone a single node": an element is created in its document, not synchronously, with its attributes and what its control keeps; a text is made
+-- "clone a single node", and the cloning steps: an element is created in its document, not synchronously, with its attributes
+-- and what its control keeps; a text is made
 abbrev pub copy_node : ℕ → Facts → Bool → Step Work ℕ
 copy_node from x true = do
   n ← create_later x.local x.is_value x.document

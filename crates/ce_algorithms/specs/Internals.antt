@@ -1,4 +1,5 @@
--- What ElementInternals keeps of elements: submission values, states, validity flags, custom states (HTML Standard, section "Element internals").
+-- What ElementInternals keeps of elements: submission values, states, validity flags with a message, custom states (HTML
+-- Standard, section "Element internals").
 use Rattle.std.specs.Prelude.{ℕ, Bool, true, false, List, Option, Some, None, is_some}
 use Rattle.ce_base.specs.declared.custom_state.CustomState.{CustomState}
 use Rattle.ce_base.specs.declared.custom_state.CustomState.TheVariants.{Precustomized, Custom}

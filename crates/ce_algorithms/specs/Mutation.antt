@@ -61,7 +61,7 @@ adopt document node = do
 
 -- "insert" and "pre-insert"
 
--- a node that is connected now: a custom element is told, and any other element is tried to upgrade
+-- a node that is connected now: a custom element is told, and of any other element an upgrade is tried
 abbrev pub connected_now : ℕ → Bool → Step Work (Unit {0})
 connected_now n true = enqueue_callback n Connected
 connected_now n false = where_is (λ w. is_element (kind_at w.page.forest n)) (try_upgrade n)

@@ -10,7 +10,7 @@ use Rattle.ce_algorithms.specs.Enqueue.{enqueue_callback}
 use Rattle.ce_algorithms.specs.Forms.{controls_of, is_custom_form_associated, is_disabled}
 use Rattle.ce_algorithms.specs.Controls.{unless_ignored}
 
--- "reset algorithm": what a control keeps is cleared, and a custom form-associated element is told
+-- "reset algorithm": what a control keeps is cleared, but for its message, and a custom form-associated element is told
 abbrev pub reset_control : ℕ → Step Work (Unit {0})
 reset_control n = do
   change_page (λ p. with_controls (λ cs. resetting.reset cs p.forest n) p)

@@ -1,4 +1,4 @@
--- The state of a session: the page and its fuel, the classes with their memories, the variables, the log.
+-- The state of a session: where its page stands, the page and its fuel, the classes with their memories, the variables, the log.
 use Rattle.std.specs.Prelude.{ℕ, zero, suc, Bool, false, List, [], ◌∷◌, ◌++◌, map, Option, Some, None, Result, slice_get, slice_set, bytes_eq, option_map}
 use Rattle.std.specs.List.{find, position}
 use Rattle.ce_base.specs.declared.fault.Fault.{Fault}

@@ -7,7 +7,7 @@ use form_controls::Value;
 use reaction_queue::Mode;
 use rule_lines::AskWord;
 
-/// What an operation comes to on the page alone: no body of a class runs before it has ended.
+/// What an operation comes to on the page alone: no body of a class runs before its steps have ended.
 #[derive(Drop)]
 pub enum PageDeed {
     /// Makes a text node (DOM Standard, section "Interface Document", `createTextNode`).
@@ -134,7 +134,7 @@ pub enum InternalsDeed {
     },
 }
 
-/// What is done to a whole form, or comes back to an element of one.
+/// What is done to a whole form, or comes back to a form-associated custom element.
 #[derive(Drop)]
 pub enum FormDeed {
     /// Resets a form, by a script or by the user (HTML Standard, section "Resetting a form").
@@ -206,9 +206,9 @@ pub enum Deed {
     OnControls(ControlDeed),
     /// Writes something through ElementInternals.
     OnInternals(InternalsDeed),
-    /// Does something to a form, or to an element of one.
+    /// Does something to a form, or to a form-associated custom element.
     OnForms(FormDeed),
-    /// Submits a form, or presses a button that may.
+    /// Submits a form, or presses a button.
     Submits(SubmitDeed),
     /// Asks something of a node; of an attribute by its name.
     Ask {

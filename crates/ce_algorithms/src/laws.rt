@@ -29,8 +29,7 @@ ghost use Rattle.ce_algorithms.specs.Worked.ValidityLogs as validity_logs;
 ghost use Rattle.ce_algorithms.specs.Worked.{seen, traced, worked};
 ghost use Rattle.ce_algorithms.specs.Written.{behind, behind_in};
 
-/// Each algorithm calls the others as they are: the model is the fixed point of its algorithms, however
-/// many levels of them are counted.
+/// Each algorithm calls the others as they are: the model is a fixed point of its algorithms.
 #[tactic(auto, using(crate::proofs::Steady::model_level))]
 pub fn each_calls_the_others()
     ensures { (call : Call) (s : State) → model call s ≡ level model call s }
@@ -120,7 +119,7 @@ pub fn worked_internals()
     ensures attached { seen 1000 internals.attached ≡ internal_logs.attached }
 {}
 
-/// The model computes: resets by scripts and by the user, one of them with its trace, and states that come back.
+/// The model computes: resets by scripts and by the user, two of them with their trace, and states that come back.
 pub fn worked_resets()
     ensures with_trace { traced resets.traced ≡ reset_logs.traced }
     ensures radios { seen 1000 resets.radios ≡ reset_logs.radios }

@@ -1,7 +1,8 @@
 //! The Standard's algorithms for custom elements and for forms, as definitions that compute.
 //!
 //! The definitions stand in `specs/`. This crate's own types are what the definitions and the code share: what
-//! the page tells of an enqueue, what operations come to, and what they give.
+//! a session is run with, what the page tells of an enqueue, what a node has to be where an operand names it,
+//! what operations come to, and what they give.
 #![tactic(auto)]
 
 mod create;

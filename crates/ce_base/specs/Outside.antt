@@ -14,7 +14,7 @@ bytes_got (Bytes n) buf = take n buf
 bytes_got End buf = []
 bytes_got Failed buf = []
 
--- the buffer has as many bytes as the read gave
+-- the buffer has at least as many bytes as the read gave
 abbrev pub IsWithin : Got → List ℕ → Type 0
 IsWithin (Bytes n) buf = n ≤ length buf
 IsWithin End buf = ⊤
@@ -58,7 +58,7 @@ IsPrefix part whole = (more : List ℕ) × (part ++ more ≡ whole)
 abbrev pub AppendsPart : Option (List ℕ) → Option (List ℕ) → List ℕ → Type 0
 AppendsPart old new bytes = (part : List ℕ) × IsPrefix part bytes × Appends old new part
 
--- bytes came, and how many: at least one, and no more than there is room for
+-- where bytes came, there are at least one, and no more than there is room for
 abbrev pub IsSomeBytes : Got → ℕ → Type 0
 IsSomeBytes (Bytes n) room = (0 < n) × (n ≤ room)
 IsSomeBytes End room = ⊤

@@ -1,4 +1,4 @@
-//! What every crate of cepage stands on: numbers, texts, lists, faults, fuel, and the outside.
+//! What the crates of cepage stand on: numbers, texts, lists, faults, fuel, and the outside.
 #![tactic(auto)]
 
 mod bytes;

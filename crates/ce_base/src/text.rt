@@ -54,7 +54,7 @@ impl From<String> for Text {
     }
 }
 
-/// A text of these characters, where there are some. NoMemory: memory was refused.
+/// The text of `text`, where one is given; it may be empty. NoMemory: memory was refused.
 pub fn owned(alloc: Global, text: Option<&str>) -> Result<Option<Text>, NoMemory>
     ensures { IfOk result (λ t. t ≡ option_copied text.entry) }
 {

@@ -55,7 +55,7 @@ pub fn read_all<S: Source>(alloc: Global, source: &mut S, limit: usize) -> Resul
     read_pieces(alloc, source, &mut buffer, limit)
 }
 
-/// A buffer of 65,536 bytes, each 0.
+/// A buffer of 65,536 bytes, for reads to fill. NoMemory: memory was refused.
 pub fn make_buffer(alloc: Global) -> Result<Vec<u8>, NoMemory>
     ensures { IfOk result (λ buffer. vec_len buffer ≡ piece) }
 {

@@ -12,7 +12,7 @@ use Rattle.ce_events.specs.declared.event.Event.TheVariants.{Started, Finished, 
 pub data Step : Type 0 where
   Opens : (queue : ℕ) → Step  -- an element queue is pushed
   Enqueues : (reaction element : ℕ) → (what : CallOrUpgrade) → (queue : ℕ) → Step  -- a reaction is enqueued
-  Drains : (queue : ℕ) → Step  -- a queue is popped, and its draining starts
+  Drains : (queue : ℕ) → Step  -- the draining of a queue starts: of one that was popped, or of the backup element queue
   Starts : (reaction : ℕ) → Step  -- a reaction is taken, and runs
   Finishes : (reaction : ℕ) → Step  -- the reaction ends
   Drops : (reaction : ℕ) → Step  -- a reaction is taken away, and does not run

@@ -3,7 +3,7 @@ use ce_base::{CustomState, Fault, Flags, NodeNo, Nodes, QueueNo, ReactionNo, Tex
 use reaction_queue::Mode;
 use rule_tokens::{Bad, CallOrUpgrade};
 
-/// What was asked of a node.
+/// What a question about a node found.
 #[derive(Drop)]
 pub enum Answer {
     /// There is none.
@@ -29,7 +29,7 @@ pub enum Answer {
 /// What blocks a submission (HTML Standard, section "Form submission").
 #[derive(Drop)]
 pub enum Cause {
-    /// The form is not connected.
+    /// The form is not in the page's document, nor in a shadow tree of it.
     Disconnected,
     /// Controls of the form are invalid.
     Invalid(Nodes),
@@ -39,7 +39,7 @@ pub enum Cause {
     Url,
     /// The action's scheme is neither http nor https.
     Scheme,
-    /// The entry list is too long.
+    /// The entries are too large.
     Size,
     /// The boundary occurs in an entry.
     Boundary,
@@ -96,9 +96,9 @@ pub enum Event {
     FuelLine,
     /// A reacting operation pushed an element queue.
     QueueOpened(QueueNo),
-    /// A reaction was enqueued: its number, its element, what it is for, and the element's queue.
+    /// A reaction was enqueued: its number, its element, what it is for, and the element queue that the element came into.
     Enqueued(ReactionNo, NodeNo, CallOrUpgrade, QueueNo),
-    /// A queue was popped, and its draining starts.
+    /// The draining of a queue starts: of one that was popped, or of the backup element queue.
     DrainBegun(QueueNo),
     /// A reaction was taken, and runs.
     Started(ReactionNo),

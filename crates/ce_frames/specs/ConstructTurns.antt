@@ -29,7 +29,7 @@ use Rattle.ce_frames.specs.Turned.{Turn, ◌>>=◌, ◌>>◌, hand_down, go_on, 
 abbrev pub begin_body : ℕ → Args → Option ℕ → List Act → Turn
 begin_body class args this actions = below (InBody class args this false actions) go_on
 
--- a constructor with lines of its own, or the base call alone
+-- a constructor of the class's own, or the base call alone
 abbrev pub constructor_turn : ℕ → Class → Turn
 constructor_turn class k =
     if has_call Constructor k.facts.calls then below Constructing (begin_body class no_args None (actions_of Constructor k.bodies))

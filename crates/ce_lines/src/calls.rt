@@ -1,4 +1,4 @@
-// What bodies do: the lines of callbacks that start, and of what a body wrote, caught or asked.
+// The lines of constructors and callbacks that start, and of what a body wrote; and a fault behind a word.
 ghost use Rattle.std.specs.Prelude.{◌≡◌, ◌++◌, OnOk, codes};
 ghost use Rattle.rule_tokens.specs.Quoted.{in_quotes};
 ghost use Rattle.ce_events.specs.Text.{call, event_text, fault, text_or_null};

@@ -75,7 +75,7 @@ impl Written {
         }
     }
 
-    /// Puts a text in quotes behind, with escapes for what would end it or the line, or would not be seen.
+    /// Puts a text in quotes behind: a backslash, a quote and control characters by their escapes, all else as it stands.
     pub(crate) fn put_quoted(&mut self, alloc: Global, text: &str) -> Result<(), NoMemory>
         ensures { OnOk result (self.new ≡ self.old ++ in_quotes text.now) }
     {

@@ -50,7 +50,7 @@ pub(crate) fn reply_to_part(
 /// No frame lies on the stack before it, and none after it; each class has its behaviour there.
 ///
 /// FuelSpent exactly where the fuel is spent in it. WriteFault only where a write failed; NoMemory where memory
-/// was refused. The state is only dropped after each of the three.
+/// was refused. The state is only dropped after the last two.
 pub(crate) fn run_command<K: Sink>(
     state: &mut State,
     alloc: Global,

@@ -30,7 +30,7 @@ use ce_page::PageStop;
 use frame_stack::{Stack, Waiting};
 use std::alloc::Global;
 
-/// Does a deed. A construction, and a creation, may wait for a constructor's body; the others wait for nothing.
+/// Does a deed. A construction, and a creation, may wait for a constructor's body; the steps of the others wait for nothing.
 pub(crate) fn deed_turn(
     state: &mut State,
     alloc: Global,
@@ -82,7 +82,7 @@ fn create_turn(
     }
 }
 
-// Does a deed that waits for nothing, in a queue of its own where it reacts.
+// Does a deed whose steps wait for nothing, in a queue of its own where it reacts.
 fn still_turn(
     state: &mut State,
     alloc: Global,

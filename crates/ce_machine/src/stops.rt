@@ -252,7 +252,7 @@ fn operation(state: &mut State, alloc: Global, stack: &mut Stack, op: Op) -> Res
     operate(state, alloc, stack, &this, op)
 }
 
-// Writes texts that were fixed.
+// Logs texts that were fixed.
 fn log_fixed(state: &mut State, alloc: Global, vals: Vals) -> Result<(), NoMemory>
     ensures logged { OnOk result (state.new ≡ logged (Logged (map fixed_text vals)) state.old) }
 {

@@ -1,4 +1,4 @@
--- What doing a deed asks of the page: the nodes that it speaks of are there, and are what its steps need.
+-- What doing a deed asks of the page: the nodes that its steps read are there, and are what they need.
 use Rattle.node_trees.specs.Nodes.{IsNode}
 use Rattle.node_trees.specs.Trees.{Trees}
 use Rattle.ce_algorithms.specs.declared.deed.Deed.{Deed}

@@ -57,7 +57,7 @@ pub record Lasts (f : Trees) (t : Turned) : Type 0 where
   pub gives : Gives t.state.page.forest t.pushed t.end
   pub placed : ArePlaced t.state.page.forest t.pushed t.end
 
--- the same of a turn above frames that have no variable
+-- the same of a turn below which no frame waits for a node: what it hands down may be any
 pub record StaysPlaced (f : Trees) (t : Turned) : Type 0 where
   pub grows : size f ≤ size t.state.page.forest
   pub placed : ArePlaced t.state.page.forest t.pushed t.end

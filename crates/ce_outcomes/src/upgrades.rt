@@ -17,7 +17,8 @@ use session_state::page_calls::gives_nothing;
 use std::alloc::Global;
 
 /// What was constructed for an upgrade has to be the element itself, which then is custom; or the upgrade threw
-/// TypeError (HTML Standard, section "Upgrades", "upgrade an element"). NoMemory: see `Came`.
+/// TypeError (HTML Standard, section "Upgrades", "upgrade an element"). Over where no fuel is left for what its end
+/// enqueues. NoMemory: see `Came`.
 pub fn constructed_turn(
     state: &mut State,
     alloc: Global,
@@ -51,7 +52,8 @@ fn same_given(n: NodeNo, given: Given) -> Result<(), Fault>
 }
 
 /// An upgrade ends, or it threw, and the fault is thrown on (HTML Standard, section "Upgrades", "upgrade an element").
-/// In each case the construction stack loses its last entry. NoMemory: see `Came`.
+/// In each case the construction stack loses its last entry. Over where no fuel is left for what its end enqueues.
+/// NoMemory: see `Came`.
 pub fn upgraded_turn(
     state: &mut State,
     alloc: Global,

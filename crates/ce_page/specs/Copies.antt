@@ -45,7 +45,7 @@ abbrev pub copied_kind : Bool → NodeKind
 copied_kind true = Element
 copied_kind false = TextNode
 
--- n is a new node below p, which is not connected, and the only one that was changed
+-- n is a new node, which is not connected, and of the nodes that were there p alone may have changed
 pub record IsCopied (old new : Trees) (kind : NodeKind) (p n : ℕ) : Type 0 where
   pub later : size old < n
   pub node : IsNode new n

@@ -26,7 +26,7 @@ pub record GrowsWithin (old new : Page) (before now : ℕ) : Type 0 where
   pub depth : length new.queues.stack ≡ length old.queues.stack
   pub nodes : size old.forest ≤ size new.forest
 
--- nothing but the queues and the notes has changed
+-- the trees, the rows and the definitions are as they were, and the page is settled where it was
 pub record OnlyEnqueues (old new : Page) : Type 0 where
   pub forest : new.forest ≡ old.forest
   pub elements : new.elements ≡ old.elements

@@ -10,11 +10,11 @@ use Rattle.ce_algorithms.specs.Page.{Element, Page}
 use Rattle.ce_page.specs.Rows.{definition_in}
 use Rattle.ce_page.specs.Sound.{IsSound}
 
--- no memory was refused in a change of the trees or of a definition
+-- what is kept of form owners and disabled states is known to stand for the trees and the definitions
 abbrev pub IsSettled : Page → Type 0
 IsSettled p = p.settled ≡ true
 
--- a settled page is settled after the call
+-- the page is settled after the call where it was before, and else it is not
 abbrev pub KeepsSettled : Page → Page → Type 0
 KeepsSettled old new = new.settled ≡ old.settled
 

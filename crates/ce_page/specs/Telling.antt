@@ -18,7 +18,7 @@ told turn changes walk order = for_each walk turn >> tell_others changes order
 abbrev pub handled : ℕ → Reaction → List Change → Step Work (Unit {0})
 handled n r changes = where_is (λ w. is_custom w.page n) (enqueue_callback n r) >> tell_others changes []
 
--- exactly those whom the change is due are told; where the fuel was spent, each a first part of it
+-- each is told exactly what of the change is due to it; where the fuel was spent, a first part of that
 abbrev pub Tells : Result (Unit {0}) PageStop → Page → Page → Type 0
 Tells (Ok x) old new = TellsExactly old new
 Tells (Err (Refused f)) old new = Unit {0}

@@ -29,7 +29,8 @@ impl Page {
     /// Clones a node (DOM Standard, section "Interface Node", "clone a node"), and gives the copy, which
     /// stands nowhere. Where it is deep, all below the node is cloned too, in tree order, each node into the
     /// copy of its parent; shadow trees are not. An element is created in its node document, not
-    /// synchronously, with its attributes: where there is a definition, its upgrade is enqueued.
+    /// synchronously, with its attributes and, of an input or a textarea, what its control keeps of its value
+    /// and its checkedness: where there is a definition, its upgrade is enqueued.
     ///
     /// One unit of fuel is spent for each node, each attribute and each upgrade. NotSupportedError: the node
     /// is a document or a shadow root, and then nothing has changed.

@@ -72,7 +72,7 @@ impl Page {
     }
 
     /// The cloning steps of an input or a textarea (HTML Standard, sections "The input element", "The textarea element",
-    /// "cloning steps"). Other elements have none.
+    /// "cloning steps"). Other controls have none.
     pub(crate) fn copy_control(
         &mut self,
         alloc: Global,

@@ -105,7 +105,8 @@ impl Page {
 
     /// Sets or clears the custom element definition of an element (DOM Standard, section "Interface Element"). The
     /// form owners are settled, since the element may be a form-associated custom element from now on, or none any
-    /// more; nobody is told.
+    /// more; nobody is told. NoMemory: memory was refused, the page is not settled, or the registry did not give the
+    /// number.
     pub fn set_definition(
         &mut self,
         alloc: Global,

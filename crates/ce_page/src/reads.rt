@@ -40,8 +40,9 @@ impl Page {
         &self.owners
     }
 
-    /// Whether the page is settled: no memory was refused in a change of its trees or of a definition. Of one that isn't,
-    /// form owners and disabled states are not known, and no change is taken.
+    /// Whether the page is settled: what is kept of form owners and disabled states stands for its trees and definitions. A
+    /// change that was cut short for want of memory may leave a page that isn't. Then they are not known, and no insertion,
+    /// no removal, and no change of an attribute or of an element's definition is taken: NoMemory.
     pub fn is_settled(&self) -> bool
         ensures { result ≡ self.now.settled }
     {

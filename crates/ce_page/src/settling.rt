@@ -1,7 +1,7 @@
 // Changes of the trees, and of definitions, after each of which the form owners are settled.
 //
-// A page of which memory was refused in one of these is no longer settled: what is kept of form owners does not stand for
-// its trees. Each of them refuses such a page, as for want of memory, so what goes is settled before and after.
+// A page in which one of these was cut short for want of memory is no longer settled: what is kept of form owners need not
+// stand for its trees. Each of them refuses such a page, as for want of memory, so what goes is settled before and after.
 ghost use Rattle.std.specs.Prelude.{◌≡◌, None, true, false, length, IfOk, IsSome, OnErr, OnOk};
 ghost use Rattle.node_trees.specs.declared.kind.NodeKind.TheVariants.{Element as ElementKind};
 ghost use Rattle.node_trees.specs.Insertion.{may_insert};
@@ -170,7 +170,7 @@ impl Page {
 }
 
 /// Sets an attribute in the trees of a page to a copy of a value. A page that isn't settled is refused, and another one is
-/// unsettled from then on.
+/// unsettled from when the copies are made.
 fn write_attribute(
     alloc: Global,
     tree: &mut Tree,

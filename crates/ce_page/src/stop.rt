@@ -2,16 +2,16 @@
 use ce_base::{Fault, NoMemory, Refused};
 use std::alloc::{AllocError, AllocFailed};
 
-/// Why a call of the page stopped. A call that enqueues reactions spends one unit of fuel for each, as one
-/// that makes nodes does for each node; so each of them may stop with FuelSpent, and any with NoMemory.
+/// Why a call of the page stopped. A call that enqueues reactions spends one unit of fuel for each, as `create_text`,
+/// `create_in_state` and `clone_node` do for each node; so each of them may stop with FuelSpent, and any with NoMemory.
 #[derive(Drop)]
 pub enum PageStop {
     /// The operation throws this fault. Nothing of the page has changed.
     Refused(Fault),
     /// One unit of fuel was to be spent, and none was left. The page still tells its notes, and is then
-    /// only dropped.
+    /// only read or dropped.
     FuelSpent,
-    /// Memory was refused. The page is only dropped.
+    /// Memory was refused, or the page is not settled. The page is only dropped.
     NoMemory,
 }
 

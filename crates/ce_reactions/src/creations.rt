@@ -21,7 +21,8 @@ use std::alloc::Global;
 
 /// A creation begins: its name is tested (DOM Standard, section "Interface Document", `createElement`). Where it is no
 /// element's local name, it threw InvalidCharacterError, and nothing has changed. Over where no fuel is left for a new
-/// element. Else it came as `construct` or `upgrade_turn` says. NoMemory: see `Came`.
+/// element. Where the look-up gives no definition, it gave the new element. Else it came as `construct` or `upgrade_turn`
+/// says. NoMemory: see `Came`.
 pub fn create_named(
     state: &mut State,
     alloc: Global,

@@ -48,7 +48,7 @@ is_value_of d = if is_autonomous d then None else Some d.name
 abbrev pub by_names : List Definition → List ℕ → List ℕ → Option ℕ
 by_names ds name local = position (λ (d : Definition). bytes_eq d.name name && bytes_eq d.local local) ds
 
--- the definition whose name is the `is` value, where there is one
+-- the definition whose name is the `is` value, where there is one, and which has this local name
 abbrev pub by_is_value : List Definition → Option (List ℕ) → List ℕ → Option ℕ
 by_is_value ds None local = None
 by_is_value ds (Some value) local = by_names ds value local

@@ -76,7 +76,7 @@ impl ClassFacts {
         }
     }
 
-    /// The same facts a second time.
+    /// The same facts a second time. `NoMemory` comes only where memory was refused.
     pub fn copy(&self, alloc: Global) -> Result<ClassFacts, NoMemory>
         ensures { IfOk result (λ f. f ≡ self.now) }
     {

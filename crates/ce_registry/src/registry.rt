@@ -49,7 +49,7 @@ impl Registry {
     /// `define`). It refuses, with the fault of the first that
     /// holds: SyntaxError where the name is no custom element's; NotSupportedError where a definition has the
     /// name, where a definition has the class, where `base` is given and is a custom element's name or no
-    /// element of HTML.
+    /// element of HTML. `NoMemory` comes only where memory was refused.
     pub fn define(
         &mut self,
         alloc: Global,
@@ -144,7 +144,7 @@ impl Registry {
         self.classes.get(&class.0).copied()
     }
 
-    /// A definition.
+    /// The definition with a number that the registry gave.
     pub fn definition(&self, d: DefNo) -> &Definition
         requires { d < length self.now }
         ensures { slice_get self.now d ≡ Some result.now }

@@ -33,7 +33,7 @@ impl Meaning {
     /// The meaning of these words: options in any order, each at most once, its value in the next word or behind `=`.
     /// `--fuel N` takes a number from 1 to 200,000, `--boundary T` 1 to 70 ASCII letters and digits, `--url U` at most
     /// 4096 bytes that parse as a URL with scheme http or https (URL Standard), `--trace` no value, and `--make N`, which does
-    /// not go with `--trace`, a number from 1 to 19,999. All else is refused.
+    /// not go with `--trace`, a number from 1 to 19,999. A number is one to nine ASCII digits. All else is refused.
     pub fn of(alloc: Global, words: &Vec<String>) -> Result<Meaning, NoMemory>
         ensures { IfOk result (λ m. m ≡ meaning (map (λ w. string_bytes w) words.now.items)) }
     {

@@ -53,7 +53,8 @@ impl NormalizedUnits {
         self.behind = b == b'\r';
     }
 
-    /// How many code units the pieces that were read take. The greatest u64 where there are more than that.
+    /// How many code units the pieces that were read take, once their newlines are normalized. The greatest u64 where there are
+    /// more than that.
     pub fn count(&self) -> u64
         ensures { (text : List ℕ) → CountsNormalized self.now text → result ≡ min (units_of (normalized text)) (2 ^ 64 - 1) }
     {
@@ -112,7 +113,8 @@ impl CollapsedUnits {
         self.begun |= !self.apart;
     }
 
-    /// How many code units the pieces that were read take. The greatest u64 where there are more than that.
+    /// How many code units the pieces that were read take, once their white space is stripped and collapsed. The greatest u64 where
+    /// there are more than that.
     pub fn count(&self) -> u64
         ensures { (text : List ℕ) → CountsCollapsed self.now text → result ≡ min (units_of (collapsed text)) (2 ^ 64 - 1) }
     {

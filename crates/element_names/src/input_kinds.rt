@@ -4,7 +4,7 @@
 /// "The button element").
 #[derive(Clone, Copy, Debug, PartialEq, Eq)]
 pub enum InputKind {
-    /// A text that is edited. Each type that is not listed is read as this one.
+    /// A text that is edited. An input of a type that is not listed is read as this one.
     Text,
     /// `hidden`: a value that nobody edits.
     Hidden,
@@ -16,6 +16,6 @@ pub enum InputKind {
     Submit,
     /// `reset`: a button that resets a form.
     Reset,
-    /// `button`: a button that does nothing by itself. `file` and `image` are read as this one.
+    /// `button`: a button that does nothing by itself. An input of the type `file` or `image` is read as this one.
     Button,
 }

@@ -85,7 +85,8 @@ fn put_each(
 
 /// The entry list of a form: the names and values of its submittable elements, in tree order, but for those that are passed
 /// over: disabled ones, buttons other than the submitter, checkboxes and radio buttons that are not checked, and what stands
-/// below a datalist (HTML Standard, section "Constructing the entry list"). NoMemory: memory was refused.
+/// below a datalist. An element without a name gives nothing, but for a form-associated custom element whose submission value
+/// is a list (HTML Standard, section "Constructing the entry list"). NoMemory: memory was refused.
 pub fn entries(
     alloc: Global,
     tree: &Tree,

@@ -22,7 +22,7 @@ abbrev pub state_answer : Option CustomState → Option Answer
 state_answer None = None
 state_answer (Some state) = Some (State state)
 
--- an answer of one word that is the name of no flag
+-- an answer of one word that is no node, no flag's name and not `valid`
 abbrev pub answer_named : List ℕ → Option Answer
 answer_named word =
     if bytes_eq word (codes "null") then Some Null

@@ -4,7 +4,7 @@ ghost use Rattle.event_reader.specs.Steps.{TextsTellSteps};
 
 use rule_tokens::{flags_are_read, what_is_written_is_read, what_is_written_is_text};
 
-// The text of an event is guessed as an event with this text.
+// The text of an event is guessed as an event with this text, which is the same step to the law of order.
 pub(crate) fn texts_are_guessed()
     ensures { TextsAreGuessed }
 {

@@ -25,6 +25,6 @@ is_kept_from_editing f n = (is_text_control f.forest n || is_associated f n) && 
 abbrev pub is_barred : Forms → ℕ → Bool
 is_barred f n = is_disabled f n || is_in_datalist f.forest n || has_barred_kind f.forest n || is_kept_from_editing f n
 
--- "candidate for constraint validation" (`willValidate`)
+-- "candidate for constraint validation" (`willValidate`), of a submittable element
 abbrev pub will_validate : Forms → ℕ → Bool
 will_validate f n = not (is_barred f n)

@@ -49,7 +49,8 @@ change_internals internals n change = with_internals internals n (change (kept_b
 
 -- attaching (section "Element internals", `attachInternals`)
 
--- the tests in their order: an `is` value, no definition, one that disables internals, internals that are there, an element that is not constructed yet
+-- the tests in their order: an `is` value, no definition, one that disables internals, internals that are there, a state that is
+-- neither precustomized nor custom
 abbrev pub may_attach : List (Option Internals) → ℕ → Attach → Option Fault
 may_attach internals n a =
     if a.has_is then Some NotSupportedError
@@ -85,7 +86,7 @@ abbrev pub may_set_validity : List (Option Internals) → ℕ → Bool → Flags
 may_set_validity internals n associated flags message =
     option_or (may_write internals n associated) (if is_raised flags && is_empty message then Some TypeError else None)
 
--- all flags are set; without one no message is kept
+-- each flag becomes what is given; where none of them is set, no message is kept
 abbrev pub set_validity : List (Option Internals) → ℕ → Flags → List ℕ → List (Option Internals)
 set_validity internals n flags message =
     change_internals internals n (λ i. record i { flags = flags; message = if is_raised flags then message else [] })

@@ -51,7 +51,8 @@ is_missing f controls n =
     else if is_a Select f.forest n then is_required f.forest n && lacks_choice controls f.forest n
     else false
 
--- "suffering from being too long", "suffering from being too short" (section "The maxlength and minlength attributes")
+-- "suffering from being too long", "suffering from being too short" (sections "Limiting user input length: the maxlength attribute",
+-- "Setting minimum input length requirements: the minlength attribute")
 
 abbrev pub is_limit : List ℕ → Bool
 is_limit digits = list_all is_ascii_digit digits && nat_lt 0 (length digits) && nat_le (length digits) 9
@@ -113,7 +114,7 @@ flags f controls internals n = if is_associated f n then (kept_by internals n).f
 abbrev pub message_of : Forms → List Control → List (Option Internals) → ℕ → List ℕ
 message_of f controls internals n = if is_associated f n then (kept_by internals n).message else message_at controls n
 
--- a control that is validated, and has a flag ("satisfies its constraints" is the contrary)
+-- a control that is validated, and has a flag (one without a flag "satisfies its constraints")
 abbrev pub is_invalid : Forms → List Control → List (Option Internals) → ℕ → Bool
 is_invalid f controls internals n = is_submittable f n && will_validate f n && is_raised (flags f controls internals n)
 

@@ -19,8 +19,8 @@ ghost use Rattle.form_controls.specs.Worked.Owners.{apart};
 ghost use Rattle.form_controls.specs.Worked.Told.{with_forest};
 ghost use Rattle.form_controls.specs.Worked.Validity as validity;
 
-/// The definitions compute: the nearest form owns, and no attribute of it disables; a fieldset is a control of
-/// its form.
+/// The definitions compute: the nearest form owns, and a `disabled` attribute of a form disables nothing; a fieldset is a control
+/// of its form.
 pub fn worked_nesting()
     ensures nearest { form_owner (with_forest [] corners.nested) 6 ≡ Some 4 }
     ensures not_disabled { is_disabled (with_forest [] corners.nested) 6 ≡ false }

@@ -79,7 +79,7 @@ unless_hindered (n ∷ ns) plan = Blocked (Invalid (n ∷ ns))
 abbrev pub is_in_page : Trees → ℕ → Bool
 is_in_page forest form = shadow_including_root_at forest form == 1
 
--- what a submission sends, or the first of what blocks it. The page is a URL; the call is one of `submit`, or the user's and `requestSubmit`
+-- what a submission sends, or the first of what blocks it. The page is a URL; by_call: it comes by `submit`, not by the user or `requestSubmit`
 abbrev pub plan : Forms → List Control → List (Option Internals) → List ℕ → List ℕ → ℕ → Option ℕ → Bool → Plan
 plan f controls internals page boundary form submitter by_call =
     if not (is_in_page f.forest form) then Blocked Disconnected

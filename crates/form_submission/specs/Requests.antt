@@ -5,7 +5,7 @@ use Rattle.ce_base.specs.declared.fault.Fault.TheVariants.{TypeError, NotFoundEr
 use Rattle.form_controls.specs.Kinds.{is_submit_button}
 use Rattle.form_controls.specs.Owners.{Forms, is_owned_by}
 
--- the fault of the first test that holds, or none: the submitter, where one is given, is a submit button whose form owner is the form
+-- the fault of the first test that fails, or none: the submitter, where one is given, is a submit button, and its form owner is the form
 abbrev pub request_fit : Forms → ℕ → Option ℕ → Option Fault
 request_fit f form None = None
 request_fit f form (Some submitter) =

@@ -33,7 +33,7 @@ fn words(rt: &HostRuntime) -> io::Result<Vec<String>> {
     Ok(words)
 }
 
-// A word that is no text is refused, as any word is.
+// A word that is no text is refused; want of memory is told as that.
 fn status_without_words(error: &io::Error) -> ReadStatus {
     match error.kind() {
         io::ErrorKind::OutOfMemory => ReadStatus::NoMemory,

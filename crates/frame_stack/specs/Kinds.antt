@@ -1,4 +1,4 @@
--- A frame as it is kept, without its boxes.
+-- A frame as it is kept, by its kind.
 use Rattle.ce_frames.specs.Places.{Held, Wait}
 use Rattle.body_frames.specs.Kept.{frame_of}
 use Rattle.frame_stack.specs.declared.frame.Kind.{Kind}

@@ -13,8 +13,9 @@ const LONGEST: usize = 4096;
 
 /// The bytes that were fed and whose lines were not given back. A contract sees them as a list.
 ///
-/// The time is linear in what is fed: each byte is searched once, and those left at the end once more, no more
-/// bytes are moved to the front than have left since the last move, and of a line at most 4097 are copied.
+/// The time is linear in what is fed: each byte is searched once, and those left at the end once more; no more
+/// bytes are moved to the front than have left since the last move, but at the end the last line is moved whole;
+/// and of each other line at most 4097 bytes are copied.
 #[derive(Drop)]
 pub struct Feed {
     bytes: Vec<u8>,

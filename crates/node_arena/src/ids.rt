@@ -55,8 +55,8 @@ impl Tree {
         self.first_walked(root, id)
     }
 
-    // The same answer from the nodes that were noted for the ID. None where that takes more steps up, or where more than one
-    // in the tree have the ID.
+    // The same answer from the nodes that were noted for the ID. None where that takes more steps, one for each step up and one
+    // for each of these nodes, or where more than one in the tree have the ID.
     fn first_held(&self, root: NodeNo, id: &str, steps: u64) -> Option<Option<NodeNo>>
         requires { IsNode self.now root }
         ensures found { IfSome result (λ found. found ≡ first_with_id self.now root id.now) }

@@ -41,6 +41,6 @@ page_grafted =
     none)
     none
 
--- one id in the shadow tree, and twice outside it
+-- one id in the shadow tree and once outside it, and another id outside it
 abbrev pub page_named : Trees
 page_named = with_attribute 6 (codes "id") (codes "a") (with_attribute 4 (codes "id") (codes "a") (with_attribute 2 (codes "id") (codes "b") page))

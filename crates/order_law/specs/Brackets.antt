@@ -49,7 +49,7 @@ abbrev pub AreLines : CallOrUpgrade → ℕ → List Event → Type 0
 AreLines (Call name) n lines = (e : Event) × (lines ≡ e ∷ []) × (call_of e ≡ Some (n, name))
 AreLines Upgrade n lines = lines ≡ []
 
--- at the end of the log a reaction runs directly: one that was enqueued, and has logged no callback's line
+-- at the end of the log a reaction runs directly: one that was enqueued, and no callback's line stands directly in it yet
 pub record Runs (w : Entry) (log : List Event) : Type 0 where
   pub enqueued : Says log (enqueue_line w)
   pub innermost : Innermost [] (Started w.number) log

@@ -1,4 +1,4 @@
--- Two lawful logs, and what each becomes where it is changed in one place: none of the changed ones is lawful.
+-- Two lawful logs, and logs that are not lawful: most are one of the two changed in a place or two, the others short ones of their own.
 use Rattle.std.specs.Prelude.{ℕ, zero, suc, List, [], ◌∷◌, ◌++◌, None, Some, codes}
 use Rattle.rule_tokens.specs.declared.callback.CallName.TheVariants as names
 use Rattle.rule_tokens.specs.declared.callback.CallOrUpgrade.TheVariants.{Call, Upgrade}

@@ -43,7 +43,7 @@ pub fn each_element_keeps_its_order()
         v.element ≡ w.element → w.number ≤ v.number }
 {}
 
-/// Behind a drop there is at once another drop of its element, or that the element's upgrade threw; and where an upgrade
+/// What stands at once behind a drop is another drop of its element, or that the element's upgrade threw; and where an upgrade
 /// throws, nothing waits at its element.
 #[tactic(auto, using(crate::proofs::Runs::drop_is_followed, crate::proofs::Runs::throw_drops_all))]
 pub fn each_drop_is_part_of_a_throw()

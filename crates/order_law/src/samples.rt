@@ -5,7 +5,8 @@ ghost use Rattle.order_law.specs.Book.{blank};
 ghost use Rattle.order_law.specs.Law.{Lawful, is_lawful};
 ghost use Rattle.order_law.specs.Samples as samples;
 
-/// The law computes: the logs of the worked upgrades, one done and one thrown, are lawful.
+/// The law computes: the logs of two worked upgrades, one done and one thrown, are lawful, and so are the two that the samples
+/// below change.
 #[tactic(auto, using(crate::proofs::Computed::logs_lawful))]
 pub fn worked_logs_are_lawful()
     ensures done { Lawful logs.traced }

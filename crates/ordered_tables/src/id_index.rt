@@ -62,7 +62,7 @@ impl IdIndex {
         }
     }
 
-    /// Notes a node for an id no more. An id of no node is forgotten, and no other one.
+    /// Notes a node for an id no more. The id is forgotten where no node is noted for it now, and no other id is.
     pub fn remove(&mut self, id: &str, node: NodeNo)
         ensures held { (q : List ℕ) (m : ℕ) → is_held self.new q m ≡ (is_held self.old q m && not (bytes_eq id.now q && node == m)) }
         ensures forgotten { ((m : ℕ) → is_held self.new id.now m ≡ false) → is_known self.new id.now ≡ false }

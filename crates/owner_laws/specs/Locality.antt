@@ -1,4 +1,5 @@
--- What a change of the trees leaves as it was for an element, as a test on the trees as they are after it.
+-- What a change of the trees leaves as it was for an element, as a test on the trees as they are after it; where an attribute
+-- changes, also on its node as it was before.
 use Rattle.std.specs.Prelude.{◌≡◌, ◌≢◌, ℕ, true, false, List, Some, codes}
 use Rattle.element_names.specs.declared.natives.Native.TheVariants.{Fieldset, Legend, Optgroup}
 use Rattle.node_trees.specs.Trees.{Trees}
@@ -10,7 +11,7 @@ use Rattle.form_controls.specs.Kinds.{is_a}
 use Rattle.form_controls.specs.Owners.{Forms, form_owner}
 use Rattle.form_controls.specs.Disabled.{has_disabled, is_disabled}
 
--- nothing that forms are about changes for m, from before to now
+-- neither the form owner nor the disabled state of m changes, from before to now
 pub record IsUnchanged (before now : Forms) (m : ℕ) : Type 0 where
   pub owner : form_owner now m ≡ form_owner before m
   pub disabled : is_disabled now m ≡ is_disabled before m

@@ -9,8 +9,8 @@ ghost use Rattle.node_trees.specs.Trees.{cut, graft, with_attribute, without_att
 ghost use Rattle.form_controls.specs.Owners.{Forms};
 ghost use Rattle.owner_laws.specs.Locality.{IsAsideOfAttribute, IsAsideOfMove, IsUnchanged};
 
-/// What changes nothing for a node: a tree that is put in or taken out beside it, an attribute of another that is set or
-/// gone beside it, and other form-associated custom elements.
+/// What changes neither the form owner nor the disabled state of a node: a tree that is put in or taken out beside it, an
+/// attribute of another that is set or gone beside it, and other form-associated custom elements.
 pub fn what_a_touch_leaves()
     ensures graft { (f : Forms) (p n : ℕ) (b : Option ℕ) → IsTidy f.forest → IsNode f.forest p → IsNode f.forest n → IsNodeOrNone f.forest b →
         may_insert f.forest p n b ≡ None → parent_at f.forest n ≡ None →

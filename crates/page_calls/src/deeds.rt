@@ -18,14 +18,14 @@ use std::alloc::Global;
 /// the Standard.
 ///
 /// Refused: the deed throws this fault, and the page is as it was. A text node, a node that is detached, an attribute
-/// that is removed and an upgrade refuse nothing. A shadow root: NotSupportedError, where the element may have none, its
-/// definition disables shadow, or it has one. An insertion: as `Page::insert_node` says. A child that is removed:
-/// NotFoundError, where it is no child of the parent. An attribute that is set: InvalidCharacterError, where the name is
-/// no attribute's name. A clone: as `Page::clone_node` says. An adoption: NotSupportedError of a document,
-/// HierarchyRequestError of a shadow root.
+/// that is removed and an upgrade refuse nothing. A shadow root: NotSupportedError, where the element may have none, the
+/// look-up gives it a definition that disables shadow, or it has one. An insertion: as `Page::insert_node` says. A child
+/// that is removed: NotFoundError, where it is no child of the parent. An attribute that is set: InvalidCharacterError,
+/// where the name is no attribute's name. A clone: as `Page::clone_node` says. An adoption: NotSupportedError of a
+/// document, HierarchyRequestError of a shadow root.
 ///
 /// FuelSpent: a unit of fuel was wanted, and none was left; what was done before that stays. NoMemory: memory was
-/// refused, and the page is only dropped.
+/// refused, or the page is not settled; it is only dropped.
 pub fn run(
     alloc: Global,
     page: &mut Page,

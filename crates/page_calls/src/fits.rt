@@ -56,7 +56,7 @@ fn is_submittable(page: &Page, n: NodeNo) -> bool
 }
 
 /// Whether a node is a custom form-associated element: a form-associated custom element whose state is "custom" (HTML
-/// Standard, section "Form-associated custom elements").
+/// Standard, section "Core concepts"; DOM Standard, section "Interface Element").
 pub(crate) fn is_custom_form_associated(page: &Page, n: NodeNo) -> bool
     ensures { result ≡ is_custom_form_associated page.now n }
 {

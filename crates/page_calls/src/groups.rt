@@ -16,8 +16,8 @@ use element_names::InputKind;
 use form_kinds::has_kind;
 use std::alloc::Global;
 
-/// Sets a checkbox or a radio button on or off. A radio button that is set on sets the others of its group off. A page that
-/// is not settled has no groups: NoMemory.
+/// Sets a checkbox or a radio button on or off. A radio button that is set on sets the others of its group off: NoMemory
+/// comes for it too where the page is not settled, which then has no groups.
 pub(crate) fn set_checked(
     alloc: Global,
     page: &mut Page,

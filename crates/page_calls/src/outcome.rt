@@ -5,6 +5,6 @@
 pub enum Outcome {
     /// It was done.
     Done,
-    /// The user may not do that: the control is disabled, or cannot be edited.
+    /// The user may not do that: the control, or an option's select, is disabled, or a text control has `readonly`.
     Ignored,
 }

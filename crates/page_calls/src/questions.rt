@@ -22,7 +22,8 @@ use rule_lines::AskWord;
 use std::alloc::Global;
 
 /// What a question of a node answers; of an attribute by its name (DOM Standard, section "Interface Element"). TypeError
-/// exactly where the node is not one that the question can be asked of. NoMemory: memory was refused.
+/// exactly where the node is not one that the question can be asked of. NoMemory: memory was refused, or the page is not
+/// settled.
 pub fn ask(
     alloc: Global,
     page: &Page,
@@ -57,7 +58,7 @@ pub fn asked_of(word: AskWord) -> Fit
     }
 }
 
-/// What a question answers of a node that it can be asked of. NoMemory: memory was refused.
+/// What a question answers of a node that it can be asked of. NoMemory: memory was refused, or the page is not settled.
 pub fn answer(
     alloc: Global,
     page: &Page,

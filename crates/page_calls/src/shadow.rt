@@ -14,8 +14,8 @@ use element_names::{is_custom_name, is_shadow_host};
 use std::alloc::Global;
 
 /// Attaches a shadow root to an element (DOM Standard, section "Interface Element", "attach a shadow root").
-/// NotSupportedError: the local name is none of an element that may have a shadow tree, or the definition disables
-/// shadow, or there is a shadow root already.
+/// NotSupportedError: the local name is none of an element that may have a shadow tree, or the look-up gives a definition
+/// that disables shadow, or there is a shadow root already.
 pub(crate) fn attach_shadow(
     alloc: Global,
     page: &mut Page,

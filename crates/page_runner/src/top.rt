@@ -82,7 +82,7 @@ pub fn run_with<S: Source, K: Sink>(
     ensures read_fault { S.failed source.old < S.failed source.new → result ≡ Status.ReadFault }
     ensures write_fault { K.failed sink.old < K.failed sink.new → result ≡ Status.WriteFault }
 
-    // A script of any length is run to its end, unless a count of faults rises or memory is refused.
+    // A script of any length comes to its status and its transcript, unless a count of faults rises or memory is refused.
     ensures complete { (script : List ℕ) → S.left source.old ≡ Some script
         → ¬ Rose (S.failed source.old) (S.failed source.new) → ¬ Rose (K.failed sink.old) (K.failed sink.new)
         → Ends options script result (K.held sink.old) (K.held sink.new) }

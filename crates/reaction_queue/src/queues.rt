@@ -84,7 +84,8 @@ impl Queues {
     /// Enqueues a reaction ("enqueue an element on the appropriate element queue", and what comes before
     /// it): it gets the next number and comes last in the node's reaction queue, and the node comes last
     /// in the current element queue, or in the backup element queue where the stack is empty. Gives the
-    /// reaction's number and that of the element queue.
+    /// reaction's number and that of the element queue. NoMemory: memory was refused, and each reaction queue is
+    /// as it was.
     pub fn enqueue(
         &mut self,
         alloc: Global,

@@ -87,7 +87,7 @@ abbrev mutual
   canon_row action (LastRow word wants) g gs = tokens_of g ++ canon action wants gs
   canon_row action (Row word wants rows) g gs = if is_read_as_word word g then tokens_of g ++ canon action wants gs else canon_row action rows g gs
 
--- of an action of so many operands at most
+-- of a form, in which actions stand in actions up to so deep
 abbrev pub canon_within : ℕ → List ReadAs → List Token
 canon_within zero gs = []
 canon_within (suc n) gs = canon (canon_within n) (Pick forms) gs

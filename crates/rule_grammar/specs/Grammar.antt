@@ -1,4 +1,4 @@
--- A grammar of lines: what a token is wanted as, one after the other, and which lines are whole.
+-- A grammar of lines: what a token is wanted as, one after the other.
 use Rattle.std.specs.Prelude.{ℕ, List, Option}
 use Rattle.std.specs.Option.{option_map}
 use Rattle.rule_tokens.specs.declared.token.Token.{Token}

@@ -25,7 +25,7 @@ FormsAreRead = (ts : List Token) → IsAnswer ts (read_tokens ts)
 abbrev pub SpelledIsRead : Type 0
 SpelledIsRead = (ts : List Token) (read_as : List ReadAs) → Spelled ts read_as ↔ (read_tokens ts ≡ Ok read_as)
 
--- these tokens are a form or have one of the two faults, and no two of these
+-- no two of these hold: the tokens are a form; they have a wrong word; they have a wrong number of operands
 pub record OneFault (ts : List Token) : Type 0 where
   pub form_word : IsForm ts → HasWrongWord IsForm ts → ⊥
   pub form_number : IsForm ts → HasWrongNumber IsForm ts → ⊥

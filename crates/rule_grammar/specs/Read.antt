@@ -74,7 +74,7 @@ abbrev mutual
   read_row action (Row word wants rows) t ts =
       if is_word (spelling word) t then with_front (read_as.Word word ∷ []) (read action wants ts) else read_row action rows t ts
 
--- the operands of a line, where an action may have so many tokens
+-- the operands of a line, in which actions stand in actions up to so deep
 abbrev pub read_within : ℕ → List Token → Reads
 read_within zero ts = Err Arity
 read_within (suc n) ts = read (read_within n) (Pick forms) ts

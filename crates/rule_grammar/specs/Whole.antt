@@ -104,7 +104,7 @@ pub record HasWrongWord (IsWhole : List Token → Type 0) (ts : List Token) : Ty
 abbrev pub LacksOne : (List Token → Type 0) → List Token → Type 0
 LacksOne IsWhole ts = Begins IsWhole ts × (IsWhole ts → ⊥)
 
--- a token is left over: those before it are whole, and nothing but a keyword may follow, which it isn't
+-- a token is left over: those before it are whole, nothing but a keyword may follow them, and it may not
 pub record HasOneOver (IsWhole : List Token → Type 0) (ts : List Token) : Type 0 where
   pub before : List Token
   pub token : Token

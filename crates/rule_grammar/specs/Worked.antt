@@ -13,7 +13,7 @@ IsRead (Err b) = ⊥
 abbrev create : List Token → List Token
 create more = bare (codes "create") ∷ bare (codes "$a") ∷ bare (codes "div") ∷ more
 
--- create $a div in doc, and with more behind it
+-- create $a div, and what may and may not stand behind it
 abbrev pub CreateRows : Type 0
 CreateRows =
     IsRead (read_tokens (create (bare (codes "in") ∷ bare (codes "doc") ∷ [])))
@@ -27,7 +27,7 @@ CreateRows =
 abbrev after_on : List Token → List Token
 after_on action = bare (codes "on") ∷ bare (codes "A") ∷ bare (codes "connected") ∷ bare (codes ":") ∷ action
 
--- actions in actions
+-- an `on`, and the action behind it
 abbrev pub ActionRows : Type 0
 ActionRows =
     IsRead (read_tokens (after_on (bare (codes "try") ∷ bare (codes "if") ∷ bare (codes "eq") ∷ bare (codes "@1")

@@ -71,7 +71,7 @@ fn compared(
 }
 
 impl Action {
-    /// A second action that does the same.
+    /// A second action that does the same. `NoMemory` comes only where memory was refused.
     pub fn copy(&self, alloc: Global) -> Result<Action, NoMemory>
         ensures { IfOk result (λ x. act_of x ≡ act_of self.now) }
     {

@@ -23,7 +23,7 @@ pub enum AskWord {
     Candidate,
     /// `valid`: its validity flags.
     Valid,
-    /// `message`: its validation message.
+    /// `message`: the message that `custom` or `validity` has set for it.
     Message,
     /// `value`: its value.
     Value,

@@ -14,7 +14,7 @@ pub enum Line {
     Part(ClassPart),
 }
 
-/// A command: what may stand at top level.
+/// A command: it stands at top level, and runs at once.
 #[derive(Drop)]
 pub enum Cmd {
     /// An operation.

@@ -87,8 +87,8 @@ pub enum Op {
         class: Text,
         base: Option<Text>,
     },
-    /// `upgrade node`: tries to upgrade each element of a node's shadow-including tree (HTML Standard, section
-    /// "The CustomElementRegistry interface", `upgrade`).
+    /// `upgrade node`: tries to upgrade each element among a node's shadow-including inclusive descendants (HTML
+    /// Standard, section "The CustomElementRegistry interface", `upgrade`).
     Upgrade {
         node: Operand,
     },
@@ -113,7 +113,7 @@ pub enum Op {
         node: Operand,
         entries: Entries,
     },
-    /// `formnull node`: sets no submission value and no state.
+    /// `formnull node`: sets the submission value and the state to null.
     FormNull {
         node: Operand,
     },

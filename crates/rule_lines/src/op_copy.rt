@@ -334,7 +334,7 @@ fn submit(alloc: Global, form: &Operand) -> Result<Op, NoMemory>
 }
 
 impl Op {
-    /// A second operation that does the same.
+    /// A second operation that does the same. `NoMemory` comes only where memory was refused.
     pub fn copy(&self, alloc: Global) -> Result<Op, NoMemory>
         ensures { IfOk result (λ x. x ≡ self.now) }
     {

@@ -31,7 +31,7 @@ impl Vals {
         }
     }
 
-    /// Puts a value at the end.
+    /// Puts a value at the end. `NoMemory` comes only where memory was refused, and then the list is only dropped.
     pub fn push(&mut self, alloc: Global, v: Val) -> Result<(), NoMemory>
         ensures { OnOk result (self.new ≡ self.old ++ v ∷ []) }
     {
@@ -67,7 +67,7 @@ impl Vals {
         self.items
     }
 
-    /// A second list with the same values.
+    /// A second list with the same values. `NoMemory` comes only where memory was refused.
     pub fn copy(&self, alloc: Global) -> Result<Vals, NoMemory>
         ensures { IfOk result (λ v. v ≡ self.now) }
     {

@@ -74,7 +74,8 @@ abbrev pub said_within : List Wrap → Leaf → Option Said
 said_within [] leaf = said_at_top leaf
 said_within (w ∷ ws) leaf = option_and_then (said_of_body w ws) (said_in_body leaf)
 
--- what a form says; None where a word of bodies stands at top level, or a word of the top level in a body
+-- what a form says; None where a word of bodies stands at top level, or what a user enters by an @, or a word of the top
+-- level in a body
 abbrev pub said_of : Form → Option Said
 said_of f = said_within f.wraps f.leaf
 

@@ -45,9 +45,10 @@ fn said(alloc: Global, bytes: &[u8]) -> Result<Line, LineRefused>
 }
 
 /// Reads a line, without its end. It is refused for the first of these that holds: it has more than 4096
-/// bytes; it is not UTF-8; a quote is amiss; an escape is none; a word or an operand is amiss; an operand is
-/// missing or left over; the form may not stand there. `NoMemory` comes only where memory was refused, and tells
-/// nothing of the line.
+/// bytes; it is not UTF-8; a quote is amiss; an escape is none; a control character or a bare backslash stands in
+/// it, or a word or an operand is amiss; an operand is missing or left over; the form may not stand there. A
+/// comment is refused for the first two alone. `NoMemory` comes only where memory was refused, and tells nothing
+/// of the line.
 pub fn read_line(alloc: Global, bytes: &[u8]) -> Result<Line, LineRefused>
     // What is read is spelled so.
     ensures found { IfOk result (λ x. Spells longest bytes.now (line_of x)) }

@@ -14,7 +14,7 @@ pieces [] = []
 pieces (Plain c ∷ ps) = c ∷ pieces ps
 pieces (Guarded c ∷ ps) = 92 ∷ c ∷ pieces ps
 
--- a quote or a backslash stands between quotes only where a backslash protects it
+-- a plain character is neither a quote nor a backslash
 abbrev pub ArePieces : List Piece → Type 0
 ArePieces [] = Unit {0}
 ArePieces (Plain c ∷ ps) = ((c ≢ 34) × (c ≢ 92)) × ArePieces ps

@@ -24,7 +24,7 @@ abbrev pub as_line : List Token → List ℕ
 as_line [] = []
 as_line (t ∷ ts) = written t ++ spaced ts
 
--- a byte that may stand in a bare token: visible ASCII, but no quote and no backslash
+-- a byte of a clean bare token: visible ASCII, but no quote and no backslash
 abbrev pub is_bare_byte : ℕ → Bool
 is_bare_byte b = (nat_lt 32 b && nat_lt b 127) && (not (b == 34) && not (b == 92))
 
@@ -32,7 +32,7 @@ abbrev pub IsCleanBy : Bool → List ℕ → Type 0
 IsCleanBy true text = IsUtf8 text
 IsCleanBy false text = (text ≢ []) × (list_all is_bare_byte text ≡ true)
 
--- a quoted token says a text; a bare one is some such bytes
+-- a clean token: a quoted one says a text; a bare one is some such bytes
 abbrev pub IsClean : Token → Type 0
 IsClean t = IsCleanBy t.quoted t.text
 
@@ -49,11 +49,11 @@ abbrev pub IsLine : List Token → Type 0
 IsLine [] = ⊥
 IsLine (t ∷ ts) = (t.quoted ≡ false) × (is_comment t.text ≡ false)
 
--- tokens that are written as a line are read again
+-- clean tokens that a line can begin with are read again where they are written as a line within the limit
 abbrev pub WrittenIsRead : Type 0
 WrittenIsRead = (limit : ℕ) (ts : List Token) → AreClean ts → IsLine ts → IsUtf8 (as_line ts) → length (as_line ts) ≤ limit
     → tokens_of limit (as_line ts) ≡ Ok (Some ts)
 
--- tokens that are written as a line are a text
+-- clean tokens that are written as a line are a text
 abbrev pub WrittenIsText : Type 0
 WrittenIsText = (ts : List Token) → AreClean ts → IsUtf8 (as_line ts)

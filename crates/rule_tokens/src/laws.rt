@@ -13,12 +13,14 @@ pub fn lines_are_answered()
     ensures read { SaidIsRead }
 {}
 
-/// Tokens that are written as a line, with one space between them, are read again.
+/// Clean tokens that are written as a line, with one space between them, are read again, where the first is bare and begins no
+/// comment, and the line is within the limit. Clean is a quoted token that says a text, and a bare one of one or more bytes of
+/// visible ASCII, none of them a quote or a backslash.
 pub fn what_is_written_is_read()
     ensures { WrittenIsRead }
 {}
 
-/// Tokens that are written as a line, with one space between them, are a text.
+/// Clean tokens that are written as a line, with one space between them, are a text.
 pub fn what_is_written_is_text()
     ensures { WrittenIsText }
 {}

@@ -15,7 +15,7 @@ use rule_lines::Vals;
 use rule_tokens::{CallName, Operand, Val};
 use std::alloc::Global;
 
-/// A piece of a line: an operand, an optional part, or operands that repeat.
+/// A piece of a line: a fixed word, an operand, an optional part, or operands that repeat.
 #[derive(Clone, Copy)]
 pub(crate) enum Piece<'a> {
     Word(Word),

@@ -12,7 +12,7 @@ abbrev pub end_line : Bool → List ℕ
 end_line spent = if spent then codes "end fuel\n" else codes "end done\n"
 
 -- how many elements the script made, how many lines it has, how many lines the transcript has and how many of them
--- tell a call, how much fuel was used, and whether that was all
+-- tell a call, how much fuel was used, and whether the run ended for want of it
 unfoldable pub summary : ℕ → ℕ → List ℕ → ℕ → Bool → List ℕ
 summary made script_lines transcript fuel_used spent =
     figure (codes "made") made

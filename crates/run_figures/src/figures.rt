@@ -59,7 +59,7 @@ impl Figures {
         self.lines
     }
 
-    /// How many of the lines begin with `call`.
+    /// How many lines begin with `call`. Bytes behind the last line feed are a line here, too.
     pub fn calls(&self) -> u64
         ensures { result ≡ calls_in self.now }
     {

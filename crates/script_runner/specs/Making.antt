@@ -44,7 +44,7 @@ summary_of set n o = summary n (line_count n) (text set.trace (log_of o)) (set.f
 abbrev pub made_summary : Options → ℕ → List ℕ
 made_summary set n = summary_of set n (made_session set n)
 
--- the row of each status, where the made script of n is run with these settings, and these bytes are written
+-- the row of each status, where the made script of n is run with these options, and these bytes are written
 abbrev pub MadeRow : Status → Options → ℕ → ℕ → ℕ → List ℕ → Type 0
 MadeRow Done set n before now written = (is_spent (made_session set n) ≡ false) × (written ≡ made_summary set n)
 MadeRow BadLines set n before now written = ⊥

@@ -78,7 +78,7 @@ WritesAll set call = call.written ≡ transcript set (lines_that_count call)
 abbrev pub WritesPart : Options → Call → Type 0
 WritesPart set call = IsPrefix call.written (transcript set (lines_that_count call))
 
--- the row of each status, where a script is run with these settings
+-- the row of each status, where a script is run with these options
 abbrev pub Row : Status → Options → Call → Type 0
 Row Done set call = ReadsAll call × (spends_all set (lines_that_count call) ≡ false) × (has_bad (lines_that_count call) ≡ false) × WritesAll set call
 Row BadLines set call = ReadsAll call × (spends_all set (lines_that_count call) ≡ false) × (has_bad (lines_that_count call) ≡ true) × WritesAll set call
@@ -90,7 +90,7 @@ Row WriteFault set call = Rose call.sink_before call.sink_now × WritesPart set 
 Row NoMemory set call = WritesPart set call
 Row TooLong set call = (limit < length call.taken) × (spends_all set (lines_that_count call) ≡ false) × WritesAll set call
 
--- no more was taken than was needed: before the last piece the bytes were within the limit, and their whole lines left some fuel
+-- no more was taken than was needed: before the last piece the bytes were within the limit, and the fuel sufficed for their whole lines
 pub record TakesOnlyNeeded (set : Options) (taken : List ℕ) : Type 0 where
   pub before : List ℕ
   pub last : List ℕ

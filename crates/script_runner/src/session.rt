@@ -158,7 +158,7 @@ impl Session {
     }
 }
 
-// A part of a class is replied to by nothing.
+// A part of a class ends as a line that was replied to, though only a refused one has a reply.
 fn replied(done: Result<Machine, Stop>) -> Result<(Machine, End), Stop>
     ensures done { IfOk done (λ m. result ≡ Ok (m, End.Replied)) }
     ensures stopped { IfErr done (λ stop. result ≡ Err stop) }

@@ -17,7 +17,7 @@ use Rattle.ce_page.specs.declared.stop.PageStop.TheVariants.{Refused, FuelSpent,
 use Rattle.class_table.specs.Classes.{changed, frozen_class}
 use Rattle.session_state.specs.Variables.{highest}
 
--- the fuel bounds the numbers that are still given; there is a document; each variable holds the number of a node
+-- the fuel bounds the numbers that are still given; there is a node; no variable holds a number past those of the nodes
 abbrev pub AreBounded : Page → ℕ → List (List ℕ × ℕ) → Type 0
 AreBounded p fuel variables = (p.queues.reactions + fuel < 2 ^ 64) × (p.queues.pushed + fuel < 2 ^ 64) × (0 < size p.forest)
     × (highest variables ≤ size p.forest)

@@ -44,7 +44,7 @@ fn joined(base: Url, action: &str) -> Result<Option<Url>, NoMemory>
     found(base.join(action))
 }
 
-/// Sets the query of a URL (URL Standard, section "URL class", "search").
+/// Sets the query of a URL, to the empty text too (URL Standard, section "URL representation", "query").
 pub(crate) fn set_query(url: &mut Url, query: &str) -> Result<(), NoMemory>
     ensures { OnOk result (url.new ≡ spec.set_query url.old (Some query.now)) }
 {

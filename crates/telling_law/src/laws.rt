@@ -9,8 +9,8 @@ ghost use Rattle.ce_algorithms.specs.Mutation.{put_in, remove};
 ghost use Rattle.ce_algorithms.specs.Attributes.{remove_attribute, set_attribute};
 ghost use Rattle.telling_law.specs.Told.{TellsExactly, TellsPart};
 
-/// Where a node is removed, each node of the page is told what of its change is due to it, once, and nothing else: those of
-/// the removed tree at their turns, the others after it. Where the fuel is spent, each was told a first part of that.
+/// Where a node is removed, each node of the page is told what of its change is due to it, once; the callbacks of
+/// form-associated elements tell it nothing else. Where the fuel is spent, each was told a first part of that.
 pub fn a_removal_tells_exactly()
     ensures all { (node : ℕ) (w v : Work) → IsTidy w.page.forest → remove node w ≡ Goes tt v → TellsExactly w.page v.page }
     ensures part { (node : ℕ) (w v : Work) → IsTidy w.page.forest → remove node w ≡ Spent v → TellsPart w.page v.page }

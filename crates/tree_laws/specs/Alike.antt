@@ -1,4 +1,4 @@
--- Trees that are the same but for one node, which has no attributes and no children.
+-- Trees that read alike but for one node, which has no attributes and no children.
 use Rattle.std.specs.Prelude.{◌≡◌, ◌≢◌, ℕ}
 use Rattle.node_trees.specs.Trees.{Trees}
 use Rattle.node_trees.specs.Nodes.{times}
@@ -6,7 +6,7 @@ use Rattle.node_trees.specs.Spots.{facts_at, parent_at, children_at, kind_at}
 use Rattle.node_trees.specs.Paths.{path}
 use Rattle.node_trees.specs.Orders.{tree_order_of}
 
--- what is read of g is what is read of f; n, which is no node of f, may be one of g
+-- these readings of g are those of f; n, which is no node of f, may be one of g
 pub record AreAlike (n : ℕ) (f g : Trees) : Type 0 where
   pub free : times n f ≡ 0
   pub local : (i : ℕ) → i ≢ n → (facts_at g i).local ≡ (facts_at f i).local

@@ -14,8 +14,8 @@ pub fn what_is_read_is_a_node()
     ensures order { (f : Trees) (root n : ℕ) → IsTidy f → is_among n (tree_order_of f root) ≡ true → IsNode f n }
 {}
 
-/// A node that is made, among the roots or as the root of a shadow tree, changes nothing that is read of other nodes but the
-/// shadow root of its host.
+/// A node without attributes that is made, among the roots or as the root of a shadow tree, changes no other node's local name,
+/// kind, attributes, parent, children, path and tree order.
 pub fn making_a_node_changes_no_other()
     ensures root { (f : Trees) (n : ℕ) (x : Facts) → times n f ≡ 0 → x.attributes ≡ [] → AreAlike n f (with_node n x f) }
     ensures shadow_root { (f : Trees) (n host : ℕ) (x : Facts) → times n f ≡ 0 → x.attributes ≡ [] → AreAlike n f (with_shadow host (single n x) f) }

@@ -70,8 +70,8 @@ fn is_below(controls: &ControlTable, tree: &Tree, n: NodeNo, limit: Option<u64>)
     }
 }
 
-/// Whether a value is longer than `maxlength` says (HTML Standard, section "The maxlength and minlength attributes",
-/// "suffering from being too long").
+/// Whether a value is longer than `maxlength` says (HTML Standard, section "Limiting user input length: the maxlength
+/// attribute", "suffering from being too long").
 pub(crate) fn is_too_long(controls: &ControlTable, tree: &Tree, n: NodeNo) -> bool
     requires { IsNode tree.now n }
     ensures { result ≡ is_too_long controls.now tree.now n }
@@ -80,8 +80,8 @@ pub(crate) fn is_too_long(controls: &ControlTable, tree: &Tree, n: NodeNo) -> bo
         && is_above(controls, tree, n, limit_in(tree.attr(n, "maxlength")))
 }
 
-/// Whether a value that is not empty is shorter than `minlength` says (HTML Standard, section "The maxlength and minlength
-/// attributes", "suffering from being too short").
+/// Whether a value that is not empty is shorter than `minlength` says (HTML Standard, section "Setting minimum input length
+/// requirements: the minlength attribute", "suffering from being too short").
 pub(crate) fn is_too_short(controls: &ControlTable, tree: &Tree, n: NodeNo) -> bool
     requires { IsNode tree.now n }
     ensures { result ≡ is_too_short controls.now tree.now n }

@@ -70,8 +70,8 @@ fn is_placeholder(tree: &Tree, select: NodeNo, option: Option<NodeNo>) -> bool
     }
 }
 
-/// Whether no option of a select is chosen, or the placeholder alone is (HTML Standard, section "The select element",
-/// "suffering from being missing").
+/// Whether no option of a select is chosen or, where one alone can be, the placeholder is (HTML Standard, section "The select
+/// element", "suffering from being missing").
 fn lacks_choice(tree: &Tree, controls: &ControlTable, select: NodeNo) -> bool
     requires { IsNode tree.now select }
     ensures { result ≡ lacks_choice controls.now tree.now select }

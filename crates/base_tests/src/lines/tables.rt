@@ -1,6 +1,6 @@
 // Tables of lines.
 
-// Each kind of line that a transcript has, and those that no script gives yet.
+// Each kind of line that a transcript has, and some that no script gives.
 pub(super) const LINES: &str = r#"construct A
 call #2 connected
 call #2 disconnected

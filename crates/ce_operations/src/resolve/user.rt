@@ -14,8 +14,8 @@ use reaction_queue::Mode;
 use rule_lines::Cmd;
 use session_state::State;
 
-/// The deed of what the user does, or the first fault of its operands. TypeError: a variable is not set, or a node is not
-/// what it has to be. NoMemory: memory was refused.
+/// The deed of what the user does, or the first fault of its operands. ReferenceError: an operand is `this`, since nothing
+/// is `this`. TypeError: a variable is not set, or a node is not what it has to be. NoMemory: memory was refused.
 pub fn resolve_user(state: &State, c: Cmd) -> Result<Deed, Refused>
     requires { IsByUser c }
     ensures deed { Resolves result (resolve_user (view None state.now) c) }

@@ -46,7 +46,7 @@ kinds =
 abbrev pub kinds_forms : Forms
 kinds_forms = with_forest (6 ∷ []) kinds
 
--- the user gives the text and the hidden input one letter, and empties the textarea; the second option is chosen; the text has a message
+-- the user gives the text, the hidden input and the textarea one letter each; the second option is chosen; the text has a message
 abbrev pub kinds_set : List Control
 kinds_set =
     set_message
