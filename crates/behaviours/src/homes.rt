@@ -39,7 +39,8 @@ impl Homes {
         }
     }
 
-    /// One class more, without callbacks. Its behaviour is at home, and remembers nothing yet.
+    /// One class more, without callbacks. Its behaviour is at home, and remembers nothing yet. NoMemory: memory was
+    /// refused, and nothing has changed.
     pub fn add(&mut self, alloc: Global) -> Result<ClassNo, NoMemory>
         ensures number { IfOk result (λ k. k ≡ length self.old) }
         ensures added { OnOk result (self.new ≡ self.old ++ Some new_behaviour ∷ []) }
@@ -58,7 +59,8 @@ impl Homes {
         Ok(())
     }
 
-    /// Puts an action behind the others of a callback's body. The class's behaviour has to be at home.
+    /// Puts an action behind the others of a callback's body. The class's behaviour has to be at home. NoMemory: memory
+    /// was refused, and nothing has changed.
     pub fn extend(
         &mut self,
         _alloc: Global,

@@ -104,7 +104,8 @@ impl Body {
         self.held = held;
     }
 
-    /// Runs the body up to its next stop. One whose class is not there has no actions.
+    /// Runs the body up to its next stop. One without a behaviour has no actions. NoMemory: memory was refused,
+    /// and the body is only dropped.
     pub fn resume(&mut self, alloc: Global, fuel: &mut Fuel) -> Result<Next, NoMemory>
         ensures resumed { IfOk result (λ next. FrameResumes (frame_of self.old) (frame_of self.new) fuel.old fuel.new next) }
         ensures same { IsSameBody (frame_of self.old) (frame_of self.new) }

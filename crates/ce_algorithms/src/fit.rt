@@ -31,7 +31,7 @@ pub enum Fit {
     Button,
     /// A form-associated custom element (HTML Standard, section "Core concepts").
     FormAssociated,
-    /// One whose state is "custom".
+    /// A form-associated custom element whose state is "custom".
     CustomFormAssociated,
     /// An element with internals (section "Element internals", "attached internals").
     WithInternals,

@@ -42,7 +42,7 @@ pub fn no_step_reads_the_log()
         ≡ behind_in events (run_line model line l s) }
 {}
 
-/// No command ends in a fault: a fault of its operation is its reply, and a fault of a reaction is reported.
+/// No command ends in a fault: behind each the session goes on, or its fuel is spent.
 #[tactic(auto, using(crate::proofs::Calm::command_goes_on))]
 pub fn no_command_throws()
     ensures { (line : ℕ) (c : Cmd) (s : State) → GoesOn (command model line c s) }

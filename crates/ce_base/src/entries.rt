@@ -17,7 +17,7 @@ pub struct Entry {
 }
 
 impl Entry {
-    /// A second entry with the same name and value.
+    /// A second entry with the same name and value. NoMemory: memory was refused.
     pub fn copy(&self, alloc: Global) -> Result<Entry, NoMemory>
         ensures { IfOk result (λ e. e ≡ self.now) }
     {
@@ -64,7 +64,7 @@ impl Entries {
         }
     }
 
-    /// Puts an entry at the end.
+    /// Puts an entry at the end. NoMemory: memory was refused, and the list is only dropped.
     pub fn push(&mut self, alloc: Global, e: Entry) -> Result<(), NoMemory>
         ensures { OnOk result (self.new ≡ self.old ++ e ∷ []) }
     {
@@ -95,7 +95,7 @@ impl Entries {
         self.items.as_slice()
     }
 
-    /// A second list with the same entries.
+    /// A second list with the same entries. NoMemory: memory was refused.
     pub fn copy(&self, alloc: Global) -> Result<Entries, NoMemory>
         ensures { IfOk result (λ e. e ≡ self.now) }
     {

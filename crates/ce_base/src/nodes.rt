@@ -29,7 +29,7 @@ impl Nodes {
         }
     }
 
-    /// Puts a node at the end.
+    /// Puts a node at the end. NoMemory: memory was refused, and the list is only dropped.
     pub fn push(&mut self, alloc: Global, n: NodeNo) -> Result<(), NoMemory>
         ensures { OnOk result (self.new ≡ self.old ++ n ∷ []) }
     {
@@ -37,7 +37,7 @@ impl Nodes {
         Ok(())
     }
 
-    /// Puts a node at the end, where it is one to keep.
+    /// Puts a node at the end, where it is one to keep. NoMemory: memory was refused, and the list is only dropped.
     pub fn keep_where(&mut self, alloc: Global, is_kept: bool, n: NodeNo) -> Result<(), NoMemory>
         ensures { OnOk result (self.new ≡ self.old ++ (if is_kept then n ∷ [] else [])) }
     {
@@ -61,7 +61,7 @@ impl Nodes {
         self.items.get(i).copied()
     }
 
-    /// A second list with the same nodes.
+    /// A second list with the same nodes. NoMemory: memory was refused.
     pub fn copy(&self, alloc: Global) -> Result<Nodes, NoMemory>
         ensures { IfOk result (λ n. n ≡ self.now) }
     {

@@ -3,7 +3,8 @@ ghost use Rattle.std.specs.Prelude.{◌≡◌, ◌-◌};
 
 use std::marker::Model;
 
-/// A node, numbered from 1 in the order of making. Node 1 is the page's document.
+/// A node, numbered from 1 in the order of making. Node 1 is the page's document. No node has the number 0; a call that asks
+/// for no node of this number takes it as 1.
 #[derive(Clone, Copy, Debug, PartialEq, Eq)]
 pub struct NodeNo(pub u64);
 

@@ -20,7 +20,7 @@ impl Model for Text {
 }
 
 impl Text {
-    /// The text of `s`.
+    /// The text of `s`. NoMemory: memory was refused.
     pub fn of(alloc: Global, s: &str) -> Result<Text, NoMemory>
         ensures { IfOk result (λ t. t ≡ s.now) }
     {
@@ -29,7 +29,7 @@ impl Text {
         })
     }
 
-    /// A second text with the same bytes.
+    /// A second text with the same bytes. NoMemory: memory was refused.
     pub fn copy(&self, alloc: Global) -> Result<Text, NoMemory>
         ensures { IfOk result (λ t. t ≡ self.now) }
     {

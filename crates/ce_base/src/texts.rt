@@ -29,7 +29,7 @@ impl Texts {
         }
     }
 
-    /// Puts a text at the end.
+    /// Puts a text at the end. NoMemory: memory was refused, and the list is only dropped.
     pub fn push(&mut self, alloc: Global, t: Text) -> Result<(), NoMemory>
         ensures { OnOk result (self.new ≡ self.old ++ t ∷ []) }
     {
@@ -58,7 +58,7 @@ impl Texts {
         self.items.as_slice()
     }
 
-    /// A second list with the same texts.
+    /// A second list with the same texts. NoMemory: memory was refused.
     pub fn copy(&self, alloc: Global) -> Result<Texts, NoMemory>
         ensures { IfOk result (λ t. t ≡ self.now) }
     {

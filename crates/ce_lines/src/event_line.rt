@@ -58,7 +58,7 @@ pub(crate) fn put_event(alloc: Global, out: &mut Written, e: &Event) -> Result<(
     }
 }
 
-/// The line of an event, without its line feed.
+/// The line of an event, without its line feed. NoMemory: memory was refused.
 pub fn write_event(alloc: Global, e: &Event) -> Result<Text, NoMemory>
     ensures { IfOk result (λ t. t ≡ event_text e.now) }
 {

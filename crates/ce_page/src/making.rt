@@ -19,7 +19,8 @@ use std::alloc::Global;
 
 impl Page {
     /// Makes an inert document, which is its own node document (DOM Standard, section "Interface
-    /// DOMImplementation", `createHTMLDocument`). Like each new node it gets the next number.
+    /// DOMImplementation", `createHTMLDocument`). Like each new node it gets the next number. NoMemory: memory was
+    /// refused, and the page is only dropped.
     pub fn make_document(&mut self, alloc: Global) -> Result<NodeNo, NoMemory>
         ensures number { IfOk result (λ n. n ≡ next_number self.old) }
         ensures page { IfOk result (λ n. self.new ≡ with_new (with_node n (blank Document n) self.old.forest) self.old) }
@@ -33,7 +34,7 @@ impl Page {
     }
 
     /// Makes an element, uncustomized and without a definition (DOM Standard, section "Interface Element",
-    /// "create an element internal").
+    /// "create an element internal"). NoMemory: memory was refused, and the page is only dropped.
     pub fn make_element(
         &mut self,
         alloc: Global,
@@ -54,7 +55,8 @@ impl Page {
         Ok(n)
     }
 
-    /// Makes a text node (DOM Standard, section "Interface Document", `createTextNode`).
+    /// Makes a text node (DOM Standard, section "Interface Document", `createTextNode`). NoMemory: memory was refused,
+    /// and the page is only dropped.
     pub fn make_text(
         &mut self,
         alloc: Global,
@@ -74,7 +76,7 @@ impl Page {
     }
 
     /// Makes a shadow root at an element that has none (DOM Standard, section "Interface Element", "attach a
-    /// shadow root"). Its node document is its host's.
+    /// shadow root"). Its node document is its host's. NoMemory: memory was refused, and the page is only dropped.
     pub fn attach_root(&mut self, alloc: Global, host: NodeNo) -> Result<NodeNo, NoMemory>
         requires node { IsNode self.old.forest host }
         requires element { kind_at self.old.forest host ≡ ElementKind }
@@ -92,7 +94,7 @@ impl Page {
     }
 
     /// Sets the custom element state of an element (DOM Standard, section "Interface Element", "custom element
-    /// state"), and tells nobody. A node that the page does not have stays without one.
+    /// state"), and tells nobody. A number past those of the page's nodes changes nothing.
     pub fn set_state(&mut self, n: NodeNo, state: CustomState)
         ensures page { self.new ≡ with_state n state self.old }
         ensures numbers { SameNumbers self.old self.new }

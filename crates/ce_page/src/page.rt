@@ -59,7 +59,7 @@ impl Model for Page {
 }
 
 impl Page {
-    /// A page with its document alone.
+    /// A page with its document alone. NoMemory: memory was refused.
     pub fn make(alloc: Global) -> Result<Page, NoMemory>
         ensures { IfOk result (λ p. p ≡ blank_page) }
     {

@@ -13,7 +13,7 @@ use std::alloc::Global;
 
 impl Page {
     /// Puts an element last on a definition's construction stack (HTML Standard, section "Upgrades", "upgrade
-    /// an element").
+    /// an element"). NoMemory: memory was refused, and the page is only dropped.
     pub fn push(&mut self, alloc: Global, d: DefNo, n: NodeNo) -> Result<(), NoMemory>
         requires { IsElement self.old.forest n }
         ensures page { OnOk result (self.new ≡ with_stacks (pushed d n) self.old) }

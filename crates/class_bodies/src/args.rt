@@ -32,7 +32,8 @@ impl Model for Args {
 }
 
 impl Args {
-    /// The arguments of the callback that a reaction is for. One that is absent is the empty text.
+    /// The arguments of the callback that a reaction is for. One that is absent is the empty text. NoMemory: memory was
+    /// refused.
     pub fn of(alloc: Global, r: &Reaction) -> Result<Args, NoMemory>
         ensures { IfOk result (λ a. a ≡ args_of r.now) }
     {
@@ -53,14 +54,14 @@ impl Args {
         }
     }
 
-    /// No arguments.
+    /// No arguments. NoMemory: memory was refused.
     pub fn none(alloc: Global) -> Result<Args, NoMemory>
         ensures { IfOk result (λ a. a ≡ no_args) }
     {
         of_texts(alloc, "", "", "")
     }
 
-    /// The text that a value names, by what the class remembers.
+    /// The text that a value names, by what the class remembers. NoMemory: memory was refused.
     pub fn text(&self, alloc: Global, memory: &Memory, v: &Val) -> Result<Text, NoMemory>
         ensures { IfOk result (λ t. t ≡ text_of memory.now self.now v.now) }
     {

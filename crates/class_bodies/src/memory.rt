@@ -24,7 +24,7 @@ impl Model for Memory {
 }
 
 impl Memory {
-    /// The counter is 0, and the text is empty.
+    /// The counter is 0, and the text is empty. NoMemory: memory was refused.
     pub fn blank(alloc: Global) -> Result<Memory, NoMemory>
         ensures { IfOk result (λ m. m ≡ blank_memory) }
     {
@@ -34,7 +34,7 @@ impl Memory {
         })
     }
 
-    /// The counter, in decimal.
+    /// The counter, in decimal. NoMemory: memory was refused.
     pub fn count(&self, alloc: Global) -> Result<Text, NoMemory>
         ensures { IfOk result (λ t. t ≡ decimal self.now.count) }
     {

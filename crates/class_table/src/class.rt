@@ -78,7 +78,7 @@ impl Class {
         self.facts.calls.add(call);
     }
 
-    /// The class observes these attribute names too.
+    /// The class observes these attribute names too. NoMemory: memory was refused, and the class is only dropped.
     pub fn observe(&mut self, alloc: Global, names: &Texts) -> Result<(), NoMemory>
         ensures observed { OnOk result (self.new ≡ change_facts (with_observed names.now) self.old) }
         ensures name { self.new.name ≡ self.old.name }

@@ -54,7 +54,7 @@ impl Classes {
         self.numbers.get(name).copied()
     }
 
-    /// A class.
+    /// The class with a number that is there.
     pub fn at(&self, k: ClassNo) -> &Class
         requires { k < length self.now }
         ensures { slice_get self.now k ≡ Some result.now }
@@ -69,7 +69,7 @@ impl Classes {
         self.items.get(k.0 as usize)
     }
 
-    /// Puts a class without callbacks behind the others.
+    /// Puts a class without callbacks behind the others. NoMemory: memory was refused, and the list is only dropped.
     pub fn add(&mut self, alloc: Global, name: Text) -> Result<(), NoMemory>
         requires { class_named self.old name ≡ None }
         ensures { OnOk result (self.new ≡ self.old ++ new_class name ∷ []) }
@@ -103,7 +103,7 @@ impl Classes {
         self.items[k.0 as usize].add_call(call);
     }
 
-    /// A class observes these attribute names too.
+    /// A class observes these attribute names too. NoMemory: memory was refused, and the list is only dropped.
     pub fn observe(&mut self, alloc: Global, k: ClassNo, names: &Texts) -> Result<(), NoMemory>
         requires { k < length self.old }
         ensures { OnOk result (self.new ≡ changed k (change_facts (with_observed names.now)) self.old) }

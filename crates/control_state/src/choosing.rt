@@ -125,7 +125,7 @@ impl ControlTable {
     }
 
     /// The chosen options of a select, in tree order: with `multiple` those that are selected, else at most one (HTML
-    /// Standard, section "The select element", "selectedness setting algorithm").
+    /// Standard, section "The select element", "selectedness setting algorithm"). NoMemory: memory was refused.
     pub fn chosen(&self, alloc: Global, tree: &Tree, select: NodeNo) -> Result<Nodes, NoMemory>
         requires { IsNode tree.now select }
         ensures list { IfOk result (λ ns. ns ≡ chosen self.now tree.now select) }

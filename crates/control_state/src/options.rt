@@ -90,7 +90,8 @@ fn list_at(alloc: Global, tree: &Tree, list: &mut Nodes, child: NodeNo) -> Resul
     Ok(())
 }
 
-/// The options of a select, in tree order (HTML Standard, section "The select element", "list of options").
+/// The options of a select, in tree order (HTML Standard, section "The select element", "list of options"). NoMemory:
+/// memory was refused.
 pub fn options_of(alloc: Global, tree: &Tree, select: NodeNo) -> Result<Nodes, NoMemory>
     requires { IsNode tree.now select }
     ensures list { IfOk result (λ ns. ns ≡ options_of tree.now select) }

@@ -84,7 +84,8 @@ pub fn option_value(alloc: Global, tree: &Tree, option: NodeNo) -> Result<Text, 
 
 impl ControlTable {
     /// The value of a control, of a select that of its first chosen option; and that of an option (HTML Standard,
-    /// sections "A form control's value", "The option element"). What is neither has the empty text.
+    /// sections "A form control's value", "The option element"). What is neither has the empty text. NoMemory: memory
+    /// was refused.
     pub fn value(&self, alloc: Global, tree: &Tree, n: NodeNo) -> Result<Text, NoMemory>
         requires { IsNode tree.now n }
         ensures { IfOk result (λ t. t ≡ value self.now tree.now n) }

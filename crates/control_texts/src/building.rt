@@ -7,7 +7,7 @@ ghost use Rattle.control_texts.specs.Reading.{collapsed_char, kept_char, normal_
 use ce_base::{NoMemory, Text};
 use std::alloc::Global;
 
-/// The text without its U+000A LF and U+000D CR (Infra Standard, "strip newlines").
+/// The text without its U+000A LF and U+000D CR (Infra Standard, "strip newlines"). NoMemory: memory was refused.
 pub fn without_newlines(alloc: Global, text: &str) -> Result<Text, NoMemory>
     ensures { IfOk result (λ t. t ≡ text_without_newlines text.now) }
 {
@@ -28,7 +28,8 @@ fn put_kept(made: &mut String, c: char) -> Result<(), NoMemory>
     Ok(())
 }
 
-/// The text with a U+000A LF for each U+000D CR U+000A LF and each other U+000D CR (Infra Standard, "normalize newlines").
+/// The text with a U+000A LF for each U+000D CR U+000A LF and each other U+000D CR (Infra Standard, "normalize
+/// newlines"). NoMemory: memory was refused.
 pub fn normalized(alloc: Global, text: &str) -> Result<Text, NoMemory>
     ensures { IfOk result (λ t. t ≡ normalized_text text.now) }
 {
@@ -54,7 +55,7 @@ fn put_normal(made: &mut String, behind: bool, c: char) -> Result<(), NoMemory>
 }
 
 /// The words of the text, which ASCII white space parts, with one U+0020 SPACE between them (Infra Standard, "strip and collapse
-/// ASCII whitespace").
+/// ASCII whitespace"). NoMemory: memory was refused.
 pub fn collapsed(alloc: Global, text: &str) -> Result<Text, NoMemory>
     ensures { IfOk result (λ t. t ≡ collapsed_text text.now) }
 {

@@ -18,8 +18,8 @@ pub fn only_members_count()
         Stands table f → Stands table (record f { associated = other }) }
 {}
 
-/// Where a node is made, among the roots or as the root of a shadow tree, no form owner, no disabled state and no list of
-/// controls changes, and the new node has none. So nothing is to be settled there.
+/// Where a node without attributes is made, among the roots or as the root of a shadow tree, no form owner, no disabled state
+/// and no list of controls changes, and the new node has none. So nothing is to be settled there.
 pub fn making_a_node_changes_nothing()
     ensures root { (table : OwnerRows) (f : Forms) (x : Facts) → IsTidy f.forest → x.attributes ≡ [] → Stands table f →
         Stands table (record f { forest = with_node (size f.forest + 1) x f.forest }) }

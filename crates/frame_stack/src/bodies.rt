@@ -17,7 +17,7 @@ use std::alloc::Global;
 
 impl Stack {
     /// A body of a class begins, in a frame on top, which gets the behaviour of the class. The body of a class
-    /// that is not there has no actions.
+    /// that is not there has no actions. NoMemory: memory was refused, and the stack is only dropped.
     pub fn begin(
         &mut self,
         class: ClassNo,

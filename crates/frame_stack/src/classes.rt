@@ -13,7 +13,8 @@ use rule_tokens::CallName;
 use std::alloc::Global;
 
 impl Stack {
-    /// One class more, without callbacks, which remembers nothing yet.
+    /// One class more, without callbacks, which remembers nothing yet. NoMemory: memory was refused, and the stack is
+    /// only dropped.
     pub fn add_class(&mut self, alloc: Global) -> Result<(), NoMemory>
         requires { self.old.frames ≡ [] }
         ensures behaviours { OnOk result (behaviours_of self.new ≡ behaviours_of self.old ++ new_behaviour ∷ []) }
@@ -29,7 +30,8 @@ impl Stack {
         }
     }
 
-    /// Puts an action behind the others of a callback's body.
+    /// Puts an action behind the others of a callback's body. NoMemory: memory was refused, and the stack is only
+    /// dropped.
     pub fn extend(
         &mut self,
         alloc: Global,

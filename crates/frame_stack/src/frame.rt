@@ -156,7 +156,7 @@ impl Frame {
         }
     }
 
-    /// Runs the body up to its next stop. One whose class is not there has no actions.
+    /// Runs the body up to its next stop. One without a behaviour has no actions.
     pub(crate) fn resume(&mut self, alloc: Global, fuel: &mut Fuel) -> Result<Next, NoMemory>
         requires { is_body self.old ≡ true }
         ensures resumed { IfOk result (λ next. FrameResumes self.old self.new fuel.old fuel.new next) }

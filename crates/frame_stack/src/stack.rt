@@ -59,7 +59,7 @@ impl Stack {
         self.frames.is_empty()
     }
 
-    /// Puts a frame on top that is of no body.
+    /// Puts a frame on top that is of no body. NoMemory: memory was refused, and the stack is only dropped.
     pub fn push(&mut self, w: Waiting) -> Result<(), NoMemory>
         ensures frames { OnOk result (frames_of self.new ≡ frames_of self.old ++ waiting_of w ∷ []) }
         ensures behaviours { OnOk result (behaviours_of self.new ≡ behaviours_of self.old) }

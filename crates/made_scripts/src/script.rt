@@ -6,7 +6,7 @@ use crate::Maker;
 use ce_base::{NoMemory, Text};
 use std::alloc::Global;
 
-/// The made script of n as one text, each line with its line feed.
+/// The made script of n as one text, each line with its line feed. NoMemory: memory was refused.
 pub fn made_script(alloc: Global, n: u32) -> Result<Text, NoMemory>
     ensures { IfOk result (λ script. script ≡ made_script n) }
 {

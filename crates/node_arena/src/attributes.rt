@@ -12,7 +12,7 @@ use std::mem;
 // How many attributes are found by going through them. More are kept in a map.
 const FEW: usize = 8;
 
-/// Names with their values, in the order of first setting. A contract sees the list of the pairs. A few stand in a
+/// Names with their values, in the order in which they came in. A contract sees the list of the pairs. A few stand in a
 /// list. Once there were more they stand in a map, and stay there.
 #[derive(Drop)]
 pub(crate) struct Attributes {

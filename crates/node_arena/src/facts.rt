@@ -86,7 +86,7 @@ impl Tree {
         self.node(n).attributes.len() > 0
     }
 
-    /// A copy of the attributes of a node, names and values, in the order of first setting: an element's, for another
+    /// A copy of the attributes of a node, names and values, in the order in which they came in: an element's, for another
     /// node none. NoMemory: memory was refused.
     pub fn attributes(&self, alloc: Global, n: NodeNo) -> Result<Vec<(Text, Text)>, NoMemory>
         requires { IsNode self.now n }
@@ -97,7 +97,8 @@ impl Tree {
     }
 
     /// Sets an attribute of an element and answers its old value (DOM Standard, section "Interface
-    /// Element", "set an attribute value"). One that is there keeps its place, another comes last.
+    /// Element", "set an attribute value"). One that is there keeps its place, another comes last. NoMemory: memory was
+    /// refused, and nothing has changed.
     pub fn set_attr(
         &mut self,
         alloc: Global,

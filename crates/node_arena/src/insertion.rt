@@ -98,7 +98,8 @@ impl Tree {
     }
 
     /// Puts a node that has no parent, with all below it, among the children of `parent`, before the child
-    /// `before` or at the end (DOM Standard, section "Mutation algorithms", "insert").
+    /// `before` or at the end (DOM Standard, section "Mutation algorithms", "insert"). NoMemory: memory was refused,
+    /// and nothing has changed.
     pub fn insert(
         &mut self,
         alloc: Global,

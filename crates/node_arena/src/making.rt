@@ -54,7 +54,7 @@ fn attach(
 }
 
 impl Tree {
-    /// A tree with a document alone, which is node 1.
+    /// A tree with a document alone, which is node 1. NoMemory: memory was refused.
     pub fn make(alloc: Global) -> Result<Tree, NoMemory>
         ensures { IfOk result (λ t. t ≡ single 1 (blank Document 1)) }
     {
@@ -91,7 +91,7 @@ impl Tree {
     }
 
     /// Makes a document (DOM Standard, section "Interface Document"). Its number is the next one, and it is
-    /// its own node document.
+    /// its own node document. NoMemory: memory was refused, and nothing has changed.
     pub fn make_document(&mut self, alloc: Global) -> Result<NodeNo, NoMemory>
         ensures tidy { IsTidy self.old }
         ensures number { IfOk result (λ n. n ≡ size self.old + 1) }
@@ -109,7 +109,7 @@ impl Tree {
     }
 
     /// Makes an element (DOM Standard, section "Interface Element", "create an element internal"). Its
-    /// number is the next one, and it stands nowhere yet.
+    /// number is the next one, and it stands nowhere yet. NoMemory: memory was refused, and nothing has changed.
     pub fn make_element(
         &mut self,
         alloc: Global,
@@ -136,7 +136,7 @@ impl Tree {
     }
 
     /// Makes a text node (DOM Standard, section "Interface Text"). Its number is the next one, and it stands
-    /// nowhere yet.
+    /// nowhere yet. NoMemory: memory was refused, and nothing has changed.
     pub fn make_text(
         &mut self,
         alloc: Global,
@@ -161,7 +161,8 @@ impl Tree {
     }
 
     /// Makes a shadow root at an element that has none (DOM Standard, section "Interface Element", "attach a
-    /// shadow root"). Its number is the next one, and its node document is the host's.
+    /// shadow root"). Its number is the next one, and its node document is the host's. NoMemory: memory was refused,
+    /// and nothing has changed.
     pub fn attach_root(&mut self, alloc: Global, host: NodeNo) -> Result<NodeNo, NoMemory>
         requires node { IsNode self.old host }
         requires element { kind_at self.old host ≡ Element }

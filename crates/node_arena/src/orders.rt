@@ -42,6 +42,7 @@ impl Tree {
     }
 
     /// The node and all below it in its own tree, in tree order (DOM Standard, section "Trees", "tree order").
+    /// NoMemory: memory was refused.
     pub fn tree_order(&self, alloc: Global, root: NodeNo) -> Result<Nodes, NoMemory>
         requires { IsNode self.now root }
         ensures { IfOk result (λ ns. ns ≡ tree_order_of self.now root) }
@@ -116,7 +117,7 @@ impl Tree {
 
     /// The node and all below it in shadow-including tree order (DOM Standard, section "Interface ShadowRoot",
     /// "shadow-including tree order"): a node, then its shadow tree, then its children, each in this order.
-    /// They are all connected, or none is.
+    /// They are all connected, or none is. NoMemory: memory was refused.
     pub fn shadow_order(&self, alloc: Global, n: NodeNo) -> Result<Nodes, NoMemory>
         requires { IsNode self.now n }
         ensures order { IfOk result (λ ns. ns ≡ order_of self.now n) }

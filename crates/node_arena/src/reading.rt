@@ -145,7 +145,7 @@ impl Tree {
         self.node(n).shadow
     }
 
-    /// The children, in order (DOM Standard, section "Trees", "child").
+    /// The children, in order (DOM Standard, section "Trees", "child"). NoMemory: memory was refused.
     pub fn children(&self, alloc: Global, n: NodeNo) -> Result<Nodes, NoMemory>
         requires { IsNode self.now n }
         ensures children { IfOk result (λ ns. ns ≡ children_at self.now n) }

@@ -9,7 +9,7 @@ pub record Facts : Type 0 where
   pub local : List ℕ  -- an element's local name
   pub is_value : Option (List ℕ)  -- an element's `is` value
   pub chars : List ℕ  -- the characters of a text node
-  pub attributes : List (List ℕ × List ℕ)  -- an element's attributes, names and values, in the order of first setting
+  pub attributes : List (List ℕ × List ℕ)  -- an element's attributes, names and values, in the order in which they came in
   pub document : ℕ  -- the node document
 
 -- kinds

@@ -34,7 +34,7 @@ impl IdIndex {
         self.groups.get(id)
     }
 
-    /// Notes a node for an id, which is known from then on.
+    /// Notes a node for an id, which is known from then on. NoMemory: memory was refused, and nothing has changed.
     pub fn add(&mut self, alloc: Global, id: &str, node: NodeNo) -> Result<(), NoMemory>
         ensures ok { OnOk result ((q : List ℕ) (m : ℕ) → is_held self.new q m ≡ (is_held self.old q m || (bytes_eq id.now q && node == m))) }
         ensures known { OnOk result ((q : List ℕ) → is_known self.new q ≡ (is_known self.old q || bytes_eq id.now q)) }

@@ -9,7 +9,7 @@ use std::collections::BTreeMap;
 use std::marker::Model;
 
 /// An ordered map of texts (Infra Standard, section "Ordered maps"). A contract sees the list of its names with their
-/// values, in the order of first setting. Each has a place, and the places rise; a second map finds the place of a name.
+/// values, in the order in which they came in. Each has a place, and the places rise; a second map finds the place of a name.
 #[derive(Drop)]
 pub struct TextMap {
     pairs: BTreeMap<u64, (Text, Text)>,
@@ -114,7 +114,7 @@ impl TextMap {
         value_of(self.pairs.remove(&place))
     }
 
-    /// A copy of the names and values, in the order of first setting. NoMemory: memory was refused.
+    /// A copy of the names and values, in the order in which they came in. NoMemory: memory was refused.
     pub fn listed(&self, alloc: Global) -> Result<Vec<(Text, Text)>, NoMemory>
         ensures { IfOk result (λ list. list.items ≡ self.now) }
     {

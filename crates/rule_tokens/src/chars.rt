@@ -29,7 +29,7 @@ impl Chars {
         }
     }
 
-    /// Puts a character at the end.
+    /// Puts a character at the end. NoMemory: memory was refused, and the list is only dropped.
     pub fn push(&mut self, c: char) -> Result<(), NoMemory>
         ensures { OnOk result (self.new ≡ self.old ++ c ∷ []) }
     {

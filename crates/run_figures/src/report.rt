@@ -9,7 +9,7 @@ use std::fmt::Write;
 
 /// The summary of a run, of six lines: of how many elements its script was made, how many lines the script and
 /// the transcript have, how many lines of the transcript tell a call, how much fuel was used, and whether the run
-/// ended for want of it.
+/// ended for want of it. NoMemory: memory was refused.
 #[tactic(auto, unfolding(crate::specs::Summary::summary))]
 pub fn summary(
     alloc: Global,

@@ -49,7 +49,7 @@ impl State {
     }
 
     /// The upgrade of an element by a definition begins (HTML Standard, section "Upgrades", "upgrade an element"): it
-    /// has the definition, and is failed for now; its attributes, in the order of first setting, and then that it is
+    /// has the definition, and is failed for now; its attributes, in the order in which they came in, and then that it is
     /// connected, are enqueued; it comes last on the definition's construction stack. FuelSpent exactly where no fuel
     /// is left for what is enqueued; it refuses nothing. What stands then, and NoMemory: see `State`.
     pub fn begin_upgrade(&mut self, alloc: Global, n: NodeNo, d: DefNo) -> Result<(), PageStop>
@@ -154,7 +154,7 @@ fn begin_upgrade(
     Ok(())
 }
 
-// The attributes that are there already are enqueued, in the order of first setting.
+// The attributes that are there already are enqueued, in the order in which they came in.
 fn tell_attributes(
     alloc: Global,
     page: &mut Page,

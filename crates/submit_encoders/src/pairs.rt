@@ -39,7 +39,7 @@ fn serialized(alloc: Global, list: &[Entry]) -> Result<Text, NoMemory>
 
 /// The body of type application/x-www-form-urlencoded, which is also the query of a request by GET (URL Standard, section
 /// "application/x-www-form-urlencoded serializing"). It parses as the list, with the line ends of its names and values as
-/// they are sent (section "application/x-www-form-urlencoded parsing").
+/// they are sent (section "application/x-www-form-urlencoded parsing"). NoMemory: memory was refused.
 pub fn urlencoded(alloc: Global, list: &Entries) -> Result<Text, NoMemory>
     ensures body { IfOk result (λ body. body ≡ urlencoded_body list.now) }
     ensures parses { IfOk result (λ body. parse body ≡ map pair_of list.now) }

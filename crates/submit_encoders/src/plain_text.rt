@@ -14,7 +14,7 @@ fn put_line(body: &mut String, e: &Entry) -> Result<(), NoMemory>
     put_text(body, e.value.as_str(), "\r\n")
 }
 
-/// The body of type text/plain (HTML Standard, section "Plain text form data").
+/// The body of type text/plain (HTML Standard, section "Plain text form data"). NoMemory: memory was refused.
 pub fn plain(alloc: Global, list: &Entries) -> Result<Text, NoMemory>
     ensures { IfOk result (λ body. body ≡ plain_body list.now) }
 {

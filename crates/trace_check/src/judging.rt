@@ -82,7 +82,7 @@ fn verdict_of(alloc: Global, bytes: &[u8]) -> Result<Verdict, NoMemory>
 }
 
 /// Checks a trace against the law of order, in one pass. Its lines are cut at each line feed, and may be of any length; a
-/// last line without a line feed counts where it is not empty.
+/// last line without a line feed counts where it is not empty. NoMemory: memory was refused.
 pub fn check(alloc: Global, bytes: &[u8]) -> Result<Verdict, NoMemory>
     ensures says { IfOk result (λ v. IsVerdict v (lines_of bytes.now)) }
 
