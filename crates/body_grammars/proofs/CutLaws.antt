@@ -37,7 +37,7 @@ unfolding cut_at
 cut_joined c [] = tt
 cut_joined c (b ∷ bytes) = joined_step c b bytes (nat_eq b c) refl (cut_joined c bytes)
 
--- the same, by recursion
+-- the byte stands nowhere in the text, by recursion
 abbrev NoneIs : ℕ → List ℕ → Type 0
 NoneIs c text = AllByRecursion (λ b. b ≢ c) text
 

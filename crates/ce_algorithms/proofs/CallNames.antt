@@ -1,4 +1,4 @@
--- A callback is the same as another where their names are.
+-- A callback is the same as another where their words are.
 use Rattle.std.proofs.Common.{◌≡◌, true, Some, refl, sym, ap, ◌∙◌}
 use Rattle.std.proofs.lemmas.Slice.Eq.{bytes_eq-Decides}
 use Rattle.rule_tokens.specs.Callbacks.{call_named, call_word}

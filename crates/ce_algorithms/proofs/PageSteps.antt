@@ -56,7 +56,7 @@ pub record Keeps {A : Type 0} (R : Work → Work → Type 0) (f : Step Work A) :
 abbrev pub on : (Page → Page) → Work → Work
 on f w = record w { page = f w.page }
 
--- what the relation has to hold of: nothing, one thing after another, and each change of a page
+-- what the relation has to hold of: nothing, one thing after another, each change of a page, and a unit of fuel that is spent
 pub record Closed (R : Work → Work → Type 0) : Type 0 where
   pub same : (w : Work) → R w w
   pub next : (u v w : Work) → R u v → R v w → R u w

@@ -33,7 +33,7 @@ acted_spent class args this true actions s = refl
 acted_spent class args this false actions s = refl
 
 module _ (class : ℕ) (args : Args) (actions : List Act) where
-  -- an operation waits in its frame
+  -- an operation runs above the body's frame
   operation_comes : (this : Option ℕ) (guarded : Bool) (op : Op)
       → Comes (below (InBody class args this guarded actions) (operate_turn this op))
       (λ s. a_result (acted class args actions (guard guarded this (then_do (model (Operate this op) s) (told_next this)))))

@@ -43,7 +43,7 @@ begin_comes class args this actions = record { at = λ s. refl }
 
 -- constructions
 
--- the node of the base call, where nothing else was asked for
+-- the base call alone gives the node that a construction has to give
 found_some : (o : Outcome State ℕ) → a_node (constructed (then_do o (λ n. give (Some n)))) ≡ a_node o
 found_some (Goes n s) = refl
 found_some (Throws f s) = refl

@@ -22,7 +22,7 @@ use Rattle.ce_frames.proofs.Falls.{Falls, falls_give, logged_potential}
 unfoldable pub cost : Turned → ℕ
 cost t = potential t.state + sum_by weight t.pushed
 
--- a turn leaves so much to do, beside what there was
+-- a turn leaves at most so much to do, beside what there was
 pub record Costs (most : ℕ) (turn : Turn) : Type 0 where
   pub at : (s : State) → cost (turn s) ≤ potential s + most
 

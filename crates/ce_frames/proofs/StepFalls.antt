@@ -94,7 +94,7 @@ falls_submit_steps (submit_deeds.Press button) =
     falls_bind (falls_read_page (λ (p : Page). is_disabled p button))
     (λ ignored. falls_ignored_or ignored (falls_bind (falls_read_page (λ (p : Page). form_owner p button)) (falls_activate_in button)))
 
--- variables
+-- variables, and the ends of constructions
 
 falls_keep : (var : Option (List ℕ)) (given : Given) → Falls (keep var given)
 falls_keep None given = falls_done

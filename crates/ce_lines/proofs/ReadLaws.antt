@@ -1,4 +1,4 @@
--- Whether two texts are the same.
+-- Whether two texts are the same, and what holds of an event that is handed on.
 use Rattle.std.proofs.Common.{◌≡◌, ◌≢◌, ℕ, true, false, List, Result, Ok, Err, sym, ◌∙◌, subst}
 use Rattle.std.specs.Prelude.{IfOk}
 use Rattle.std.specs.Str.{bytes_eq}

@@ -30,7 +30,7 @@ use Rattle.ce_outcomes.proofs.TurnLaws.{turns_ended}
 use Rattle.ce_machine.specs.Bodies.{GoesOn, acting_turn, based_turn, frame_on_top, running_turn, stopped_turn}
 use Rattle.ce_machine.proofs.BodyLaws.{lasts_ended, on_top}
 
--- with these at hand an outcome is handed on
+-- an outcome that is no fault is handed on, in a `try` or not
 guard_goes : (g : Bool) (this : Option ℕ) (x : Flow) (s : State) → guard g this (Goes x s) ≡ Goes x s
 guard_goes true this x s = refl
 guard_goes false this x s = refl

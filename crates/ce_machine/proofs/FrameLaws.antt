@@ -1,4 +1,4 @@
--- Turns that read nothing of what classes do and remember: of frames, and where what they push stays placed.
+-- Turns of frames that read nothing of what classes do and remember.
 use Rattle.ce_base.specs.declared.fault.Fault.{Fault}
 use Rattle.ce_algorithms.specs.declared.given.Given.{Given}
 use Rattle.ce_algorithms.specs.State.{State}

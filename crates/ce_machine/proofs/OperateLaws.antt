@@ -126,7 +126,7 @@ run_deed_turns frames now deed s s1 still is e = turns_as frames frames now s1 _
 
 -- a creation
 
--- its queue was pushed before, and waits for it
+-- its queue was pushed before, and a frame waits for it
 pub create_turns : (frames frames' new : List Frame) (now : Came) (queue : ℕ) (name : List ℕ) (is : Option (List ℕ)) (document : ℕ) (s s1 s2 : State)
     → Goes queue s1 ≡ open_queue s → frames' ≡ frames ++ waiting.Stepping queue ∷ [] → Turns frames' new now s2 (create_named_turn name is document s1)
     → Turns frames new now s2 (deed_turn (deeds.Create name is document) s)

@@ -94,7 +94,7 @@ placed_above F (x ∷ xs) above e h = placed_above F xs above e h.1
 
 -- a turn
 
--- what it hands down to a variable stays there, where the forest has grown
+-- what it hands down stays there, where the forest has grown
 record Stays (F G : Trees) (f : Frame) (e : WaitEnd) (t : Turned) : Type 0 where
   pub gives : Gives F (f ∷ []) e → Gives G t.pushed t.end
   pub placed : ArePlaced G t.pushed t.end
@@ -122,7 +122,7 @@ defined_element p n d rows is = go (element_of p n).definition refl
     go None e = let f : None ≡ Some d = sym (ap (option_and_then (slice_get p.definitions)) e) ∙ is in absurd cc
     go (Some k) e = row_element p n k rows e
 
--- so it is a node
+-- so in the frame of its callback `this` is a node
 defined_placed : (G : Trees) (n : ℕ) (r : Reaction) (s : State) → HasRows s.page.elements s.page.forest → size s.page.forest ≤ size G
     → ArePlaced G (call_turn n r (definition_of s.page n) s).pushed (call_turn n r (definition_of s.page n) s).end
 defined_placed G n r s rows le =

@@ -10,7 +10,7 @@ use Rattle.frame_stack.specs.Stacked.{Stacked, behaviours_of}
 use Rattle.ce_machine.specs.Ended.{IsAtRest}
 use Rattle.ce_machine.specs.Rested.{AreAtHome}
 
--- classes remember what their behaviours do
+-- each class remembers what its behaviour remembers
 memories_joined : (cs : List Class) (bs : List Behaviour) → length cs ≡ length bs
     → map (λ (c : Class). c.memory) (joined cs bs) ≡ map (λ (b : Behaviour). b.memory) bs
 memories_joined [] [] h = refl

@@ -126,7 +126,7 @@ pushed f nodes left from old new first some within here more waiting =
     let last : reverse (old ++ f from ∷ []) ≡ f from ∷ reverse old = grind (arith, common_steps) in
     (omega arith, rw (more, rest, last, waiting) refl)
 
--- what stands alone, and is no document, is not connected
+-- what stands alone, and is neither a document nor a shadow root, is not connected
 pub alone_apart : (f : Trees) (n : ℕ) → IsAlone f n → (is_document (kind_at f n) || is_shadow_root (kind_at f n)) ≡ false → connected f n ≡ false
 alone_apart f n alone kind =
     let root : connected f n ≡ is_document (kind_at f n) = ap (λ ms. is_document (kind_at f (or_number (first_of ms) n))) alone.above in

@@ -137,7 +137,7 @@ sound_set {elements} {waiting} {stacks} {forest} i e here h = record {
         if_some None f x = absurd cc
         if_some (Some k) f x = x
 
--- the row of n given the definition that it has
+-- a row given the definition that it has
 
 pub same_row : (elements : List Element) (i : ℕ) (d : Option ℕ) → definition_in elements i ≡ d
     → slice_set elements i (record (or_uncustomized (slice_get elements i)) { definition = d }) ≡ elements

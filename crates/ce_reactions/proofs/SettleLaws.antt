@@ -1,4 +1,4 @@
--- The frames that constructions and upgrades push hand no node down to a variable, and in their bodies nothing is `this`.
+-- The frames that constructions and upgrades push are placed in any trees, since in their bodies nothing is `this`.
 use Rattle.std.proofs.Common.{ℕ, Bool, true, false, None}
 use Rattle.std.specs.Prelude.{Result, Ok, Err, if◌then◌else◌}
 use Rattle.ce_base.specs.declared.custom_state.CustomState.TheVariants.{Precustomized}

@@ -1,4 +1,4 @@
--- What a definition that is put last is found by.
+-- What a definition that is put last is found by; the set of its observed names, a name at a time.
 use Rattle.std.proofs.Common.{◌≡◌, ◌<◌, ◌+◌, ◌++◌, ◌∷◌, ◌&&◌, ◌==◌, ◌||◌, [], ℕ, Bool, true, false, cond, List, Option, None, Some, String, length, take}
 use Rattle.std.proofs.Common.{get_or, sym, refl, ap, ◌∙◌, arith}
 use Rattle.std.specs.Prelude.{IfSome, bytes_eq, slice_get}
@@ -92,7 +92,7 @@ local-last : (ds : List Definition) (d : Definition) (local : List ℕ)
     → with_local (ds ++ d ∷ []) (Some (length ds)) local ≡ cond (bytes_eq d.local local) (Some (length ds)) None
 local-last ds d local = ap (λ (e : Option Definition). cond (has_local e local) (Some (length ds)) None) (get-last ds d)
 
--- no other definition has the name of the new one
+-- the one that is found by a name stays the only one with it, where no other definition has the name of the new one
 only-added : (ds : List Definition) (d : Definition) (name local : List ℕ)
     → ((other : List ℕ) → by_names ds name other ≡ with_local ds (by_name ds name) other) → by_name ds d.name ≡ None
     → by_names (ds ++ d ∷ []) name local ≡ with_local (ds ++ d ∷ []) (by_name (ds ++ d ∷ []) name) local

@@ -14,7 +14,7 @@ use Rattle.ce_algorithms.specs.Body.{actions_of, same_call}
 use Rattle.class_bodies.specs.Bodies.{ArePlaced, kept_for, lines_of, places_from}
 use Rattle.ce_algorithms.proofs.CallNames.{same_is, same_self}
 
--- callbacks are told by their words, and by their places
+-- callbacks are told by their places
 
 in_order : (a : CallName) → slice_get all_calls (place_of a) ≡ Some a
 in_order Constructor = refl

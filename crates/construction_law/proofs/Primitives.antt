@@ -1,5 +1,5 @@
--- The primitives of the page. Two change construction stacks: the base call leaves each as deep as it was, and the begin of an
--- upgrade makes that of the definition one entry deeper.
+-- The primitives of the page, but for the pop. Two of these change construction stacks: the base call leaves each as deep as it
+-- was, and the begin of an upgrade makes that of the definition one entry deeper.
 use Rattle.std.proofs.Common.{◌≡◌, ℕ, Bool, true, false, List, [], ◌∷◌, Option, Some, None, refl, sym, ap, ◌∙◌}
 use Rattle.std.specs.Prelude.{length}
 use Rattle.ce_base.specs.declared.custom_state.CustomState.{CustomState}

@@ -1,4 +1,4 @@
--- The model's algorithms, commands, lines and sessions leave the construction stacks.
+-- The model's algorithms, commands, lines and sessions leave each construction stack as deep as it was.
 use Rattle.std.proofs.Common.{◌≡◌, ℕ, ◌+◌, List, [], ◌∷◌, length, Option, refl, arith}
 use Rattle.std.specs.Prelude.{Result, Ok, Err}
 use Rattle.ce_base.specs.declared.fault.Fault.{Fault}
@@ -79,7 +79,7 @@ line_leaves_stacks line l = leaves_stacks (leaves_line line l)
 pub lines_leave_stacks : (line : ℕ) (ls : List (Result Said Bad)) → LeavesStacks (run_lines model line ls)
 lines_leave_stacks line ls = leaves_stacks (leaves_lines line ls)
 
--- a session begins with no construction stack
+-- a session begins with no construction stack, and leaves each empty, unless the fuel is spent
 
 no_entries : (entries : List (Option ℕ)) → length entries ≡ 0 → entries ≡ []
 no_entries [] e = refl

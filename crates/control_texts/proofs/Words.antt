@@ -1,4 +1,4 @@
--- White space that is collapsed byte by byte is what stands between the words.
+-- A text whose white space is collapsed byte by byte is its words, with one space between them.
 use Rattle.std.proofs.Common.{◌≡◌, ℕ, Bool, true, false, not, ◌&&◌, ◌||◌, cond, List, [], ◌∷◌, ◌++◌, refl, arith, ap, ◌∙◌, sym, append-nil}
 use Rattle.std.proofs.lemmas.Bool.Decides.{nat_tests}
 use Rattle.std.specs.List.{filter, slice_split, onto_first, join_with_byte, list_all}

@@ -66,7 +66,7 @@ guessed_by below e told =
     let is : event_in (tokens_of (length (event_text e)) (event_text e)) ≡ Some told.other = ap event_in (tokens_read below e told) ∙ told.read in
     record { other = told.other; read = rw (none, is) refl; same = told.same; step = told.step }
 
--- ---- what a body does
+-- ---- what bodies do, what is reported, and the end of the fuel
 
 told_logged : (texts : List (List ℕ)) → AreTexts texts → IsTold (Logged texts)
 told_logged texts are = record {

@@ -1,4 +1,4 @@
--- Two events with one text are read as one event, which is the step of both.
+-- Two events with one text are read as one event, whose step is that of both.
 use Rattle.std.proofs.Common.{◌≡◌, Some, sym, ap, ◌∙◌}
 use Rattle.ce_events.specs.declared.event.Event.{Event}
 use Rattle.ce_events.specs.Step.{step_of}

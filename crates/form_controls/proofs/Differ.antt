@@ -72,15 +72,15 @@ module _ {A : Type 0} (same : A → A → Bool) (tells : Tells same) (old new : 
         same = λ i. absurd (none-some new (sym i));
       }
 
-  new_is_told : is_some (where_new same old new) ≡ true → old ≢ new
-  new_is_told t j = by_test (same old new) refl t
+  told_is_new : is_some (where_new same old new) ≡ true → old ≢ new
+  told_is_new t j = by_test (same old new) refl t
     where
       by_test : (b : Bool) → same old new ≡ b → is_some (if b then None else Some new) ≡ true → ⊥
       by_test true e i = cc
       by_test false e i = true_false (sym (tells.no old new j) ∙ e)
 
-  told_is_new : (old ≡ new → ⊥) → is_some (where_new same old new) ≡ true
-  told_is_new n = by_test (same old new) refl
+  new_is_told : (old ≡ new → ⊥) → is_some (where_new same old new) ≡ true
+  new_is_told n = by_test (same old new) refl
     where
       by_test : (b : Bool) → same old new ≡ b → is_some (if b then None else Some new) ≡ true
       by_test true e = absurd (n (tells.yes old new e))
@@ -97,16 +97,16 @@ either false b e = inr e
 module _ (old new : Forms) (n : ℕ) where
   differs_if : differs old new n ≡ true → Differs old new n
   differs_if e = ⊎_elim
-      (λ i. inl (new_is_told (option_eq nat_eq) owners_tell (form_owner old n) (form_owner new n) i))
-      (λ i. inr (new_is_told beq states_tell (is_disabled old n) (is_disabled new n) i))
+      (λ i. inl (told_is_new (option_eq nat_eq) owners_tell (form_owner old n) (form_owner new n) i))
+      (λ i. inr (told_is_new beq states_tell (is_disabled old n) (is_disabled new n) i))
       (either (is_some (form_change old new n).owner) (is_some (form_change old new n).disabled) e)
 
   if_differs : Differs old new n → differs old new n ≡ true
   if_differs d = ⊎_elim
       (λ i. or_left (is_some (form_change old new n).owner) (is_some (form_change old new n).disabled)
-      (told_is_new (option_eq nat_eq) owners_tell (form_owner old n) (form_owner new n) i))
+      (new_is_told (option_eq nat_eq) owners_tell (form_owner old n) (form_owner new n) i))
       (λ i. or_right (is_some (form_change old new n).owner) (is_some (form_change old new n).disabled)
-      (told_is_new beq states_tell (is_disabled old n) (is_disabled new n) i))
+      (new_is_told beq states_tell (is_disabled old n) (is_disabled new n) i))
       d
 
 -- the law

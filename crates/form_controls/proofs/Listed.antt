@@ -1,4 +1,4 @@
--- Lists of numbers that are filtered, and what is made of each.
+-- Lists that are filtered, and what is made of each member; and numbers that rise.
 use Rattle.std.proofs.Common.{◌≡◌, ℕ, zero, suc, ◌+◌, ◌-◌, ◌<◌, ◌≤◌, Bool, true, false, List, [], ◌∷◌, length, get_or, refl, sym, ap, ◌∙◌, subst, arith, inl}
 use Rattle.std.proofs.Common.{inr, ⊎_elim}
 use Rattle.std.specs.Prelude.{◌⊎◌, filter, map, cond}
@@ -44,7 +44,7 @@ module _ {X Y : Type 0} (f : X → Y) (p : X → Bool) where
           ⊎_elim (λ same. (x, contains_first x xs, e, same)) (λ j. later (rest j)) (contains_cases (f x) y (map f (filter p xs)) i)
       by_test rest false e i = later (rest i)
 
-  -- each one that passes is among them
+  -- what is made of each one that passes is among them
 
   pub made_contains : (xs : List X) (x : X) → Contains xs x → p x ≡ true → Contains (map f (filter p xs)) (f x)
   made_contains [] x h e = absurd (nothing_in_none x h)

@@ -1,4 +1,4 @@
--- What is read of who has a new form owner, and of who has none.
+-- What is read of who has a new form owner, and of who keeps the old one.
 use Rattle.std.proofs.Common.{◌≡◌, ℕ, ◌==◌, Bool, true, false, cond, List, [], ◌∷◌, Option, Some, None, refl, sym, ap, ◌∙◌, subst, arith}
 use Rattle.std.specs.Prelude.{filter, map, nat_eq, not, is_some, ◌||◌, ◌&&◌}
 use Rattle.std.specs.List.{list_any}

@@ -13,7 +13,7 @@ use Rattle.node_trees.specs.Paths.{is_among}
 use Rattle.form_owner.specs.Candidates.{Considers}
 use Rattle.form_owner.proofs.Nodes.{all-members, all-among}
 
--- one of a list is one of its beginning, or the last of it
+-- some member of two lists passes where one of the first does, or one of the second
 any-append : {X : Type 0} (p : X → Bool) (xs ys : List X) → list_any p (xs ++ ys) ≡ (list_any p xs || list_any p ys)
 any-append p [] ys = refl
 any-append p (x ∷ xs) ys = let more = any-append p xs ys in grind (arith, more)
@@ -70,7 +70,7 @@ module _ {forest : Trees} {about : ℕ → Bool} where
         by_test n node is true e passes = second.kept n (first.found n node is e)
         by_test n node is false e passes = second.found n node is passes
 
-  -- those of a test that says less
+  -- those of a test that fewer pass
   pub less : {test other : ℕ → Bool} {old new : List ℕ} → ((n : ℕ) → other n ≡ true → test n ≡ true) → Considers forest about test old new
       → Considers forest about other old new
   less fewer all = record {

@@ -1,4 +1,4 @@
--- Who is not among the candidates of a touch has the form owner and the disabled state that it had.
+-- Who is not among the candidates of a move has the form owner and the disabled state that it had.
 use Rattle.std.proofs.Common.{◌≡◌, ℕ, ◌+◌, ◌-◌, Bool, true, false, List, [], Some, refl, sym, ap, ◌∙◌, subst, arith}
 use Rattle.std.specs.Prelude.{◌&&◌, ◌||◌, codes}
 use Rattle.std.proofs.lemmas.Bool.{or_parts}

@@ -64,7 +64,7 @@ no-fieldset Textarea e = absurd cc
 no-fieldset Datalist e = absurd cc
 no-fieldset Other e = absurd cc
 
--- what an attribute leaves of its element
+-- what an attribute leaves of each node
 pub record KeepsKind (old new : Trees) : Type 0 where
   pub local : (i : ℕ) → (facts_at new i).local ≡ (facts_at old i).local
   pub kind : (i : ℕ) → kind_at new i ≡ kind_at old i

@@ -36,7 +36,7 @@ use Rattle.form_owner.proofs.Touching.{facts-stay, is_changed}
 
 -- notes are made
 
--- a note that is behind the others is the last
+-- with one more note behind the others, each is what it was, or the new one
 noted-more : (looks : List Look) (look : Look) (i : ℕ)
     → (look_at (looks ++ look ∷ []) i ≡ look_at looks i) ⊎ ((i ≡ length looks) × (look_at (looks ++ look ∷ []) i ≡ look))
 noted-more [] look zero = inr (refl, refl)
@@ -131,7 +131,7 @@ looks-lent forest table rows index looks same_rows same_index same_looks are =
 
 -- what is right stays so
 
--- the same facts, and the same texts
+-- the same IDs, and no texts but those that were known
 pub unnamed-still : (old new : Trees) (was is : List ℕ → Bool) (m : ℕ) → ((id : List ℕ) → has_id id (facts_at new m) ≡ has_id id (facts_at old m))
     → attribute_at new m (codes "id") ≡ attribute_at old m (codes "id") → ((id : List ℕ) → was id ≡ false → is id ≡ false) → IsUnnamed old was m
     → IsUnnamed new is m
@@ -236,7 +236,7 @@ module _ (touch : Touch) (before : Forms) (now : Trees) (touched : IsTouched tou
         (right-kept now new known (known_by touch now known) (i + 1) (look_at looks i) (look_at minded i) (kept.less i) (kept.unnamed i)
         (looks-then known looks are i apart))
 
--- whom forms are about is looked at as a whole, where each note is so
+-- whom forms are about is looked at as a whole, where each note is right
 pub noted-whole : (forest : Trees) (rows : List OwnerRow) (known : List ℕ → Bool) (looks : List Look) → AreRight forest rows known looks
     → AreNotedWhole forest rows looks
 noted-whole forest rows known looks are n node about =

@@ -384,7 +384,7 @@ stands_alike table f made n tidy alike above_is more s = record {
         ap (λ b. b || is_a OptionItem made m) (listed-made f.forest made tidy n alike above_is m (row_of table.rows m).associated (other m node))
         ∙ ap (λ b. listed_by f.forest m (row_of table.rows m).associated || b) (is_a-made f.forest made tidy n alike above_is OptionItem m (other m node))
 
-    -- and have the same IDs
+    -- and nodes have the same IDs
     has-made : (m : ℕ) → IsNode f.forest m → (id : List ℕ) → has_id id (facts_at made m) ≡ has_id id (facts_at f.forest m)
     has-made m node id =
         ap (λ k. is_element k && is_id id (value_in (facts_at made m).attributes (codes "id"))) (alike.kind m (other m node))

@@ -51,7 +51,7 @@ module _ (n : ℕ) (forest : Trees) (known : List ℕ → Bool) (old new : List 
 pub kept-still : (forest : Trees) (known : List ℕ → Bool) (looks : List Look) → AreKept forest known known looks looks
 kept-still forest known looks = record { less = λ i. the-same (look_at looks i); unnamed = λ i nothing un. un }
 
--- a `form` attribute that is the text that was seen is nobody's ID that was nobody's
+-- a `form` attribute that is the text that was seen is no ID that is not known
 pub form-seen : (n : ℕ) (forest : Trees) (rows : List OwnerRow) (index : IdIndex) → 0 < n → AreNoted rows (is_held index)
     → (row_of rows n).seen.form ≡ attribute_at forest n (codes "form") → (i : ℕ) (id : List ℕ) → IsUnnamedId forest (is_known index) i id
     → is_naming forest id n ≡ false

@@ -38,7 +38,7 @@ module _ (old : Trees) (named : List ℕ → ℕ → Bool) (seen : (id : List �
       by_text None = false
       by_text (Some text) = bytes_eq text id
 
-  -- whom an ID is named by not, it is not that ID
+  -- an element with an ID that m does not name has not the ID that m names
   pub has-other : (o : Option (List ℕ)) → is_named_by named o m ≡ false → (id : List ℕ) → attribute_at now m (codes "form") ≡ Some id → (x : Facts)
       → value_in x.attributes (codes "id") ≡ o → has_id id x ≡ false
   has-other o none id is x is_o = false_from_ne_true (has_id id x) (λ has.

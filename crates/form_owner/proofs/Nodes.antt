@@ -32,7 +32,7 @@ numbers-nodes f = λ i d lt.
     let less : i < size f = omega (arith, lt, length-range_with_len 1 (size f)) in
     subst (IsNode f) (sym (get_or-range_with_len 1 (size f) i d less)) (record { low = omega arith; high = omega arith })
 
--- and so are those of changes
+-- so those of changes have their rows
 pub changes-placed : (f : Trees) (rows : List OwnerRow) (count : ℕ) (cs : List Change) → size f ≤ count → cs ≡ changes_read f rows (numbers f)
     → All (λ (c : Change). c.node - 1 < count) cs
 changes-placed f rows count cs le is =

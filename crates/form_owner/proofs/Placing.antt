@@ -35,7 +35,7 @@ module _ (q : ℕ → Bool) (n : ℕ) where
       by_test more true other = ap (λ v. x ∷ v) more
       by_test more false other = ap (λ c. cond c (x ∷ filter or_one xs) (filter or_one xs)) other ∙ more
 
-  -- the first of those that pass is the first that passes
+  -- put before the first that passes, it stands first
   at_first : (xs : List ℕ) → insert_number (find q xs) n (filter q xs) ≡ n ∷ filter q xs
   at_first [] = refl
   at_first (x ∷ xs) = by_test (at_first xs) (q x)

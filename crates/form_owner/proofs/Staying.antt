@@ -1,4 +1,4 @@
--- Rows that stand for the trees stand for them still where the same elements are named otherwise.
+-- Rows that stand for the trees stand for them still where the same form-associated custom elements are listed otherwise.
 use Rattle.std.proofs.Common.{◌≡◌, ℕ, ◌+◌, List, sym, ap, ◌∙◌}
 use Rattle.node_trees.specs.Trees.{is_number}
 use Rattle.node_trees.specs.Orders.{tree_order_of}

@@ -1,4 +1,4 @@
--- What a touch leaves: how many nodes there are, and who of them is a form-associated custom element.
+-- After a touch: how many nodes there are, and who of them is a form-associated custom element.
 use Rattle.std.proofs.Common.{◌≡◌, ◌≢◌, ℕ, ◌+◌, ◌-◌, ◌<◌, ◌==◌, Bool, true, false, cond, List, [], ◌∷◌, refl, sym, ap, ◌∙◌, subst, arith, inl, inr}
 use Rattle.std.specs.Prelude.{◌||◌}
 use Rattle.std.proofs.lemmas.Bool.{cases_eq}
@@ -20,7 +20,7 @@ size-stays (Removed n parent) old new touched = touched.size_is
 size-stays (Attr n) old new touched = touched.size_is
 size-stays (Associated n on) old new touched = ap size touched.is
 
--- who is marked is a node
+-- who is marked has a row
 pub is-placed : (touch : Touch) (old new : Trees) (count : ℕ) → IsTouched touch old new → count ≡ size new → IsPlaced touch count
 is-placed (Inserted n) old new count touched e = tt
 is-placed (Removed n parent) old new count touched e = tt

@@ -73,7 +73,7 @@ bytes-IsUtf8 text (cs, is) = subst AreBytes is.1 (all_bytes cs is.0)
 
 -- ---- what is made of a text
 
--- a byte that is none of ASCII stays, and one of ASCII gives a text; what a byte gives may go by whether another stands before it
+-- a byte that is none of ASCII stays, and one of ASCII gives a text; what a byte of ASCII gives may go by what stands before it
 pub record GoesByCharacter (made : Bool → List ℕ → List ℕ) : Type 0 where
   pub none : (p : Bool) → made p [] ≡ []
   pub high : (p : Bool) (b : ℕ) (rest : List ℕ) → 128 ≤ b → made p (b ∷ rest) ≡ b ∷ made false rest

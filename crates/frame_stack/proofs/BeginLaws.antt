@@ -65,7 +65,7 @@ found classes k chains frames c within = go (topmost k chains) refl
     go None e = topmost_none classes k chains frames c within e
     go (Some i) e = topmost_at classes k i chains frames c within e
 
--- a class is there where its behaviour is
+-- a class that is there has a behaviour
 pub class_there : (homes : Homes) (frames : List Held) (bs : List Behaviour) (k : ℕ) → Stands homes frames bs → k < length homes
     → (b : Behaviour) × (slice_get bs k ≡ Some b)
 class_there homes frames bs k s within = let each = s.each in at bs k (omega (arith, within, each))

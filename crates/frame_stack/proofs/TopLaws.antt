@@ -27,7 +27,7 @@ pub some_top : (frames : List Frame) (f : Frame) → top_of frames ≡ Some f �
 some_top [] f h = absurd (let e : None ≡ Some f = h in cc)
 some_top (x ∷ frames) f h = omega arith
 
--- a frame that is of no body is seen as none
+-- a waiting frame stands for no frame of a body
 pub plain_body : (w : Waiting) (r : Running) → waiting_of w ≡ in_body r → ⊥
 plain_body (Replying line) r e = cc
 plain_body (Checking line kept) r e = cc

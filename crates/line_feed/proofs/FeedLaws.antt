@@ -21,7 +21,7 @@ no_feed_between xs start end le lt clean = All-from_get_or (λ b. b ≢ 10) (tak
     let small : i < end - start = omega (arith, length-take (end - start) (drop start xs)) in
     λ feed. clean (start + i) (omega arith) (omega arith) (sym (get_or-drop start xs i 0) ∙ (sym (get_or-take (end - start) (drop start xs) i 0 small) ∙ feed)))
 
--- and so have all that stand behind a place
+-- nor have those from a place on
 pub no_feed_behind : (xs : List ℕ) (start : ℕ) → ((k : ℕ) → start ≤ k → k < length xs → get_or xs k 0 ≢ 10) → All (λ b. b ≢ 10) (drop start xs)
 no_feed_behind xs start clean = All-from_get_or (λ b. b ≢ 10) (drop start xs) 0 (λ i within.
     let small : start + i < length xs = omega (arith, within, length-drop start xs) in

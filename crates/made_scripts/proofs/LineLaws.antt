@@ -17,7 +17,7 @@ record IsLine (line : List ℕ) : Type 0 where
   clean : IsClean line
   short : length line ≤ 4096
 
--- the same as a test
+-- as tests: that it has no line feed, and that it is a line
 abbrev is_clean : List ℕ → Bool
 is_clean line = list_all (λ b. not (b == 10)) line
 
@@ -113,7 +113,7 @@ pub joined_none : joined [] ≡ []
 unfolding joined
 joined_none = refl
 
--- a line goes from the front of what is left behind what there is
+-- a line goes from the front of what is left to the end of what there is
 pub joined_more : (text line : List ℕ) (lines : List (List ℕ)) → text ++ line ++ 10 ∷ [] ++ joined lines ≡ text ++ joined (line ∷ lines)
 joined_more text line lines =
     append_assoc (text ++ line) (10 ∷ []) (joined lines) ∙ (append_assoc text line (10 ∷ joined lines) ∙ ap (λ l. text ++ l) (sym (joined_first line lines)))

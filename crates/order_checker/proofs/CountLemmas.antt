@@ -25,7 +25,7 @@ pub of_queue_push : (q : ℕ) (ws : List Entry) (w : Entry) → of_queue q (ws +
 of_queue_push q [] w = omega arith
 of_queue_push q (v ∷ ws) w = omega (arith, of_queue_push q ws w)
 
--- what is there is found, and taken
+-- without one that is found
 
 same_some : (w v : Entry) → Some v ≡ Some w → v ≡ w
 same_some w v e = cc e

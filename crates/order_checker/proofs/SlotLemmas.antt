@@ -460,6 +460,7 @@ pub waiting_same : (n m : ℕ) (es fs : List Entry) → n ≡ m → es ≡ fs
 waiting_same n m es fs a b = ap (λ k. (let w : Waiting = record { numbers = k; entries = es } in w)) a
     ∙ ap (λ xs. (let w : Waiting = record { numbers = m; entries = xs } in w)) b
 
+-- what is found at a number that waits, and at one that does not
 pub entry_there : (ss : List Slot) (k : ℕ) (d : Slot) → waits_at ss k ≡ true → d ≡ get_or ss (k - 1) d
     → entry_of k (waiting_from 1 ss) ≡ Some (entry_of_slot k d)
 entry_there ss k d waits read =

@@ -36,7 +36,7 @@ Fits (Draining q ∷ bs) = ((w : Entry) → IsAmong w (running bs) → w.queue <
 Fits (Reacting w called ∷ bs) = Fits bs
 Fits (Upgrading n ∷ bs) = Fits bs
 
--- a reaction has ended, or runs
+-- a reaction has finished, was dropped, or runs
 abbrev IsBegun : List Event → List Entry → Entry → Type 0
 IsBegun past ws w = Says past (Finished w.number) ⊎ (Says past (Dropped w.number) ⊎ IsAmong w ws)
 
@@ -55,7 +55,7 @@ more_begun past e ws vs w f (inl i) = inl (inr i)
 more_begun past e ws vs w f (inr (inl i)) = inr (inl (inr i))
 more_begun past e ws vs w f (inr (inr i)) = f i
 
--- an event at which nothing is enqueued, starts, or ends
+-- an event at which no reaction is enqueued, starts, finishes or is dropped
 stays : (past : List Event) (b : Book) (e : Event) (c : Book) → Ends past b → ((w : Entry) → e ≡ enqueue_line w → ⊥) →
     running c.brackets ≡ running b.brackets → Fits c.brackets → c.waiting ≡ b.waiting → b.queues ≤ c.queues → Ends (e ∷ past) c
 stays past b e c k no_line hr fits hw hq =

@@ -124,7 +124,7 @@ begins past b q k (Draining m ∷ bs) e h = false_true h
 begins past b q k (Reacting w called ∷ bs) e h = false_true h
 begins past b q k (Upgrading n ∷ bs) e h = false_true h
 
--- what ends another bracket
+-- where another bracket begins, ends or is marked, the same queues fill
 ended_drain : (q : ℕ) (bs : List Bracket) → ends_drain q bs ≡ true → fillings (around bs) ≡ fillings bs
 ended_drain q (Draining m ∷ bs) h = refl
 ended_drain q [] h = refl

@@ -175,7 +175,7 @@ drop_is_in_upgrade before behind w h i =
 
 -- reactions
 
--- none of an upgrade's lines
+-- an upgrade has no lines
 no_lines : (w : Entry) (called : Bool) (lines : List Event) → Called w called lines → w.what ≡ Upgrade → lines ≡ []
 no_lines w false lines c is = c
 no_lines w true lines c is = absurd (let e : Call c.2 ≡ Upgrade = sym c.4 ∙ is in cc)

@@ -1,4 +1,4 @@
--- What stays of trees where the facts of one node change: what is above each node, the orders, the roots, and who is connected.
+-- What stays of trees where the facts of one node change: what is above each node, the orders, the roots, and, if its kind stays, who is connected.
 use Rattle.std.proofs.Common.{◌≡◌, ℕ, List, [], ◌∷◌, refl, ap, ◌∙◌, arith}
 use Rattle.std.specs.Prelude.{not, is_some, reverse}
 use Rattle.std.specs.List.{find}

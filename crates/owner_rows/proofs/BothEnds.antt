@@ -16,7 +16,7 @@ in-less n (suc low) (suc high) (x ∷ xs) le out =
     let rest = in-less n low high xs (omega (arith, le)) both.1 in
     grind (arith, nat_tests, rest, both.0)
 
--- where the ends have met it is in neither part
+-- where the ends have met, what is in neither part is not in the list
 pub nowhere : (n low high : ℕ) (xs : List ℕ) → high ≤ low → is_among n (take low xs) ≡ false → is_among n (drop high xs) ≡ false → is_among n xs ≡ false
 nowhere n low high xs met front back =
     let start = in-less n low high xs met front in

@@ -10,14 +10,14 @@ use Rattle.reaction_queue.specs.declared.chain.Ends.{Ends}
 use Rattle.reaction_queue.specs.Chains.{Link, last_key, with_last, cell_of, HasLinks, IsAmong, IsChain, SameFor}
 use Rattle.reaction_queue.proofs.LinkLemmas.{next_in, place_in, ends_are, no_links, some_links, last_cell, last_among, last_of_longer, among_longer, end_among}
 
--- the cells after a chain got a last cell: that cell is new, the one that was the last leads to it, and all else stays
+-- a chain got a last cell: that cell is new, the one that was the last leads to it, and all other cells stay
 pub record GetsLast (old new : Slab Cell) (i last key : ℕ) (w : ℕ × Reaction) : Type 0 where
   pub was_vacant : get old key ≡ None
   pub there : get new key ≡ Some (cell_of i (record { key = key; waits = w }) None)
   pub leads : (z : Link) → get old last ≡ Some (cell_of i z None) → get new last ≡ Some (cell_of i z (Some key))
   pub others : (k : ℕ) → k ≢ key → k ≢ last → get new k ≡ get old k
 
--- no cell is where there was none
+-- no cell is where there is none
 vacant : (s : Slab Cell) (key k : ℕ) (c : Cell) → get s key ≡ None → get s k ≡ Some c → k ≡ key → ⊥
 vacant s key k c none found same =
     let clash : None ≡ Some c = sym none ∙ ap (get s) (sym same) ∙ found in

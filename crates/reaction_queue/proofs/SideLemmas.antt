@@ -36,7 +36,7 @@ read_between s i (Some e) [] is enough = absurd (some_links s i e is)
 read_between s i (Some e) (l ∷ ls) is enough =
     ap (links_between s) is.between ∙ read_links s (slab_len s) i l ls is.cells enough
 
--- no chain has more links than there are cells
+-- no chain has more links than all have together
 no_longer : (links : List (List Link)) (i : ℕ) → i < length links → length (get_or links i []) ≤ sum_by length links
 no_longer links i there = omega (arith, sum_by-set length links i [] [] there)
 

@@ -117,7 +117,7 @@ keys_want_none : (keys : List Key) → WantsOperand (WholeKeys keys) [] → ⊥
 keys_want_none keys (inl part) = part (keys_none keys)
 keys_want_none keys (inr (u, (plain, (more, whole)))) = let clash : true ≡ false = sym (keys_begin keys u more whole) ∙ plain in absurd cc
 
--- the same of lists that begin with a token, where nothing is whole too and no operand is wanted at first
+-- the same of lists that begin with a token, where the empty list is whole too and no operand is wanted at first
 record AlsoAt (L M : List Token → Type 0) (t : Token) : Type 0 where
   less : (x : Token) → x ≡ t → (ts : List Token) → L (x ∷ ts) → M (x ∷ ts)
   more : (x : Token) → x ≡ t → (ts : List Token) → M (x ∷ ts) → L (x ∷ ts)

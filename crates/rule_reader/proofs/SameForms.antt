@@ -1,4 +1,4 @@
--- What the table wants of each form is what the form reads.
+-- What the table wants of a form is what the form reads.
 use Rattle.std.proofs.Common.{◌≡◌, List, [], ◌∷◌, Some, None, Ok, refl}
 use Rattle.rule_tokens.specs.declared.token.Token.{Token}
 use Rattle.rule_tokens.specs.Gives.{◌>>=◌, with_front}

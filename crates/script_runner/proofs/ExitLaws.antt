@@ -38,7 +38,7 @@ is_spent-behind events (Goes a s) = refl
 is_spent-behind events (Throws f s) = refl
 is_spent-behind events (Spent s) = refl
 
--- the fuel is spent where the last line says so
+-- the fuel is spent where the end of the lines says so
 spends : (set : Options) (lines : List (List ℕ)) (end : End) (s : Sitting) (held held' : Option (List ℕ)) → Answered (fresh set) lines end s held held'
     → spends_all set lines ≡ is_spent (outcome_of end s.state)
 spends set lines end s held held' done = ap is_spent done.ran.same ∙ is_spent-behind done.events (outcome_of end s.state)
@@ -150,7 +150,7 @@ meets_stop stop set left mid left' held held' held'' s feed bytes front n sb sn 
       );
     }
 
--- ---- nothing was taken
+-- ---- nothing more was taken
 
 took_none : (a b c : Option (List ℕ)) (bytes : List ℕ) → Consumes a b bytes → Consumes b c [] → Consumes a c bytes
 took_none a b c bytes p q =

@@ -58,7 +58,7 @@ runs_nothing s feed held empty = record {
   number = omega arith;
 }
 
--- the line that was given is the first one
+-- the line that was given, whole, is the first one
 first_line : (feed feed' line : List ℕ) (gives : GivesLine longest feed feed' line) → whole_lines feed ≡ gives.whole ∷ whole_lines feed'
 first_line feed feed' line gives = ap whole_lines gives.split ∙ whole_lines-line gives.whole feed' gives.clean
 

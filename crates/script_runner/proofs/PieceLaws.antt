@@ -130,7 +130,7 @@ part_end set left left' held held' held'' s feed n before more =
     let P : List (List ℕ) → Type 0 = λ l. AppendsPart held held'' (answers (fresh set) l) in
     subst P (sym (counted-end set left left' held held' s feed n before)) (answered_part (fresh set) s _ _ held held' held'' before.done more)
 
--- nothing was taken
+-- nothing more was taken
 pub answered_now : (set : Options) (left left' held held' : Option (List ℕ)) (s : Sitting) (feed : List ℕ) (n : ℕ)
     (before : Streamed set left left' held held' s feed n)
     → Answered (fresh set) (counted false before.taken) Replied s held held'

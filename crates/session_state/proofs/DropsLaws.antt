@@ -32,7 +32,7 @@ drops : (n : ℕ) (s : State) → drop_reactions n s ≡ all_dropped (waiting_at
 unfolding emptied all_dropped
 drops n s = refl
 
--- the first one dropped leaves the rest to be dropped
+-- emptied after a reaction was dropped, an element's queue is as it is emptied at once
 emptied_twice : (n number : ℕ) (ws : List (ℕ × Reaction)) (s s1 : State) → s1 ≡ record s { page = with_queues (with_waiting n ws) s.page }
     → emptied n (logged (Dropped number) s1) ≡ logged (Dropped number) (emptied n s)
 unfolding emptied

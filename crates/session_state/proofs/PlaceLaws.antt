@@ -54,7 +54,7 @@ finds-set m vs name i n finds e q =
     let stays = position_or_len-set (is_named q) vs i (name, n) d (ap (λ l. bytes_eq l q) (sym same)) in
     finds q ∙ rw (stays, length-set vs i (name, n)) refl
 
--- what stands at the place of a variable is one of the numbers
+-- what stands at the place of a variable is positive, and no more than the highest number
 pub made-there : (vs : List (List ℕ × ℕ)) (name : List ℕ) (i : ℕ) (d : List ℕ × ℕ) → ArePositive vs → place name vs ≡ Some i
     → (0 < (get_or vs i d).1) × ((get_or vs i d).1 ≤ highest vs)
 made-there vs name i d are e =

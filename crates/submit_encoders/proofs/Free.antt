@@ -1,4 +1,4 @@
--- A text of one line stands in a text as it is sent exactly where it stands in the text.
+-- A text of one line stands in a text as it is sent if it stands in the text, and only then.
 use Rattle.std.proofs.Common.{◌≡◌, ◌||◌, ◌&&◌, ℕ, Bool, true, false, not, List, [], ◌∷◌, ◌++◌, refl, sym, ap, ◌∙◌}
 use Rattle.std.specs.Prelude.{nat_eq}
 use Rattle.std.specs.List.{list_any, starts_with}
@@ -17,7 +17,7 @@ not_newline c b other is = ne_eqb c b (λ same. let both : true ≡ false = sym 
 starts_not : (c b : ℕ) (text bytes : List ℕ) → is_newline c ≡ false → is_newline b ≡ true → starts_with nat_eq (b ∷ bytes) (c ∷ text) ≡ false
 starts_not c b text bytes other is = rw (not_newline c b other is) refl
 
--- a line end is sent as one, or as two bytes that each end a line
+-- a byte is sent as a full line end, or as it stands
 full_newline : (P : List ℕ → Type 0) (p : Bool) (b : ℕ) (bytes : List ℕ) → P newline → P (b ∷ []) → P (full_byte p b bytes)
 full_newline P p b bytes two one =
     cond_both (nat_eq b 13 && not (begins_with_line_feed bytes)) _ _ P (λ _. two) (λ _. cond_both (nat_eq b 10 && not p) _ _ P (λ _. two) (λ _. one))

@@ -1,4 +1,4 @@
--- What is written urlencoded parses as what was written.
+-- What is written urlencoded parses as the list, with its line ends as they are sent.
 use Rattle.std.proofs.Common.{◌≡◌, List, map, All}
 use Rattle.std.proofs.lemmas.List.Elements.{All-map, All-weaker}
 use Rattle.form_urlencoded.specs.Form.{parse}

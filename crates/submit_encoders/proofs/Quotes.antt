@@ -33,7 +33,7 @@ escaped_as_it_stands (b ∷ line) is none =
 pub escaped_one_line : (name : List ℕ) → has_line_end name ≡ false → escaped name ≡ flat_map escaped_byte name
 escaped_one_line name is = ap (flat_map escaped_byte) (full_one_line name is)
 
--- a quote is cut out
+-- the line is escaped to its front as it stands, %22, and what the rest is escaped to
 pub record EscapesQuote (line front rest : List ℕ) : Type 0 where
   pub escapes : flat_map escaped_byte line ≡ front ++ codes "%22" ++ flat_map escaped_byte rest
   pub is_line : has_line_end rest ≡ false

@@ -43,7 +43,7 @@ range-positive : (a k : ℕ) → 0 < a → AllByRecursion (λ n. 0 < n) (range_w
 range-positive a zero low = tt
 range-positive a (suc k) low = (low, range-positive (a + 1) k (omega arith))
 
--- each change is of a node
+-- the number of each change's node is above 0
 
 module _ (old new : Forms) where
   positive : (ns : List ℕ) → AllByRecursion (λ n. 0 < n) ns → AllByRecursion (λ (c : Change). 0 < c.node) (map (form_change old new) ns)

@@ -1,4 +1,4 @@
--- From a page on whose forest is another now: steps that tell each node what is due to it.
+-- From a page whose forest is another now: steps that tell each node what is due to it.
 use Rattle.std.proofs.Common.{◌≡◌, ℕ, ◌<◌, List, ◌++◌, take, length, refl, sym, ap, ◌∙◌, subst, arith}
 use Rattle.std.specs.List.{AllByRecursion}
 use Rattle.std.proofs.lemmas.List.{take_at}
@@ -59,7 +59,7 @@ module _ (old : Page) (forest : Trees) where
         );
   }
 
-  -- where as many nodes are there, it is enough to give each all changes
+  -- where as many nodes are there, it is enough to tell each what all changes give to it
   pub told-all : (f : Step Work (Unit {0})) → size forest ≡ size old.forest →
       ((n : ℕ) → 0 < n → Tells now n (all_to (due now) n (form_changes old now)) f) → TellAll f
   told-all f same tells n is =

@@ -24,7 +24,7 @@ pub record Partly (had adds now : List Reaction) : Type 0 where
   pub parts : given ++ rest ≡ adds
   pub told : now ≡ had ++ given
 
--- what the node j, that had been told this, is told in an outcome
+-- what the node j, which had been told this, is told in an outcome
 abbrev pub After : Page → ℕ → List Reaction → List Reaction → Outcome Work (Unit {0}) → Type 0
 After q j had adds (Goes a w) = Stays q w.page × (told_at w.page j ≡ had ++ adds)
 After q j had adds (Throws f w) = ⊥

@@ -47,7 +47,7 @@ enqueued_tells n r j q =
     there : List (ℕ × Reaction)
     there = waiting_at q n ++ (q.reactions + 1, r) ∷ []
 
--- a reaction that tells of nothing else
+-- a reaction that is no form reaction tells nothing
 pub no_news : (n : ℕ) (r : Reaction) (j : ℕ) → is_form_reaction r ≡ false → news n r j ≡ []
 no_news n r j other = by_test (n - 1 == j - 1)
   where

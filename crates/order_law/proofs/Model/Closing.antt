@@ -1,4 +1,4 @@
--- A reaction is enqueued; a queue is closed; the checkpoint; lines that change no queue.
+-- A reaction is enqueued.
 use Rattle.std.proofs.Common.{◌≡◌, ℕ, suc, ◌+◌, ◌<◌, ◌≤◌, Bool, true, false, List, [], ◌∷◌, ◌++◌, map, None, refl, sym, ap, ◌∙◌, subst, arith, ⊎_elim, inl, inr}
 use Rattle.std.proofs.Common.{append-nil}
 use Rattle.std.specs.Option.{option_and_then}

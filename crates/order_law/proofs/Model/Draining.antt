@@ -52,7 +52,7 @@ AfterRest (Goes a s) = HoldsIn [] s × (s.page.queues.backup ≡ [])
 AfterRest (Throws f s) = ⊥
 AfterRest (Spent s) = Lawful s.log
 
--- what goes on again keeps the law, whatever is suspended
+-- what goes on again keeps the law: operations and drains whatever is suspended, the backup element queue in the checkpoint alone
 pub record KeepsLaw (again : Again) : Type 0 where
   pub operates : (this : Option ℕ) (op : Op) (h : List Hold) → All (λ n. IsHeld n h) (maybe this) → Gives given_nodes h (again (Operate this op))
   pub drains : (ns : List ℕ) (q : ℕ) (h : List Hold) (s : State) → HoldsIn (InDrain q ns ∷ h) s → AfterCalm (InDrain q [] ∷ h) (again (DrainRest ns) s)

@@ -67,7 +67,7 @@ pub give_bind_at : {A B : Type 0} {nodes : A → List ℕ} {others : B → List 
     → ((a : A) → GivesAt others (with_hands (nodes a) h) l (k a)) → GivesAt others h l (f >>= k)
 give_bind_at {nodes = nodes} {others = others} {h = h} {l = l} {f = f} {k = k} x n = record { at = λ w o. give_then_at nodes others h l (f w) k (x.at w o) n }
 
--- a primitive that throws nothing, and gives nothing
+-- a primitive of which nothing is known but that it keeps the law, and throws nothing
 pub given_at : {A : Type 0} (h : List Hold) (l : List Event) (o : Outcome Work A) → AfterAt Any h l o → AfterGivesAt none h l o
 given_at h l (Goes a w) k = (k, tt)
 given_at h l (Throws f w) k = absurd k

@@ -154,7 +154,7 @@ pub drop_hands : (ns : List ℕ) (h : List Hold) (l : List Event) (p : Page) →
 drop_hands [] h l p k = k
 drop_hands (n ∷ ns) h l p k = drop_hands ns h l p (drop_one n (with_hands ns h) l p k)
 
--- what was in hand are nodes
+-- what is in hand is a node
 pub hand_rows : (ns : List ℕ) (h : List Hold) (l : List Event) (p : Page) → Holds (with_hands ns h) l p → All (IsRow (length p.elements)) ns
 hand_rows [] h l p k = tt
 hand_rows (n ∷ ns) h l p k = (k.elements.ongoing.0, hand_rows ns h l p (drop_one n (with_hands ns h) l p k))

@@ -82,7 +82,7 @@ IsBackup backup w = (w.queue ≡ 0) × IsIn w.element backup
 abbrev pub IsPlaced : List Open → List ℕ → List Hold → Entry → Type 0
 IsPlaced os backup h w = IsOpen os w ⊎ (IsLeft h w ⊎ IsBackup backup w)
 
--- a checkpoint is to come, or under way
+-- a checkpoint is under way
 abbrev pub is_checkpoint : List Hold → Bool
 is_checkpoint [] = false
 is_checkpoint (InDrain q ns ∷ h) = (q == 0) || is_checkpoint h
@@ -152,7 +152,7 @@ abbrev pub nodes_of : List (List ℕ × ℕ) → List ℕ
 nodes_of [] = []
 nodes_of (v ∷ variables) = v.1 ∷ nodes_of variables
 
--- each variable holds a node
+-- the page is sound, and each variable holds a node
 pub record HoldsRest (f : Trees) (rows : ℕ) (stacks : List (List (Option ℕ))) (variables : List (List ℕ × ℕ)) : Type 0 where
   pub sound : Sound f rows stacks
   pub named : All (IsRow rows) (nodes_of variables)

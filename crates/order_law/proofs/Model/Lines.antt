@@ -1,4 +1,4 @@
--- Lines that change no queue: plain ones, call lines, replies.
+-- Lines that change no queue: plain ones, and those of callbacks.
 use Rattle.std.proofs.Common.{◌≡◌, ℕ, true, false, List, [], ◌∷◌, ◌++◌, Some, None, refl, sym, ap, ◌∙◌, subst}
 use Rattle.std.specs.Prelude.{◌&&◌}
 use Rattle.std.proofs.lemmas.Bool.{eq-eqb}

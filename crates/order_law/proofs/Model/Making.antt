@@ -77,7 +77,7 @@ fresh_holds n e h l p known may unset k = record {
   }) k.elements;
 }
 
--- a row that can't be upgraded changes its state to another such: an upgrade that failed
+-- a row keeps its definition, and gets a state that can't be upgraded: an upgrade that failed
 pub failed_holds : (n : ℕ) (e : Element) (h : List Hold) (l : List Event) (p : Page) → Known p.elements n → is_upgradable e.state ≡ false →
     e.definition ≡ (element_of p n).definition → Holds h l p → Holds h l (with_element n e p)
 failed_holds n e h l p known not_again same k = record {

@@ -56,7 +56,7 @@ use Rattle.order_law.proofs.Model.Bodies.{construct_for_keeps, body_keeps}
 
 -- what an operation comes to
 
--- the nodes that have to be nodes
+-- the numbers in a deed that have to be those of nodes
 abbrev pub deed_nodes : Deed → List ℕ
 deed_nodes (deeds.OnPage deed) = page_deed_nodes deed
 deed_nodes (deeds.Let var n) = n ∷ []

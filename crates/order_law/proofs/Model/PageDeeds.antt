@@ -161,7 +161,7 @@ define_gives name class facts base = give_seq_at (give_refuse_at (λ w. may_defi
 
 -- deeds on the page alone
 
--- the nodes that have to be nodes
+-- the numbers in a deed that have to be those of nodes
 abbrev pub page_deed_nodes : PageDeed → List ℕ
 page_deed_nodes (page_deeds.Insert parent n before) = parent ∷ n ∷ []
 page_deed_nodes deed = []

@@ -46,7 +46,7 @@ tested b e t =
     both_true t.counts (both_true (both_true t.starts t.calls) (both_true t.order (both_true (both_true t.throws t.together) (both_true t.closes
     (both_true (both_true t.nested t.paid) (both_true (both_true t.upgrades t.quiet) (both_true t.rest t.last)))))))
 
--- of a line that the queues and upgrades leave as they are, these pass whatever the book says
+-- of a line that leaves queues and upgrades as they are, these pass whatever the book says
 abbrev pub is_line : Book → Event → Bool
 is_line b e =
     counts_up b e && (starts_once b e && (runs_in_order b e && (drops_in_upgrade b e && (closes_empty b e && (ends_innermost b e

@@ -28,7 +28,7 @@ use Rattle.node_trees.specs.Nodes.{times}
 use Rattle.order_law.proofs.Model.Sound.{IsRow, Sound}
 use Rattle.order_law.proofs.Model.Sessions.{Rests, Ends, replied, replies, refuses, command_ends}
 
--- steps that leave the page and the log alone
+-- steps that leave a session at rest, whether they go on or throw
 abbrev Stays : {A : Type 0} → Outcome State A → Type 0
 Stays (Goes a s) = Rests s
 Stays (Throws f s) = Rests s

@@ -1,4 +1,4 @@
--- Levels, the model, commands.
+-- Replies, levels, the model, commands.
 use Rattle.std.proofs.Common.{◌≡◌, ℕ, zero, suc, true, false, List, [], ◌∷◌, Some, None, refl, sym, ap, ◌∙◌, subst}
 use Rattle.std.specs.Prelude.{Bool, not, ◌&&◌, ◌||◌, Result, Ok, Err}
 use Rattle.ce_base.specs.declared.fault.Fault.{Fault}

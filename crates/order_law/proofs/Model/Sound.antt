@@ -44,7 +44,7 @@ IsEntry rows (Some n) = IsRow rows n
 pub more_rows : (rows n : ℕ) → IsRow rows n → IsRow (rows + 1) n
 more_rows rows n row = record { low = row.low; high = omega (arith, row.high) }
 
--- the first node is no element
+-- each row's node stands once in the forest, which has no others; the first is no element; construction stacks hold nodes and markers
 pub record Sound (forest : Trees) (rows : ℕ) (stacks : List (List (Option ℕ))) : Type 0 where
   pub size : size forest ≡ rows
   pub some : 0 < rows
@@ -103,7 +103,7 @@ sound_more f g rows stacks kind more k = record {
       | inr ne ↦ let old : 0 < times n f = grind (arith, nat_tests) in more_rows rows n (k.only n old)
     ]
 
--- the number of a row
+-- as many rows
 pub sound_rows : (f : Trees) (rows others : ℕ) (stacks : List (List (Option ℕ))) → rows ≡ others → Sound f rows stacks → Sound f others stacks
 sound_rows f rows others stacks e k = subst (λ n. Sound f n stacks) e k
 
@@ -111,7 +111,7 @@ sound_rows f rows others stacks e k = subst (λ n. Sound f n stacks) e k
 pub sound_stacks : (f : Trees) (rows : ℕ) (stacks others : List (List (Option ℕ))) → All (All (IsEntry rows)) others → Sound f rows stacks → Sound f rows others
 sound_stacks f rows stacks others all k = record { size = k.size; some = k.some; once = k.once; only = k.only; first = k.first; stacked = all }
 
--- construction stacks: their entries stay nodes
+-- construction stacks: each entry stays a node or the marker
 
 pub stack_entries : (rows : ℕ) (stacks : List (List (Option ℕ))) (d : ℕ) → All (All (IsEntry rows)) stacks → All (IsEntry rows) (stack_of d stacks)
 stack_entries rows stacks d all = go (slice_get stacks d) refl

@@ -395,7 +395,7 @@ pub rest_row : (n : ℕ) (e : Element) (s : State) → HoldsRest s.page.forest (
 rest_row n e s k = rest_rows s.page.forest (length s.page.elements) (length (with_element n e s.page).elements) s.page.stacks s.variables
     (sym (length-set s.page.elements (n - 1) e)) k
 
--- and what would come next does not
+-- the upgrade has thrown, and what would come next does not come
 pub threw_then : {B : Type 0} (n : ℕ) (f : Fault) (h : List Hold) (s : State) (k : Unit {0} → State → Outcome State B) → HoldsIn (InUpgrade n ∷ h) s →
     After h (then_do (upgrade_threw n f s) k)
 threw_then {B} n f h s k held =

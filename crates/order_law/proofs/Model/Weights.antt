@@ -1,4 +1,4 @@
--- Sums over the nodes of trees, and what changes leave of them.
+-- A node's tree in a forest: how often numbers stand in it, what a cut leaves outside of it, and the paths into it.
 use Rattle.std.proofs.Common.{◌≡◌, ◌≢◌, ℕ, ◌+◌, ◌<◌, ◌≤◌, Bool, true, false, List, [], ◌∷◌, ◌++◌, refl, arith, inl, inr, if◌then◌else◌, ◌==◌}
 use Rattle.std.specs.Prelude.{◌||◌}
 use Rattle.std.proofs.lemmas.Bool.Decides.{nat_tests}

@@ -1,4 +1,4 @@
--- The body parses as the list that it is of, since the names and values of a list are texts.
+-- The body parses as the list, with its line ends as they are sent, since the names and values of a list are texts.
 use Rattle.std.proofs.Common.{◌≡◌, List, ℕ, map}
 use Rattle.std.proofs.lemmas.Result.{IfOk-weaker}
 use Rattle.form_urlencoded.specs.Form.{parse}

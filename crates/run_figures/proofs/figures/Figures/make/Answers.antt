@@ -1,4 +1,4 @@
--- No bytes have no line.
+-- Before the first byte no line is counted.
 use Rattle.std.proofs.Common.{refl}
 use Rattle.run_figures.specs.Figures.{lines_in, calls_in}
 use Rattle.run_figures.specs.Wanted.{wanted_after}
