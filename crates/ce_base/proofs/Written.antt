@@ -49,7 +49,7 @@ pub none_pending : {T E : Type 0} (r : Result T E) (whole rest : List ℕ) (at :
 none_pending (Ok x) whole rest at is left = left ∙ drop_all at whole (omega (arith, is))
 none_pending (Err e) whole rest at is left = tt
 
--- what a sink holds doesn't get fewer
+-- the bytes that a sink holds don't get fewer
 pub count_of-grows : (old new : Option (List ℕ)) (bytes : List ℕ) → Appends old new bytes → count_of old ≤ count_of new
 count_of-grows None new bytes written = omega arith
 count_of-grows (Some xs) None bytes written = absurd written

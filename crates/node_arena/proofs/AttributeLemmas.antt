@@ -103,7 +103,7 @@ pub once_without : (name : List ℕ) (xs : List (List ℕ × List ℕ)) → is_o
 once_without name [] once = refl
 once_without name (x ∷ xs) once = grind (arith, is_nothing (value_in xs x.0), value_in-without name x.0 xs, once_without name xs)
 
--- so it is where a value was set, unless memory was refused
+-- so it is after a value was set, and where memory was refused and nothing was set
 pub once_set : (r : Result (Option (List ℕ)) NoMemory) (name value : List ℕ) (old new : List (List ℕ × List ℕ)) → OnOk r (new ≡ with_value name value old)
     → OnErr r (new ≡ old) → is_once old ≡ true → is_once new ≡ true
 once_set (Ok was) name value old new ok err once = ap is_once ok ∙ once_with name value old once

@@ -1,4 +1,4 @@
--- The value of one attribute after another was set or taken away.
+-- The value of an attribute after it or another was set, or another was taken away.
 use Rattle.std.proofs.Common.{◌≡◌, ℕ, true, false, List, [], ◌∷◌, Some, refl, ap, arith}
 use Rattle.std.specs.Prelude.{bytes_eq}
 use Rattle.std.proofs.lemmas.Slice.Eq.{bytes_eq-Decides}

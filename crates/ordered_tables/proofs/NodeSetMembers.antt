@@ -1,4 +1,4 @@
--- Who is in a set once a node was put in, and a set that is gone through.
+-- Who is in a set, and who is once a node was put in.
 use Rattle.std.proofs.Common.{◌≡◌, ℕ, true, ◌==◌, List, [], ◌∷◌, refl, sym, ◌∙◌, arith}
 use Rattle.std.specs.Prelude.{◌||◌}
 use Rattle.std.specs.List.{list_any}

@@ -121,7 +121,7 @@ module _ {X : Type 0} (name : X → List ℕ) where
   rising-with from [] next x = refl
   rising-with from (y ∷ es) next x = grind (arith, rising-with (y.0 + 1) es next x)
 
-  -- a place is none below the first
+  -- no place is below the first
   pub place_from : (from : ℕ) (es : List (ℕ × X)) (next : ℕ) (s : List ℕ) (p : ℕ) → is_rising from es next ≡ true → place_of name es s ≡ Some p → from ≤ p
   place_from from [] next s p up at = absurd cc
   place_from from (x ∷ es) next s p up at = grind (arith, nat_tests, place_from (x.0 + 1) es next s p)

@@ -50,7 +50,7 @@ module _ (f : Trees) (n q : ℕ) (tidy : IsTidy f) (node : IsNode f n) where
       ]
 
 module _ (f : Trees) (n : ℕ) (tidy : IsTidy f) (node : IsNode f n) where
-  -- a node has a parent or a host, never both
+  -- a node with a parent has no host
   pub parent-no_host : (p : ℕ) → parent_at f n ≡ Some p → host_at f n ≡ None
   parent-no_host p up =
       let st = node_spot f n tidy node in

@@ -1,4 +1,4 @@
--- What an allowed insertion gives.
+-- What an allowed insertion gives, and the removal of a child.
 use Rattle.std.proofs.Common.{◌≡◌, ℕ, true, false, ◌||◌, Option, Some, None}
 use Rattle.node_trees.specs.declared.kind.NodeKind.{NodeKind}
 use Rattle.node_trees.specs.declared.kind.NodeKind.TheVariants.{Document, Element, TextNode, ShadowRoot}

@@ -10,7 +10,7 @@ use Rattle.tree_laws.proofs.Inside.{found}
 pub node_stands : (f : Trees) (n : ℕ) → IsTidy f → IsNode f n → 0 < times n f
 node_stands f n tidy node = omega (arith, tidy.once n node)
 
--- something stands at each node
+-- something stands at n
 pub record Stands (f : Trees) (n : ℕ) : Type 0 where
   pub row : Spot
   pub is : spot f n ≡ Some row

@@ -30,5 +30,3 @@ module _ (n : ℕ) (c : Facts → Facts) (f : Trees) where
 
   pub kind_at-with : ((x : Facts) → (c x).kind ≡ x.kind) → (i : ℕ) → kind_at (with_facts n c f) i ≡ kind_at f i
   kind_at-with keeps = read-with NodeKind (λ s. s.facts.kind) (λ s. keeps s.facts)
-
--- the node document set, and an attribute set

@@ -54,7 +54,7 @@ child-fits f n q tidy node up =
       | child fit ↦ kind ∙ fit
     ]
 
--- and no shadow root and no document
+-- and no shadow root
 pub child-no_root : (k : NodeKind) → fits AsChild k ≡ true → is_shadow_root k ≡ false
 child-no_root Document h = refl
 child-no_root Element h = refl

@@ -140,7 +140,7 @@ module _ (f : Trees) (q : ℕ) (tidy : IsTidy f) (node : IsNode f q) where
 
 -- ---- what follows in a list
 
--- what follows the first n of a list that has n nowhere else
+-- what follows n in a list in which no number stands twice
 pub after-split : (n : ℕ) (front back : List ℕ) → AreApart (front ++ (n ∷ back)) → after n (front ++ (n ∷ back)) ≡ first_of back
 after-split n [] back apart = grind (arith, nat_tests)
 after-split n (m ∷ ms) back apart =
@@ -178,7 +178,7 @@ module _ (f : Trees) (root : ℕ) (tidy : IsTidy f) where
   next-node n None e = tt
   next-node n (Some d) e = member_is_node f root d tidy (after-among n d (tree_order_of f root) (sym e))
 
--- the first in the tree order of a node is the node
+-- the order begins with root
 pub record BeginsWith (root : ℕ) (order : List ℕ) : Type 0 where
   pub rest : List ℕ
   pub is : order ≡ root ∷ rest

@@ -1,4 +1,4 @@
--- Whether nodes are connected, where the trees differ in where one node stands.
+-- Whether nodes are connected, after each change of the trees.
 use Rattle.std.proofs.Common.{◌≡◌, ◌≢◌, ℕ, zero, suc, ◌≤◌, ◌+◌, Bool, true, false, List, [], ◌∷◌, ◌++◌, Option, Some, None, ap, sym, ◌∙◌, arith, inl, inr}
 use Rattle.std.proofs.Common.{length, refl}
 use Rattle.std.specs.Prelude.{⊤}
@@ -80,14 +80,14 @@ module _ (f g : Trees) (tidy_f : IsTidy f) (tidy_g : IsTidy g) (Here : ℕ → T
   pub connected-same : (m : ℕ) → IsNode f m → Here m → connected g m ≡ connected f m
   connected-same m at here = climb (length (path m f)) m (omega arith) at here
 
--- the trees are the same but for where n stands
+-- the trees have as many nodes, and for each node but n what is above it, and its kind, are the same
 pub record IsMoved (f g : Trees) (n : ℕ) : Type 0 where
   pub tidy_before : IsTidy f
   pub tidy_now : IsTidy g
   pub long : size g ≡ size f
   pub alike : (m : ℕ) → IsNode g m → m ≢ n → SameAbove g f m
 
--- n is on the path of what has it above it, or is n itself
+-- what is on a path is on the path of what is above, or is the last
 on_path : (n m : ℕ) (xs : List ℕ) → is_among n (xs ++ m ∷ []) ≡ true → m ≢ n → is_among n xs ≡ true
 on_path n m xs on ne = let parts = is_among-append n xs (m ∷ []) in grind (arith, nat_tests)
 

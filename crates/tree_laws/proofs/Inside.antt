@@ -96,6 +96,6 @@ found p h n (tree m x s k r) apart pos =
           }
     ]
 
--- the tree of n has no other nodes than there are
+-- no number stands twice in the tree of n
 pub tree_apart : (n : ℕ) (f : Trees) → IsApart f → IsApart (tree_of n f)
 tree_apart n f apart i = omega (arith, times-without i n f (apart n), apart i)

@@ -23,6 +23,6 @@ leaf-order f n tidy at bare childless =
     let no_child : it.children ≡ none = no-roots it.children (ap (λ (s : Spot). first_of s.children) (sym here) ∙ childless) in
     ap order it.tree_is ∙ rw (no_shadow, no_child) refl
 
--- so whether it is another, or above it, is whether it is that one
+-- so it is on the path of a number just where it is that number
 pub leaf-above : (f : Trees) (n i : ℕ) → IsTidy f → IsNode f n → shadow_at f n ≡ None → first_child_at f n ≡ None → is_among n (path i f) ≡ (n == i)
 leaf-above f n i tidy at bare childless = sym (walked f n i tidy) ∙ ap (is_among i) (leaf-order f n tidy at bare childless) ∙ grind (arith, nat_tests)

@@ -1,4 +1,4 @@
--- The reads of a forest after a node was made as its last root.
+-- What stands at a node that was made as the last root.
 use Rattle.std.proofs.Common.{◌≡◌, ℕ, Some, None, ap, ◌∙◌, arith}
 use Rattle.std.proofs.lemmas.Bool.Decides.{nat_tests}
 use Rattle.node_trees.specs.Facts.{Facts}
@@ -8,7 +8,7 @@ use Rattle.node_trees.specs.Spots.{spot_of, spot_in, or_spot, spot}
 use Rattle.tree_laws.proofs.CutSpots.{spot-join}
 use Rattle.node_trees.proofs.Absent.{spot-absent}
 
--- ---- the new node and the others
+-- ---- the new node
 
 module _ (n : ℕ) (x : Facts) (f : Trees) where
   pub spot-new-here : times n f ≡ 0 → spot (with_node n x f) n ≡ Some (spot_of x None None none none)

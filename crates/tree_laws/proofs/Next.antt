@@ -85,7 +85,7 @@ next_is p h n (tree m x s k r) row apart among is = elim (ordered n m x s k r ap
       grind (arith, nat_tests, on, right, gone)
 ]
 
--- n stands below q, and what is beyond n is told by its place among the children of q
+-- n has a parent in the order, and what is beyond n is told by its place among the children of that parent
 pub record Below (p h : Option ℕ) (n : ℕ) (f : Trees) (row : Spot) : Type 0 where
   pub parent : ℕ
   pub above : Spot
@@ -157,7 +157,7 @@ climb p h n (tree m x s k r) row apart among is = elim (ordered n m x s k r apar
   | later ne a b c ↦ climb_rest p h n m x s k r row apart ne b (climb p h n r row (apart-rest m x s k r apart) c (sym (spot-rest p h n m x s k r ne a b) ∙ is))
 ]
 
--- in one tree a node that is not its root has a parent there
+-- in the tree order of one tree a node that is not the root has a parent there
 pub climb_tree : (p h : Option ℕ) (n m : ℕ) (x : Facts) (s k : Trees) (row : Spot) → IsApart (tree m x s k none) → m ≢ n
     → is_among n (tree_order (tree m x s k none)) ≡ true
     → spot_in p h n (tree m x s k none) ≡ Some row → Below p h n (tree m x s k none) row

@@ -1,4 +1,4 @@
--- The orders of a node's tree: the node, and then the trees of its shadow root and its children.
+-- The tree of a node, in a part of the trees and in the whole.
 use Rattle.std.proofs.Common.{◌≡◌, ℕ, ◌<◌, ◌∙◌, arith}
 use Rattle.std.proofs.lemmas.Bool.Decides.{nat_tests}
 use Rattle.node_trees.specs.Trees.{Trees, none, tree, tree_of}

@@ -1,4 +1,4 @@
--- What stands at a node, and the path to it, after a tree was put among the children of p.
+-- The roots of a list after a tree was put among them, or among the children of p.
 use Rattle.std.proofs.Common.{◌≡◌, ℕ, Option, refl, arith}
 use Rattle.std.proofs.lemmas.Bool.Decides.{nat_tests}
 use Rattle.node_trees.specs.Facts.{Facts}

@@ -1,4 +1,4 @@
--- The reads of a forest after a shadow tree was attached.
+-- The roots of a forest after a shadow tree was attached.
 use Rattle.std.proofs.Common.{◌≡◌, ℕ, refl, arith}
 use Rattle.std.proofs.lemmas.Bool.Decides.{nat_tests}
 use Rattle.node_trees.specs.Trees.{Trees, none, tree, roots, with_shadow}

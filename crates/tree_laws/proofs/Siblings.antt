@@ -95,7 +95,7 @@ module _ (f : Trees) (p : ℕ) (tidy : IsTidy f) (is : IsNode f p) where
 abbrev pub is_element_at : Trees → ℕ → Bool
 is_element_at f c = is_element (kind_at f c)
 
--- what the loop keeps: no child before `at` is an element
+-- what the loop keeps: whether there is an element among the children is told by those from `at` on
 pub record Seeking (f : Trees) (p : ℕ) (at : Option ℕ) : Type 0 where
   pub child : IsChildOrNone f p at
   pub is : has_element_child f p ≡ list_any (is_element_at f) (children_from f p at)

@@ -25,7 +25,7 @@ module _ (w : ℕ → Facts → ℕ) where
   pub weight-with_shadow : (h : ℕ) (t f : Trees) → times h f ≡ 1 → weight w (with_shadow h t f) ≡ weight w t + weight w f
   weight-with_shadow h t f one = let all = weight-shadow w h t f (omega arith) in grind (arith, nat_tests, all)
 
--- ---- how many, and whose number it is
+-- ---- how many
 
 pub size-cut : (f : Trees) (n : ℕ) → IsTidy f → size (cut f n) ≡ size f
 size-cut = weight-cut (λ m x. 1)
@@ -39,7 +39,7 @@ size-with_node = weight-with_node (λ m x. 1)
 pub size-with_shadow : (h n : ℕ) (x : Facts) (f : Trees) → IsTidy f → IsNode f h → size (with_shadow h (single n x) f) ≡ size f + 1
 size-with_shadow h n x f tidy node = omega (arith, weight-with_shadow (λ m x. 1) h (single n x) f (tidy.once h node))
 
--- which no node had
+-- the next number, which no node has
 pub new-absent : (f : Trees) → IsTidy f → times (size f + 1) f ≡ 0
 new-absent f tidy = elim (cases_lt 0 (times (size f + 1) f)) [
   | inl low ↦ let node = tidy.only (size f + 1) low in absurd (omega (arith, node.high))

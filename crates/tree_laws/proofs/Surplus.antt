@@ -44,7 +44,7 @@ no-value : {A : Type 0} (o : Option A) → length (option_to_list o) ≡ 0 → o
 no-value None h = refl
 no-value (Some a) h = absurd (omega arith)
 
--- what a test leaves out of a sum that is nothing is nothing
+-- what a test does not leave out of a sum that is nothing is nothing
 left-out : (b : Bool) (p q : ℕ) → (if b then 0 else p) + q ≡ 0 → b ≡ false → p ≡ 0
 left-out true p q z h = absurd cc
 left-out false p q z h = omega arith

@@ -36,6 +36,6 @@ first_of-append (x ∷ xs) ys pos = refl
 pub first_above : (f : Trees) (n q : ℕ) → IsTidy f → IsUp f n (Some q) → first_of (path n f) ≡ first_of (path q f)
 first_above f n q a up = rw up.1 (first_of-append (path q f) (n ∷ []) (path-long q f (omega (arith, a.once q up.0))))
 
--- the last without a parent on a path, seen from below
+-- the last on a path that has no parent: from below, the first
 abbrev pub rootward : Trees → List ℕ → Option ℕ
 rootward f ns = find (λ m. not (has_parent f m)) (reverse ns)
