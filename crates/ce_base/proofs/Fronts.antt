@@ -1,18 +1,14 @@
 -- Taking bytes from the front of what is left of a list.
-use Rattle.std.proofs.Common.{◌≡◌, ℕ, ◌+◌, ◌<◌, List, [], ◌∷◌, ◌++◌, length, take, drop, get_or, ap, sym, ◌∙◌, take-append-drop, arith}
-use Rattle.std.proofs.lemmas.Grind.{common_steps}
-use Rattle.std.proofs.lemmas.List.{take_more}
+use Rattle.std.proofs.Common.{◌≡◌, ℕ, ◌+◌, ◌<◌, List, [], ◌∷◌, ◌++◌, length, take, drop, get_or, ap, sym, ◌∙◌, take-append-drop}
+use Rattle.std.proofs.lemmas.List.{drop-drop, take_more}
 use Rattle.std.proofs.Math.Seq.{take-append_seam}
-
-pub drop-drop : (xs : List ℕ) (at n : ℕ) → drop n (drop at xs) ≡ drop (at + n) xs
-drop-drop xs at n = grind (arith, common_steps)
 
 -- what is left is the front that was copied over a buffer, and then what is left behind it
 pub left-copied : (content copied rest : List ℕ) (at n : ℕ) → length copied ≡ n → copied ≡ take n (drop at content)
     → drop at content ≡ take n (copied ++ rest) ++ drop (at + n) content
 left-copied content copied rest at n len is =
     let front : take n (copied ++ rest) ≡ copied = rw (← len) (take-append_seam copied rest) in
-    rw (front, is, ← drop-drop content at n) (sym (take-append-drop n (drop at content)))
+    rw (front, is, ← drop-drop n at content) (sym (take-append-drop n (drop at content)))
 
 -- a loop that copies the members of a list comes to one more
 pub copied-more : {A : Type 0} (xs items new : List A) (i : ℕ) (x y : A) → i < length xs → items ≡ take i xs → x ≡ get_or xs i x → y ≡ x

@@ -10,7 +10,7 @@ use Rattle.node_trees.specs.Orders.{order_of, tree_order_of}
 use Rattle.node_trees.specs.Paths.{is_among}
 use Rattle.node_trees.specs.Spots.{facts_at, parent_at}
 use Rattle.tree_laws.proofs.InOrder.{order-inside}
-use Rattle.tree_laws.proofs.Past.{order-has}
+use Rattle.tree_laws.proofs.Walked.{order-has}
 use Rattle.form_controls.specs.Changes.{differs}
 use Rattle.form_controls.specs.Kinds.{is_a}
 use Rattle.form_controls.specs.Owners.{Forms, is_associated}

@@ -1,9 +1,8 @@
 -- A line in the middle of bytes.
 use Rattle.std.proofs.Common.{◌≡◌, ◌≢◌, ◌≤◌, ◌<◌, ◌+◌, ◌-◌, ℕ, List, ◌∷◌, ◌++◌, length, take, drop, get_or, sym, ap, ◌∙◌, take-append-drop, add-one, drop-cons}
 use Rattle.std.proofs.Common.{arith, All}
-use Rattle.std.proofs.lemmas.List.{get_or-take, get_or-drop, length-drop, length-take}
+use Rattle.std.proofs.lemmas.List.{drop-drop, get_or-take, get_or-drop, length-drop, length-take}
 use Rattle.std.proofs.lemmas.List.Elements.{All-from_get_or}
-use Rattle.ce_base.proofs.Fronts.{drop-drop}
 
 -- from a place on: the bytes before the line feed, the line feed, and what is behind it
 pub split_at_feed : (xs : List ℕ) (start end : ℕ) → start ≤ end → end < length xs → get_or xs end 0 ≡ 10
@@ -11,7 +10,7 @@ pub split_at_feed : (xs : List ℕ) (start end : ℕ) → start ≤ end → end 
 split_at_feed xs start end le lt is =
     let sum : start + (end - start) ≡ end = omega arith in
     let behind : drop (end - start) (drop start xs) ≡ 10 ∷ drop (end + 1) xs =
-    drop-drop xs start (end - start) ∙ (ap (λ k. drop k xs) sum ∙ rw (add-one, drop-cons xs end 0) (cc)) in
+    drop-drop (end - start) start xs ∙ (ap (λ k. drop k xs) sum ∙ rw (add-one, drop-cons xs end 0) (cc)) in
     sym (take-append-drop (end - start) (drop start xs)) ∙ ap (λ l. take (end - start) (drop start xs) ++ l) behind
 
 -- where no place has a line feed, the bytes between have none

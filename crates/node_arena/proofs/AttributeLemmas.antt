@@ -6,18 +6,10 @@ use Rattle.ce_base.specs.declared.memory.NoMemory.{NoMemory}
 use Rattle.std.proofs.Math.ListN.{set}
 use Rattle.std.proofs.lemmas.List.{take_more}
 use Rattle.std.proofs.lemmas.Bool.Decides.{nat_tests}
-use Rattle.std.proofs.lemmas.Slice.Eq.{bytes_eq-Decides}
 use Rattle.node_trees.specs.Facts.{value_in, with_value, without_value}
+use Rattle.ordered_tables.proofs.Places.{bytes_sym, same_text, text_same}
+use Rattle.ordered_tables.proofs.TextMapPlaces.{with_value-new}
 use Rattle.node_arena.specs.Attributes.{name_place, is_once}
-
-same_name : (a b : List ℕ) → bytes_eq a b ≡ true → a ≡ b
-same_name a b e = (bytes_eq-Decides a b).0 e
-
-name_same : (a b : List ℕ) → a ≡ b → bytes_eq a b ≡ true
-name_same a b e = (bytes_eq-Decides a b).1 e
-
-bytes_sym : (a b : List ℕ) → bytes_eq a b ≡ bytes_eq b a
-bytes_sym a b = grind (arith, same_name a b, same_name b a, name_same a b, name_same b a)
 
 is_nothing : (o : Option (List ℕ)) → is_none o ≡ true → o ≡ None
 is_nothing None e = refl
@@ -38,7 +30,7 @@ with_value-place : (name value : List ℕ) (xs : List (List ℕ × List ℕ)) (d
     → set xs (name_place name xs) ((get_or xs (name_place name xs) d).0, value) ≡ with_value name value xs
 with_value-place name value [] d lt = absurd (omega arith)
 with_value-place name value (x ∷ xs) d lt =
-    let same = same_name x.0 name in
+    let same = same_text x.0 name in
     grind (arith, nat_tests, same, with_value-place name value xs d, add-one (name_place name xs))
 
 pub with_value-absent : (name value : List ℕ) (xs : List (List ℕ × List ℕ)) → length xs ≤ name_place name xs
@@ -74,10 +66,10 @@ module _ (name : List ℕ) (xs : List (List ℕ × List ℕ)) (i : ℕ) (at : i 
 
 -- ---- names that stand once
 
-value_in-with : (name value q : List ℕ) (xs : List (List ℕ × List ℕ))
+pub value_in-with : (name value q : List ℕ) (xs : List (List ℕ × List ℕ))
     → value_in (with_value name value xs) q ≡ cond (bytes_eq name q) (Some value) (value_in xs q)
 value_in-with name value q [] = refl
-value_in-with name value q (x ∷ xs) = grind (arith, same_name x.0 name, same_name x.0 q, same_name name q, name_same x.0 name, value_in-with name value q xs)
+value_in-with name value q (x ∷ xs) = grind (arith, same_text x.0 name, same_text x.0 q, same_text name q, text_same x.0 name, value_in-with name value q xs)
 
 value_in-without : (name q : List ℕ) (xs : List (List ℕ × List ℕ)) → is_once xs ≡ true
     → value_in (without_value name xs) q ≡ cond (bytes_eq name q) None (value_in xs q)
@@ -86,18 +78,18 @@ value_in-without name q (x ∷ xs) once =
     grind (
       arith,
       is_nothing (value_in xs x.0),
-      same_name x.0 name,
-      same_name name q,
-      same_name x.0 q,
-      name_same x.0 name,
-      name_same name q,
-      name_same x.0 q,
+      same_text x.0 name,
+      same_text name q,
+      same_text x.0 q,
+      text_same x.0 name,
+      text_same name q,
+      text_same x.0 q,
       value_in-without name q xs,
     )
 
 once_with : (name value : List ℕ) (xs : List (List ℕ × List ℕ)) → is_once xs ≡ true → is_once (with_value name value xs) ≡ true
 once_with name value [] once = refl
-once_with name value (x ∷ xs) once = grind (arith, same_name x.0 name, bytes_sym x.0 name, value_in-with name value x.0 xs, once_with name value xs)
+once_with name value (x ∷ xs) once = grind (arith, same_text x.0 name, bytes_sym x.0 name, value_in-with name value x.0 xs, once_with name value xs)
 
 pub once_without : (name : List ℕ) (xs : List (List ℕ × List ℕ)) → is_once xs ≡ true → is_once (without_value name xs) ≡ true
 once_without name [] once = refl
@@ -111,7 +103,7 @@ once_set (Err e) name value old new ok err once = ap is_once err ∙ once
 
 -- what stood once and was taken away is gone
 pub value_in-gone : (name : List ℕ) (xs : List (List ℕ × List ℕ)) → is_once xs ≡ true → value_in (without_value name xs) name ≡ None
-value_in-gone name xs once = value_in-without name name xs once ∙ ap (λ b. cond b None (value_in xs name)) (name_same name name refl)
+value_in-gone name xs once = value_in-without name name xs once ∙ ap (λ b. cond b None (value_in xs name)) (text_same name name refl)
 
 -- what is set behind names that are all others comes last
 
@@ -126,12 +118,8 @@ once_next [] i d once lt = absurd (omega arith)
 once_next (x ∷ xs) zero d once lt = refl
 once_next (x ∷ xs) (suc i) d once lt = grind (arith, is_nothing (value_in xs x.0), absent_at x.0 xs i d, bytes_sym x.0 (get_or xs i d).0, once_next xs i d)
 
-with_value-new : (name value : List ℕ) (xs : List (List ℕ × List ℕ)) → value_in xs name ≡ None → with_value name value xs ≡ xs ++ (name, value) ∷ []
-with_value-new name value [] none = refl
-with_value-new name value (x ∷ xs) none = grind (arith, with_value-new name value xs)
-
 pub with_value-next : (xs : List (List ℕ × List ℕ)) (i : ℕ) (d : List ℕ × List ℕ) → is_once xs ≡ true → i < length xs → d ≡ get_or xs i d
     → with_value d.0 d.1 (take i xs) ≡ take (i + 1) xs
 with_value-next xs i d once lt is =
     let none : value_in (take i xs) d.0 ≡ None = ap (λ (a : List ℕ × List ℕ). value_in (take i xs) a.0) is ∙ once_next xs i d once lt in
-    with_value-new d.0 d.1 (take i xs) none ∙ ap (λ (a : List ℕ × List ℕ). take i xs ++ a ∷ []) is ∙ sym (take_more xs i d lt)
+    sym (with_value-new (take i xs) d.0 d.1 none) ∙ ap (λ (a : List ℕ × List ℕ). take i xs ++ a ∷ []) is ∙ sym (take_more xs i d lt)

@@ -1,12 +1,13 @@
 -- The index of ids after each write.
-use Rattle.std.proofs.Common.{◌≡◌, ◌≢◌, ℕ, zero, suc, true, false, ◌-◌, ◌<◌, List, [], ◌∷◌, ◌++◌, Option, Some, None, refl, ap, sym, ◌∙◌, subst, arith, inl}
+use Rattle.std.proofs.Common.{◌≡◌, ◌≢◌, ℕ, zero, suc, true, false, ◌-◌, ◌<◌, List, [], ◌∷◌, ◌++◌, Option, Some, None, refl, ap, sym, ◌∙◌, subst, inl}
 use Rattle.std.proofs.Common.{inr, length, slice_get}
 use Rattle.std.specs.Option.{option_map}
-use Rattle.std.specs.Prelude.{codes}
+use Rattle.std.specs.Prelude.{codes, ◌&&◌}
 use Rattle.std.proofs.lemmas.Bool.{cases_eq, and_parts}
 use Rattle.std.proofs.lemmas.Slice.Eq.{bytes_eq-Decides}
 use Rattle.node_trees.specs.Facts.{Facts, is_element, value_in}
 use Rattle.node_trees.specs.Ids.{has_id, is_id}
+use Rattle.tree_laws.proofs.Alike.{no-id}
 use Rattle.tree_laws.proofs.ByIndex.{slice_get-append_other, slice_get-append_end}
 use Rattle.ordered_tables.specs.Held.{is_held}
 use Rattle.ordered_tables.specs.declared.id_index.IdIndex.{IdIndex}
@@ -81,12 +82,8 @@ module _ (ids : IdIndex) (ls : List Link) (p n : ℕ) (a d : Option ℕ) (low_p 
 
 -- ---- a new node has no id
 
-no_id : (id : List ℕ) → is_id id None ≡ false
-no_id [] = refl
-no_id (i ∷ id) = refl
-
 bare-no_id : (x : Facts) (id : List ℕ) → x.attributes ≡ [] → has_id id x ≡ false
-bare-no_id x id e = rw (e, no_id id) (grind arith)
+bare-no_id x id e = ap (λ v. is_element x.kind && is_id id (value_in v (codes "id"))) e ∙ no-id id (is_element x.kind)
 
 pub covers-pushed : (ids : IdIndex) (ls : List Link) (l : Link) → l.facts.attributes ≡ [] → Covers ids ls → Covers ids (ls ++ l ∷ [])
 covers-pushed ids ls l bare c = record {

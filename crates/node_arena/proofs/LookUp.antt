@@ -1,10 +1,8 @@
 -- The loop over the nodes that the index has for an id.
 use Rattle.std.proofs.Common.{◌≡◌, ◌≢◌, ℕ, Bool, true, false, List, [], ◌∷◌, Option, Some, None, refl, ap, ◌∙◌, subst, arith, inl, inr}
-use Rattle.std.specs.Prelude.{◌&&◌, ◌==◌}
-use Rattle.std.specs.BTreeMap.{is_at}
-use Rattle.std.specs.List.{find, list_any}
+use Rattle.std.specs.Prelude.{◌&&◌}
+use Rattle.std.specs.List.{find}
 use Rattle.std.specs.Option.{is_some}
-use Rattle.std.specs.Ordering.{nat_cmp, is_eq}
 use Rattle.std.proofs.lemmas.Bool.{cases_eq, and_parts}
 use Rattle.std.proofs.lemmas.Bool.Decides.{nat_tests}
 use Rattle.node_trees.specs.Ids.{has_id, first_with_id}
@@ -14,14 +12,6 @@ use Rattle.node_trees.specs.Paths.{is_among}
 use Rattle.node_trees.specs.Spots.{facts_at}
 use Rattle.node_trees.specs.Trees.{Trees}
 use Rattle.node_arena.specs.Holders.{is_holder}
-
--- the members of a set of numbers
-number_test : (n m : ℕ) → is_eq (nat_cmp n m) ≡ (m == n)
-number_test n m = grind (arith, nat_tests)
-
-pub any-among : (m : ℕ) (keys : List ℕ) → list_any (is_at (nat_cmp m)) keys ≡ is_among m keys
-any-among m [] = refl
-any-among m (k ∷ keys) = grind (arith, number_test m k, any-among m keys)
 
 -- ---- the first that passes
 

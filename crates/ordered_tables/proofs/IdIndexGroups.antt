@@ -9,19 +9,13 @@ use Rattle.std.specs.BTreeSet as sets
 use Rattle.std.specs.List.{list_any}
 use Rattle.std.specs.BTreeSet.{BTreeSet, contains}
 use Rattle.std.specs.String.{string_cmp}
-use Rattle.std.proofs.lemmas.Bool.Decides.{nat_tests}
 use Rattle.std.proofs.lemmas.Map.Text.{btree_map_updates_text}
 use Rattle.std.proofs.lemmas.Slice.Eq.{bytes_eq-Decides}
+use Rattle.ordered_tables.proofs.Places.{number_test, same_text}
 
 -- whether the group of this id has the number
 abbrev pub holds : {Y : Type 0} → BTreeMap (String Y) (BTreeSet ℕ) → List ℕ → ℕ → Bool
 holds groups q m = option_map_or (λ s. contains nat_cmp s m) (get_by_text groups q) false
-
-same_text : (a b : List ℕ) → bytes_eq a b ≡ true → a ≡ b
-same_text a b e = (bytes_eq-Decides a b).0 e
-
-number_test : (n m : ℕ) → is_eq (nat_cmp n m) ≡ (n == m)
-number_test n m = grind (arith, nat_tests)
 
 set_put : (s t : BTreeSet ℕ) (n m : ℕ) → sets.Updates nat_cmp s t n true → contains nat_cmp t m ≡ (contains nat_cmp s m || n == m)
 set_put s t n m u = let at = u.0 m in let e = number_test n m in grind (arith, at, e)

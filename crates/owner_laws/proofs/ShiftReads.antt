@@ -14,7 +14,7 @@ use Rattle.node_trees.specs.Paths.{is_among, path, root_at, connected, or_number
 use Rattle.node_trees.specs.Ids.{has_id, first_with_id}
 use Rattle.node_trees.specs.Spots.{facts_at, kind_at, attribute_at, parent_at, children_at, first_of}
 use Rattle.tree_laws.proofs.CutReads.{in-tree}
-use Rattle.tree_laws.proofs.Past.{order-has}
+use Rattle.tree_laws.proofs.Walked.{order-has}
 use Rattle.form_controls.specs.Kinds.{native_at, is_a}
 use Rattle.form_controls.specs.Owners.{ancestors, where_form, named_form}
 use Rattle.form_controls.specs.Disabled.{has_disabled, first_legend, is_inside, disables, is_in_disabled_group}

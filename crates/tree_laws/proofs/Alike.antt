@@ -28,7 +28,7 @@ find-same p q [] same = refl
 find-same p q (x ∷ xs) same = ap (λ v. cond (p x) (Some x) v) (find-same p q xs same) ∙ ap (λ b. cond b (Some x) (find q xs)) (same x)
 
 -- what has no value for the attribute `id` has no id
-no-id : (id : List ℕ) (b : Bool) → (b && is_id id None) ≡ false
+pub no-id : (id : List ℕ) (b : Bool) → (b && is_id id None) ≡ false
 no-id [] true = refl
 no-id [] false = refl
 no-id (c ∷ cs) true = refl

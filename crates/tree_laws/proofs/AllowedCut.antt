@@ -13,6 +13,7 @@ use Rattle.tree_laws.proofs.Lists.{lacking, any-same, any-lacking}
 use Rattle.tree_laws.proofs.CutReads.{parent_at-cut, kind_at-cut, path-cut-outside, children_at-cut-outside}
 use Rattle.tree_laws.proofs.Children.{child-parent, children_at-apart, after-among}
 use Rattle.tree_laws.proofs.Onward.{after-other}
+use Rattle.tree_laws.proofs.Parents.{number-is}
 use Rattle.tree_laws.proofs.Allowed.{not_inside, is_sibling, may_insert-still}
 
 module _ (f : Trees) (p n : ℕ) (b : Option ℕ) (tidy : IsTidy f) (node : IsNode f n) (may : may_insert f p n b ≡ None) where
@@ -43,10 +44,6 @@ module _ (f : Trees) (p n : ℕ) (b : Option ℕ) (tidy : IsTidy f) (node : IsNo
 
 number-same : (p : ℕ) → is_number (Some p) p ≡ true
 number-same p = grind (arith, nat_tests)
-
-number-is : (o : Option ℕ) (p : ℕ) → is_number o p ≡ true → o ≡ Some p
-number-is None p h = absurd cc
-number-is (Some m) p h = let e : m ≡ p = grind (arith, nat_tests) in ap Some e
 
 -- before the node's next sibling, where it was to go before itself
 pub may_insert-cut-itself : (f : Trees) (p n : ℕ) → IsTidy f → IsNode f p → IsNode f n → may_insert f p n (Some n) ≡ None

@@ -1,11 +1,11 @@
 -- A node that stands alone.
-use Rattle.std.proofs.Common.{◌≡◌, ◌≢◌, ℕ, ◌+◌, false, List, [], ◌∷◌, ◌++◌, Some, None, refl, ap, ◌∙◌, subst, sym, arith}
+use Rattle.std.proofs.Common.{◌≡◌, ◌≢◌, ℕ, ◌+◌, false, Some, None, refl, ap, ◌∙◌, subst, sym, arith}
 use Rattle.std.proofs.lemmas.Bool.Decides.{nat_tests}
 use Rattle.node_trees.specs.Facts.{Facts}
 use Rattle.node_trees.specs.Trees.{Trees, none, tree, join, single, tree_of, with_node, with_facts}
 use Rattle.node_trees.specs.Spots.{spot, spot_of}
 use Rattle.node_trees.specs.Orders.{order, order_of}
-use Rattle.node_trees.specs.Paths.{path, under, is_among}
+use Rattle.node_trees.specs.Paths.{path, is_among}
 use Rattle.node_trees.specs.Nodes.{size, times, IsNode, IsTidy}
 use Rattle.node_trees.specs.Links.{IsAlone}
 use Rattle.tree_laws.proofs.Changed.{path-with}
@@ -13,32 +13,10 @@ use Rattle.tree_laws.proofs.ChangedReads.{parent_at-with}
 use Rattle.tree_laws.proofs.NewReads.{spot-new-here}
 use Rattle.tree_laws.proofs.NodeOrders.{order_step}
 use Rattle.tree_laws.proofs.AtNode.{parent_at-is}
-use Rattle.tree_laws.proofs.Pieces.{path-absent, path-here}
-use Rattle.tree_laws.proofs.Walked.{order-join}
-use Rattle.tree_laws.proofs.CutSpots.{path-join-right}
+use Rattle.tree_laws.proofs.Pieces.{path-here}
+use Rattle.tree_laws.proofs.Walked.{off-path, order-join}
+use Rattle.tree_laws.proofs.CutSpots.{path-join-left, path-join-right}
 use Rattle.tree_laws.proofs.Sizes.{new-absent, size-with_node}
-use Rattle.node_trees.proofs.Absent.{is_among-append}
-
--- a number that no node has is on no path
-
-among-under : (n m : ℕ) (ms : List ℕ) → m ≢ n → is_among n ms ≡ false → is_among n (under m ms) ≡ false
-among-under n m [] ne h = refl
-among-under n m (k ∷ ks) ne h = grind (arith, nat_tests)
-
-absent-path : (n p : ℕ) (f : Trees) → times n f ≡ 0 → is_among n (path p f) ≡ false
-absent-path n p none z = refl
-absent-path n p (tree m x s k r) z =
-    let ne : m ≢ n = grind (arith, nat_tests) in
-    let in_s = absent-path n p s (grind (arith, nat_tests)) in
-    let in_k = absent-path n p k (grind (arith, nat_tests)) in
-    let in_r = absent-path n p r (grind (arith, nat_tests)) in
-    let sides : is_among n (path p s ++ path p k) ≡ false = is_among-append n (path p s) (path p k) ∙ cc in
-    let high : is_among n (under m (path p s ++ path p k)) ≡ false = among-under n m (path p s ++ path p k) ne sides in
-    grind (arith, nat_tests, is_among-append n (under m (path p s ++ path p k)) (path p r))
-
-path-join : (p : ℕ) (f g : Trees) → times p g ≡ 0 → path p (join f g) ≡ path p f
-path-join p none g z = path-absent p g z
-path-join p (tree m x s k r) g z = grind (arith, nat_tests, path-join p r g z)
 
 -- a new root
 module _ (f g : Trees) (x : Facts) (n : ℕ) (tidy : IsTidy f) (tidy_after : IsTidy g) (is : g ≡ with_node (size f + 1) x f) (number : n ≡ size f + 1) where
@@ -51,15 +29,15 @@ module _ (f g : Trees) (x : Facts) (n : ℕ) (tidy : IsTidy f) (tidy_after : IsT
   gone : times n f ≡ 0
   gone = subst (λ v. times v f ≡ 0) (sym number) (new-absent f tidy)
 
-  off_path : (p : ℕ) → p ≢ n → is_among n (path p (with_node n x f)) ≡ false
-  off_path p ne = rw (path-join p f (single n x) (grind (arith, nat_tests))) (absent-path n p f gone)
+  off_others : (p : ℕ) → p ≢ n → is_among n (path p (with_node n x f)) ≡ false
+  off_others p ne = rw (path-join-left p f (single n x) (grind (arith, nat_tests))) (off-path n p f gone)
 
   pub new_alone : IsAlone g n
   new_alone = record {
     free = parent_at-is g n _ there;
     above = rw (is, sym number) (path-join-right n f (single n x) gone ∙ path-here n n x none none none refl);
     walk = order_step g n _ tidy_after node there;
-    apart = λ p ne. rw (is, sym number) (off_path p ne);
+    apart = λ p ne. rw (is, sym number) (off_others p ne);
   }
 
 -- a change of a node's facts

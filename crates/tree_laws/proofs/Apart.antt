@@ -18,7 +18,7 @@ use Rattle.tree_laws.proofs.RowForests.{stands_at, row_is}
 use Rattle.tree_laws.proofs.Pieces.{path-absent, path-long}
 use Rattle.tree_laws.proofs.Sizes.{size-with_node}
 use Rattle.tree_laws.proofs.OtherSpots.{spot_at-new}
-use Rattle.tree_laws.proofs.WayUp.{first_of-append}
+use Rattle.tree_laws.proofs.WayUp.{first_of-long}
 use Rattle.node_trees.proofs.Absent.{spot-absent}
 
 -- a root is connected where it is a document, and another node where what is above it is
@@ -30,7 +30,7 @@ pub connected-above : (f : Trees) (m q : ℕ) → IsTidy f → IsAbove f q m →
 connected-above f m q tidy a =
     let long = path-long q f (node_stands f q tidy a.is_node) in
     ap (λ v. is_document (kind_at f v))
-    (sym (same_first (path q f) (path m f) q m long (sym (ap first_of a.path_is ∙ first_of-append (path q f) (m ∷ []) long))))
+    (sym (same_first (path q f) (path m f) q m long (sym (ap first_of a.path_is ∙ first_of-long (path q f) (m ∷ []) long))))
 
 -- what is not connected is a node
 apart-node : (f : Trees) (m : ℕ) → IsTidy f → connected f m ≡ false → IsNode f m
@@ -66,10 +66,10 @@ module _ (f g : Trees) (tidy_f : IsTidy f) (tidy_g : IsTidy g) (more : size f �
       ]
 
   -- of the nodes so far down
-  abbrev Below : ℕ → Type 0
-  Below k = (q : ℕ) → length (path q g) ≤ k → IsNode f q → connected f q ≡ false → connected g q ≡ false
+  abbrev Down : ℕ → Type 0
+  Down k = (q : ℕ) → length (path q g) ≤ k → IsNode f q → connected f q ≡ false → connected g q ≡ false
 
-  above_parent : (k m q : ℕ) → Below k → length (path q g) ≤ k → IsNode f m → connected f m ≡ false → parent_at g m ≡ Some q → UpIn f g m
+  above_parent : (k m q : ℕ) → Down k → length (path q g) ≤ k → IsNode f m → connected f m ≡ false → parent_at g m ≡ Some q → UpIn f g m
       → connected g q ≡ false
   above_parent k m q below short at apart e (moved p is node_p apart_p) = let same : p ≡ q =
       cc in subst (λ v. length (path v g) ≤ k → connected g v ≡ false) same (λ short. below p short node_p apart_p) short
@@ -77,7 +77,7 @@ module _ (f g : Trees) (tidy_f : IsTidy f) (tidy_g : IsTidy g) (more : size f �
       let a = parent-above f m q tidy_f at (sym parent ∙ e) in
       below q short a.is_node (sym (connected-above f m q tidy_f a) ∙ apart)
 
-  above_host : (k m q : ℕ) → Below k → length (path q g) ≤ k → IsNode f m → connected f m ≡ false → parent_at g m ≡ None → host_at g m ≡ Some q → UpIn f g m
+  above_host : (k m q : ℕ) → Down k → length (path q g) ≤ k → IsNode f m → connected f m ≡ false → parent_at g m ≡ None → host_at g m ≡ Some q → UpIn f g m
       → connected g q ≡ false
   above_host k m q below short at apart e o (moved p is node_p apart_p) = absurd cc
   above_host k m q below short at apart e o (alike parent host kind) =

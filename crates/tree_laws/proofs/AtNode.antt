@@ -11,11 +11,11 @@ pub node_stands : (f : Trees) (n : ℕ) → IsTidy f → IsNode f n → 0 < time
 node_stands f n tidy node = omega (arith, tidy.once n node)
 
 -- something stands at n
-pub record Stands (f : Trees) (n : ℕ) : Type 0 where
+pub record HasSpot (f : Trees) (n : ℕ) : Type 0 where
   pub row : Spot
   pub is : spot f n ≡ Some row
 
-pub node_spot : (f : Trees) (n : ℕ) → IsTidy f → IsNode f n → Stands f n
+pub node_spot : (f : Trees) (n : ℕ) → IsTidy f → IsNode f n → HasSpot f n
 node_spot f n tidy node =
     let it = found None None n f (tidy-apart f tidy) (node_stands f n tidy node) in
     record { row = spot_of it.facts it.parent it.host it.shadow it.children; is = it.spot_is }

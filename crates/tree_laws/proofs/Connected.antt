@@ -37,11 +37,11 @@ abbrev above_at : Trees → ℕ → Option ℕ
 above_at f m = option_or (parent_at f m) (host_at f m)
 
 -- nothing is above a node, or one node is
-data Up (f : Trees) (m : ℕ) : Type 0 where
-  top : above_at f m ≡ None → path m f ≡ m ∷ [] → Up f m
-  below : (q : ℕ) → above_at f m ≡ Some q → IsAbove f q m → Up f m
+data TopOrBelow (f : Trees) (m : ℕ) : Type 0 where
+  top : above_at f m ≡ None → path m f ≡ m ∷ [] → TopOrBelow f m
+  below : (q : ℕ) → above_at f m ≡ Some q → IsAbove f q m → TopOrBelow f m
 
-up_of : (f : Trees) (m : ℕ) → IsTidy f → IsNode f m → Up f m
+up_of : (f : Trees) (m : ℕ) → IsTidy f → IsNode f m → TopOrBelow f m
 up_of f m tidy at =
     let st = node_spot f m tidy at in
     let is : above_at f m ≡ option_or st.row.parent st.row.host = rw (parent_at-is f m st.row st.is, host_at-is f m st.row st.is) refl in

@@ -30,6 +30,10 @@ spot-join p h i (tree m x s k r) g =
       or_spot-assoc (spot_in (Some m) None i k) (spot_in p h i r) (spot_in p h i g),
     )
 
+pub path-join-left : (i : ℕ) (f g : Trees) → times i g ≡ 0 → path i (join f g) ≡ path i f
+path-join-left i none g z = path-absent i g z
+path-join-left i (tree m x s k r) g z = grind (arith, nat_tests, path-join-left i r g z)
+
 pub path-join-right : (i : ℕ) (f g : Trees) → times i f ≡ 0 → path i (join f g) ≡ path i g
 path-join-right i none g z = refl
 path-join-right i (tree m x s k r) g z =

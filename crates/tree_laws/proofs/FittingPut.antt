@@ -28,8 +28,8 @@ abbrev pub text_is : Facts → ℕ
 text_is x = unless (not (is_text x.kind))
 
 -- one where no element is
-abbrev pub element_is : Facts → ℕ
-element_is x = unless (is_element x.kind)
+abbrev pub no_element : Facts → ℕ
+no_element x = unless (is_element x.kind)
 
 -- p is no text, and what is put among its children fits there
 pub misfits-put : (at : Place) (p : ℕ) (b : Option ℕ) (t f : Trees) → misfits at f ≡ 0 → misfits AsChild t ≡ 0 → weight (only_at p text_is) f ≡ 0
@@ -55,13 +55,13 @@ misfits-put at p b t (tree m x s k r) z fit ok = elim (cases_eq m p) [
 ]
 
 -- the host is an element, and what is attached fits there
-pub misfits-shadow : (at : Place) (q : ℕ) (t f : Trees) → misfits at f ≡ 0 → misfits InShadow t ≡ 0 → weight (only_at q element_is) f ≡ 0
+pub misfits-shadow : (at : Place) (q : ℕ) (t f : Trees) → misfits at f ≡ 0 → misfits InShadow t ≡ 0 → weight (only_at q no_element) f ≡ 0
     → misfits at (with_shadow q t f) ≡ 0
 misfits-shadow at q t none z fit ok = refl
 misfits-shadow at q t (tree m x s k r) z fit ok = elim (cases_eq m q) [
   | inl e ↦
       let is : with_shadow q t (tree m x s k r) ≡ tree m x (join s t) k r = grind (arith, nat_tests) in
-      let here : only_at q element_is m x ≡ element_is x = grind (arith, nat_tests) in
+      let here : only_at q no_element m x ≡ no_element x = grind (arith, nat_tests) in
       rw is (omega (arith, here, unless-or (is_none (join s t)) (is_element x.kind), misfits-join InShadow s t))
   | inr ne ↦
       let is : with_shadow q t (tree m x s k r) ≡ tree m x (with_shadow q t s) (with_shadow q t k) (with_shadow q t r) = grind (arith, nat_tests) in

@@ -1,13 +1,13 @@
 -- What stands at each node after an insertion, and after a removal.
 use Rattle.std.proofs.Common.{◌≡◌, ◌≢◌, ℕ, ◌-◌, ◌<◌, ◌≤◌, List, Option, Some, None, ap, ◌∙◌, arith, length}
 use Rattle.std.proofs.Math.ListN.{set, length-set}
+use Rattle.ce_base.proofs.Places.{set_other, set_within}
 use Rattle.node_trees.specs.Trees.{Trees, graft, cut}
 use Rattle.node_trees.specs.Spots.{Spot, spot_at, parent_at, children_at, or_no_spot}
 use Rattle.node_trees.specs.Insertion.{may_insert}
 use Rattle.node_trees.specs.Nodes.{size, IsNode, IsTidy}
 use Rattle.tree_laws.specs.Numbers.{insert_number, remove_number}
 use Rattle.tree_laws.specs.Rows.{row_of_node, rows_of, IsForest, Grafted, Severed}
-use Rattle.tree_laws.proofs.ByIndex.{slice_get-set_same, slice_get-set_other}
 use Rattle.tree_laws.proofs.ForestRows.{rows_of-forest, rows_of-at, rows_of-length}
 use Rattle.tree_laws.proofs.RowForests.{graft_forest, cut_forest, row_is}
 
@@ -20,15 +20,15 @@ module _ (rows : List Spot) (p n : ℕ) (u v : Spot) (low_p : 0 < p) (high_p : p
   both-length = length-set (set rows (p - 1) u) (n - 1) v ∙ length-set rows (p - 1) u
 
   both-n : row_of_node both n ≡ Some v
-  both-n = slice_get-set_same (set rows (p - 1) u) (n - 1) v (omega (arith, length-set rows (p - 1) u))
+  both-n = set_within (set rows (p - 1) u) (n - 1) v (omega (arith, length-set rows (p - 1) u))
 
   both-p : row_of_node both p ≡ Some u
-  both-p = slice_get-set_other (set rows (p - 1) u) (n - 1) (p - 1) v (λ e. ne (omega (arith, e, low_p, low_n)))
-      ∙ slice_get-set_same rows (p - 1) u (omega arith)
+  both-p = set_other (set rows (p - 1) u) (n - 1) (p - 1) v (λ e. ne (omega (arith, e, low_p, low_n)))
+      ∙ set_within rows (p - 1) u (omega arith)
 
   both-other : (m : ℕ) → 0 < m → m ≢ n → m ≢ p → row_of_node both m ≡ row_of_node rows m
-  both-other m low m_n m_p = slice_get-set_other (set rows (p - 1) u) (n - 1) (m - 1) v (λ e. m_n (omega (arith, e, low, low_n)))
-      ∙ slice_get-set_other rows (p - 1) (m - 1) u (λ e. m_p (omega (arith, e, low, low_p)))
+  both-other m low m_n m_p = set_other (set rows (p - 1) u) (n - 1) (m - 1) v (λ e. m_n (omega (arith, e, low, low_n)))
+      ∙ set_other rows (p - 1) (m - 1) u (λ e. m_p (omega (arith, e, low, low_p)))
 
 -- g is f but for the parent of n and the children of p
 pub record Moved (f g : Trees) (p n : ℕ) (parent : Option ℕ) (children : List ℕ) : Type 0 where

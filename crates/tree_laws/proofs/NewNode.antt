@@ -3,13 +3,15 @@ use Rattle.std.proofs.Common.{◌≡◌, ◌≢◌, ℕ, ◌⊎◌, [], ◌∷�
 use Rattle.std.proofs.lemmas.Bool.{cases_eq}
 use Rattle.std.proofs.lemmas.Bool.Decides.{nat_tests}
 use Rattle.node_trees.specs.Facts.{Facts}
-use Rattle.node_trees.specs.Trees.{Trees, none, tree, join, single, with_shadow, tree_of, roots}
+use Rattle.node_trees.specs.Trees.{Trees, none, tree, join, single, with_shadow, tree_of}
 use Rattle.node_trees.specs.Nodes.{times}
 use Rattle.node_trees.specs.Orders.{tree_order}
 use Rattle.node_trees.specs.Paths.{path}
 use Rattle.node_trees.specs.Spots.{Spot, spot_of, spot_in, or_spot, or_no_spot}
 use Rattle.node_trees.proofs.Absent.{spot-absent}
 use Rattle.tree_laws.specs.Alike.{AreAlike}
+use Rattle.tree_laws.proofs.CutSpots.{path-join-left}
+use Rattle.tree_laws.proofs.ShadowReads.{roots-shadow}
 
 -- among the roots
 
@@ -19,14 +21,13 @@ module _ (i n : ℕ) (x : Facts) (ne : i ≢ n) where
   spot-beside p h (tree m y s k r) = let more = spot-beside p h r in grind (arith, nat_tests, more)
 
   path-beside : (f : Trees) → path i (join f (single n x)) ≡ path i f
-  path-beside none = grind (arith, nat_tests)
-  path-beside (tree m y s k r) = let more = path-beside r in grind (arith, nat_tests, more)
+  path-beside f = path-join-left i f (single n x) (grind (arith, nat_tests))
 
   tree_of-beside : (f : Trees) → tree_of i (join f (single n x)) ≡ tree_of i f
   tree_of-beside none = grind (arith, nat_tests)
   tree_of-beside (tree m y s k r) = let more = tree_of-beside r in grind (arith, nat_tests, more)
 
-spot-new : (n : ℕ) (x : Facts) (p h : Option ℕ) (f : Trees) → times n f ≡ 0 → spot_in p h n (join f (single n x)) ≡ Some (spot_of x p h none none)
+pub spot-new : (n : ℕ) (x : Facts) (p h : Option ℕ) (f : Trees) → times n f ≡ 0 → spot_in p h n (join f (single n x)) ≡ Some (spot_of x p h none none)
 spot-new n x p h none z = grind (arith, nat_tests)
 spot-new n x p h (tree m y s k r) z =
     let more = spot-new n x p h r (omega arith) in
@@ -41,10 +42,6 @@ unshadowed (Some s) = Some (record s { shadow = [] })
 unshadowed-or : (a b : Option Spot) → unshadowed (or_spot a b) ≡ or_spot (unshadowed a) (unshadowed b)
 unshadowed-or None b = refl
 unshadowed-or (Some s) b = refl
-
-roots-hung : (q : ℕ) (t f : Trees) → roots (with_shadow q t f) ≡ roots f
-roots-hung q t none = refl
-roots-hung q t (tree m y s k r) = grind (arith, nat_tests, roots-hung q t r)
 
 order-hung : (q : ℕ) (t f : Trees) → tree_order (with_shadow q t f) ≡ tree_order f
 order-hung q t none = refl
@@ -67,7 +64,7 @@ module _ (i n q : ℕ) (x : Facts) (ne : i ≢ n) where
         a,
         b,
         c,
-        roots-hung q (single n x) k,
+        roots-shadow q (single n x) k,
         spot-beside i n x ne None (Some m) s,
         unshadowed-or (spot_in None (Some m) i (with_shadow q (single n x) s))
             (or_spot (spot_in (Some m) None i (with_shadow q (single n x) k)) (spot_in p h i (with_shadow q (single n x) r))),

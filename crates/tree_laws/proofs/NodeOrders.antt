@@ -46,12 +46,12 @@ order_part f (tree m x s k r) apart part =
     rw (first, sym after, append-nil (order k)) (ap (λ xs. m ∷ xs) (sym (append_assoc (order s) (order k) (order r))))
 
 -- where n stands, its tree has its parts apart, and they are parts of the forest
-record Below (f : Trees) (n : ℕ) (it : Found None None n f) : Type 0 where
+record HasParts (f : Trees) (n : ℕ) (it : Found None None n f) : Type 0 where
   whole : IsApart (tree n it.facts it.shadow it.children none)
   part : IsPart f (tree n it.facts it.shadow it.children none)
   inside : (i : ℕ) → 0 < times i (tree n it.facts it.shadow it.children none) → 0 < times i f
 
-below : (f : Trees) (n : ℕ) (it : Found None None n f) → IsTidy f → IsNode f n → Below f n it
+below : (f : Trees) (n : ℕ) (it : Found None None n f) → IsTidy f → IsNode f n → HasParts f n it
 below f n it tidy at =
     let apart_f = tidy-apart f tidy in
     record {

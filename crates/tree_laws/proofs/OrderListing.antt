@@ -10,10 +10,10 @@ use Rattle.node_trees.specs.Spots.{after}
 use Rattle.tree_laws.proofs.Children.{after-among}
 use Rattle.tree_laws.proofs.Counts.{AreApart}
 use Rattle.tree_laws.proofs.Onward.{onward, onward-last, onward-step, onward-less}
-use Rattle.tree_laws.proofs.Past.{order-has, in_order}
+use Rattle.tree_laws.proofs.Past.{in_order}
 use Rattle.tree_laws.proofs.PastIn.{its_tree, inside-node, root-inside}
 use Rattle.tree_laws.proofs.Sums.{tidy-apart}
-use Rattle.tree_laws.proofs.Walked.{order-apart}
+use Rattle.tree_laws.proofs.Walked.{order-apart, order-has}
 
 -- what the loop keeps: `at` is in the tree, and what is listed with all from `at` on is the whole order
 pub record Listing (f : Trees) (root at : ℕ) (out : List ℕ) : Type 0 where

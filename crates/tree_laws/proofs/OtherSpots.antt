@@ -3,7 +3,7 @@ use Rattle.std.proofs.Common.{◌≡◌, ℕ, List, Option, None, ap, sym, ◌�
 use Rattle.std.proofs.lemmas.Bool.{cases_lt}
 use Rattle.node_trees.specs.Facts.{Facts}
 use Rattle.node_trees.specs.Trees.{Trees, single, with_node, with_facts}
-use Rattle.node_trees.specs.Spots.{Spot, spot_in, spot, spot_at, or_spot, or_no_spot}
+use Rattle.node_trees.specs.Spots.{Spot, spot_in, spot_at, or_spot, or_no_spot}
 use Rattle.node_trees.specs.Nodes.{times, IsNode, IsTidy}
 use Rattle.node_trees.specs.Links.{KeepsSpots}
 use Rattle.tree_laws.specs.Rows.{IsForest, Grafted}
@@ -25,10 +25,6 @@ spot_at-new n x f i tidy at =
     let st = node_spot f i tidy at in
     ap or_no_spot (spot-join None None i f (single n x) ∙ ap (λ v. or_spot v (spot_in None None i (single n x))) st.is ∙ sym st.is)
 
--- a number without a node
-none-stands : (f : Trees) (m : ℕ) → times m f ≡ 0 → spot f m ≡ None
-none-stands f m z = spot-absent None None m f z
-
 pub spots-grafted : (rows rows' : List Spot) (f g : Trees) (p n : ℕ) (b : Option ℕ) → IsForest rows f → IsForest rows' g → Grafted rows rows' p n b
     → KeepsSpots p n f g
 spots-grafted rows rows' f g p n b a a' w m ne_p ne_n =
@@ -43,6 +39,6 @@ spots-grafted rows rows' f g p n b a a' w m ne_p ne_n =
             let at = a'.tidy.only m low in
             let was : IsNode f m = record { low = at.low; high = omega (arith, a.counted, a'.counted, w.length_is, at.high) } in
             absurd (omega (arith, a.tidy.once m was, out))
-        | inr away ↦ ap or_no_spot (none-stands g m (omega arith) ∙ sym (none-stands f m (omega arith)))
+        | inr away ↦ ap or_no_spot (spot-absent None None m g (omega arith) ∙ sym (spot-absent None None m f (omega arith)))
       ]
     ]

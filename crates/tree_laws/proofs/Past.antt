@@ -1,5 +1,5 @@
 -- The node that comes after another in shadow-including tree order, by shadow root, first child, next sibling, parent and host.
-use Rattle.std.proofs.Common.{◌≡◌, ◌≢◌, ℕ, true, false, ◌<◌, ◌==◌, if◌then◌else◌, ◌++◌, Option, Some, None, refl, ap, sym, ◌∙◌, arith}
+use Rattle.std.proofs.Common.{◌≡◌, ◌≢◌, ℕ, true, ◌<◌, ◌==◌, if◌then◌else◌, ◌++◌, Option, Some, None, refl, ap, sym, ◌∙◌, arith}
 use Rattle.std.specs.Prelude.{Bool, nat_lt}
 use Rattle.std.proofs.lemmas.Bool.Decides.{nat_tests}
 use Rattle.std.specs.Option.{option_or}
@@ -10,19 +10,13 @@ use Rattle.node_trees.specs.Orders.{order}
 use Rattle.node_trees.specs.Paths.{is_among}
 use Rattle.node_trees.specs.Spots.{Spot, spot_of, spot_in, first_of, after}
 use Rattle.node_trees.proofs.Weights.{IsApart}
-use Rattle.tree_laws.proofs.Counts.{count-among, among-count, count-absent}
+use Rattle.tree_laws.proofs.Counts.{count-among}
 use Rattle.tree_laws.proofs.Next.{option_or-assoc, first_of-append, after-left, after-right}
 use Rattle.tree_laws.proofs.Pieces.{spot-here, spot-shadow, spot-children, spot-rest}
 use Rattle.tree_laws.proofs.Sums.{apart-shadow, apart-children, apart-rest, here, in_shadow, in_children, in_rest, stands_where}
-use Rattle.tree_laws.proofs.Walked.{count-order}
+use Rattle.tree_laws.proofs.Walked.{count-order, order-has, order-lacks}
 
 -- ---- who is in the order
-
-pub order-has : (n : ℕ) (f : Trees) → 0 < times n f → is_among n (order f) ≡ true
-order-has n f low = among-count n (order f) (omega (arith, low, count-order n f))
-
-pub order-lacks : (n : ℕ) (f : Trees) → times n f ≡ 0 → is_among n (order f) ≡ false
-order-lacks n f gone = count-absent n (order f) (omega (arith, gone, count-order n f))
 
 pub in_order : (n : ℕ) (f : Trees) → is_among n (order f) ≡ true → 0 < times n f
 in_order n f among = omega (arith, count-order n f, count-among n (order f) among)
@@ -33,15 +27,15 @@ order-begins_with (tree m x s k r) = refl
 
 -- ---- what comes in the order after all that is below n
 
-abbrev is_in : ℕ → Trees → Bool
-is_in n f = nat_lt 0 (times n f)
+abbrev stands_in : ℕ → Trees → Bool
+stands_in n f = nat_lt 0 (times n f)
 
 abbrev pub past : ℕ → Trees → Option ℕ
 past n none = None
 past n (tree m x shadow children rest) =
     if m == n then first_of (roots rest)
-    else if is_in n shadow then option_or (past n shadow) (option_or (first_of (roots children)) (first_of (roots rest)))
-    else if is_in n children then option_or (past n children) (first_of (roots rest))
+    else if stands_in n shadow then option_or (past n shadow) (option_or (first_of (roots children)) (first_of (roots rest)))
+    else if stands_in n children then option_or (past n children) (first_of (roots rest))
     else past n rest
 
 module _ (n m : ℕ) (x : Facts) (s k r : Trees) where

@@ -13,7 +13,7 @@ use Rattle.tree_laws.proofs.Inside.{Found, found}
 use Rattle.tree_laws.proofs.AtNode.{node_stands, facts_at-is, children_at-is}
 use Rattle.tree_laws.proofs.ChildFits.{unless-true}
 use Rattle.tree_laws.proofs.Fitting.{misfits-tree_of}
-use Rattle.tree_laws.proofs.PartsBelow.{IsPart, part_here, part_children, part_rest, children_part}
+use Rattle.tree_laws.proofs.PartsBelow.{IsPartAt, part_here, part_children, part_rest, children_part}
 
 empty : (k : Trees) (b : Bool) → b ≡ true → (is_none k || not b) ≡ true → k ≡ none
 empty none b e h = refl
@@ -31,7 +31,7 @@ leaf m x s k r fit other =
     empty k (is_text x.kind) (text x.kind other (unless-true (fits AsChild x.kind) (omega arith)))
     (unless-true (is_none k || not (is_text x.kind)) (omega arith))
 
-read : (f : Trees) (q : ℕ) (g : Trees) → IsPart f (Some q) None g → misfits AsChild g ≡ 0 → AreRead f g
+read : (f : Trees) (q : ℕ) (g : Trees) → IsPartAt f (Some q) None g → misfits AsChild g ≡ 0 → AreRead f g
 read f q none part fit = tt
 read f q (tree m x s k r) part fit =
     let here = part_here f (Some q) None m x s k r part in (

@@ -1,13 +1,14 @@
 -- What stands at each node after a shadow root was attached.
 use Rattle.std.proofs.Common.{◌≡◌, ◌≢◌, ℕ, true, ◌+◌, ◌-◌, ◌<◌, ◌≤◌, List, [], ◌∷◌, ◌++◌, Some, None, ap, sym, ◌∙◌, arith, length, length-append}
 use Rattle.std.proofs.Math.ListN.{set, length-set}
+use Rattle.ce_base.proofs.Places.{set_other, set_within}
 use Rattle.node_trees.specs.Facts.{Facts, is_element, is_shadow_root}
 use Rattle.node_trees.specs.Trees.{Trees, none, single, with_shadow}
 use Rattle.node_trees.specs.Spots.{Spot, spot_of, spot_at, kind_at}
 use Rattle.node_trees.specs.Nodes.{size, surplus_at, IsNode, IsTidy}
 use Rattle.tree_laws.specs.Rows.{row_of_node, rows_of, IsForest, Attached}
 use Rattle.tree_laws.proofs.AtNode.{node_spot, spot_at-is}
-use Rattle.tree_laws.proofs.ByIndex.{slice_get-append_end, slice_get-append_other, slice_get-set_same, slice_get-set_other}
+use Rattle.tree_laws.proofs.ByIndex.{slice_get-append_end, slice_get-append_other}
 use Rattle.tree_laws.proofs.ForestRows.{rows_of-forest, rows_of-at, rows_of-length}
 use Rattle.tree_laws.proofs.RowForests.{attach_forest, row_is}
 
@@ -32,15 +33,15 @@ module _ (f : Trees) (tidy : IsTidy f) (h : ℕ) (at : IsNode f h) (x : Facts) (
   long = omega (arith, rows_of-length f, length-append (rows_of f) (root_spot ∷ []))
 
   row-root : row_of_node attached_rows new_root ≡ Some root_spot
-  row-root = slice_get-set_other (rows_of f ++ root_spot ∷ []) (h - 1) (new_root - 1) host_spot (λ e. omega (arith, e, at.low, at.high))
+  row-root = set_other (rows_of f ++ root_spot ∷ []) (h - 1) (new_root - 1) host_spot (λ e. omega (arith, e, at.low, at.high))
       ∙ slice_get-append_end (rows_of f) root_spot (new_root - 1) (omega (arith, rows_of-length f))
 
   row-host : row_of_node attached_rows h ≡ Some host_spot
-  row-host = slice_get-set_same (rows_of f ++ root_spot ∷ []) (h - 1) host_spot (omega (arith, long, at.low, at.high))
+  row-host = set_within (rows_of f ++ root_spot ∷ []) (h - 1) host_spot (omega (arith, long, at.low, at.high))
 
   row-other : (m : ℕ) → 0 < m → m ≢ new_root → m ≢ h → row_of_node attached_rows m ≡ row_of_node (rows_of f) m
   row-other m low m_n m_h =
-      slice_get-set_other (rows_of f ++ root_spot ∷ []) (h - 1) (m - 1) host_spot (λ e. m_h (omega (arith, e, low, at.low)))
+      set_other (rows_of f ++ root_spot ∷ []) (h - 1) (m - 1) host_spot (λ e. m_h (omega (arith, e, low, at.low)))
       ∙ slice_get-append_other (rows_of f) root_spot (m - 1) (λ e. m_n (omega (arith, e, low, rows_of-length f)))
 
   pub attach_writes : Attached (rows_of f) attached_rows h new_root x

@@ -45,16 +45,16 @@ no-value None h = refl
 no-value (Some a) h = absurd (omega arith)
 
 -- what a test does not leave out of a sum that is nothing is nothing
-left-out : (b : Bool) (p q : ℕ) → (if b then 0 else p) + q ≡ 0 → b ≡ false → p ≡ 0
-left-out true p q z h = absurd cc
-left-out false p q z h = omega arith
+not-left-out : (b : Bool) (p q : ℕ) → (if b then 0 else p) + q ≡ 0 → b ≡ false → p ≡ 0
+not-left-out true p q z h = absurd cc
+not-left-out false p q z h = omega arith
 
 element-parts : (x : Facts) → surplus_at x ≡ 0 → is_element x.kind ≡ false → length x.local + (length (option_to_list x.is_value) + length x.attributes) ≡ 0
-element-parts x z h = left-out (is_element x.kind) (length x.local + (length (option_to_list x.is_value) + length x.attributes))
+element-parts x z h = not-left-out (is_element x.kind) (length x.local + (length (option_to_list x.is_value) + length x.attributes))
     (if is_text x.kind then 0 else length x.chars) z h
 
 text-parts : (x : Facts) → surplus_at x ≡ 0 → is_text x.kind ≡ false → length x.chars ≡ 0
-text-parts x z h = left-out (is_text x.kind) (length x.chars) 0 (omega (arith, z)) h
+text-parts x z h = not-left-out (is_text x.kind) (length x.chars) 0 (omega (arith, z)) h
 
 own-parts : (x : Facts) → surplus_at x ≡ 0 → HasOwnParts x
 own-parts x z = record {

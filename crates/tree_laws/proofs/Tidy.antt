@@ -18,7 +18,7 @@ use Rattle.tree_laws.proofs.Sizes.{new-absent}
 use Rattle.tree_laws.proofs.Rising.{rises-same, rises-without, rises-place, rises-new}
 use Rattle.tree_laws.proofs.Fitting.{only_at, only-there, misfits-join, misfits-place, misfits-without, misfits-tree_of}
 use Rattle.tree_laws.proofs.Surplus.{KeepsKind, surplus-with}
-use Rattle.tree_laws.proofs.FittingPut.{text_is, element_is, misfits-put, misfits-shadow, misfits-with}
+use Rattle.tree_laws.proofs.FittingPut.{text_is, no_element, misfits-put, misfits-shadow, misfits-with}
 use Rattle.node_trees.proofs.Weights.{weight-without}
 
 -- as many nodes, with the same numbers
@@ -117,8 +117,8 @@ pub tidy-with_shadow : (f : Trees) (q : ℕ) (x : Facts) → IsTidy f → IsNode
     → surplus_at x ≡ 0 → IsTidy (with_shadow q (single (size f + 1) x) f)
 tidy-with_shadow f q x tidy node h fit own =
     let st = node_spot f q tidy node in
-    let all = only-there q element_is None None f st.row (tidy-apart f tidy) (node_stands f q tidy node) st.is in
-    let element : element_is st.row.facts ≡ 0 = ap element_is (sym (facts_at-is f q st.row st.is)) ∙ ap unless h in
+    let all = only-there q no_element None None f st.row (tidy-apart f tidy) (node_stands f q tidy node) st.is in
+    let element : no_element st.row.facts ≡ 0 = ap no_element (sym (facts_at-is f q st.row st.is)) ∙ ap unless h in
     tidy-more f (with_shadow q (single (size f + 1) x) f) tidy (size-with_shadow q (size f + 1) x f tidy node)
     (λ i. omega (arith, weight-with_shadow (one_at i) q (single (size f + 1) x) f (tidy.once q node)))
     (rises-same 0 f (with_shadow q (single (size f + 1) x) f) (sym (roots-shadow q (single (size f + 1) x) f)) tidy.rises)

@@ -30,11 +30,11 @@ count-order i (tree m x s k r) =
 pub order-apart : (n : ℕ) (f : Trees) → IsApart f → AreApart (order_of f n)
 order-apart n f apart i = omega (arith, count-order i (tree_of n f), times-without i n f (apart n), apart i)
 
-order-there : (i : ℕ) (f : Trees) → 0 < times i f → is_among i (order f) ≡ true
-order-there i f low = among-count i (order f) (omega (arith, count-order i f))
+pub order-has : (i : ℕ) (f : Trees) → 0 < times i f → is_among i (order f) ≡ true
+order-has i f low = among-count i (order f) (omega (arith, count-order i f))
 
-order-absent : (i : ℕ) (f : Trees) → times i f ≡ 0 → is_among i (order f) ≡ false
-order-absent i f z = count-absent i (order f) (omega (arith, count-order i f))
+pub order-lacks : (i : ℕ) (f : Trees) → times i f ≡ 0 → is_among i (order f) ≡ false
+order-lacks i f z = count-absent i (order f) (omega (arith, count-order i f))
 
 -- who is in the order of n: those on whose path n is
 
@@ -46,7 +46,8 @@ under-other : (n m : ℕ) (xs : List ℕ) → m ≢ n → is_among n (under m xs
 under-other n m [] ne = refl
 under-other n m (x ∷ xs) ne = grind (arith, nat_tests)
 
-off-path : (n i : ℕ) (f : Trees) → times n f ≡ 0 → is_among n (path i f) ≡ false
+-- a number that no node has is on no path
+pub off-path : (n i : ℕ) (f : Trees) → times n f ≡ 0 → is_among n (path i f) ≡ false
 off-path n i f z = by_test (is_among n (path i f)) refl
   where
     by_test : (b : Bool) → is_among n (path i f) ≡ b → is_among n (path i f) ≡ false
@@ -77,11 +78,11 @@ module _ (n i m : ℕ) (x : Facts) (s k r : Trees) (apart : IsApart (tree m x s 
           | inl low ↦
               let first : is_among n (under m (path i s ++ path i k)) ≡ true =
               subst (λ v. is_among v (under m (path i s ++ path i k)) ≡ true) e (under-first m (path i s ++ path i k) (long-below i s k low)) in
-              rw (path-parts ne) (order-there i (tree m x s k none) (omega arith)
+              rw (path-parts ne) (order-has i (tree m x s k none) (omega arith)
               ∙ sym (is_among-append n (under m (path i s ++ path i k)) (path i r) ∙ ap (λ b. b || is_among n (path i r)) first))
           | inr z ↦
               let beside : is_among n (path i r) ≡ false = off-path n i r (grind (arith, nat_tests)) in
-              rw (path-rest i m x s k r ne (omega arith) (omega arith)) (order-absent i (tree m x s k none) (grind (arith, nat_tests)) ∙ sym beside)
+              rw (path-rest i m x s k r ne (omega arith) (omega arith)) (order-lacks i (tree m x s k none) (grind (arith, nat_tests)) ∙ sym beside)
         ]
   ]
 
@@ -129,6 +130,6 @@ walked f n i tidy = walked-apart n i f (tidy-apart f tidy)
 -- a number off whose path n is stands outside the tree of n
 pub stands-outside : (f : Trees) (n i : ℕ) → IsTidy f → is_among n (path i f) ≡ false → times i (tree_of n f) ≡ 0
 stands-outside f n i tidy off = elim (cases_lt 0 (times i (tree_of n f))) [
-  | inl low ↦ let on = order-there i (tree_of n f) low in let same = walked f n i tidy in absurd (cc)
+  | inl low ↦ let on = order-has i (tree_of n f) low in let same = walked f n i tidy in absurd (cc)
   | inr z ↦ omega arith
 ]

@@ -29,12 +29,12 @@ pub among_none : (f : Trees) (i n : ℕ) → IsUp f n None → eqb n i ≡ false
 among_none f i n up ne = rw up (grind (arith, nat_tests))
 
 -- the first of a path
-pub first_of-append : (xs ys : List ℕ) → 0 < length xs → first_of (xs ++ ys) ≡ first_of xs
-first_of-append [] ys pos = absurd (omega arith)
-first_of-append (x ∷ xs) ys pos = refl
+pub first_of-long : (xs ys : List ℕ) → 0 < length xs → first_of (xs ++ ys) ≡ first_of xs
+first_of-long [] ys pos = absurd (omega arith)
+first_of-long (x ∷ xs) ys pos = refl
 
 pub first_above : (f : Trees) (n q : ℕ) → IsTidy f → IsUp f n (Some q) → first_of (path n f) ≡ first_of (path q f)
-first_above f n q a up = rw up.1 (first_of-append (path q f) (n ∷ []) (path-long q f (omega (arith, a.once q up.0))))
+first_above f n q a up = rw up.1 (first_of-long (path q f) (n ∷ []) (path-long q f (omega (arith, a.once q up.0))))
 
 -- the last on a path that has no parent: from below, the first
 abbrev pub rootward : Trees → List ℕ → Option ℕ

@@ -1,6 +1,6 @@
 use Rattle.std.proofs.Common.{[], ◌∷◌, ◌++◌, ap, refl, ◌∙◌}
 use Rattle.tree_laws.proofs.OrderListing.{list-start, list-less, list-last, list-on}
-use Rattle.tree_laws.proofs.Past.{order-has}
+use Rattle.tree_laws.proofs.Walked.{order-has}
 use Rattle.tree_laws.proofs.PastIn.{inside-node}
 use Rattle.ordered_tables.specs.Held.{is_held}
 use Rattle.form_owner.specs.Candidates.{is_with, is_with_among}

@@ -1,7 +1,8 @@
 use Rattle.std.proofs.Common.{[], refl, sym, ◌∙◌}
+use Rattle.ordered_tables.proofs.NodeSetMembers.{among-any}
 use Rattle.node_arena.specs.Seen.{seen_fact}
 use Rattle.node_arena.proofs.Calls.{covers_all}
-use Rattle.node_arena.proofs.LookUp.{any-among, look-start, look-other, look-found, look-end}
+use Rattle.node_arena.proofs.LookUp.{look-start, look-other, look-found, look-end}
 use Rattle.node_arena.proofs.tree.Tree.first_held.Goals as goal
 
 pub returns-in_default-clause-found : goal.returns-in_default-clause-found
@@ -12,7 +13,7 @@ returns-in_default-clause-found c =
 pub loop-holder-init : goal.loop-holder-init
 loop-holder-init c =
     look-start _ _ _ _ _ c.into_iter-holder-iterator.ensures.into_iter_gives.0
-    (λ m has. sym (any-among m _) ∙ c.in-Some.ensures.held m ∙ covers_all _ _ _ _ (seen_fact _ _ _ c.self.view_is) c.self.invariant.0 m has)
+    (λ m has. sym (among-any m _) ∙ c.in-Some.ensures.held m ∙ covers_all _ _ _ _ (seen_fact _ _ _ c.self.view_is) c.self.invariant.0 m has)
 
 pub loop-holder-preserved-then-is_holder : goal.loop-holder-preserved-then-is_holder
 loop-holder-preserved-then-is_holder c =

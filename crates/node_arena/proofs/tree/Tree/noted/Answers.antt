@@ -1,6 +1,6 @@
 use Rattle.std.proofs.Common.{◌++◌, ◌∷◌, []}
 use Rattle.tree_laws.proofs.OrderListing.{list-start, list-less, list-last, list-on}
-use Rattle.tree_laws.proofs.Past.{order-has}
+use Rattle.tree_laws.proofs.Walked.{order-has}
 use Rattle.tree_laws.proofs.PastIn.{inside-node}
 use Rattle.node_arena.proofs.MarkLemmas.{none_marked, one_marked, all_marked}
 use Rattle.node_arena.proofs.tree.Tree.noted.Goals as goal

@@ -1,7 +1,7 @@
 use Rattle.std.proofs.Common.{sym, subst, ◌∙◌}
 use Rattle.tree_laws.proofs.ConnectedBelow.{all_connected}
 use Rattle.tree_laws.proofs.OrderListing.{Listing, list-start, list-less, list-last, list-on, listed-nodes}
-use Rattle.tree_laws.proofs.Past.{order-has}
+use Rattle.tree_laws.proofs.Walked.{order-has}
 use Rattle.node_arena.proofs.tree.Tree.shadow_order.Goals as goal
 
 pub loop-out-init : goal.loop-out-init
