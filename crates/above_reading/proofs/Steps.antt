@@ -1,7 +1,6 @@
 -- What stands above a child, from what stands above its parent.
-use Rattle.std.proofs.Common.{◌≡◌, ℕ, Bool, true, false, not, ◌&&◌, ◌||◌, ◌==◌, if◌then◌else◌, List, [], ◌∷◌, Option, Some, None, refl, ap, sym, subst, ◌∙◌}
+use Rattle.std.proofs.Common.{◌≡◌, ℕ, true, false, not, ◌&&◌, ◌||◌, ◌==◌, if◌then◌else◌, List, ◌∷◌, Option, Some, None, refl, ap, sym, subst, ◌∙◌}
 use Rattle.std.proofs.Common.{arith}
-use Rattle.std.specs.List.{list_any}
 use Rattle.std.proofs.lemmas.Bool.{false_from_ne_true}
 use Rattle.std.proofs.lemmas.Bool.Decides.{nat_tests}
 use Rattle.element_names.specs.declared.natives.Native.TheVariants.{Fieldset, Form, Legend}
@@ -10,23 +9,20 @@ use Rattle.node_trees.specs.Nodes.{IsNode, IsTidy}
 use Rattle.node_trees.specs.Paths.{is_among}
 use Rattle.node_trees.specs.Spots.{parent_at, children_at}
 use Rattle.tree_laws.proofs.Children.{child-parent}
+use Rattle.tree_laws.proofs.Members.{among-found}
 use Rattle.form_controls.specs.Kinds.{is_a}
 use Rattle.form_controls.specs.Owners.{ancestors}
 use Rattle.form_controls.specs.Disabled.{disables, first_legend, has_disabled, is_in_disabled_fieldset, is_inside}
 use Rattle.owner_reading.proofs.Ancestors.{ancestors-top, ancestors-up}
 use Rattle.owner_reading.proofs.Climbing.{any-up, find-up}
-use Rattle.disabled_reading.proofs.Legends.{find-among, inside-first}
+use Rattle.disabled_reading.proofs.Legends.{inside-first}
 use Rattle.disabled_reading.proofs.Ways.{above-apart, above-node}
 use Rattle.owner_laws.proofs.Roots.{root-top, root-up}
+use Rattle.owner_laws.proofs.Tests.{any-same}
 use Rattle.above_reading.specs.declared.above.Above.{Above}
 use Rattle.above_reading.specs.Above.{above_at, disables_below, is_disabled_below, is_on}
 
 -- ---- lists
-
-any-same : (p r : ℕ → Bool) (xs : List ℕ) → ((a : ℕ) → is_among a xs ≡ true → p a ≡ r a) → list_any p xs ≡ list_any r xs
-any-same p r [] same = refl
-any-same p r (x ∷ xs) same =
-    grind (arith, same x (grind (arith, nat_tests)), any-same p r xs (λ a among. same a (grind (arith, nat_tests, among))))
 
 inside-on : (f : Trees) (n : ℕ) (o : Option ℕ) → is_inside f n o ≡ is_on (ancestors f n) o
 inside-on f n None = refl
@@ -69,7 +65,7 @@ module _ (f : Trees) (n q : ℕ) (tidy : IsTidy f) (node : IsNode f n) (parent :
       by_first : (o : Option ℕ) → first_legend f a ≡ o → is_number o n ≡ false
       by_first None e = refl
       by_first (Some l) e =
-          let here = find-among (is_a Legend f) (children_at f a) l e in
+          let here = among-found (is_a Legend f) (children_at f a) l e in
           let its = child-parent f a tidy (above-node f q tidy parent a among) l here in
           false_from_ne_true (l == n) (λ same. let l_is : l ≡ n = grind (arith, nat_tests, same) in
           let twice : Some a ≡ Some q = sym its ∙ ap (parent_at f) l_is ∙ up in

@@ -5,6 +5,7 @@ use Rattle.std.specs.List.{last_or}
 use Rattle.std.specs.Option.{option_or, option_to_list}
 use Rattle.node_trees.specs.Trees.{Trees}
 use Rattle.node_trees.specs.Spots.{first_of}
+use Rattle.tree_laws.proofs.Members.{first-filtered}
 use Rattle.form_controls.specs.declared.control.Control.{Control}
 use Rattle.form_controls.specs.Disabled.{is_option_disabled}
 use Rattle.form_controls.specs.Options.{chosen_one, is_selected}
@@ -36,14 +37,6 @@ first-part parts o (x ∷ xs) = first-part parts (option_or o (first_of (parts x
     by_case (Some y) ys zs = refl
     by_case None [] zs = refl
     by_case None (y ∷ ys) zs = refl
-
-pub first-filtered : (p : ℕ → Bool) (xs : List ℕ) → find p xs ≡ first_of (filter p xs)
-first-filtered p [] = refl
-first-filtered p (x ∷ xs) = by_test (p x) (first-filtered p xs)
-  where
-    by_test : (b : Bool) → find p xs ≡ first_of (filter p xs) → cond b (Some x) (find p xs) ≡ first_of (cond b (x ∷ filter p xs) (filter p xs))
-    by_test true later = refl
-    by_test false later = later
 
 pub first-one : (o : Option ℕ) → o ≡ first_of (option_to_list o)
 first-one None = refl

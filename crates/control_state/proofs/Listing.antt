@@ -1,12 +1,11 @@
 -- Lists that are made of options, and what stands in them.
-use Rattle.std.proofs.Common.{◌≡◌, All, ℕ, ◌+◌, Bool, true, false, cond, List, [], ◌∷◌, ◌++◌, get_or, take, Option, Some, None, ap, sym, subst, ◌∙◌, arith}
+use Rattle.std.proofs.Common.{◌≡◌, All, ℕ, Bool, true, false, cond, List, [], ◌∷◌, ◌++◌, Option, Some, None, sym, subst, ◌∙◌, arith}
 use Rattle.std.proofs.Common.{append_assoc, append-nil}
-use Rattle.std.specs.Prelude.{filter, flat_map, find, fold, slice_get, if◌then◌else◌}
+use Rattle.std.specs.Prelude.{filter, flat_map, find, fold, if◌then◌else◌}
 use Rattle.std.specs.List.{last_or}
 use Rattle.std.specs.Option.{option_or, option_to_list}
 use Rattle.std.proofs.lemmas.Bool.Decides.{nat_tests}
-use Rattle.std.proofs.lemmas.List.Elements.{All-nil, All-cons, All-head, All-tail, All-filter, All-append, filter_more}
-use Rattle.std.proofs.lemmas.Option.{get_or_from_slice_get, slice_get_within}
+use Rattle.std.proofs.lemmas.List.Elements.{All-nil, All-cons, All-head, All-tail, All-filter, All-append}
 use Rattle.node_trees.specs.Paths.{is_among}
 use Rattle.node_trees.specs.Trees.{Trees}
 use Rattle.node_trees.specs.Nodes.{IsNode, IsNodeOrNone, IsTidy}
@@ -16,6 +15,7 @@ use Rattle.form_controls.specs.Kinds.{is_a}
 use Rattle.form_controls.specs.declared.control.Control.{Control}
 use Rattle.form_controls.specs.Options.{chosen, chosen_one, first_enabled, is_multiple, option_children, options_at, options_of, selected_of}
 use Rattle.tree_laws.proofs.Children.{child-node}
+use Rattle.tree_laws.proofs.Members.{all-members}
 
 -- a list that grows
 
@@ -32,21 +32,9 @@ pub grown-parts : (parts : ℕ → List ℕ) (found xs : List ℕ) → fold (λ 
 grown-parts parts found [] = sym (append-nil found)
 grown-parts parts found (x ∷ xs) = grown-parts parts (found ++ parts x) xs ∙ append_assoc found (parts x) (flat_map parts xs)
 
--- one more, where it passes
-pub filter-next : (p : ℕ → Bool) (xs : List ℕ) (i x : ℕ) (found new : List ℕ) (passes : Bool) → slice_get xs i ≡ Some x → found ≡ filter p (take i xs) →
-    passes ≡ p x → new ≡ found ++ cond passes (x ∷ []) [] → new ≡ filter p (take (i + 1) xs)
-filter-next p xs i x found new passes at so_far is longer =
-    let read : get_or xs i x ≡ x = get_or_from_slice_get xs i x x at in
-    longer ∙ ap (λ b. found ++ cond b (x ∷ []) []) is ∙ ap (λ ys. ys ++ cond (p x) (x ∷ []) []) so_far
-    ∙ sym (filter_more p xs i x (slice_get_within xs i x at) ∙ ap (λ y. filter p (take i xs) ++ cond (p y) (y ∷ []) []) read)
-
 -- what holds of each of a list
 
 module _ (P : ℕ → Type 0) where
-  pub all-among : (xs : List ℕ) → ((n : ℕ) → is_among n xs ≡ true → P n) → All P xs
-  all-among [] h = All-nil P
-  all-among (x ∷ xs) h = All-cons P x xs (h x (grind (arith, nat_tests))) (all-among xs (λ n e. h n (grind (arith, nat_tests))))
-
   all-flat : (parts : ℕ → List ℕ) (xs : List ℕ) → ((n : ℕ) → is_among n xs ≡ true → All P (parts n)) → All P (flat_map parts xs)
   all-flat parts [] h = All-nil P
   all-flat parts (x ∷ xs) h = All-append P (parts x) (flat_map parts xs) (h x (grind (arith, nat_tests)))
@@ -76,7 +64,7 @@ module _ (P : ℕ → Type 0) where
 
 module _ (f : Trees) (tidy : IsTidy f) where
   children-nodes : (n : ℕ) → IsNode f n → All (IsNode f) (children_at f n)
-  children-nodes n node = all-among (IsNode f) (children_at f n) (child-node f n tidy node)
+  children-nodes n node = all-members (IsNode f) (children_at f n) (child-node f n tidy node)
 
   options_at-nodes : (n : ℕ) → IsNode f n → All (IsNode f) (options_at f n)
   options_at-nodes n node = by_tests (is_a OptionItem f n) (is_a Optgroup f n)

@@ -8,6 +8,7 @@ use Rattle.node_trees.specs.Nodes.{IsNode, IsNodeOrNone, IsTidy}
 use Rattle.node_trees.specs.Paths.{is_among}
 use Rattle.node_trees.specs.Spots.{parent_at, children_at, first_child_at, next_sibling_at}
 use Rattle.tree_laws.proofs.Children.{child-node, child-parent}
+use Rattle.tree_laws.proofs.Members.{among-found}
 use Rattle.tree_laws.proofs.Siblings.{IsChildOrNone, child-first, children-first, child-next, children-split, children_from}
 use Rattle.form_controls.specs.Disabled.{first_legend, is_inside}
 use Rattle.form_controls.specs.Kinds.{is_a}
@@ -16,10 +17,6 @@ use Rattle.owner_reading.proofs.Ancestors.{ancestors-up}
 use Rattle.disabled_reading.proofs.Ways.{child-on-way}
 
 -- ---- what is found among the children
-
-pub find-among : (p : ℕ → Bool) (xs : List ℕ) (l : ℕ) → find p xs ≡ Some l → is_among l xs ≡ true
-find-among p [] l e = absurd cc
-find-among p (x ∷ xs) l e = grind (arith, nat_tests, find-among p xs l)
 
 -- what fails is not found
 pub find-other : (p : ℕ → Bool) (xs : List ℕ) (n : ℕ) → p n ≡ false → is_number (find p xs) n ≡ false
@@ -61,7 +58,7 @@ module _ (f : Trees) (n child fieldset : ℕ) (tidy : IsTidy f) (node : IsNode f
       by_first : (o : Option ℕ) → first_legend f fieldset ≡ o → not (is_inside f n o) ≡ (child == n || not (is_number o child))
       by_first None e = grind arith
       by_first (Some l) e =
-          let here = find-among (is_a Legend f) (children_at f fieldset) l e in
+          let here = among-found (is_a Legend f) (children_at f fieldset) l e in
           let l_up = ancestors-up f l tidy (child-node f fieldset tidy fieldset_node l here) fieldset (child-parent f fieldset tidy fieldset_node l here) in
           let child_up = ancestors-up f child tidy child_node fieldset up in
           rw (child-on-way f n tidy node child l among (l_up ∙ sym child_up)) (grind (arith, nat_tests))

@@ -27,15 +27,15 @@ pub record Tells {A : Type 0} (same : A → A → Bool) : Type 0 where
   pub yes : (a b : A) → same a b ≡ true → a ≡ b
   pub no : (a b : A) → a ≡ b → same a b ≡ true
 
-owners_tell : Tells (option_eq nat_eq)
-owners_tell = record { yes = yes; no = no }
-  where
-    yes : (a b : Option ℕ) → option_eq nat_eq a b ≡ true → a ≡ b
-    yes None None e = refl
-    yes None (Some y) e = cc
-    yes (Some x) None e = cc
-    yes (Some x) (Some y) e = ap Some (eqb-true x y e)
+pub owners_alike : (a b : Option ℕ) → option_eq nat_eq a b ≡ true → a ≡ b
+owners_alike None None e = refl
+owners_alike None (Some y) e = cc
+owners_alike (Some x) None e = cc
+owners_alike (Some x) (Some y) e = ap Some (eqb-true x y e)
 
+owners_tell : Tells (option_eq nat_eq)
+owners_tell = record { yes = owners_alike; no = no }
+  where
     itself : (a : Option ℕ) → option_eq nat_eq a a ≡ true
     itself None = refl
     itself (Some x) = eq-eqb x x refl
@@ -43,15 +43,15 @@ owners_tell = record { yes = yes; no = no }
     no : (a b : Option ℕ) → a ≡ b → option_eq nat_eq a b ≡ true
     no a b e = subst (λ c. option_eq nat_eq a c ≡ true) e (itself a)
 
-states_tell : Tells beq
-states_tell = record { yes = yes; no = no }
-  where
-    yes : (a b : Bool) → beq a b ≡ true → a ≡ b
-    yes true true e = refl
-    yes true false e = cc
-    yes false true e = cc
-    yes false false e = refl
+pub states_alike : (a b : Bool) → beq a b ≡ true → a ≡ b
+states_alike true true e = refl
+states_alike true false e = cc
+states_alike false true e = cc
+states_alike false false e = refl
 
+states_tell : Tells beq
+states_tell = record { yes = states_alike; no = no }
+  where
     itself : (a : Bool) → beq a a ≡ true
     itself true = refl
     itself false = refl
@@ -134,11 +134,12 @@ differences_are_changes old new n is d = (
   refl,
 )
 
-map_back : (old new : Forms) (ns : List ℕ) → map (λ (c : Change). c.node) (map (form_change old new) ns) ≡ ns
-map_back old new [] = refl
-map_back old new (n ∷ ns) = ap (λ ms. n ∷ ms) (map_back old new ns)
+-- the nodes that changes are made for are the nodes of the changes
+pub nodes_back : (change : ℕ → Change) → ((n : ℕ) → (change n).node ≡ n) → (ns : List ℕ) → map (λ (c : Change). c.node) (map change ns) ≡ ns
+nodes_back change is [] = refl
+nodes_back change is (n ∷ ns) = ap (λ m. m ∷ map (λ (c : Change). c.node) (map change ns)) (is n) ∙ ap (λ ms. n ∷ ms) (nodes_back change is ns)
 
 pub changes_increase : (old new : Forms) → IsStrictlyIncreasing (map (λ (c : Change). c.node) (form_changes old new))
 changes_increase old new =
-    subst IsStrictlyIncreasing (sym (map_back old new (filter (differs old new) (numbers new.forest))))
+    subst IsStrictlyIncreasing (sym (nodes_back (form_change old new) (λ n. refl) (filter (differs old new) (numbers new.forest))))
     (IsStrictlyIncreasing-filter (differs old new) (numbers new.forest) (range_increases 1 (size new.forest)))

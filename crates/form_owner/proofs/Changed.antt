@@ -1,10 +1,9 @@
 -- What is read of who has a new form owner, and of who keeps the old one.
 use Rattle.std.proofs.Common.{◌≡◌, ℕ, ◌==◌, Bool, true, false, cond, List, [], ◌∷◌, Option, Some, None, refl, sym, ap, ◌∙◌, subst, arith}
-use Rattle.std.specs.Prelude.{filter, map, nat_eq, not, is_some, ◌||◌, ◌&&◌}
+use Rattle.std.specs.Prelude.{filter, nat_eq, not, is_some, ◌||◌, ◌&&◌}
 use Rattle.std.specs.List.{list_any}
 use Rattle.std.specs.List.Sorted.{IsStrictlyIncreasing}
 use Rattle.std.specs.Option.{option_eq}
-use Rattle.std.proofs.lemmas.Bool.{eqb-true}
 use Rattle.std.proofs.lemmas.Bool.Decides.{nat_tests}
 use Rattle.std.proofs.lemmas.List.Folds.{list_any_at}
 use Rattle.std.proofs.lemmas.List.Kept.{IsStrictlyIncreasing-filter}
@@ -15,6 +14,7 @@ use Rattle.node_trees.specs.Paths.{is_among, root_at}
 use Rattle.form_controls.specs.declared.change.Change.{Change}
 use Rattle.form_controls.specs.Changes.{is_change, numbers, where_new}
 use Rattle.form_controls.specs.Owners.{Forms, form_owner}
+use Rattle.form_controls.proofs.Differ.{nodes_back, owners_alike}
 use Rattle.form_controls.proofs.Listed.{contains_range, made_contains, range_increases}
 use Rattle.owner_laws.proofs.OwnerTogether.{owner-in_order}
 use Rattle.owner_reading.specs.Owners.{owner_with}
@@ -52,24 +52,14 @@ new-is old new o = by_test (option_eq nat_eq old new)
     by_test true e = absurd cc
     by_test false e = cc
 
-alike : (old new : Option ℕ) → option_eq nat_eq old new ≡ true → old ≡ new
-alike None None e = refl
-alike None (Some y) e = absurd cc
-alike (Some x) None e = absurd cc
-alike (Some x) (Some y) e = ap Some (eqb-true x y e)
-
 module _ (f : Trees) (old : List OwnerRow) where
   abbrev read : List Change
   read = changes_read f old (numbers f)
 
-  nodes-back : (ns : List ℕ) → map (λ (c : Change). c.node) (map (change_read f old) ns) ≡ ns
-  nodes-back [] = refl
-  nodes-back (n ∷ ns) = ap (λ v. n ∷ v) (nodes-back ns)
-
   pub read-rising : (cs : List Change) → cs ≡ read → AreRising cs
   read-rising cs is =
       subst AreRising (sym is)
-      (subst IsStrictlyIncreasing (sym (nodes-back (filter (λ n. is_change (change_read f old n)) (numbers f))))
+      (subst IsStrictlyIncreasing (sym (nodes_back (change_read f old) (λ n. refl) (filter (λ n. is_change (change_read f old n)) (numbers f))))
       (IsStrictlyIncreasing-filter (λ n. is_change (change_read f old n)) (numbers f) (range_increases 1 (size f))))
 
   -- whom no change moves has the owner of before
@@ -92,7 +82,7 @@ module _ (f : Trees) (old : List OwnerRow) where
 
       by_test : (b : Bool) → option_eq nat_eq (row_of old m).owner (owner_with f m (row_of old m).associated) ≡ b
           → (row_of old m).owner ≡ owner_with f m (row_of old m).associated
-      by_test true e = alike (row_of old m).owner (owner_with f m (row_of old m).associated) e
+      by_test true e = owners_alike (row_of old m).owner (owner_with f m (row_of old m).associated) e
       by_test false e = absurd (
           let new : is_some (change_read f old m).owner ≡ true = ap (λ b. is_some (cond b None (Some (owner_with f m (row_of old m).associated)))) e in
           let gone : stays read m ≡ false = ap not (moving new) in

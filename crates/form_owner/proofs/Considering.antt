@@ -10,8 +10,9 @@ use Rattle.std.proofs.lemmas.Option.{get_or_from_slice_get, slice_get_within}
 use Rattle.node_trees.specs.Trees.{Trees}
 use Rattle.node_trees.specs.Nodes.{IsNode, size}
 use Rattle.node_trees.specs.Paths.{is_among}
+use Rattle.tree_laws.proofs.Members.{all-members}
 use Rattle.form_owner.specs.Candidates.{Considers}
-use Rattle.form_owner.proofs.Nodes.{all-members, all-among}
+use Rattle.form_owner.proofs.Nodes.{all-among}
 
 -- some member of two lists passes where one of the first does, or one of the second
 any-append : {X : Type 0} (p : X → Bool) (xs ys : List X) → list_any p (xs ++ ys) ≡ (list_any p xs || list_any p ys)

@@ -17,8 +17,9 @@ use Rattle.form_controls.specs.Owners.{Forms, is_associated}
 use Rattle.ordered_tables.specs.Held.{is_held}
 use Rattle.ordered_tables.specs.declared.id_index.IdIndex.{IdIndex}
 use Rattle.owner_laws.specs.Locality.{IsAsideOfMove, IsUnchanged}
-use Rattle.owner_laws.proofs.Moves.{covers-graft, covers-cut}
+use Rattle.owner_laws.proofs.Moves.{unchanged-graft, unchanged-cut}
 use Rattle.owner_laws.proofs.PutBack.{graft-up}
+use Rattle.owner_laws.proofs.Shift.{node-still}
 use Rattle.owner_rows.specs.OwnerRow.{OwnerRow, row_of}
 use Rattle.form_owner.specs.Candidates.{Considers, Covers, is_concerned, is_named_among, is_of_legend, is_of_move}
 use Rattle.form_owner.specs.OwnerRows.{OwnerRows}
@@ -42,15 +43,20 @@ third true true c e is_a is_b = e
 third true false c e is_a is_b = absurd cc
 third false b c e is_a is_b = absurd cc
 
+-- the row of a node has its flag
+pub flag : (table : OwnerRows) (before : Forms) → Stands table before → (now : Trees) (m : ℕ) → IsNode now m
+    → is_associated before m ≡ (row_of table.rows m).associated
+flag table before stands now m node =
+    let low = node.low in
+    let same : (m - 1) + 1 ≡ m = omega arith in
+    sym (stands.associated.flags (m - 1) ∙ ap (is_associated before) same)
+
 -- a move
 
 module _ (table : OwnerRows) (before : Forms) (stands : Stands table before) (now : Trees) (n p : ℕ) (facts : (m : ℕ)
     → facts_at now m ≡ facts_at before.forest m) where
   abbrev moved : Forms
   moved = record { forest = now; associated = before.associated }
-
-  flag : (m : ℕ) → IsNode now m → is_associated before m ≡ (row_of table.rows m).associated
-  flag m node = let low = node.low in let same : (m - 1) + 1 ≡ m = omega arith in sym (stands.associated.flags (m - 1) ∙ ap (is_associated before) same)
 
   aside : (m : ℕ) → is_of_move now (is_held table.named) n p m ≡ false → IsAsideOfMove now n p m
   aside m fails = record {
@@ -72,8 +78,9 @@ module _ (table : OwnerRows) (before : Forms) (stands : Stands table before) (no
     where
       by_test : (b : Bool) → is_concerned now table.rows m ≡ b → differs before moved m ≡ false
       by_test true is = no-change before moved m (unchanged m node (aside m (left-out all m node out is)))
-      by_test false is = no-change before moved m
-          (unconcerned before moved m (row_of table.rows m).associated (ap (λ (x : Facts). x.local) (facts m)) (flag m node) (flag m node) is)
+      by_test false is =
+          let of_row = flag table before stands now m node in
+          no-change before moved m (unconcerned before moved m (row_of table.rows m).associated (ap (λ (x : Facts). x.local) (facts m)) of_row of_row is)
 
 pub covers-inserted : (table : OwnerRows) (before : Forms) → Stands table before → (now : Trees) (n : ℕ) (t : IsInserted n before.forest now) (p : ℕ)
     → parent_at now n ≡ Some p → (set : List ℕ) → Considers now (is_concerned now table.rows) (is_of_move now (is_held table.named) n p) [] set →
@@ -81,15 +88,12 @@ pub covers-inserted : (table : OwnerRows) (before : Forms) → Stands table befo
 covers-inserted table before stands now n t p up set all =
     covers-move table before stands now n p (inserted-shift n before.forest now t).facts set all
     (λ m node aside. subst (λ f. IsAsideOfMove f n p m → IsUnchanged before (record { forest = f; associated = before.associated }) m) (sym t.is)
-    (λ beside. covers-graft before t.parent n t.before t.tidy t.parent_node t.node t.before_node t.may t.free m (node-before m node)
-    (subst (λ q. IsAsideOfMove (graft before.forest t.parent n t.before) n q m) same_parent beside)) aside)
+    (λ beside. unchanged-graft before t.parent n t.before t.tidy t.parent_node t.node t.before_node t.may t.free m
+    (node-still before.forest now t.size_is m node) (subst (λ q. IsAsideOfMove (graft before.forest t.parent n t.before) n q m) same_parent beside)) aside)
   where
     same_parent : p ≡ t.parent
     same_parent = let it : Some p ≡ Some t.parent =
         sym up ∙ ap (λ f. parent_at f n) t.is ∙ graft-up before.forest t.parent n t.before t.tidy t.parent_node t.node t.may t.free in cc
-
-    node-before : (m : ℕ) → IsNode now m → IsNode before.forest m
-    node-before m node = let low = node.low in let high = node.high in record { low = low; high = omega (arith, high, t.size_is) }
 
 pub covers-removed : (table : OwnerRows) (before : Forms) → Stands table before → (now : Trees) (n p : ℕ) (t : IsRemoved n p before.forest now) (set : List ℕ)
     → Considers now (is_concerned now table.rows) (is_of_move now (is_held table.named) n p) [] set →
@@ -97,10 +101,7 @@ pub covers-removed : (table : OwnerRows) (before : Forms) → Stands table befor
 covers-removed table before stands now n p t set all =
     covers-move table before stands now n p (removed-shift n p before.forest now t).facts set all
     (λ m node aside. subst (λ f. IsAsideOfMove f n p m → IsUnchanged before (record { forest = f; associated = before.associated }) m) (sym t.is)
-    (covers-cut before n p t.tidy t.node t.placed m (node-before m node)) aside)
-  where
-    node-before : (m : ℕ) → IsNode now m → IsNode before.forest m
-    node-before m node = let low = node.low in let high = node.high in record { low = low; high = omega (arith, high, t.size_is) }
+    (unchanged-cut before n p t.tidy t.node t.placed m (node-still before.forest now t.size_is m node)) aside)
 
 -- the rows and the index of a table
 pub of-table : {forest : Trees} {set : List ℕ} (test : List OwnerRow → (List ℕ → ℕ → Bool) → ℕ → Bool) (table : OwnerRows) (rows : List OwnerRow)

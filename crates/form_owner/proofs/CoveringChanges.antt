@@ -22,18 +22,20 @@ use Rattle.tree_laws.proofs.Parents.{parent-child}
 use Rattle.form_controls.specs.Changes.{differs}
 use Rattle.form_controls.specs.Disabled.{has_disabled}
 use Rattle.form_controls.specs.Kinds.{is_a, native_at}
-use Rattle.form_controls.specs.Owners.{Forms, is_associated}
+use Rattle.form_controls.specs.Owners.{Forms}
+use Rattle.form_controls.proofs.Differ.{states_alike}
 use Rattle.ordered_tables.specs.Held.{is_held}
 use Rattle.owner_laws.specs.Locality.{IsAsideOfAttribute, IsUnchanged}
-use Rattle.owner_laws.proofs.Attributes.{covers-with}
+use Rattle.owner_laws.proofs.Attributes.{unchanged-with}
 use Rattle.owner_laws.proofs.SameReads.{unchanged-marked}
+use Rattle.owner_laws.proofs.Shift.{node-still}
 use Rattle.owner_rows.specs.OwnerRow.{Seen, row_of}
 use Rattle.owner_rows.specs.Attributes.{seen_at}
 use Rattle.form_owner.specs.Candidates.{Considers, Covers, is_concerned, is_named_by, is_of_change, is_of_group, is_of_ids}
 use Rattle.form_owner.specs.OwnerRows.{OwnerRows}
 use Rattle.form_owner.specs.Stands.{Stands}
 use Rattle.form_owner.specs.Touches.{IsChanged, IsDefined, with_associated}
-use Rattle.form_owner.proofs.Covering.{left-out}
+use Rattle.form_owner.proofs.Covering.{flag, left-out}
 use Rattle.form_owner.proofs.Naming.{has-other}
 use Rattle.form_owner.proofs.Touched.{among-with}
 use Rattle.form_owner.proofs.Touching.{facts-changed}
@@ -44,12 +46,6 @@ same-option None None e = refl
 same-option None (Some y) e = absurd cc
 same-option (Some x) None e = absurd cc
 same-option (Some x) (Some y) e = ap Some ((bytes_eq-Decides x y).0 e)
-
-same-flag : (a b : Bool) → beq a b ≡ true → a ≡ b
-same-flag true true e = refl
-same-flag true false e = absurd cc
-same-flag false true e = absurd cc
-same-flag false false e = refl
 
 no-fieldset : (x : Native) → same_native Optgroup x ≡ true → same_native Fieldset x ≡ false
 no-fieldset Form e = absurd cc
@@ -85,9 +81,9 @@ unchanged-beside : (before : Forms) (now : Trees) (n : ℕ) (t : IsChanged n bef
     → IsAsideOfAttribute before.forest now n m → IsUnchanged before (record { forest = now; associated = before.associated }) m
 unchanged-beside before now n t m node aside = elim t.is [
   | inl set ↦ subst (λ f. IsAsideOfAttribute before.forest f n m → IsUnchanged before (record { forest = f; associated = before.associated }) m) (sym set.1)
-      (covers-with before n (λ x. record x { attributes = with_value t.name set.0 x.attributes }) (λ x. refl) (λ x. refl) t.tidy t.element m node) aside
+      (unchanged-with before n (λ x. record x { attributes = with_value t.name set.0 x.attributes }) (λ x. refl) (λ x. refl) t.tidy t.element m node) aside
   | inr gone ↦ subst (λ f. IsAsideOfAttribute before.forest f n m → IsUnchanged before (record { forest = f; associated = before.associated }) m) (sym gone)
-      (covers-with before n (λ x. record x { attributes = without_value t.name x.attributes }) (λ x. refl) (λ x. refl) t.tidy t.element m node) aside
+      (unchanged-with before n (λ x. record x { attributes = without_value t.name x.attributes }) (λ x. refl) (λ x. refl) t.tidy t.element m node) aside
 ]
 
 module _ (table : OwnerRows) (before : Forms) (stands : Stands table before) (now : Trees) (tidy : IsTidy now) (n : ℕ) (t : IsChanged n before.forest now) where
@@ -96,9 +92,6 @@ module _ (table : OwnerRows) (before : Forms) (stands : Stands table before) (no
 
   seen : (row_of table.rows n).seen ≡ seen_at before.forest n
   seen = let low = t.element.node.low in let same : (n - 1) + 1 ≡ n = omega arith in stands.seen (n - 1) ∙ ap (seen_at before.forest) same
-
-  flag : (m : ℕ) → IsNode now m → is_associated before m ≡ (row_of table.rows m).associated
-  flag m node = let low = node.low in let same : (m - 1) + 1 ≡ m = omega arith in sym (stands.associated.flags (m - 1) ∙ ap (is_associated before) same)
 
   module _ (m : ℕ) (node : IsNode now m) (fails : is_of_change now table.rows (is_held table.named) n m ≡ false) where
     parts : ((n == m) ≡ false) × ((is_of_ids (is_held table.named) (row_of table.rows n).seen.id (attribute_at now n (codes "id")) m
@@ -139,7 +132,7 @@ module _ (table : OwnerRows) (before : Forms) (stands : Stands table before) (no
     -- a group that m is in has `disabled` as before
     same_state : is_of_group now n m ≡ true → has_disabled now n ≡ has_disabled before.forest n
     same_state within =
-        sym (same-flag (row_of table.rows n).seen.disabled (has_disabled now n)
+        sym (states_alike (row_of table.rows n).seen.disabled (has_disabled now n)
         (not-false (beq (row_of table.rows n).seen.disabled (has_disabled now n)) (is_of_group now n m) within rest.1))
         ∙ ap (λ (s : Seen). s.disabled) seen
       where
@@ -169,10 +162,11 @@ module _ (table : OwnerRows) (before : Forms) (stands : Stands table before) (no
     where
       by_test : (b : Bool) → is_concerned now table.rows m ≡ b → differs before changed m ≡ false
       by_test true is = no-change before changed m
-          (unchanged-beside before now n t m (let low = node.low in let high = node.high in record { low = low; high = omega (arith, high, t.size_is) })
-          (aside m node (left-out all m node out is)))
-      by_test false is = no-change before changed m
-          (unconcerned before changed m (row_of table.rows m).associated ((keeps-kind n before.forest now t).local m) (flag m node) (flag m node) is)
+          (unchanged-beside before now n t m (node-still before.forest now t.size_is m node) (aside m node (left-out all m node out is)))
+      by_test false is =
+          let of_row = flag table before stands now m node in
+          no-change before changed m
+          (unconcerned before changed m (row_of table.rows m).associated ((keeps-kind n before.forest now t).local m) of_row of_row is)
 
 -- the definition of an element
 

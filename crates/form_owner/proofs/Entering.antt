@@ -14,6 +14,7 @@ use Rattle.tree_laws.specs.Numbers.{insert_number}
 use Rattle.tree_laws.proofs.Counts.{AreApart}
 use Rattle.tree_laws.proofs.Children.{tree_order-apart}
 use Rattle.form_controls.specs.declared.change.Change.{Change}
+use Rattle.owner_laws.proofs.Tests.{find-same}
 use Rattle.owner_rows.specs.OwnerRow.{OwnerRow, row_in, row_of}
 use Rattle.form_owner.specs.Groups.{all_after}
 use Rattle.form_owner.specs.Moves.{AreEntered, HasNoneBehind, IsTold, is_listed_in, is_moved_by, is_settled, last_listed, stays}
@@ -46,12 +47,6 @@ among-filter p m (x ∷ xs) = by_test (among-filter p m xs) (p x) refl
       | inl same ↦ let fails : p m ≡ false = ap p (sym same) ∙ e in grind (arith, nat_tests, more)
       | inr other ↦ grind (arith, nat_tests, more)
     ]
-
-find-members : (p q : ℕ → Bool) (xs : List ℕ) → ((x : ℕ) → is_among x xs ≡ true → p x ≡ q x) → find p xs ≡ find q xs
-find-members p q [] same = refl
-find-members p q (x ∷ xs) same =
-    ap (λ b. cond b (Some x) (find p xs)) (same x (grind (arith, nat_tests)))
-    ∙ ap (λ o. cond (q x) (Some x) o) (find-members p q xs (λ m h. same m (grind (arith, nat_tests))))
 
 -- no earlier change is of the same node
 pub earlier : (cs : List Change) (k : ℕ) (c : Change) → AreRising cs → slice_get cs k ≡ Some c → is_moved_by (take k cs) c.node ≡ false
@@ -181,7 +176,7 @@ module _ (old : List OwnerRow) (cs : List Change) (k : ℕ) (c : Change) (at : s
               let last = none-last test l order (tree_order-apart forest (root_at forest g) tidy) (sym e) in
               record {
                 among = last.among;
-                none = find-members (is_listed_in mid g) test (all_after l order) (λ m h. in-list m (after-in l m order h)) ∙ last.none;
+                none = find-same (is_listed_in mid g) test (all_after l order) (λ m h. in-list m (after-in l m order h)) ∙ last.none;
               }
 
       module _ (once : is_moved_by (take k cs) c.node ≡ false) where
@@ -193,7 +188,7 @@ module _ (old : List OwnerRow) (cs : List Change) (k : ℕ) (c : Change) (at : s
         put-list =
             ap (λ v. insert_number (find (is_listed_in mid g) (all_after c.node order)) c.node v) listed
             ∙ ap (λ o. insert_number o c.node (filter test order))
-            (find-members (is_listed_in mid g) test (all_after c.node order) (λ m h. in-list m (after-in c.node m order h)))
+            (find-same (is_listed_in mid g) test (all_after c.node order) (λ m h. in-list m (after-in c.node m order h)))
             ∙ at_its_place test c.node order (tree_order-apart forest (root_at forest g) tidy) (told.inside g is) (unsettled g is)
             ∙ filter_agree (or_one test c.node) (is_settled old (take k cs) g) (settled-more g is own once) order
 

@@ -11,6 +11,7 @@ use Rattle.node_trees.specs.Spots.{after, first_of}
 use Rattle.tree_laws.proofs.Counts.{AreApart, count, count-among}
 use Rattle.tree_laws.proofs.Children.{after-among}
 use Rattle.tree_laws.proofs.InOrder.{member_is_node}
+use Rattle.tree_laws.proofs.Members.{first-filtered}
 use Rattle.element_names.specs.declared.input_kinds.InputKind.TheVariants.{Radio}
 use Rattle.form_controls.specs.Checkedness.{is_grouped_with, group_of, next_after}
 use Rattle.form_controls.specs.Kinds.{has_kind, name_of}
@@ -25,19 +26,10 @@ use Rattle.form_owner.proofs.Rows.{filter-members}
 -- lists
 
 module _ (p : ℕ → Bool) where
-  -- the first that passes
-  pub first-filter : (ms : List ℕ) → first_of (filter p ms) ≡ find p ms
-  first-filter [] = refl
-  first-filter (m ∷ ms) = by_test (p m) (first-filter ms)
-    where
-      by_test : (b : Bool) → first_of (filter p ms) ≡ find p ms → first_of (cond b (m ∷ filter p ms) (filter p ms)) ≡ cond b (Some m) (find p ms)
-      by_test true more = refl
-      by_test false more = more
-
   -- behind one that passes, the next that passes is the first that passes of all that follows
   pub after-filter : (n : ℕ) (ms : List ℕ) → p n ≡ true → after n (filter p ms) ≡ find p (all_after n ms)
   after-filter n [] t = refl
-  after-filter n (m ∷ ms) t = by_test (first-filter ms) (after-filter n ms t) (p m) refl
+  after-filter n (m ∷ ms) t = by_test (sym (first-filtered p ms)) (after-filter n ms t) (p m) refl
     where
       by_test : first_of (filter p ms) ≡ find p ms → after n (filter p ms) ≡ find p (all_after n ms) → (b : Bool) → p m ≡ b
           → after n (cond b (m ∷ filter p ms) (filter p ms)) ≡ find p (all_after n (m ∷ ms))
@@ -148,7 +140,7 @@ module _ (rows : List OwnerRow) (f : Trees) (radio root : ℕ) (at : root ≡ ro
 
   pub next-none : (behind : Option ℕ) → behind ≡ None → find (is_grouped_in rows f radio) (tree_order_of f root) ≡ next_after (group_in rows f radio) behind
   next-none behind e = sym (ap (next_after (group_in rows f radio)) e ∙ ap first_of group-root
-      ∙ first-filter (is_grouped_in rows f radio) (tree_order_of f root))
+      ∙ sym (first-filtered (is_grouped_in rows f radio) (tree_order_of f root)))
 
   module _ (behind : Option ℕ) (n : ℕ) (e : behind ≡ Some n) (member : IfSome behind (λ m. is_among m (group_in rows f radio) ≡ true)) where
     passes : (is_grouped_in rows f radio n ≡ true) × (is_among n (tree_order_of f root) ≡ true)
@@ -164,10 +156,10 @@ module _ (rows : List OwnerRow) (f : Trees) (radio root : ℕ) (at : root ≡ ro
         ∙ after-filter (is_grouped_in rows f radio) n (tree_order_of f root) passes.0)
 
 -- what comes next in a list is of the list
-pub next-among : (ms : List ℕ) (behind : Option ℕ) (d : ℕ) → Some d ≡ next_after ms behind → is_among d ms ≡ true
-next-among [] None d e = cc
-next-among (m ∷ ms) None d e = let same : d ≡ m = cc in grind (arith, nat_tests)
-next-among ms (Some n) d e = after-among n d ms (sym e)
+pub next_after-among : (ms : List ℕ) (behind : Option ℕ) (d : ℕ) → Some d ≡ next_after ms behind → is_among d ms ≡ true
+next_after-among [] None d e = cc
+next_after-among (m ∷ ms) None d e = let same : d ≡ m = cc in grind (arith, nat_tests)
+next_after-among ms (Some n) d e = after-among n d ms (sym e)
 
 -- the group by the rows of a table that stands is the group
 
@@ -199,7 +191,7 @@ module _ (table : OwnerRows) (rows : List OwnerRow) (lent : rows ≡ table.rows)
 
   module _ (behind result : Option ℕ) (is : result ≡ next_after (group_in rows now radio) behind) where
     next-in : (n : ℕ) → result ≡ Some n → is_among n (group_in rows now radio) ≡ true
-    next-in n e = next-among (group_in rows now radio) behind n (sym e ∙ is)
+    next-in n e = next_after-among (group_in rows now radio) behind n (sym e ∙ is)
 
     pub member-out : StandsFor table now → IsMemberOrNone table now radio result
     member-out for = by_result result refl

@@ -7,9 +7,10 @@ use Rattle.node_trees.specs.Paths.{is_among}
 use Rattle.node_trees.specs.Spots.{after, first_of}
 use Rattle.tree_laws.proofs.Counts.{AreApart, count, count-among}
 use Rattle.tree_laws.proofs.Children.{after-among}
+use Rattle.tree_laws.proofs.Members.{first-filtered}
 use Rattle.form_owner.specs.Groups.{all_after}
 use Rattle.form_owner.specs.Moves.{HasNoneBehind, after_or_none}
-use Rattle.form_owner.proofs.Groups.{all_after-step, first-filter}
+use Rattle.form_owner.proofs.Groups.{all_after-step}
 
 -- behind the last that passes
 
@@ -32,7 +33,7 @@ module _ (p : ℕ → Bool) where
           → slice_get (m ∷ xs) (length (m ∷ xs) - 1) ≡ Some l → HasNoneBehind p (m ∷ ms) l
       by_rest more [] is e =
           let same : m ≡ l = cc in
-          subst (HasNoneBehind p (m ∷ ms)) same (none-first m ms (sym (first-filter p ms) ∙ ap first_of is))
+          subst (HasNoneBehind p (m ∷ ms)) same (none-first m ms (first-filtered p ms ∙ ap first_of is))
       by_rest more (x ∷ xs) is e =
           let last : length (x ∷ xs) - 1 ≡ length xs = omega arith in
           let more_last : length (m ∷ x ∷ xs) - 1 ≡ suc (length xs) = omega arith in

@@ -9,7 +9,7 @@ use Rattle.element_names.specs.declared.natives.Native.{Native}
 use Rattle.element_names.specs.declared.natives.Native.TheVariants.{Fieldset, Form, Legend, Optgroup, OptionItem}
 use Rattle.element_names.specs.Natives.{native, same_native}
 use Rattle.node_trees.specs.Facts.{Facts, is_element, value_in}
-use Rattle.node_trees.specs.Trees.{Trees, none, tree, join, single, with_node, with_shadow, with_facts, with_document, roots, is_number}
+use Rattle.node_trees.specs.Trees.{Trees, none, tree, join, single, with_node, with_shadow, with_document, roots, is_number}
 use Rattle.node_trees.specs.Nodes.{times, size, IsNode, IsTidy}
 use Rattle.node_trees.specs.Spots.{Spot, spot_in, or_spot, or_no_spot, facts_at, parent_at, children_at, attribute_at}
 use Rattle.node_trees.specs.Paths.{is_among, root_at, connected}
@@ -30,6 +30,8 @@ use Rattle.form_controls.specs.Owners.{Forms, is_associated, is_listed_native, o
 use Rattle.form_controls.specs.Owners.{ancestors, is_owned_by, controls_of}
 use Rattle.form_controls.specs.Disabled.{has_disabled, first_legend, is_inside, disables, is_in_disabled_fieldset, is_in_disabled_group, is_option_disabled}
 use Rattle.form_controls.specs.Disabled.{is_disabled}
+use Rattle.owner_laws.proofs.Tests.{filter-none}
+use Rattle.owner_laws.proofs.WithFacts.{above-with}
 use Rattle.owner_rows.specs.OwnerRow.{Seen, row_of}
 use Rattle.form_owner.specs.OwnerRows.{OwnerRows}
 use Rattle.form_owner.specs.Attributes.{is_text}
@@ -40,7 +42,7 @@ use Rattle.above_reading.specs.Disabled.{disabled_with}
 use Rattle.form_owner.specs.Stands.{Stands}
 use Rattle.form_controls.proofs.Ancestors.{above-absent}
 use Rattle.owner_reading.proofs.Ancestors.{ancestors-up}
-use Rattle.form_owner.proofs.Nodes.{absent, found-passes, not-a-form, not-listed, no-owner, not-disabled, no-controls, owner-form, filter-none, is-number}
+use Rattle.form_owner.proofs.Nodes.{absent, found-passes, not-a-form, not-listed, no-owner, not-disabled, no-controls, owner-form, is-number}
 use Rattle.form_owner.proofs.Rows.{filter-members}
 use Rattle.form_owner.proofs.Looking.{right-still}
 
@@ -125,13 +127,6 @@ ancestors-hung : (above : List ℕ) (i n q : ℕ) (x : Facts) (f : Trees) → an
 ancestors-hung above i n q x none = refl
 ancestors-hung above i n q x (tree m y s k r) =
     grind (arith, nat_tests, ancestors-hung [] i n q x s, ancestors-hung (m ∷ above) i n q x k, ancestors-hung above i n q x r, ancestors-beside i n x s)
-
--- nor is it heeded what the facts of a node are
-
-ancestors-facts : (above : List ℕ) (i n : ℕ) (c : Facts → Facts) (f : Trees) → ancestors_below above i (with_facts n c f) ≡ ancestors_below above i f
-ancestors-facts above i n c none = refl
-ancestors-facts above i n c (tree m y s k r) =
-    grind (arith, nat_tests, ancestors-facts [] i n c s, ancestors-facts (m ∷ above) i n c k, ancestors-facts above i n c r)
 
 module _ (f made : Trees) (tidy : IsTidy f) (n : ℕ) (alike : AreAlike n f made) (above_is : (i : ℕ) → ancestors made i ≡ ancestors f i) where
   outside : IsNode f n → ⊥
@@ -342,7 +337,7 @@ module _ (f : Forms) (made : Trees) (tidy : IsTidy f.forest) (knows : (m : ℕ) 
     where
       none-owned : (k : ℕ) → is_a Form f.forest k ≡ false → controls_of after k ≡ []
       none-owned k not_form = filter-none (is_owned_by after k) (tree_order_of after.forest (root_at after.forest k))
-          (λ j. by_test j (is_owned_by after k j) refl)
+          (λ j _. by_test j (is_owned_by after k j) refl)
         where
           by_test : (j : ℕ) (b : Bool) → is_owned_by after k j ≡ b → b ≡ false
           by_test j true e = absurd (let yes = owner-form f j k (sym (owner-after j) ∙ is-number (form_owner after j) k e) in cc)
@@ -422,5 +417,5 @@ pub stands_adopted : (table : OwnerRows) (f : Forms) (n document : ℕ) → IsTi
 stands_adopted table f n document tidy =
     stands_alike table f (with_document n document f.forest) (size f.forest + 1) tidy
     (alike_facts n (λ x. record x { document = document }) f.forest (size f.forest + 1) (next-free f.forest tidy) (λ x. refl) (λ x. refl) (λ x. refl))
-    (λ i. ancestors-facts [] i n (λ x. record x { document = document }) f.forest)
+    (λ i. above-with n (λ x. record x { document = document }) [] i f.forest)
     (omega (arith, size-with n (λ x. record x { document = document }) f.forest))

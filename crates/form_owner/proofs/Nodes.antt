@@ -16,12 +16,14 @@ use Rattle.node_trees.specs.Ids.{first_with_id}
 use Rattle.node_trees.specs.Spots.{attribute_at, or_no_spot, facts_at}
 use Rattle.node_trees.proofs.Absent.{spot-absent}
 use Rattle.tree_laws.proofs.InOrder.{member_is_node}
+use Rattle.tree_laws.proofs.Members.{all-members}
 use Rattle.form_controls.specs.declared.change.Change.{Change}
 use Rattle.form_controls.specs.Changes.{is_change, numbers}
 use Rattle.form_controls.specs.Kinds.{is_a}
 use Rattle.form_controls.specs.Owners.{Forms, is_listed, is_associated, owner_by, form_owner, where_form, named_form, nearest_form, ancestors, is_owned_by}
 use Rattle.form_controls.specs.Owners.{controls_of}
 use Rattle.form_controls.specs.Disabled.{is_disabled}
+use Rattle.owner_laws.proofs.Tests.{filter-none}
 use Rattle.owner_rows.specs.OwnerRow.{OwnerRow}
 use Rattle.form_owner.specs.Reading.{change_read, changes_read}
 
@@ -122,11 +124,7 @@ pub owner-node : (f : Forms) (n : ℕ) (o : Option ℕ) → IsTidy f.forest → 
 owner-node f n None tidy e = tt
 owner-node f n (Some k) tidy e = form-node f.forest k tidy (owner-form f n k (sym e))
 
--- the controls of a form are nodes
-
-pub all-members : (P : ℕ → Type 0) (xs : List ℕ) → ((n : ℕ) → is_among n xs ≡ true → P n) → All P xs
-all-members P [] h = All-nil P
-all-members P (x ∷ xs) h = All-cons P x xs (h x (grind (arith, nat_tests))) (all-members P xs (λ n e. h n (grind (arith, nat_tests))))
+-- what holds of all of a list holds of each member
 
 pub all-among : (P : ℕ → Type 0) (xs : List ℕ) → All P xs → (n : ℕ) → is_among n xs ≡ true → P n
 all-among P [] all n h = absurd cc
@@ -135,7 +133,7 @@ all-among P (x ∷ xs) all n h = elim (cases_eq x n) [
   | inr other ↦ all-among P xs (All-tail P x xs all) n (grind (arith, nat_tests))
 ]
 
--- so are those of an order
+-- all of an order are nodes
 pub order-nodes : (f : Trees) (root : ℕ) (ns : List ℕ) → IsTidy f → ns ≡ tree_order_of f root → All (IsNode f) ns
 order-nodes f root ns tidy is = all-members (IsNode f) ns (λ n among. member_is_node f root n tidy (sym (ap (is_among n) is) ∙ among))
 
@@ -144,6 +142,7 @@ pub read-nodes : (f t : Trees) → AreRead f t → All (IsNode f) (roots t)
 read-nodes f none read = All-nil (IsNode f)
 read-nodes f (tree m x s k q) read = All-cons (IsNode f) m (roots q) read.0.node (read-nodes f q read.1.1)
 
+-- so are the controls of a form
 pub controls-nodes : (f : Forms) (form : ℕ) → IsTidy f.forest → All (IsNode f.forest) (controls_of f form)
 controls-nodes f form tidy =
     let order = tree_order_of f.forest (root_at f.forest form) in
@@ -156,12 +155,8 @@ pub is-number : (o : Option ℕ) (k : ℕ) → is_number o k ≡ true → o ≡ 
 is-number None k e = absurd cc
 is-number (Some n) k e = grind (arith, nat_tests)
 
-pub filter-none : (p : ℕ → Bool) (xs : List ℕ) → ((x : ℕ) → p x ≡ false) → filter p xs ≡ []
-filter-none p [] fails = refl
-filter-none p (x ∷ xs) fails = rw (fails x) (filter-none p xs fails)
-
 pub no-controls : (f : Forms) (n : ℕ) → is_a Form f.forest n ≡ false → controls_of f n ≡ []
-no-controls f n not_form = filter-none (is_owned_by f n) (tree_order_of f.forest (root_at f.forest n)) (λ m. by_test m (is_owned_by f n m) refl)
+no-controls f n not_form = filter-none (is_owned_by f n) (tree_order_of f.forest (root_at f.forest n)) (λ m _. by_test m (is_owned_by f n m) refl)
   where
     by_test : (m : ℕ) (b : Bool) → is_owned_by f n m ≡ b → b ≡ false
     by_test m true e = absurd (let yes = owner-form f m n (is-number (form_owner f m) n e) in cc)

@@ -7,6 +7,7 @@ use Rattle.node_trees.specs.Trees.{is_number}
 use Rattle.node_trees.specs.Paths.{is_among}
 use Rattle.tree_laws.specs.Numbers.{insert_number}
 use Rattle.tree_laws.proofs.Counts.{AreApart, count-among, count-absent}
+use Rattle.tree_laws.proofs.Members.{among-found}
 use Rattle.form_owner.specs.Groups.{all_after}
 
 -- what follows a number of a list is of the list
@@ -45,14 +46,6 @@ module _ (q : ℕ → Bool) (n : ℕ) where
       by_test more true = let same : is_number (Some x) x ≡ true =
           grind (arith, nat_tests) in ap (λ b. cond b (n ∷ x ∷ filter q xs) (x ∷ insert_number (Some x) n (filter q xs))) same
       by_test more false = more
-
-  found-in : (k : ℕ) (xs : List ℕ) → find q xs ≡ Some k → is_among k xs ≡ true
-  found-in k [] e = absurd cc
-  found-in k (x ∷ xs) e = by_test (found-in k xs) (q x) e
-    where
-      by_test : (find q xs ≡ Some k → is_among k xs ≡ true) → (b : Bool) → cond b (Some x) (find q xs) ≡ Some k → (x == k || is_among k xs) ≡ true
-      by_test more true e = let same : x ≡ k = cc in grind (arith, nat_tests)
-      by_test more false e = let rest = more e in grind (arith, nat_tests)
 
   past : (o : Option ℕ) (x : ℕ) → (o ≡ Some x → ⊥) → is_number o x ≡ false
   past None x other = refl
@@ -94,7 +87,7 @@ module _ (q : ℕ → Bool) (n : ℕ) where
           let other : (x == n) ≡ false = grind (arith, nat_tests) in
           let once = apart x in
           let away : find q (all_after n xs) ≡ Some x → ⊥ = λ e. let low =
-          count-among x xs (after-in n x xs (found-in x (all_after n xs) e)) in absurd (grind (arith, nat_tests)) in
+          count-among x xs (after-in n x xs (among-found q (all_after n xs) x e)) in absurd (grind (arith, nat_tests)) in
           ap (λ c. insert_number (find q (cond c xs (all_after n xs))) n (cond (q x) (x ∷ filter q xs) (filter q xs))) other
           ∙ ap (λ c. insert_number (find q (all_after n xs)) n (cond c (x ∷ filter q xs) (filter q xs))) is
           ∙ by_test b (past (find q (all_after n xs)) x away) on

@@ -4,7 +4,7 @@ use Rattle.std.proofs.Common.{arith, inl, inr}
 use Rattle.std.specs.Prelude.{filter, map, ◌||◌, nat_eq, is_some}
 use Rattle.std.specs.List.{list_any, range_with_len}
 use Rattle.std.specs.Option.{option_eq}
-use Rattle.std.proofs.lemmas.Bool.{cases_eq, eqb-true, or_parts}
+use Rattle.std.proofs.lemmas.Bool.{cases_eq, or_parts}
 use Rattle.node_trees.specs.Trees.{Trees, is_number}
 use Rattle.node_trees.specs.Nodes.{size, IsNode, IsTidy}
 use Rattle.node_trees.specs.Orders.{tree_order_of}
@@ -12,6 +12,7 @@ use Rattle.node_trees.specs.Paths.{is_among, root_at}
 use Rattle.tree_laws.proofs.InOrder.{member_is_node}
 use Rattle.form_controls.specs.declared.change.Change.{Change}
 use Rattle.form_controls.specs.Changes.{is_change, where_new, numbers}
+use Rattle.form_controls.proofs.Differ.{owners_alike}
 use Rattle.owner_reading.specs.Owners.{owner_with}
 use Rattle.owner_rows.specs.OwnerRow.{OwnerRow, row_in, row_of}
 use Rattle.form_owner.specs.Candidates.{Considers}
@@ -49,14 +50,8 @@ same-owned : (old new : Option ℕ) (form : ℕ)
     → is_number old form ≡ is_number new form
 same-owned old new form says = by_test (option_eq nat_eq old new) refl
   where
-    alike : (old new : Option ℕ) → option_eq nat_eq old new ≡ true → old ≡ new
-    alike None None e = refl
-    alike None (Some y) e = absurd cc
-    alike (Some x) None e = absurd cc
-    alike (Some x) (Some y) e = ap Some (eqb-true x y e)
-
     by_test : (b : Bool) → option_eq nat_eq old new ≡ b → is_number old form ≡ is_number new form
-    by_test true e = ap (λ o. is_number o form) (alike old new e)
+    by_test true e = ap (λ o. is_number o form) (owners_alike old new e)
     by_test false e = let both = or_parts (is_number old form) (is_number new form) (says new (ap (λ b. cond b None (Some new)) e)) in both.0 ∙ sym both.1
 
 module _ (f : Trees) (tidy : IsTidy f) (old written new : List OwnerRow) (forms : List ℕ) (is : (i : ℕ)

@@ -1,5 +1,5 @@
 -- Lists of controls that stood before a touch, as the rows and the trees are after it.
-use Rattle.std.proofs.Common.{◌≡◌, ℕ, ◌+◌, ◌-◌, ◌<◌, Bool, true, false, cond, List, [], ◌∷◌, Some, refl, sym, ap, ◌∙◌, arith}
+use Rattle.std.proofs.Common.{◌≡◌, ℕ, ◌+◌, ◌-◌, ◌<◌, Bool, true, false, List, Some, refl, sym, ap, ◌∙◌, arith}
 use Rattle.std.specs.Prelude.{filter, ◌&&◌, nat_lt}
 use Rattle.std.proofs.lemmas.Bool.Decides.{nat_tests}
 use Rattle.std.proofs.lemmas.Bool.{and_parts}
@@ -11,22 +11,18 @@ use Rattle.tree_laws.proofs.InOrder.{member_is_node}
 use Rattle.form_controls.specs.Owners.{Forms, form_owner, is_associated, is_owned_by, controls_of}
 use Rattle.owner_reading.specs.Owners.{owner_with}
 use Rattle.owner_laws.proofs.OwnerTogether.{owner-together}
+use Rattle.owner_laws.proofs.Shift.{node-still}
 use Rattle.owner_laws.proofs.TogetherCut.{AreTogether}
 use Rattle.owner_rows.specs.OwnerRow.{OwnerRow, row_in, row_of}
 use Rattle.form_owner.specs.Reading.{is_owned_in}
 use Rattle.form_owner.specs.Writing.{IsKept, ListsStood}
+use Rattle.form_owner.proofs.Leaving.{filter-filter, filter-swap}
 use Rattle.form_owner.proofs.Nodes.{is-number}
 use Rattle.form_owner.proofs.Rows.{filter-members}
 
 -- one test after another
 filter-twice : (p q : ℕ → Bool) (xs : List ℕ) → filter p (filter q xs) ≡ filter (λ x. q x && p x) xs
-filter-twice p q [] = refl
-filter-twice p q (x ∷ xs) = by_test (q x) (filter-twice p q xs)
-  where
-    by_test : (b : Bool) → filter p (filter q xs) ≡ filter (λ y. q y && p y) xs
-        → filter p (cond b (x ∷ filter q xs) (filter q xs)) ≡ cond (b && p x) (x ∷ filter (λ y. q y && p y) xs) (filter (λ y. q y && p y) xs)
-    by_test true more = ap (λ v. cond (p x) (x ∷ v) v) more
-    by_test false more = more
+filter-twice p q xs = filter-swap p q xs ∙ filter-filter q p xs
 
 module _ (before after : Forms) (old_tidy : IsTidy before.forest) (tidy : IsTidy after.forest) (long : size after.forest ≡ size before.forest)
     (rows : List OwnerRow)
@@ -35,12 +31,6 @@ module _ (before after : Forms) (old_tidy : IsTidy before.forest) (tidy : IsTidy
     (flags : (i : ℕ) → (row_in rows i).associated ≡ is_associated after (i + 1))
     (stays : (g : ℕ) → IsNode before.forest g → (q : ℕ → Bool) → AreTogether q before.forest after.forest g →
     filter q (tree_order_of after.forest (root_at after.forest g)) ≡ filter q (tree_order_of before.forest (root_at before.forest g))) where
-  node-before : (m : ℕ) → IsNode after.forest m → IsNode before.forest m
-  node-before m node = let low = node.low in let high = node.high in record { low = low; high = omega (arith, high, long) }
-
-  node-after : (m : ℕ) → IsNode before.forest m → IsNode after.forest m
-  node-after m node = let low = node.low in let high = node.high in record { low = low; high = omega (arith, high, long) }
-
   number : (m : ℕ) → 0 < m → (m - 1) + 1 ≡ m
   number m low = omega (arith, low)
 
@@ -109,15 +99,16 @@ module _ (before after : Forms) (old_tidy : IsTidy before.forest) (tidy : IsTidy
         let was : form_owner before m ≡ Some (i + 1) = is-number (form_owner before m) (i + 1) (sym (owned-before m (i + 1) at.low) ∙ it.owned) in
         let flag : (row_of rows m).associated ≡ is_associated after m = flags (m - 1) ∙ ap (is_associated after) (number m at.low) in
         let is : form_owner after m ≡ Some (i + 1) = ap (owner_with after.forest m) (sym flag) ∙ it.owns in
-        (node-before m at, (owner-together before m (i + 1) old_tidy (node-before m at) was, owner-together after m (i + 1) tidy at is))
+        let at_before = node-still before.forest after.forest long m at in
+        (at_before, (owner-together before m (i + 1) old_tidy at_before was, owner-together after m (i + 1) tidy at is))
 
     kept-order : filter test (row_in rows i).controls ≡ filter test (tree_order_of after.forest (root_at after.forest (i + 1)))
     kept-order =
         ap (filter test) (controls i)
         ∙ filter-twice test (is_owned_by before (i + 1)) (order_before (i + 1))
         ∙ filter-members (λ m. is_owned_by before (i + 1) m && test m) tested (order_before (i + 1))
-        (λ m among. let at = node-after m (in-order (i + 1) m among) in owned-if m at (test m) refl ∙ sym (drops m at))
-        ∙ sym (stays (i + 1) (node-before (i + 1) node) tested together)
+        (λ m among. let at = node-still after.forest before.forest (sym long) m (in-order (i + 1) m among) in owned-if m at (test m) refl ∙ sym (drops m at))
+        ∙ sym (stays (i + 1) (node-still before.forest after.forest long (i + 1) node) tested together)
         ∙ filter-members tested test (tree_order_of after.forest (root_at after.forest (i + 1)))
         (λ m among. drops m (member_is_node after.forest (root_at after.forest (i + 1)) m tidy among))
 

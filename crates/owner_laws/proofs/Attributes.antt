@@ -127,8 +127,8 @@ module _ (f : Trees) (n : ℕ) (c : Facts → Facts) (local : (x : Facts) → (c
       disabling = disabling-same;
     }
 
-pub covers-with : (f : Forms) (n : ℕ) (c : Facts → Facts) → ((x : Facts) → (c x).local ≡ x.local) → ((x : Facts) → (c x).kind ≡ x.kind) → IsTidy f.forest
+pub unchanged-with : (f : Forms) (n : ℕ) (c : Facts → Facts) → ((x : Facts) → (c x).local ≡ x.local) → ((x : Facts) → (c x).kind ≡ x.kind) → IsTidy f.forest
     → IsElement f.forest n
     → (m : ℕ) → IsNode f.forest m → IsAsideOfAttribute f.forest (with_facts n c f.forest) n m → IsUnchanged f (record f { forest = with_facts n c f.forest }) m
-covers-with f n c local kind tidy is_n m is_m aside =
+unchanged-with f n c local kind tidy is_n m is_m aside =
     unchanged f (with_facts n c f.forest) m (attribute-reads f.forest n c local kind m tidy is_n.node is_m aside)

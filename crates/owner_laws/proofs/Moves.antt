@@ -10,14 +10,14 @@ use Rattle.owner_laws.proofs.SameReads.{unchanged}
 use Rattle.owner_laws.proofs.Shift.{cut-shift, graft-shift}
 use Rattle.owner_laws.proofs.ShiftReads.{shift-reads}
 
-pub covers-graft : (f : Forms) (p n : ℕ) (b : Option ℕ) → IsTidy f.forest → IsNode f.forest p → IsNode f.forest n → IsNodeOrNone f.forest b
+pub unchanged-graft : (f : Forms) (p n : ℕ) (b : Option ℕ) → IsTidy f.forest → IsNode f.forest p → IsNode f.forest n → IsNodeOrNone f.forest b
     → may_insert f.forest p n b ≡ None → parent_at f.forest n ≡ None
     → (m : ℕ) → IsNode f.forest m → IsAsideOfMove (graft f.forest p n b) n p m → IsUnchanged f (record f { forest = graft f.forest p n b }) m
-covers-graft f p n b tidy is_p is_n is_b may free m is_m aside =
+unchanged-graft f p n b tidy is_p is_n is_b may free m is_m aside =
     unchanged f (graft f.forest p n b) m
     (shift-reads f.forest (graft f.forest p n b) n p m is_n is_m (graft-shift f.forest p n b tidy is_p is_n may free) aside)
 
-pub covers-cut : (f : Forms) (n p : ℕ) → IsTidy f.forest → IsNode f.forest n → parent_at f.forest n ≡ Some p
+pub unchanged-cut : (f : Forms) (n p : ℕ) → IsTidy f.forest → IsNode f.forest n → parent_at f.forest n ≡ Some p
     → (m : ℕ) → IsNode f.forest m → IsAsideOfMove (cut f.forest n) n p m → IsUnchanged f (record f { forest = cut f.forest n }) m
-covers-cut f n p tidy is_n up m is_m aside =
+unchanged-cut f n p tidy is_n up m is_m aside =
     unchanged f (cut f.forest n) m (shift-reads f.forest (cut f.forest n) n p m is_n is_m (cut-shift f.forest n p tidy is_n up) aside)

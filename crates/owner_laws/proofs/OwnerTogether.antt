@@ -8,10 +8,10 @@ use Rattle.node_trees.specs.Nodes.{IsNode, IsTidy}
 use Rattle.node_trees.specs.Orders.{tree_order_of}
 use Rattle.node_trees.specs.Paths.{is_among, root_at, connected}
 use Rattle.node_trees.specs.Spots.{attribute_at, facts_at}
+use Rattle.tree_laws.proofs.Members.{among-found}
 use Rattle.form_controls.specs.Kinds.{is_a}
 use Rattle.form_controls.specs.Owners.{Forms, ancestors, where_form, named_form, nearest_form, owner_by, form_owner, is_listed}
 use Rattle.owner_laws.proofs.Ancestors.{ancestor-order}
-use Rattle.owner_laws.proofs.Tests.{among-found}
 use Rattle.owner_laws.proofs.Roots.{root-free, root-among, order-root, order-top}
 
 form-is : (f : Trees) (o : Option ℕ) (g : ℕ) → where_form f o ≡ Some g → o ≡ Some g

@@ -112,9 +112,6 @@ module _ (f : Trees) (tidy : IsTidy f) where
     pub root-free : parent_at f (root_at f m) ≡ None
     root-free = its_root.free
 
-    pub root-node : IsNode f (root_at f m)
-    root-node = its_root.node
-
     -- a node stands in its tree's order
     pub root-among : is_among m (tree_order_of f (root_at f m)) ≡ true
     root-among = its_root.among

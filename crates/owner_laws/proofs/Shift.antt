@@ -43,7 +43,7 @@ pub record IsShift (f g : Trees) (n p : ℕ) : Type 0 where
       → filter q (tree_order_of g r) ≡ filter q (tree_order_of f r)
 
 -- seen from behind
-node-still : (f g : Trees) → size g ≡ size f → (i : ℕ) → IsNode g i → IsNode f i
+pub node-still : (f g : Trees) → size g ≡ size f → (i : ℕ) → IsNode g i → IsNode f i
 node-still f g long i at =
     let low = at.low in
     let high = at.high in

@@ -1,5 +1,5 @@
 -- Tests that agree on the members of a list find the same in it.
-use Rattle.std.proofs.Common.{◌≡◌, ℕ, ◌==◌, Bool, true, false, cond, List, [], ◌∷◌, Some, refl, ap, ◌∙◌, arith}
+use Rattle.std.proofs.Common.{◌≡◌, ℕ, Bool, true, false, cond, List, [], ◌∷◌, Some, refl, ap, ◌∙◌, arith}
 use Rattle.std.specs.Prelude.{filter, ◌||◌}
 use Rattle.std.specs.List.{find, list_any}
 use Rattle.std.proofs.lemmas.Bool.Decides.{nat_tests}
@@ -34,16 +34,6 @@ filter-none p (x ∷ xs) fails =
     let first : p x ≡ false = fails x (grind (arith, nat_tests)) in
     let more = filter-none p xs (λ y h. fails y (grind (arith, nat_tests))) in
     ap (λ b. cond b (x ∷ filter p xs) (filter p xs)) first ∙ more
-
--- what is found is a member
-
-pub among-found : (p : ℕ → Bool) (xs : List ℕ) (k : ℕ) → find p xs ≡ Some k → is_among k xs ≡ true
-among-found p [] k e = absurd cc
-among-found p (x ∷ xs) k e = by_test (among-found p xs k) (p x) refl e
-  where
-    by_test : (find p xs ≡ Some k → is_among k xs ≡ true) → (b : Bool) → p x ≡ b → cond b (Some x) (find p xs) ≡ Some k → (x == k || is_among k xs) ≡ true
-    by_test more true t i = let same : x ≡ k = cc in grind (arith, nat_tests)
-    by_test more false t i = let yes = more i in grind (arith, nat_tests)
 
 -- a number that fails the test changes nothing of what it finds where it goes
 

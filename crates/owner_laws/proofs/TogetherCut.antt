@@ -12,6 +12,7 @@ use Rattle.tree_laws.proofs.CutReads.{not-left, parent_at-cut}
 use Rattle.tree_laws.proofs.Inside.{tree_apart}
 use Rattle.tree_laws.proofs.InOrder.{order-inside}
 use Rattle.tree_laws.proofs.OrderSteps.{tree_of-inside}
+use Rattle.tree_laws.proofs.Rooted.{root_is_node}
 use Rattle.tree_laws.proofs.Sums.{tidy-apart}
 use Rattle.owner_laws.proofs.Aside.{tree_of-place, tree_of-place-in, tree_of-without}
 use Rattle.owner_laws.proofs.OutOfTree.{above-outside}
@@ -20,7 +21,7 @@ use Rattle.owner_laws.proofs.Kept.{found_in, kept-cut}
 use Rattle.owner_laws.proofs.Only.{found-only}
 use Rattle.owner_laws.proofs.Tests.{filter-none}
 use Rattle.owner_laws.proofs.Cases.{by_test}
-use Rattle.owner_laws.proofs.Roots.{root-free, root-node, root-among, order-root, order-top}
+use Rattle.owner_laws.proofs.Roots.{root-free, root-among, order-root, order-top}
 
 -- all that pass are nodes of g's tree, and so they are in the new trees
 abbrev pub AreTogether : (ℕ → Bool) → Trees → Trees → ℕ → Type 0
@@ -65,7 +66,7 @@ module _ (f : Trees) (n p : ℕ) (tidy : IsTidy f) (node : IsNode f n) (up : par
     together-in =
         ap (λ r. filter q (tree_order_of (cut f n) r)) (root-cut-in f n p tidy node up g among)
         ∙ ap (found_in q) (cut-tree f n p tidy node up
-        ∙ tree_of-inside (root_at f g) n f (tidy-apart f tidy) (node_stands f (root_at f g) tidy (root-node f tidy g at))
+        ∙ tree_of-inside (root_at f g) n f (tidy-apart f tidy) (node_stands f (root_at f g) tidy (root_is_node f g tidy at))
         (order-inside n (tree_of (root_at f g) f) n_among))
         ∙ sym (found-only q n (tree_of (root_at f g) f) (tree_apart (root_at f g) f (tidy-apart f tidy)) n_among rest_empty)
 

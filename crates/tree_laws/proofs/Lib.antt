@@ -5,6 +5,7 @@ pub mod Inside
 pub mod AtNode
 pub mod InOrder
 pub mod Counts
+pub mod Members
 pub mod Rooted
 pub mod Walked
 pub mod Alike

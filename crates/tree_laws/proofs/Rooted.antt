@@ -1,5 +1,5 @@
 -- The root of a node's tree is a node.
-use Rattle.std.proofs.Common.{◌≡◌, ℕ, ◌<◌, ◌==◌, ◌⊎◌, Bool, true, false, not, cond, List, [], ◌∷◌, ◌++◌, Option, Some, None, refl, sym, ap, ◌∙◌, arith, inl}
+use Rattle.std.proofs.Common.{◌≡◌, ℕ, ◌<◌, ◌⊎◌, Bool, true, false, not, List, [], ◌∷◌, ◌++◌, Option, Some, None, refl, sym, ap, ◌∙◌, arith, inl}
 use Rattle.std.proofs.Common.{inr}
 use Rattle.std.specs.Prelude.{find, reverse, ◌||◌}
 use Rattle.std.proofs.lemmas.Bool.{cases_eq}
@@ -9,6 +9,7 @@ use Rattle.node_trees.specs.Trees.{Trees, none, tree}
 use Rattle.node_trees.specs.Nodes.{times, IsNode, IsTidy}
 use Rattle.node_trees.specs.Paths.{path, under, is_among, or_number, root_at, has_parent}
 use Rattle.node_trees.proofs.Absent.{is_among-append}
+use Rattle.tree_laws.proofs.Members.{among-found}
 
 either : (a b : Bool) → (a || b) ≡ true → (a ≡ true) ⊎ (b ≡ true)
 either true b e = inl refl
@@ -51,14 +52,6 @@ path-inside k n (tree m x s c r) h =
     ]
 
 -- the root is on the path
-
-among-found : (p : ℕ → Bool) (xs : List ℕ) (k : ℕ) → find p xs ≡ Some k → is_among k xs ≡ true
-among-found p [] k e = absurd cc
-among-found p (x ∷ xs) k e = by_test (among-found p xs k) (p x) refl e
-  where
-    by_test : (find p xs ≡ Some k → is_among k xs ≡ true) → (b : Bool) → p x ≡ b → cond b (Some x) (find p xs) ≡ Some k → (x == k || is_among k xs) ≡ true
-    by_test more true t i = let same : x ≡ k = cc in grind (arith, nat_tests)
-    by_test more false t i = let yes = more i in grind (arith, nat_tests)
 
 among-reverse : (k : ℕ) (xs : List ℕ) → is_among k (reverse xs) ≡ true → is_among k xs ≡ true
 among-reverse k [] h = absurd cc

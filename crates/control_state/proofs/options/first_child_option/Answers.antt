@@ -1,8 +1,9 @@
 use Rattle.std.proofs.Common.{◌≡◌, None, arith, ◌∙◌}
 use Rattle.element_names.specs.declared.natives.Native.TheVariants.{OptionItem}
+use Rattle.tree_laws.proofs.Members.{first-filtered}
 use Rattle.form_controls.specs.Kinds.{is_a}
 use Rattle.control_state.specs.Choosing.{first_where}
-use Rattle.control_state.proofs.Chosen.{first-among, first-filtered}
+use Rattle.control_state.proofs.Chosen.{first-among}
 use Rattle.control_state.proofs.Walks.{walk-on, walk-less, walk-ends}
 use Rattle.control_state.proofs.options.first_child_option.Goals as goal
 use Rattle.control_state.proofs.options.first_child_option.Goals.{then-is_a, else-is_a}
