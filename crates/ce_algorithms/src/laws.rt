@@ -36,7 +36,7 @@ pub fn each_calls_the_others()
 {}
 
 /// What a line does depends on nothing that was logged before it: the log is written, and never read.
-#[tactic(auto, using(crate::proofs::FramedSteps::run_line_behind))]
+#[tactic(auto, using(crate::proofs::FramedLines::run_line_behind))]
 pub fn no_step_reads_the_log()
     ensures { (line : ℕ) (l : Result Said Bad) (events : List Event) (s : State) → run_line model line l (behind events s)
         ≡ behind_in events (run_line model line l s) }

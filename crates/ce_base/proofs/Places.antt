@@ -1,5 +1,5 @@
 -- Members of lists by their places.
-use Rattle.std.proofs.Common.{◌≡◌, ◌≢◌, ℕ, zero, suc, ◌<◌, Bool, true, false, List, [], ◌∷◌, length, Some, None, refl, ap, subst, arith}
+use Rattle.std.proofs.Common.{◌≡◌, ◌≢◌, ℕ, zero, suc, ◌<◌, Bool, true, false, List, [], ◌∷◌, ◌++◌, length, Some, None, refl, ap, subst, arith}
 use Rattle.std.specs.Prelude.{slice_get, slice_set, ◌==◌}
 use Rattle.std.proofs.lemmas.Bool.{eqb-true}
 
@@ -22,6 +22,12 @@ set_other (x ∷ xs) zero zero y other = absurd (other refl)
 set_other (x ∷ xs) zero (suc j) y other = refl
 set_other (x ∷ xs) (suc i) zero y other = refl
 set_other (x ∷ xs) (suc i) (suc j) y other = set_other xs i j y (λ e. other (ap suc e))
+
+-- and where more is appended
+pub slice_get-append_front : {A : Type 0} (xs ys : List A) (i : ℕ) → i < length xs → slice_get (xs ++ ys) i ≡ slice_get xs i
+slice_get-append_front [] ys i within = absurd (omega (arith, within))
+slice_get-append_front (x ∷ xs) ys zero within = refl
+slice_get-append_front (x ∷ xs) ys (suc i) within = slice_get-append_front xs ys i (omega (arith, within))
 
 -- a claim of each number, from the one at hand and from the others
 pub each_number : (P : ℕ → Type 0) (n : ℕ) → P n → ((m : ℕ) → n == m ≡ false → P m) → (m : ℕ) → P m

@@ -21,8 +21,8 @@ use Rattle.ce_algorithms.specs.Written.{behind_in}
 use Rattle.ce_algorithms.proofs.Framed.{Framed, framed_steps, framed_give, framed_done, framed_log, framed_throw, framed_seq, framed_throw_if, framed_found}
 use Rattle.ce_algorithms.proofs.Framed.{framed_on_page, then_do_behind, catch_behind, finally_behind, attempt_behind}
 use Rattle.ce_algorithms.proofs.FramedLevels.{framed_told, framed_caught, framed_keep, framed_create_failed, framed_upgrade_failed, framed_upgrade_threw}
-use Rattle.ce_algorithms.proofs.FramedDrain.{framed_model, framed_body, framed_drain, framed_drain_popped}
-use Rattle.ce_algorithms.proofs.FramedSteps.{framed_checkpoint}
+use Rattle.ce_algorithms.proofs.FramedModel.{framed_model, framed_body, framed_drain, framed_drain_popped}
+use Rattle.ce_algorithms.proofs.FramedLines.{framed_checkpoint}
 use Rattle.ce_frames.specs.Frames.{Frame, Replying, Checking, DrainingBackup, Naming, Stepping, Draining, InReaction, CreatingFit, CreatingExtended, Upgrading}
 use Rattle.ce_frames.specs.Frames.{Constructing, InBody}
 use Rattle.ce_frames.specs.Handing.{node_in, given_of, dropped, numbered}

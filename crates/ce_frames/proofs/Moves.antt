@@ -1,6 +1,6 @@
 -- A behaviour that moves from one place to another is still in one place.
 use Rattle.std.proofs.Common.{◌≡◌, ℕ, zero, suc, ◌<◌, Bool, true, false, List, [], ◌∷◌, ◌++◌, map, length, drop, Option, Some, None, refl, sym, ap, ◌∙◌, subst}
-use Rattle.std.proofs.Common.{arith, append_assoc, append-nil}
+use Rattle.std.proofs.Common.{arith, append_assoc, append-nil, length-set}
 use Rattle.std.specs.Prelude.{slice_get, slice_set, ◌==◌}
 use Rattle.std.proofs.lemmas.Bool.{eqb-true, eqb-false, eq-eqb, false≢true}
 use Rattle.std.proofs.lemmas.Option.{slice_get_within}
@@ -118,11 +118,6 @@ set_else j (x ∷ frames) (suc i) f g at no_f no_g = ap (place_if (is_of j x) (h
 
 -- homes and behaviours
 
-set_length : {X : Type 0} (xs : List X) (k : ℕ) (y : X) → length (slice_set xs k y) ≡ length xs
-set_length [] k y = refl
-set_length (z ∷ xs) zero y = refl
-set_length (z ∷ xs) (suc k) y = ap suc (set_length xs k y)
-
 -- a home that is emptied
 home_emptied : (homes : Homes) (k : ℕ) → home_of (slice_set homes k None) k ≡ None
 home_emptied [] k = refl
@@ -232,7 +227,7 @@ pub from_home : (homes : Homes) (frames : List Held) (bs : List Behaviour) (k : 
     → Stands (slice_set homes k None) (frames ++ Body k p (home_of homes k) ∷ []) bs
 from_home homes frames bs k p none s =
     record {
-      each = set_length homes k None
+      each = length-set homes k None
           ∙ s.each;
       one = each_number
           (λ j. OnlyLast (slice_get bs j) (home_of (slice_set homes k None) j ∷ places_of j (frames ++ Body k p (home_of homes k) ∷ []))) k here others;
@@ -257,7 +252,7 @@ pub to_home : (homes : Homes) (frames : List Held) (bs : List Behaviour) (k : �
     → Stands homes (frames ++ Body k p (Some b) ∷ []) bs → Stands (slice_set homes k (Some b)) frames bs
 to_home homes frames bs k p b none s =
     record {
-      each = set_length homes k (Some b)
+      each = length-set homes k (Some b)
           ∙ s.each;
       one = each_number (λ j. OnlyLast (slice_get bs j) (home_of (slice_set homes k (Some b)) j ∷ places_of j frames)) k here others;
     }
@@ -282,7 +277,7 @@ pub changed : (homes : Homes) (frames : List Held) (bs : List Behaviour) (k : �
 changed homes frames bs k p q b c s =
     record {
       each = s.each
-          ∙ sym (set_length bs k c);
+          ∙ sym (length-set bs k c);
       one = each_number
           (λ j. OnlyLast (slice_get (slice_set bs k c) j) (home_of homes j ∷ places_of j (frames ++ Body k q (Some c) ∷ []))) k here others;
     }

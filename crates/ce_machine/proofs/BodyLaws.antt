@@ -1,9 +1,10 @@
 -- Turns of bodies, of the whole session.
-use Rattle.std.proofs.Common.{◌≡◌, ℕ, zero, suc, ◌<◌, ◌≤◌, Bool, true, false, List, [], ◌∷◌, ◌++◌, length, Option, Some, None, refl, ap, sym, ◌∙◌, subst, arith}
+use Rattle.std.proofs.Common.{◌≡◌, ℕ, ◌<◌, ◌≤◌, Bool, true, false, List, [], ◌∷◌, ◌++◌, length, Option, Some, None, refl, ap, sym, ◌∙◌, subst, arith}
 use Rattle.std.proofs.Common.{length-set}
 use Rattle.std.specs.Prelude.{Result, Ok, Err, IfOk, IfSome, IfNone, slice_set, ◌⊎◌}
 use Rattle.std.proofs.Common.{inl, inr}
 use Rattle.std.proofs.lemmas.Bool.{cases_lt}
+use Rattle.std.proofs.Math.Seq.{set_out}
 use Rattle.ce_base.specs.declared.fault.Fault.{Fault}
 use Rattle.ce_base.specs.declared.memory.NoMemory.{NoMemory}
 use Rattle.node_trees.specs.Nodes.{IsNode, size}
@@ -53,7 +54,7 @@ use Rattle.frame_stack.proofs.ClassLaws.{behaviour_there}
 
 -- where the forest has grown
 
-this_grows : (F G : Trees) (o : Option ℕ) → size F ≤ size G → IfSome o (IsNode F) → IfSome o (IsNode G)
+pub this_grows : (F G : Trees) (o : Option ℕ) → size F ≤ size G → IfSome o (IsNode F) → IfSome o (IsNode G)
 this_grows F G None le h = tt
 this_grows F G (Some n) le h = record { low = h.low; high = let x = h.high in omega (arith, x, le) }
 
@@ -198,11 +199,6 @@ operation_turns old new s t this op (Err x) b is h = tt
 
 -- where a body has stopped, it goes on
 
-set_past : {X : Type 0} (xs : List X) (k : ℕ) (x : X) → length xs ≤ k → slice_set xs k x ≡ xs
-set_past [] k x h = refl
-set_past (y ∷ xs) zero x h = absurd (omega (arith, h))
-set_past (y ∷ xs) (suc k) x h = ap (λ l. y ∷ l) (set_past xs k x (omega (arith, h)))
-
 -- a body without actions
 idle_body : (class : ℕ) (args : Args) (this : Option ℕ) (t : State) → stop_turn class args this [] (Returning None false) t ≡ body_turn class args this [] t
 unfolding body_turn
@@ -265,7 +261,7 @@ module _ (old new : Stacked) (s s1 : State) (next : Next) (h : Resumes old new s
   idle_session : length bs ≤ r.class → session new s1 ≡ session old s
   idle_session past =
       session_new
-      ∙ ap (λ (l : List Behaviour). whole l (record s { fuel = came.fuel })) (set_past bs r.class (record mine { memory = came.memory }) past)
+      ∙ ap (λ (l : List Behaviour). whole l (record s { fuel = came.fuel })) (set_out bs r.class (record mine { memory = came.memory }) past)
       ∙ ap (λ (x : Resumed). whole bs (record s { fuel = x.fuel })) (idle_came past)
 
   same_past : length bs ≤ r.class → stopped_turn (stop_of next) (frame_on_top new) (session new s1) ≡ running_turn (frame_on_top old) (session old s)

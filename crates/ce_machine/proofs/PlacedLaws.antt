@@ -40,7 +40,7 @@ use Rattle.frame_stack.specs.Stacked.{Stacked, HasBody, below_top, frames_of, th
 use Rattle.ce_machine.specs.Bodies.{frame_on_top}
 use Rattle.ce_outcomes.specs.Turns.{Turns, end_of}
 use Rattle.ce_drains.proofs.SettleLaws.{threw_settles, upgrade_settles, went_settles}
-use Rattle.ce_machine.proofs.BodyLaws.{on_top, popped_body}
+use Rattle.ce_machine.proofs.BodyLaws.{on_top, popped_body, this_grows}
 use Rattle.ce_outcomes.specs.Given.{IsThere}
 use Rattle.ce_outcomes.specs.Placed.{IsEndThere, IsKeptThere, Reaches, Gives, IsNamed, ArePlaced, Creates, IfCreating, Lasts}
 
@@ -55,10 +55,6 @@ there_grows F G le Ignored h = h
 kept_grows : (F G : Trees) → size F ≤ size G → (kept : Result Given Fault) → IsKeptThere F kept → IsKeptThere G kept
 kept_grows F G le (Ok given) h = there_grows F G le given h
 kept_grows F G le (Err x) h = h
-
-this_grows : (F G : Trees) → size F ≤ size G → (o : Option ℕ) → IfSome o (IsNode F) → IfSome o (IsNode G)
-this_grows F G le None h = tt
-this_grows F G le (Some n) h = record { low = h.low; high = let x = h.high in omega (arith, x, le) }
 
 -- frames on frames
 
@@ -79,7 +75,7 @@ named_below F G le (waiting.Naming var) xs above above' e e' g h = given_below F
 named_below F G le (waiting.Stepping queue) xs above above' e e' g h = given_below F G le xs above above' e e' g h
 named_below F G le (waiting.CreatingFit local document) xs above above' e e' g h = given_below F G le xs above above' e e' g h
 named_below F G le waiting.Constructing xs above above' e e' g h = given_below F G le xs above above' e e' g h
-named_below F G le (waiting.InBody class args this guarded actions) xs above above' e e' g h = this_grows F G le this h
+named_below F G le (waiting.InBody class args this guarded actions) xs above above' e e' g h = this_grows F G this le h
 named_below F G le x xs above above' e e' g h = h
 
 -- other frames above the same ones

@@ -1,9 +1,7 @@
 -- What comes of upgrades and creations.
 use Rattle.std.proofs.Common.{◌≡◌, ℕ, refl, ap, sym, ◌∙◌, List}
-use Rattle.std.specs.Prelude.{Result, Ok, Err, IfOk}
+use Rattle.std.specs.Prelude.{Result, Ok, Err}
 use Rattle.ce_base.specs.declared.fault.Fault.{Fault}
-use Rattle.node_trees.specs.Nodes.{IsNode}
-use Rattle.node_trees.specs.Trees.{Trees}
 use Rattle.ce_algorithms.specs.declared.given.Given.TheVariants.{Node, Nothing}
 use Rattle.ce_algorithms.specs.Construction.{pop_construction}
 use Rattle.ce_algorithms.specs.Create.{fitting}
@@ -14,15 +12,8 @@ use Rattle.ce_frames.specs.ConstructTurns.{upgrade_result_turn, upgraded_turn, c
 use Rattle.ce_frames.specs.Frames as waiting
 use Rattle.ce_frames.specs.Turned.{ended, go_on, turn_after}
 use Rattle.ce_frames.specs.Turns.{turn_threw, turn_went}
-use Rattle.session_state.specs.PageStop.{PageStop}
-use Rattle.session_state.specs.Given.{IsThere, node_of}
 use Rattle.ce_outcomes.specs.declared.came.Came.{Came}
 use Rattle.ce_outcomes.specs.Turns.{came_in}
-
--- a node that a step gave
-pub node_there : (r : Result ℕ PageStop) (F : Trees) → IfOk r (IsNode F) → IfOk (node_of r) (IsThere F)
-node_there (Ok n) F h = h
-node_there (Err x) F h = tt
 
 -- the construction for an upgrade has ended
 

@@ -1,5 +1,5 @@
 -- Which elements are form-associated custom ones, where the rows and the definitions of a page change.
-use Rattle.std.proofs.Common.{◌≡◌, ◌≢◌, ℕ, zero, suc, ◌+◌, ◌-◌, ◌<◌, ◌≤◌, ◌==◌, Bool, true, false, not, ◌&&◌, ◌||◌, cond, List, [], ◌∷◌, ◌++◌, length, Option}
+use Rattle.std.proofs.Common.{◌≡◌, ◌≢◌, ℕ, zero, suc, ◌+◌, ◌-◌, ◌<◌, ◌==◌, Bool, true, false, not, ◌&&◌, ◌||◌, cond, List, [], ◌∷◌, ◌++◌, length, Option}
 use Rattle.std.proofs.Common.{Some, None, refl, sym, ap, ◌∙◌, subst, inl, inr, arith, length-append}
 use Rattle.std.specs.Prelude.{filter, slice_get}
 use Rattle.std.specs.List.{range_with_len}
@@ -7,12 +7,14 @@ use Rattle.std.specs.Option.{option_and_then}
 use Rattle.std.proofs.lemmas.Bool.{cases_eq}
 use Rattle.std.proofs.lemmas.Bool.Decides.{nat_tests}
 use Rattle.std.proofs.lemmas.List.{length-set}
+use Rattle.ce_base.proofs.Places.{slice_get-append_front}
 use Rattle.node_trees.specs.Paths.{is_among}
 use Rattle.ce_registry.specs.declared.definition.Definition.{Definition}
 use Rattle.form_owner.specs.Touches.{with_associated}
 use Rattle.form_owner.proofs.Rows.{filter-members, range-more}
 use Rattle.ce_algorithms.specs.Page.{Element, uncustomized}
 use Rattle.ce_algorithms.specs.Forms.{associated_in, is_associated_in, is_form_associated}
+use Rattle.telling_law.proofs.Differences.{range-among}
 use Rattle.ce_page.specs.Rows.{definition_in, redefined}
 use Rattle.ce_page.proofs.RowLemmas.{definition_in-new, definition_in-other}
 
@@ -55,11 +57,6 @@ row_behind definitions elements =
 
 -- a definition put behind the others
 
-got_before : (definitions : List Definition) (x : Definition) (d : ℕ) → d < length definitions → slice_get (definitions ++ x ∷ []) d ≡ slice_get definitions d
-got_before [] x d lt = absurd (omega (arith, lt))
-got_before (y ∷ ys) x zero lt = refl
-got_before (y ∷ ys) x (suc d) lt = got_before ys x d (omega (arith, lt))
-
 pub definition_behind : (definitions : List Definition) (x : Definition) (elements : List Element)
     → ((i d : ℕ) → definition_in elements i ≡ Some d → d < length definitions)
     → associated_in elements (definitions ++ x ∷ []) ≡ associated_in elements definitions
@@ -69,7 +66,7 @@ definition_behind definitions x elements given =
   where
     by_definition : (i : ℕ) (d : Option ℕ) → definition_in elements i ≡ d → associated_by (definitions ++ x ∷ []) d ≡ associated_by definitions d
     by_definition i None is = refl
-    by_definition i (Some d) is = ap is_form_associated (got_before definitions x d (given i d is))
+    by_definition i (Some d) is = ap is_form_associated (slice_get-append_front definitions (x ∷ []) d (given i d is))
 
 -- numbers that are among others
 
@@ -104,19 +101,6 @@ among_filter p [] m = none (p m)
     none false = refl
 among_filter p (x ∷ xs) m = among_by p xs x m (among_filter p xs m) (p x) refl
 
-among_range : (a n m : ℕ) → a ≤ m → m < a + n → is_among m (range_with_len a n) ≡ true
-among_range a zero m low lt = absurd (omega (arith, low, lt))
-among_range a (suc n) m low lt = elim (cases_eq a m) [
-  | inl e ↦ let here : (a == m) ≡ true = grind (arith, nat_tests) in ap (λ v. v || is_among m (range_with_len (a + 1) n)) here
-  | inr ne ↦
-      let later : is_among m (range_with_len (a + 1) n) ≡ true = among_range (a + 1) n m (omega (arith, low, ne)) (omega (arith, lt)) in
-      by_test (a == m) later
-]
-  where
-    by_test : (b : Bool) → is_among m (range_with_len (a + 1) n) ≡ true → (b || is_among m (range_with_len (a + 1) n)) ≡ true
-    by_test true h = refl
-    by_test false h = h
-
 among_below : (a n m : ℕ) → m < a → is_among m (range_with_len a n) ≡ false
 among_below a zero m lt = refl
 among_below a (suc n) m lt =
@@ -140,7 +124,7 @@ is_associated_at definitions elements n low =
   where
     by_test : (b : Bool) → is_associated_in elements definitions n ≡ b → (b && is_among n (range_with_len 1 (length elements))) ≡ b
     by_test false is = refl
-    by_test true is = let lt = has_row definitions elements (n - 1) is in among_range 1 (length elements) n (omega (arith, low)) (omega (arith, lt, low))
+    by_test true is = let lt = has_row definitions elements (n - 1) is in range-among 1 (length elements) n (omega (arith, low)) (omega (arith, lt, low))
 
 -- the row of n given another definition, or none
 
@@ -165,7 +149,7 @@ module _ (definitions : List Definition) (elements : List Element) (n : ℕ) (d 
 
   there : now n ≡ true → is_among n numbers ≡ true
   there on = let lt = has_row definitions (redefined elements n d) (n - 1) on in
-      among_range 1 (length elements) n (omega (arith, low)) (omega (arith, lt, low, long))
+      range-among 1 (length elements) n (omega (arith, low)) (omega (arith, lt, low, long))
 
   apart_stays : (m : ℕ) → n ≢ m → (now m && is_among m numbers) ≡ (before m && is_among m numbers)
   apart_stays zero apart =

@@ -1,12 +1,13 @@
 -- What waits, waits at elements after each change of what waits.
-use Rattle.std.proofs.Common.{◌≡◌, ℕ, ◌+◌, ◌-◌, List, [], ◌∷◌, Option, Some, None, MatchOption, IfSome, refl, sym, ◌∙◌, subst, inl, inr}
+use Rattle.std.proofs.Common.{◌≡◌, ℕ, ◌+◌, ◌-◌, List, [], ◌∷◌, Option, Some, None, MatchOption, IfSome, sym, ◌∙◌, subst, inl, inr}
 use Rattle.std.proofs.lemmas.Bool.{cases_eq}
 use Rattle.node_trees.specs.Trees.{Trees}
 use Rattle.node_trees.specs.Kinds.{IsElement}
 use Rattle.reaction_queue.specs.declared.reaction.Reaction.{Reaction}
-use Rattle.reaction_queue.specs.Queues.{Queues, Open, with_list, waiting_at, with_waiting, counted, with_reaction, appended_to, enqueued}
+use Rattle.reaction_queue.specs.Queues.{Queues, with_list, waiting_at, with_waiting, counted, with_reaction, enqueued}
 use Rattle.reaction_queue.specs.Changes.{DropsFirst}
 use Rattle.reaction_queue.proofs.PlaceLemmas.{list_other}
+use Rattle.telling_law.proofs.Waiting.{waiting-appended}
 use Rattle.ce_page.specs.Elements.{WaitAtElements}
 
 -- a list given anew where there is an element
@@ -19,14 +20,10 @@ given_waits forest i xs waiting here h j some = elim (cases_eq i j) [
 
 -- a reaction enqueued
 
-appended_to-waiting : (s : List Open) (n : ℕ) (q : Queues) → (appended_to s n q).waiting ≡ q.waiting
-appended_to-waiting [] n q = refl
-appended_to-waiting (o ∷ os) n q = refl
-
 pub enqueued_waits : (forest : Trees) (n : ℕ) (r : Reaction) (q : Queues) → IsElement forest (n - 1 + 1) → WaitAtElements q.waiting forest
     → WaitAtElements (enqueued n r q).waiting forest
 enqueued_waits forest n r q here h =
-    subst (λ waiting. WaitAtElements waiting forest) (sym (appended_to-waiting q.stack n (with_reaction n r (counted q))))
+    subst (λ waiting. WaitAtElements waiting forest) (sym (waiting-appended q.stack n (with_reaction n r (counted q))))
     (given_waits forest (n - 1) _ q.waiting here h)
 
 -- the first reaction of a node taken

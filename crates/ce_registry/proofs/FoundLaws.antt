@@ -11,10 +11,10 @@ use Rattle.std.specs.Map.{update}
 use Rattle.std.specs.Ordering.{nat_cmp, is_eq}
 use Rattle.std.proofs.lemmas.Iterator.Adapters.{position_from-zero}
 use Rattle.std.proofs.lemmas.List.{get_or_push, length-append}
-use Rattle.std.proofs.Math.ListN.{get_or-append}
 use Rattle.std.proofs.lemmas.List.Folds.{list_any_more}
 use Rattle.std.proofs.lemmas.List.Quantifiers.{position-Some}
 use Rattle.std.proofs.lemmas.Option.{slice_get-get_or}
+use Rattle.ce_base.proofs.Places.{slice_get-append_front}
 use Rattle.ce_registry.specs.declared.definition.Definition.{Definition}
 use Rattle.ce_registry.specs.Registry.{by_name, by_class, by_names}
 use Rattle.ce_registry.specs.Found.{Finds, has_local, with_local}
@@ -50,10 +50,6 @@ found-within p xs d = go (position p xs) refl
     go None e = tt
     go (Some i) e = (position-Some p xs i d e).0
 
-get-kept : (ds : List Definition) (d : Definition) (i : ℕ) → i < length ds → slice_get (ds ++ d ∷ []) i ≡ slice_get ds i
-get-kept ds d i within = slice_get-get_or (ds ++ d ∷ []) i d (rw (length-append ds (d ∷ [])) (omega arith)) ∙ ap Some (get_or-append ds (d ∷ []) d i within)
-    ∙ sym (slice_get-get_or ds i d within)
-
 get-last : (ds : List Definition) (d : Definition) → slice_get (ds ++ d ∷ []) (length ds) ≡ Some d
 get-last ds d = slice_get-get_or (ds ++ d ∷ []) (length ds) d (rw (length-append ds (d ∷ [])) (omega arith)) ∙ ap Some (get_or_push ds d d (length ds) refl)
 
@@ -86,7 +82,7 @@ names-more s n names i key q within is sets before =
 local-kept : (ds : List Definition) (d : Definition) (local : List ℕ) (o : Option ℕ) → IfSome o (λ i. i < length ds)
     → with_local (ds ++ d ∷ []) o local ≡ with_local ds o local
 local-kept ds d local None within = refl
-local-kept ds d local (Some i) within = ap (λ (e : Option Definition). cond (has_local e local) (Some i) None) (get-kept ds d i within)
+local-kept ds d local (Some i) within = ap (λ (e : Option Definition). cond (has_local e local) (Some i) None) (slice_get-append_front ds (d ∷ []) i within)
 
 local-last : (ds : List Definition) (d : Definition) (local : List ℕ)
     → with_local (ds ++ d ∷ []) (Some (length ds)) local ≡ cond (bytes_eq d.local local) (Some (length ds)) None

@@ -3,6 +3,7 @@ use Rattle.std.proofs.Common.{◌≡◌, ℕ, zero, suc, ◌<◌, ◌≤◌, tru
 use Rattle.std.specs.Prelude.{slice_get, slice_set, is_some, MatchOption}
 use Rattle.std.proofs.lemmas.List.{length-set, map-append, set-append_left, set_at, length-append}
 use Rattle.std.proofs.lemmas.Option.{slice_get_within, slice_get_past}
+use Rattle.ce_base.proofs.Places.{slice_get-append_front}
 use Rattle.rule_tokens.specs.declared.callback.CallName.{CallName}
 use Rattle.rule_lines.specs.Acts.{Act}
 use Rattle.ce_frames.specs.Frames.{Frame}
@@ -13,20 +14,15 @@ use Rattle.frame_stack.specs.Chains.{AreChained, indices_of, linked, topmost}
 use Rattle.frame_stack.specs.Moves.{frames_left, held_at, holding_at, homes_left, or_waiting, taken}
 use Rattle.frame_stack.specs.Order.{AreInOrder}
 use Rattle.frame_stack.specs.Stacked.{behaviours_of, bodies_in, frames_of, placed_from}
-use Rattle.frame_stack.proofs.ChainLaws.{chained_as, chained_known, chained_push, holding_indices, topmost_at, topmost_none, unknown_indices}
+use Rattle.frame_stack.proofs.ChainLaws.{chained_known, chained_push, holding_indices, topmost_at, topmost_none, unknown_indices}
 use Rattle.frame_stack.proofs.PushLaws.{frames_are}
 use Rattle.frame_stack.proofs.Settled.{behaviours_are, in_order}
 use Rattle.frame_stack.proofs.TopLaws.{get_push}
 
 -- lists
 
-get_front : {X : Type 0} (xs : List X) (x : X) (i : ℕ) → i < length xs → slice_get (xs ++ x ∷ []) i ≡ slice_get xs i
-get_front [] x i h = absurd (omega (arith, h))
-get_front (y ∷ xs) x zero h = refl
-get_front (y ∷ xs) x (suc i) h = get_front xs x i (omega (arith, h))
-
 pub front_held : (frames : List Held) (f : Held) (i : ℕ) → i < length frames → held_at (frames ++ f ∷ []) i ≡ held_at frames i
-front_held frames f i h = ap or_waiting (get_front frames f i h)
+front_held frames f i h = ap or_waiting (slice_get-append_front frames (f ∷ []) i h)
 
 -- what a frame below the last one holds is changed
 pub holding_front : (frames : List Held) (f : Held) (i : ℕ) (b : Option Behaviour) → i < length frames
@@ -162,7 +158,7 @@ module _ (homes : Homes) (chains : List (List ℕ)) (frames : List Held) (k : �
   chained =
       let left : List Held = frames_left (topmost k chains) frames in
       let c : AreChained (length homes) chains left =
-      chained_as (length homes) chains frames left (λ j. begun_indices frames k j (topmost k chains) where_it_is) o.chained in
+      chained_known (length homes) chains frames left (λ j _. begun_indices frames k j (topmost k chains) where_it_is) o.chained in
       let more = chained_push (length homes) k chains left p (taken (topmost k chains) k homes frames) c within in
       subst (λ n. AreChained n (linked k (length frames) chains) new_frames) (sym (left_homes homes frames k (topmost k chains) where_it_is))
       (subst (λ l. AreChained (length homes) (linked k (length frames) chains) l) (sym frames_is)

@@ -129,10 +129,10 @@ topmost_none classes k chains frames c within h =
 
 -- changes
 
--- frames of which each class has as many, and at the same places
-pub chained_as : (classes : ℕ) (chains : List (List ℕ)) (old new : List Held) → ((k : ℕ) → indices_of k new ≡ indices_of k old) → AreChained classes chains old
-    → AreChained classes chains new
-chained_as classes chains old new same c = record { each = c.each; known = λ k within. c.known k within ∙ ap Some (sym (same k)) }
+-- frames of which each class that is there has as many, and at the same places
+pub chained_known : (classes : ℕ) (chains : List (List ℕ)) (old new : List Held) → ((k : ℕ) → k < classes → indices_of k new ≡ indices_of k old)
+    → AreChained classes chains old → AreChained classes chains new
+chained_known classes chains old new same c = record { each = c.each; known = λ k within. c.known k within ∙ ap Some (sym (same k within)) }
 
 pub wait_indices : (k : ℕ) (frames : List Held) (f : Frame) → indices_of k (frames ++ Wait f ∷ []) ≡ indices_of k frames
 wait_indices k frames f = else_push k frames (Wait f) refl
@@ -177,10 +177,6 @@ unknown_indices classes k j frames p h past within = else_push j frames (Body k 
     go : (t : Bool) → k == j ≡ t → t ≡ false
     go true is = let same = eqb-true k j is in absurd (omega (arith, past, within, same))
     go false is = refl
-
-pub chained_known : (classes : ℕ) (chains : List (List ℕ)) (old new : List Held) → ((k : ℕ) → k < classes → indices_of k new ≡ indices_of k old)
-    → AreChained classes chains old → AreChained classes chains new
-chained_known classes chains old new same c = record { each = c.each; known = λ k within. c.known k within ∙ ap Some (sym (same k within)) }
 
 -- what a frame holds is changed
 pub holding_indices : (k j : ℕ) (frames : List Held) (f : Held) (b : Option Behaviour) → slice_get frames j ≡ Some f

@@ -1,6 +1,6 @@
 -- The classes, while no frame lies on the stack.
 use Rattle.std.proofs.Common.{◌≡◌, ℕ, zero, suc, ◌<◌, ◌≤◌, ◌+◌, true, List, [], ◌∷◌, ◌++◌, map, length, Option, Some, refl, ap, sym, ◌∙◌, subst, arith}
-use Rattle.std.proofs.Common.{length-append}
+use Rattle.std.proofs.Common.{length-append, length-set}
 use Rattle.std.specs.Prelude.{slice_get, slice_set, is_some, ◌⊎◌, OnOk, OnErr, Result, Ok, Err}
 use Rattle.std.proofs.Common.{inl, inr}
 use Rattle.std.proofs.lemmas.Bool.{cases_lt}
@@ -16,6 +16,7 @@ use Rattle.frame_stack.specs.Changes.{extended as extended_in}
 use Rattle.frame_stack.specs.Order.{AreInOrder}
 use Rattle.frame_stack.specs.Stacked.{Stacked, behaviour_at, behaviours_of, placed_from}
 use Rattle.frame_stack.proofs.Settled.{behaviours_are, in_order}
+use Rattle.frame_stack.proofs.TopLaws.{get_push}
 
 -- all behaviours are at home
 pub homes_are : (homes : Homes) (chains : List (List ℕ)) (frames : List Held) → AreInOrder homes chains frames → frames ≡ []
@@ -25,12 +26,13 @@ homes_are homes chains frames o none =
 
 -- chains of no frames
 
-get_push : {X : Type 0} (xs : List X) (x : X) (k : ℕ) → k < length xs + 1
+-- with one member more at the end, a place has what it had, or is the last and has that member
+front_or_last : {X : Type 0} (xs : List X) (x : X) (k : ℕ) → k < length xs + 1
     → (slice_get (xs ++ x ∷ []) k ≡ slice_get xs k) ⊎ ((k ≡ length xs) × (slice_get (xs ++ x ∷ []) k ≡ Some x))
-get_push [] x zero h = inr (refl, refl)
-get_push [] x (suc k) h = absurd (omega (arith, h))
-get_push (y ∷ xs) x zero h = inl refl
-get_push (y ∷ xs) x (suc k) h = go (get_push xs x k (omega (arith, h)))
+front_or_last [] x zero h = inr (refl, refl)
+front_or_last [] x (suc k) h = absurd (omega (arith, h))
+front_or_last (y ∷ xs) x zero h = inl refl
+front_or_last (y ∷ xs) x (suc k) h = go (front_or_last xs x k (omega (arith, h)))
   where
     go : (slice_get (xs ++ x ∷ []) k ≡ slice_get xs k) ⊎ ((k ≡ length xs) × (slice_get (xs ++ x ∷ []) k ≡ Some x))
         → (slice_get (xs ++ x ∷ []) k ≡ slice_get xs k) ⊎ ((suc k ≡ suc (length xs)) × (slice_get (xs ++ x ∷ []) k ≡ Some x))
@@ -40,7 +42,7 @@ get_push (y ∷ xs) x (suc k) h = go (get_push xs x k (omega (arith, h)))
 more_chains : (n : ℕ) (chains : List (List ℕ)) → AreChained n chains [] → AreChained (n + 1) (chains ++ [] ∷ []) []
 more_chains n chains c = record {
   each = let each = c.each in omega (arith, each, length-append chains ([] ∷ []));
-  known = λ k h. go k h (get_push chains [] k (let each = c.each in omega (arith, h, each)));
+  known = λ k h. go k h (front_or_last chains [] k (let each = c.each in omega (arith, h, each)));
 }
   where
     go : (k : ℕ) → k < n + 1 → (slice_get (chains ++ [] ∷ []) k ≡ slice_get chains k) ⊎ ((k ≡ length chains) × (slice_get (chains ++ [] ∷ []) k ≡ Some []))
@@ -51,11 +53,7 @@ more_chains n chains c = record {
         within : (k : ℕ) → k < n + 1 → slice_get (chains ++ [] ∷ []) k ≡ slice_get chains k → (k < n) ⊎ (n ≤ k) → slice_get (chains ++ [] ∷ []) k ≡ Some []
         within k h e (inl less) = e ∙ c.known k less
         within k h e (inr past) = let each = c.each in let is : length chains ≡ k =
-            omega (arith, h, past, each) in ap (slice_get (chains ++ [] ∷ [])) (sym is) ∙ end chains
-          where
-            end : (xs : List (List ℕ)) → slice_get (xs ++ [] ∷ []) (length xs) ≡ Some []
-            end [] = refl
-            end (x ∷ xs) = end xs
+            omega (arith, h, past, each) in ap (slice_get (chains ++ [] ∷ [])) (sym is) ∙ get_push chains []
 
 -- one class more
 module _ (homes : Homes) (chains : List (List ℕ)) (frames : List Held) (o : AreInOrder homes chains frames) (none : frames ≡ []) where
@@ -125,12 +123,7 @@ module _ (homes : Homes) (chains : List (List ℕ)) (frames : List Held) (k : �
       (subst (λ (h : Homes). Stands h [] longer) (sym longer_homes) (at_home longer))
 
   same_length : length (extended_at k call action homes) ≡ length homes
-  same_length = go homes k (extended call action (home_of homes k))
-    where
-      go : (xs : Homes) (k : ℕ) (y : Option Behaviour) → length (slice_set xs k y) ≡ length xs
-      go [] k y = refl
-      go (x ∷ xs) zero y = refl
-      go (x ∷ xs) (suc k) y = ap suc (go xs k y)
+  same_length = length-set homes k (extended call action (home_of homes k))
 
   pub extend_order : AreInOrder (extended_at k call action homes) chains frames
   extend_order =

@@ -14,7 +14,7 @@ use Rattle.frame_stack.specs.Moves.{frames_filled, homes_filled, or_waiting}
 use Rattle.frame_stack.specs.Order.{AreInOrder}
 use Rattle.frame_stack.specs.Stacked.{behaviours_of, below_top, bodies_in, frames_of, placed_from}
 use Rattle.frame_stack.proofs.BeginLaws.{Found, class_gone, class_there, found, seen_set}
-use Rattle.frame_stack.proofs.ChainLaws.{chained_as, chained_known, chained_pop, holding_indices, unknown_indices}
+use Rattle.frame_stack.proofs.ChainLaws.{chained_known, chained_pop, holding_indices, unknown_indices}
 use Rattle.frame_stack.proofs.PushLaws.{frames_are}
 use Rattle.frame_stack.proofs.Settled.{behaviours_are, in_order}
 use Rattle.frame_stack.proofs.TopLaws.{below_push}
@@ -105,7 +105,8 @@ module _ (homes : Homes) (chains : List (List ℕ)) (frames : List Held) (k : �
   pub end_order : AreInOrder (homes_filled below k b homes) (unlinked k chains) (frames_filled below b frames)
   end_order = in_order (homes_filled below k b homes) (unlinked k chains) (frames_filled below b frames) all stands
       (subst (λ n. AreChained n (unlinked k chains) (frames_filled below b frames)) (sym (filled_homes homes frames k b below where_it_goes))
-      (chained_as (length homes) (unlinked k chains) frames (frames_filled below b frames) (λ j. ended_indices frames k j b below where_it_goes) left_chained))
+      (chained_known (length homes) (unlinked k chains) frames (frames_filled below b frames)
+      (λ j _. ended_indices frames k j b below where_it_goes) left_chained))
 
   pub end_behaviours : behaviours_of (record { homes = homes_filled below k b homes; frames = frames_filled below b frames })
       ≡ behaviours_of (record { homes = homes; frames = frames ++ Body k p (Some b) ∷ [] })

@@ -12,7 +12,7 @@ use Rattle.ce_frames.proofs.Moves.{waits, waited}
 use Rattle.frame_stack.specs.Frames.{is_waiting}
 use Rattle.frame_stack.specs.Order.{AreInOrder}
 use Rattle.frame_stack.specs.Stacked.{Stacked, HasBody, Running, behaviours_of, bodies_in, frames_of, in_body, placed_from, top_of}
-use Rattle.frame_stack.proofs.ChainLaws.{chained_as, wait_indices}
+use Rattle.frame_stack.proofs.ChainLaws.{chained_known, wait_indices}
 use Rattle.frame_stack.proofs.Settled.{behaviours_are, in_order}
 use Rattle.frame_stack.proofs.TopLaws.{Ends, AtNone, AtLast, ends, last_push, top_push}
 
@@ -30,7 +30,7 @@ module _ (homes : Homes) (chains : List (List ℕ)) (frames : List Held) (f : Fr
 
     pub push_order : AreInOrder homes chains (frames ++ Wait f ∷ [])
     push_order = in_order homes chains (frames ++ Wait f ∷ []) (placed_from 0 frames homes) pushed_stands
-        (chained_as (length homes) chains frames (frames ++ Wait f ∷ []) (λ k. wait_indices k frames f) o.chained)
+        (chained_known (length homes) chains frames (frames ++ Wait f ∷ []) (λ k _. wait_indices k frames f) o.chained)
 
     pub push_behaviours : behaviours_of (record { homes = homes; frames = frames ++ Wait f ∷ [] }) ≡ behaviours_of (record { homes = homes; frames = frames })
     push_behaviours = behaviours_are homes (frames ++ Wait f ∷ []) (placed_from 0 frames homes) pushed_stands
@@ -49,7 +49,7 @@ module _ (homes : Homes) (chains : List (List ℕ)) (frames : List Held) (f : Fr
 
     pub pop_order : AreInOrder homes chains frames
     pop_order = in_order homes chains frames (placed_from 0 (frames ++ Wait f ∷ []) homes) popped_stands
-        (chained_as (length homes) chains (frames ++ Wait f ∷ []) frames (λ k. sym (wait_indices k frames f)) o.chained)
+        (chained_known (length homes) chains (frames ++ Wait f ∷ []) frames (λ k _. sym (wait_indices k frames f)) o.chained)
 
 -- what is on top
 

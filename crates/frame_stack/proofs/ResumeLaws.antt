@@ -18,7 +18,7 @@ use Rattle.frame_stack.specs.Order.{AreInOrder}
 use Rattle.body_frames.specs.Resumes.{Ends, FrameResumes, IsSameBody, Runs, is_guarded}
 use Rattle.frame_stack.specs.Resumes.{Resumes}
 use Rattle.frame_stack.specs.Stacked.{Stacked, Running, behaviour_at, behaviours_of, below_top, bodies_in, frames_of, in_body, or_new, placed_from, top_of}
-use Rattle.frame_stack.proofs.ChainLaws.{chained_as, top_indices}
+use Rattle.frame_stack.proofs.ChainLaws.{chained_known, top_indices}
 use Rattle.frame_stack.proofs.PushLaws.{frames_are}
 use Rattle.frame_stack.proofs.EndLaws.{has_home}
 use Rattle.frame_stack.proofs.Settled.{behaviours_are, in_order, placed_length}
@@ -57,8 +57,8 @@ module _ (homes : Homes) (chains : List (List ℕ)) (frames : List Held) (k : �
 
     own_order : AreInOrder homes chains (frames ++ Body k q (Some (record b { memory = m })) ∷ [])
     own_order = in_order homes chains (frames ++ Body k q (Some (record b { memory = m })) ∷ []) next_bs stands
-        (chained_as (length homes) chains (frames ++ Body k p (Some b) ∷ []) (frames ++ Body k q (Some (record b { memory = m })) ∷ [])
-        (λ j. top_indices j k frames p q (Some b) (Some (record b { memory = m }))) o.chained)
+        (chained_known (length homes) chains (frames ++ Body k p (Some b) ∷ []) (frames ++ Body k q (Some (record b { memory = m })) ∷ [])
+        (λ j _. top_indices j k frames p q (Some b) (Some (record b { memory = m }))) o.chained)
 
   abbrev running : Running
   running = record {
@@ -162,7 +162,8 @@ module _ (homes : Homes) (chains : List (List ℕ)) (frames : List Held) (k : �
 
   gone_order : (q : Place) → AreInOrder homes chains (frames ++ Body k q None ∷ [])
   gone_order q = in_order homes chains (frames ++ Body k q None ∷ []) cs (stays q)
-      (chained_as (length homes) chains (frames ++ Body k p None ∷ []) (frames ++ Body k q None ∷ []) (λ j. top_indices j k frames p q None None) o.chained)
+      (chained_known (length homes) chains (frames ++ Body k p None ∷ []) (frames ++ Body k q None ∷ [])
+      (λ j _. top_indices j k frames p q None None) o.chained)
 
   abbrev idle : Running
   idle = record {

@@ -1,5 +1,5 @@
 -- A body that may go on behind its stop has spent fuel.
-use Rattle.std.proofs.Common.{◌≡◌, ℕ, zero, suc, ◌<◌, ◌≤◌, Bool, true, false, List, [], ◌∷◌, Option, Some, None, sym, subst, arith}
+use Rattle.std.proofs.Common.{◌≡◌, ℕ, zero, suc, ◌<◌, ◌≤◌, Bool, true, false, List, [], ◌∷◌, Option, Some, None, sym, subst, arith, le_refl}
 use Rattle.std.specs.Prelude.{if◌then◌else◌}
 use Rattle.rule_lines.specs.Acts.{Act, Both, Log, Super, Return, Throw, Bump, Keep, Try, If}
 use Rattle.ce_algorithms.specs.Body.{holds}
@@ -11,27 +11,24 @@ use Rattle.behaviours.specs.Next.{stop_of}
 use Rattle.frame_stack.specs.Resumes.{Proceeds, Resumes}
 use Rattle.frame_stack.specs.Stacked.{Stacked}
 
-same : (n : ℕ) → n ≤ n
-same n = omega arith
-
 acted_falls : (args : Args) (guarded : Bool) (a : Act) (memory : Memory) (fuel : ℕ) → (acted args guarded a memory fuel).fuel ≤ fuel
-acted_falls args guarded (Both op) memory fuel = same fuel
-acted_falls args guarded (Log vals) memory fuel = same fuel
-acted_falls args guarded Super memory fuel = same fuel
-acted_falls args guarded (Return operand) memory fuel = same fuel
-acted_falls args guarded (Throw val) memory fuel = same fuel
-acted_falls args guarded Bump memory fuel = same fuel
-acted_falls args guarded (Keep val) memory fuel = same fuel
-acted_falls args guarded (Try a) memory zero = same 0
+acted_falls args guarded (Both op) memory fuel = le_refl fuel
+acted_falls args guarded (Log vals) memory fuel = le_refl fuel
+acted_falls args guarded Super memory fuel = le_refl fuel
+acted_falls args guarded (Return operand) memory fuel = le_refl fuel
+acted_falls args guarded (Throw val) memory fuel = le_refl fuel
+acted_falls args guarded Bump memory fuel = le_refl fuel
+acted_falls args guarded (Keep val) memory fuel = le_refl fuel
+acted_falls args guarded (Try a) memory zero = le_refl 0
 acted_falls args guarded (Try a) memory (suc n) = let h = acted_falls args true a memory n in omega (arith, h)
 acted_falls args guarded (If equal l r a) memory fuel =
     go (holds equal (text_of memory args l) (text_of memory args r)) fuel (acted_falls args guarded a memory)
   where
     go : (b : Bool) (fuel : ℕ) → ((n : ℕ) → (acted args guarded a memory n).fuel ≤ n)
         → (if b then spending memory fuel (acted args guarded a memory) else goes_on memory fuel).fuel ≤ fuel
-    go true zero on = same 0
+    go true zero on = le_refl 0
     go true (suc n) on = let h = on n in omega (arith, h)
-    go false fuel on = same fuel
+    go false fuel on = le_refl fuel
 
 spends : (args : Args) (actions : List Act) (memory : Memory) (fuel : ℕ) → Proceeds (resumed args actions memory fuel).stop
     → (resumed args actions memory fuel).fuel < fuel

@@ -2,12 +2,13 @@
 use Rattle.std.proofs.Common.{◌≡◌, ◌≢◌, ℕ, true, false, ◌+◌, ◌-◌, List, [], ◌∷◌, ◌++◌, Option, Some, None, refl, ap, sym, ◌∙◌, subst, arith, inl, inr}
 use Rattle.std.proofs.Common.{length-append}
 use Rattle.std.proofs.lemmas.Bool.{cases_eq}
+use Rattle.ce_base.proofs.Places.{slice_get-append_front}
 use Rattle.node_trees.specs.Facts.{Facts, is_element, is_shadow_root}
 use Rattle.node_trees.specs.Trees.{Trees, none, with_node}
 use Rattle.node_trees.specs.Spots.{Spot, spot_of, spot_at, kind_at, parent_at, children_at, or_no_spot}
 use Rattle.node_trees.specs.Nodes.{size, surplus_at, IsNode}
 use Rattle.tree_laws.proofs.Above.{parent-above}
-use Rattle.tree_laws.proofs.ByIndex.{slice_get-append_front, slice_get-append_end}
+use Rattle.tree_laws.proofs.ByIndex.{slice_get-append_end}
 use Rattle.tree_laws.proofs.NewReads.{spot-new-here}
 use Rattle.tree_laws.proofs.OtherSpots.{spot_at-new}
 use Rattle.tree_laws.proofs.ShadowSpots.{with_root, attach_is, attached-size, spot-root, spot-host, spot-others}

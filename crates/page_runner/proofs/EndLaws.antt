@@ -13,7 +13,7 @@ use Rattle.ce_algorithms.specs.Lines.{lines_of, whole_lines}
 use Rattle.ce_algorithms.specs.Session.{start, log_of}
 use Rattle.ce_algorithms.specs.State.{State}
 use Rattle.ce_algorithms.specs.Steps.{Outcome, is_spent}
-use Rattle.ce_algorithms.proofs.FramedSteps.{framed_run_lines}
+use Rattle.ce_algorithms.proofs.FramedLines.{framed_run_lines}
 use Rattle.ce_algorithms.proofs.Writing.{part_then}
 use Rattle.ce_events.specs.Text.{text}
 use Rattle.command_words.specs.declared.words.Options.{Options}

@@ -22,7 +22,7 @@ use Rattle.script_runner.proofs.GivenLaws.{reading_line}
 use Rattle.script_runner.proofs.BlankLaws.{nothing_reads}
 use Rattle.line_feed.proofs.LineLaws.{whole_lines-line, last_part-line, whole_lines-no_feed, last_part-no_feed}
 use Rattle.script_runner.proofs.SittingLaws.{ran_line, answers_same, answered_same, answered_nothing, answered_more, answered_spent, answered_part}
-use Rattle.ce_algorithms.proofs.FramedSteps.{framed_run_lines}
+use Rattle.ce_algorithms.proofs.FramedLines.{framed_run_lines}
 use Rattle.ce_algorithms.proofs.Writing.{part_then}
 use Rattle.std.proofs.Math.Bool.{or-false}
 

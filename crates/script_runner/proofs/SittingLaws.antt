@@ -23,7 +23,7 @@ use Rattle.ce_machine.specs.declared.end.End.TheVariants.{Replied, FuelSpent}
 use Rattle.script_runner.specs.Script.{run_from, readings, has_bad, is_bad}
 use Rattle.script_runner.specs.Ran.{Ran, Answered, answers}
 use Rattle.script_runner.specs.Sitting.{Sitting}
-use Rattle.ce_algorithms.proofs.FramedSteps.{framed_run_lines}
+use Rattle.ce_algorithms.proofs.FramedLines.{framed_run_lines}
 use Rattle.ce_algorithms.proofs.Growth.{behind_in-append, log_of-behind, text-append}
 
 -- ---- the model's run over lines

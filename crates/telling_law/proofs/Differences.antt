@@ -32,7 +32,7 @@ range-apart a (suc k) i = elim (cases_eq a i) [
   | inr ne ↦ let rest = range-apart (a + 1) k i in grind (arith, nat_tests)
 ]
 
-range-among : (a k i : ℕ) → a ≤ i → i < a + k → is_among i (range_with_len a k) ≡ true
+pub range-among : (a k i : ℕ) → a ≤ i → i < a + k → is_among i (range_with_len a k) ≡ true
 range-among a zero i low high = absurd (omega arith)
 range-among a (suc k) i low high = elim (cases_eq a i) [
   | inl e ↦ grind (arith, nat_tests)

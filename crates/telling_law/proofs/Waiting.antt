@@ -18,7 +18,7 @@ told_in-append vs ws =
     ap (filter is_form_reaction) (map-append (λ (w : ℕ × Reaction). w.1) vs ws)
     ∙ filter-append is_form_reaction (map (λ (w : ℕ × Reaction). w.1) vs) (map (λ (w : ℕ × Reaction). w.1) ws)
 
-waiting-appended : (os : List Open) (n : ℕ) (q : Queues) → (appended_to os n q).waiting ≡ q.waiting
+pub waiting-appended : (os : List Open) (n : ℕ) (q : Queues) → (appended_to os n q).waiting ≡ q.waiting
 waiting-appended [] n q = refl
 waiting-appended (o ∷ os) n q = refl
 

@@ -3,13 +3,14 @@ use Rattle.std.proofs.Common.{◌≡◌, ℕ, zero, suc, ◌-◌, ◌<◌, ◌�
 use Rattle.std.proofs.Common.{length-append}
 use Rattle.std.proofs.lemmas.Bool.{cases_lt}
 use Rattle.std.proofs.lemmas.Bool.Decides.{nat_tests}
+use Rattle.ce_base.proofs.Places.{slice_get-append_front}
 use Rattle.node_trees.specs.Trees.{Trees, none, tree}
 use Rattle.node_trees.specs.Spots.{Spot, spot_in, spot_at, or_no_spot}
 use Rattle.node_trees.specs.Nodes.{times, size, IsNode, IsTidy}
 use Rattle.node_trees.proofs.Weights.{IsApart}
 use Rattle.tree_laws.specs.Rows.{row_of_node, rows_to, rows_of, Stands, IsForest}
 use Rattle.tree_laws.proofs.AtNode.{node_spot}
-use Rattle.tree_laws.proofs.ByIndex.{slice_get-append_front, slice_get-append_end}
+use Rattle.tree_laws.proofs.ByIndex.{slice_get-append_end}
 use Rattle.tree_laws.proofs.Pieces.{spot-here, spot-shadow, spot-children, spot-rest}
 use Rattle.tree_laws.proofs.Sums.{tidy-apart, apart-shadow, apart-children, apart-rest}
 

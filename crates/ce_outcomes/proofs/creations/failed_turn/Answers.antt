@@ -2,8 +2,7 @@ use Rattle.std.proofs.Common.{ap}
 use Rattle.ce_algorithms.specs.Create.{create_failed}
 use Rattle.ce_algorithms.specs.Perform.{gives_node}
 use Rattle.ce_frames.specs.Turned.{ended}
-use Rattle.session_state.proofs.GivenLaws.{node_ends}
-use Rattle.ce_outcomes.proofs.EndLaws.{node_there}
+use Rattle.session_state.proofs.GivenLaws.{node_ends, node_there}
 use Rattle.ce_outcomes.proofs.creations.failed_turn.Goals as goal
 
 pub returns-clause-turn : goal.returns-clause-turn

@@ -1,8 +1,7 @@
 use Rattle.ce_algorithms.specs.Construction.{base_call}
 use Rattle.ce_algorithms.specs.Perform.{gives_node}
 use Rattle.ce_algorithms.specs.State.{on_page}
-use Rattle.ce_outcomes.proofs.GivenLaws.{node_ends}
-use Rattle.ce_outcomes.proofs.EndLaws.{node_there}
+use Rattle.ce_outcomes.proofs.GivenLaws.{node_ends, node_there}
 use Rattle.ce_reactions.proofs.constructions.base_alone.Goals as goal
 
 pub returns-clause-step : goal.returns-clause-step

@@ -6,9 +6,8 @@ use Rattle.ce_algorithms.specs.State.{on_page}
 use Rattle.ce_frames.specs.ConstructTurns.{create_turn}
 use Rattle.frame_stack.specs.Sessions.{session}
 use Rattle.frame_stack.specs.Stacked.{frames_of}
-use Rattle.ce_outcomes.proofs.GivenLaws.{node_ends}
+use Rattle.ce_outcomes.proofs.GivenLaws.{node_ends, node_there}
 use Rattle.ce_outcomes.specs.Turns.{Turns, came_in}
-use Rattle.ce_outcomes.proofs.EndLaws.{node_there}
 use Rattle.ce_reactions.proofs.CreateLaws.{none_at, none_lasts, none_turns, some_lasts, some_turns}
 use Rattle.ce_reactions.proofs.SessionLaws.{lifted, lifted_lasts, lifted_paired}
 use Rattle.ce_reactions.proofs.creations.create.Goals as goal

@@ -19,7 +19,7 @@ use Rattle.ce_algorithms.specs.Session.{perform, command, part_reply, class_part
 use Rattle.ce_algorithms.specs.Written.{behind, behind_in}
 use Rattle.ce_algorithms.proofs.Framed.{Framed, framed_steps, framed_done, framed_log, framed_seq, framed_on_page}
 use Rattle.ce_algorithms.proofs.FramedLevels.{framed_kept}
-use Rattle.ce_algorithms.proofs.FramedDrain.{framed_drain_backup, framed_operate, framed_act_as_user}
+use Rattle.ce_algorithms.proofs.FramedModel.{framed_drain_backup, framed_operate, framed_act_as_user}
 
 -- the checkpoint
 
