@@ -1,5 +1,3 @@
-pub use Rattle.page_runner.specs.Table
+pub use Rattle.page_runner.specs.Asked
 pub use Rattle.page_runner.specs.Ending
-pub mod Asked
-pub mod Given
-pub mod Memory
+pub mod Numbers

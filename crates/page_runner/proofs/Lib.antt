@@ -1,1 +1,3 @@
 pub mod EndLaws
+mod RoomLaws
+mod MemoryLaws

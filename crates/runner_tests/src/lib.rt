@@ -10,6 +10,8 @@ mod limits;
 #[cfg(test)]
 mod made;
 #[cfg(test)]
+mod memory;
+#[cfg(test)]
 mod pieces;
 #[cfg(test)]
 mod script;

@@ -1,35 +1,22 @@
-use Rattle.std.proofs.Common.{◌≡◌, ◌<◌, ◌⊎◌, inr, length, sym, subst, ◌∙◌}
-use Rattle.command_words.specs.declared.words.Options.{Options}
-use Rattle.page_runner.specs.Ending.{script_transcript}
-use Rattle.cepage_c.proofs.NumberLaws.{more_room_only, more_room_where, no_usage, none_is_some, same_some}
+use Rattle.page_runner.specs.Ending.{end_status}
+use Rattle.page_runner.specs.Status.TheVariants.{Usage, WriteFault}
+use Rattle.cepage_c.proofs.NumberLaws.{more_room_only, numbered, numbered_with, usage_only}
 use Rattle.cepage_c.proofs.cepage_run.Goals as goal
 
-pub returns-in-Err-clause-longer : goal.returns-in-Err-clause-longer
-returns-in-Err-clause-longer c = λ set said long. inr c.number.ensures
+pub returns-clause-usage : goal.returns-clause-usage
+returns-clause-usage c = λ is. c.run_in_memory-status.ensures.usage (usage_only _ _ c.number.ensures is)
 
-pub returns-in-Ok-None-clause-longer : goal.returns-in-Ok-None-clause-longer
-returns-in-Ok-None-clause-longer c = λ set said long. absurd (none_is_some _ _ set c.in-Ok-None.ensures c.in-Ok-None.field-0-is said)
+pub returns-clause-refused : goal.returns-clause-refused
+returns-clause-refused c = λ none.
+    let said = c.run_in_memory-status.ensures.refused none in
+    (numbered _ _ c.number.ensures Usage said.0, said.1, said.2)
 
-pub returns-in-Ok-Some-clause-usage : goal.returns-in-Ok-Some-clause-usage
-returns-in-Ok-Some-clause-usage c = λ is.
-    absurd (no_usage c.in-Ok-Some.options c.args.script.now _ _ _ _ c.run_into-status.ensures.whole c.run_into-status.ensures.longer
-    (sym c.number-in-Ok-Some.ensures ∙ is))
+pub returns-clause-whole : goal.returns-clause-whole
+returns-clause-whole c = λ set said fits.
+    numbered_with _ _ c.number.ensures (end_status set c.args.script.now) (c.run_in_memory-status.ensures.whole set said fits)
 
-pub returns-in-Ok-Some-clause-longer : goal.returns-in-Ok-Some-clause-longer
-returns-in-Ok-Some-clause-longer c = λ set said.
-    let script = c.args.script.now in
-    let result = c.number-in-Ok-Some.result in
-    let count = c.run_into-status.result.1 in
-    let room = length c.args.out.now in
-    let P : Options → Type 0 = λ s. room < length (script_transcript s script) → ((result ≡ 5) × (count ≡ room)) ⊎ (result ≡ 6) in
-    let here : P c.in-Ok-Some.options =
-    λ long. more_room_where c.run_into-status.result.0 result count room c.number-in-Ok-Some.ensures (c.run_into-status.ensures.longer long) in
-    subst P (same_some _ _ set c.in-Ok-Some.options c.in-Ok-Some.ensures c.in-Ok-Some.field-0-is said) here
+pub returns-clause-longer : goal.returns-clause-longer
+returns-clause-longer c = λ set said long. numbered_with _ _ c.number.ensures WriteFault (c.run_in_memory-status.ensures.longer set said long)
 
-pub returns-in-Ok-Some-clause-more_room : goal.returns-in-Ok-Some-clause-more_room
-returns-in-Ok-Some-clause-more_room c = λ set said is.
-    let script = c.args.script.now in
-    let P : Options → Type 0 = λ s. length c.args.out.now < length (script_transcript s script) in
-    let here : P c.in-Ok-Some.options =
-    more_room_only c.in-Ok-Some.options script _ _ _ _ c.run_into-status.ensures.whole (sym c.number-in-Ok-Some.ensures ∙ is) in
-    subst P (same_some _ _ set c.in-Ok-Some.options c.in-Ok-Some.ensures c.in-Ok-Some.field-0-is said) here
+pub returns-clause-more_room : goal.returns-clause-more_room
+returns-clause-more_room c = λ set said is. c.run_in_memory-status.ensures.more_room set said (more_room_only _ _ c.number.ensures is)

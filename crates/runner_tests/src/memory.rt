@@ -1,12 +1,11 @@
 // A script that is run in memory.
-use crate::cepage_run;
+use page_runner::{Status, run_in_memory};
 use std::test::Fail;
 
 #[test]
 fn a_script_is_run_in_memory(rt: HostRuntime) -> Result<(), Fail> {
     let mut out = b"........".to_vec(rt.alloc())?;
-    let mut written = 0;
-    let status = cepage_run(
+    let (status, written) = run_in_memory(
         rt.alloc(),
         b"create $a div\n",
         20_000,
@@ -14,9 +13,8 @@ fn a_script_is_run_in_memory(rt: HostRuntime) -> Result<(), Fail> {
         b"",
         b"",
         out.as_mut_slice(),
-        &mut written,
     );
-    assert_eq!(rt; status, 0);
+    assert!(rt; status == Status::Done);
     assert_eq!(rt; written, 6);
     assert!(rt; out.as_slice() == b"1: #2\n..".as_slice());
     Ok(())

@@ -1,17 +1,17 @@
 // What a call asks for.
 ghost use Rattle.std.specs.Prelude.{◌≡◌, ◌++◌, map, string_bytes, IfOk, OnOk};
-ghost use Rattle.cepage_c.specs.Asked.{asked, option_words, site_words, with_session};
+ghost use Rattle.page_runner.specs.Asked.{asked, option_words, site_words, with_session};
 ghost use Rattle.command_words.specs.Words.{meaning};
 
 use ce_base::NoMemory;
-use page_runner::{Meaning, Options};
+use command_words::{Meaning, Options};
 use rule_tokens::text_in;
 use std::alloc::Global;
 
 // The most fuel that a session may have.
 const MOST_FUEL: u32 = 200_000;
 
-// The options that are asked for. An empty text says nothing. None where the words would refuse something.
+// The options that are asked for. An empty text says nothing. None where the words that ask for them would be refused.
 pub(crate) fn asked(
     alloc: Global,
     fuel: u32,

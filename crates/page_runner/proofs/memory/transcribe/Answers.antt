@@ -1,8 +1,8 @@
 use Rattle.std.proofs.Common.{Some, ap, arith}
-use Rattle.cepage_c.specs.Memory.{Rest}
-use Rattle.cepage_c.proofs.RoomLaws.{Transcribed, none_left, transcribed}
+use Rattle.page_runner.specs.Memory.{Rest}
+use Rattle.page_runner.proofs.RoomLaws.{Transcribed, none_left, transcribed}
 use Rattle.page_runner.specs.Ending.{end_status, script_transcript}
-use Rattle.cepage_c.proofs.run.transcribe.Goals as goal
+use Rattle.page_runner.proofs.memory.transcribe.Goals as goal
 
 pub returns : goal.returns
 returns c =

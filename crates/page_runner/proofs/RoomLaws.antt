@@ -4,9 +4,9 @@ use Rattle.std.proofs.lemmas.Grind.{common_steps}
 use Rattle.std.specs.Io.KnownBytes.{Appends}
 use Rattle.ce_base.specs.Faults.{Rose}
 use Rattle.ce_base.specs.Outside.{AppendsPart, IsPrefix}
-use Rattle.cepage_c.specs.Memory.{Store}
-use Rattle.page_runner.specs.Status.{Status}
-use Rattle.page_runner.specs.Status.TheVariants.{NoMemory}
+use Rattle.page_runner.specs.Memory.{Store}
+use Rattle.script_runner.specs.declared.status.Status.{Status}
+use Rattle.script_runner.specs.declared.status.Status.TheVariants.{NoMemory}
 
 -- nothing is left where the end was given
 pub none_left : (ended : Bool) (left : List ℕ) → (ended && nat_eq (length left) 0) ≡ true → left ≡ []

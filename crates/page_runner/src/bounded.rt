@@ -18,7 +18,7 @@ pub(crate) struct BoundedSink {
 
 impl Model for BoundedSink {
     ghost use Rattle.std.specs.Prelude.{◌≤◌, ◌<◌, vec_len};
-    ghost use Rattle.cepage_c.specs.Memory.{Store};
+    ghost use Rattle.page_runner.specs.Memory.{Store};
 
     ghost Value = { Store };
 

@@ -15,7 +15,7 @@ pub(crate) struct ScriptSource<'a> {
 }
 
 impl<'a> Model for ScriptSource<'a> {
-    ghost use Rattle.cepage_c.specs.Memory.{Rest};
+    ghost use Rattle.page_runner.specs.Memory.{Rest};
 
     ghost Value = { Rest };
 
