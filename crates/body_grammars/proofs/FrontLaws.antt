@@ -7,6 +7,7 @@ use Rattle.std.proofs.lemmas.Slice.Eq.{starts_is}
 use Rattle.std.specs.Char.{is_ascii_alphanumeric}
 use Rattle.std.specs.List.{AllByRecursion, starts_with, list_all}
 use Rattle.std.specs.Prelude.{nat_eq}
+use Rattle.submit_encoders.proofs.Occurs.{begins_with}
 use Rattle.body_grammars.specs.Bodies.{IsBoundary}
 use Rattle.body_grammars.specs.Cuts.{behind}
 
@@ -14,9 +15,6 @@ use Rattle.body_grammars.specs.Cuts.{behind}
 
 pub starts_said : (front bytes : List ℕ) → starts_with nat_eq bytes front ≡ true → bytes ≡ front ++ drop (length front) bytes
 starts_said front bytes is = (starts_is Decides-eqb bytes front (starts_with nat_eq bytes front) refl).0 is
-
-starts_again : (front rest : List ℕ) → starts_with nat_eq (front ++ rest) front ≡ true
-starts_again front rest = (starts_is Decides-eqb (front ++ rest) front (starts_with nat_eq (front ++ rest) front) refl).1 rest refl
 
 behind_step : (front bytes rest : List ℕ) (t : Bool) → starts_with nat_eq bytes front ≡ t → cond t (Some (drop (length front) bytes)) None ≡ Some rest
     → bytes ≡ front ++ rest
@@ -29,7 +27,7 @@ behind_said front bytes rest e = behind_step front bytes rest (starts_with nat_e
 
 pub behind_again : (front rest : List ℕ) → behind front (front ++ rest) ≡ Some rest
 unfolding behind
-behind_again front rest = rw (starts_again front rest) (ap Some (drop_at front rest (length front) refl))
+behind_again front rest = rw (begins_with front rest) (ap Some (drop_at front rest (length front) refl))
 
 pub behind_not : (front bytes : List ℕ) → starts_with nat_eq bytes front ≡ false → behind front bytes ≡ None
 unfolding behind

@@ -1,7 +1,7 @@
 -- Bytes cut at a text.
 use Rattle.std.proofs.Common.{◌≡◌, ◌<◌, ◌≤◌, ℕ, ◌+◌, ◌-◌, zero, suc, List, [], ◌∷◌, ◌++◌, length, drop, Option, Some, None, refl, sym, ap, subst, ◌∙◌}
 use Rattle.std.proofs.Common.{append_assoc, append-nil, arith, take}
-use Rattle.std.proofs.lemmas.List.{length-drop, take_all}
+use Rattle.std.proofs.lemmas.List.{length-drop, take_all, drop_all}
 use Rattle.body_grammars.specs.Cuts.{behind, onto, cut_text}
 
 onto_onto : (xs ys : List ℕ) (o : Option (List ℕ × List ℕ)) → onto xs (onto ys o) ≡ onto (xs ++ ys) o
@@ -34,19 +34,13 @@ text_later text bytes i small same is =
     let next : suc i ≡ i + 1 = omega arith in
     subst (λ (n : ℕ). onto (take n bytes) (cut_text text (drop n bytes)) ≡ cut_text text bytes) next (sym (cut_none text bytes i small is) ∙ same)
 
-drop_all : (bytes : List ℕ) (i : ℕ) → length bytes ≤ i → drop i bytes ≡ []
-drop_all [] zero small = refl
-drop_all [] (suc i) small = refl
-drop_all (b ∷ bytes) zero small = absurd (omega arith)
-drop_all (b ∷ bytes) (suc i) small = drop_all bytes i (omega arith)
-
 none_left : (text front : List ℕ) → onto front (cut_text text []) ≡ None
 unfolding cut_text
 none_left text front = refl
 
 pub text_nowhere : (text bytes : List ℕ) (i : ℕ) → length bytes ≤ i → onto (take i bytes) (cut_text text (drop i bytes)) ≡ cut_text text bytes
     → None ≡ cut_text text bytes
-text_nowhere text bytes i end same = sym (ap (λ (l : List ℕ). onto (take i bytes) (cut_text text l)) (drop_all bytes i end) ∙ none_left text (take i bytes))
+text_nowhere text bytes i end same = sym (ap (λ (l : List ℕ). onto (take i bytes) (cut_text text l)) (drop_all i bytes end) ∙ none_left text (take i bytes))
     ∙ same
 
 -- a slice up to the end

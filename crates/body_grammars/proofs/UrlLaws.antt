@@ -1,6 +1,7 @@
 -- A urlencoded body is read to the list for which the relation holds, and no other.
 use Rattle.std.proofs.Common.{◌≡◌, ℕ, List, [], ◌∷◌, ◌++◌, Option, Some, None, Result, Ok, Err, refl, sym, ap, subst, ◌∙◌}
 use Rattle.std.proofs.lemmas.List.Splits.{join_with_byte-slice_split}
+use Rattle.std.proofs.lemmas.Option.{same_Some}
 use Rattle.std.proofs.lemmas.Str.{is_utf8-from_IsUtf8}
 use Rattle.std.specs.List.{join_with_byte, slice_split}
 use Rattle.std.specs.Prelude.{IsUtf8}
@@ -136,8 +137,5 @@ url_reads (Ok list) bytes gives = url_said bytes list gives
 url_reads (Err NotABody) bytes gives = λ list is. no_url bytes list gives is
 url_reads (Err NoMemory) bytes gives = tt
 
-some_same : (a b : List Entry) → Some a ≡ Some b → a ≡ b
-some_same a b e = (cc)
-
 pub url_one : (bytes : List ℕ) (a b : List Entry) → UrlText a bytes → UrlText b bytes → a ≡ b
-url_one bytes a b one two = some_same a b (sym (url_again a bytes one) ∙ url_again b bytes two)
+url_one bytes a b one two = same_Some a b (sym (url_again a bytes one) ∙ url_again b bytes two)

@@ -1,5 +1,6 @@
 -- What is guessed of bytes that are the text of an event.
 use Rattle.std.proofs.Common.{◌≡◌, ℕ, List, Some, None, Result, Ok, Err, refl, sym, ap, ◌∙◌, subst}
+use Rattle.std.proofs.lemmas.Option.{same_Some}
 use Rattle.ce_events.specs.declared.event.Event.{Event}
 use Rattle.ce_events.specs.Text.{event_text}
 use Rattle.event_reader.specs.declared.refused.EventRefused.{EventRefused}
@@ -9,12 +10,9 @@ use Rattle.event_reader.specs.IsEvent.{IsEvent}
 use Rattle.event_reader.specs.Read.{Reads}
 use Rattle.event_reader.specs.Reading.{guess}
 
-some_same : (x y : Event) → Some x ≡ Some y → x ≡ y
-some_same x y e = cc
-
 by_result : (bytes : List ℕ) (other : Event) (r : Result Event EventRefused) → Reads r (guess bytes) → event_text other ≡ bytes → guess bytes ≡ Some other
     → IsGuessed bytes r
-by_result bytes other (Ok x) found same read = ap event_text (some_same x other (sym found ∙ read)) ∙ same
+by_result bytes other (Ok x) found same read = ap event_text (same_Some x other (sym found ∙ read)) ∙ same
 by_result bytes other (Err NotAnEvent) found same read = let clash : None ≡ Some other = sym found ∙ read in absurd cc
 by_result bytes other (Err NoMemory) found same read = refl
 

@@ -5,16 +5,17 @@ use Rattle.std.specs.Ordering.{nat_cmp}
 use Rattle.std.specs.Map.{count_at}
 use Rattle.std.specs.Option.{unwrap_or}
 use Rattle.std.specs.BTreeMap.{BTreeMap, get, is_at}
-use Rattle.std.proofs.lemmas.Bool.{cases_eq}
+use Rattle.std.proofs.lemmas.Bool.{cases_eq, ne_eqb}
 use Rattle.std.proofs.lemmas.List.{length-append}
+use Rattle.std.proofs.lemmas.Option.{same_Some}
 use Rattle.order_law.specs.Book.{Entry}
 use Rattle.order_law.specs.Reads.{entry_of, without, none_of_queue}
 use Rattle.order_checker.specs.Slots.{one, of_queue, kept, entry_of_slot, waiting_from, AreCounted}
 use Rattle.order_checker.specs.declared.waits.Slot.{Slot}
-use Rattle.order_checker.proofs.SlotLemmas.{eq_same, eq_apart, apart}
+use Rattle.order_checker.proofs.SlotLemmas.{eq_same, apart}
 
 none_by_count_step : (b : Bool) (rest : Bool) (n : ℕ) → rest ≡ (n == 0) → (not b && rest) ≡ ((one b + n) == 0)
-none_by_count_step true rest n same = sym (eq_apart (1 + n) 0 (omega arith))
+none_by_count_step true rest n same = sym (ne_eqb (1 + n) 0 (λ e. omega (arith, e)))
 none_by_count_step false rest n same = same ∙ ap (λ k. k == 0) (omega arith)
 
 pub none_by_count : (q : ℕ) (ws : List Entry) → none_of_queue q ws ≡ (of_queue q ws == 0)
@@ -27,9 +28,6 @@ of_queue_push q (v ∷ ws) w = omega (arith, of_queue_push q ws w)
 
 -- without one that is found
 
-same_some : (w v : Entry) → Some v ≡ Some w → v ≡ w
-same_some w v e = cc e
-
 pub of_queue_without : (k q : ℕ) (ws : List Entry) (w : Entry) → entry_of k ws ≡ Some w → of_queue q ws ≡ one (w.queue == q) + of_queue q (without k ws)
 of_queue_without k q [] w found = absurd (cc found)
 of_queue_without k q (v ∷ ws) w found = by_test (of_queue_without k q ws w) (v.number == k) refl
@@ -37,7 +35,7 @@ of_queue_without k q (v ∷ ws) w found = by_test (of_queue_without k q ws w) (v
     by_test : (entry_of k ws ≡ Some w → of_queue q ws ≡ one (w.queue == q) + of_queue q (without k ws)) → (b : Bool) → (v.number == k) ≡ b
         → of_queue q (v ∷ ws) ≡ one (w.queue == q) + of_queue q (without k (v ∷ ws))
     by_test again true is =
-        let e : v ≡ w = same_some w v (ap (λ t. if t then Some v else entry_of k ws) (sym is) ∙ found) in
+        let e : v ≡ w = same_Some v w (ap (λ t. if t then Some v else entry_of k ws) (sym is) ∙ found) in
         ap (λ u. (one (u.queue == q)) + of_queue q ws) e ∙ ap (λ t. one (w.queue == q) + of_queue q (if t then ws else v ∷ without k ws)) (sym is)
     by_test again false is =
         let e : entry_of k ws ≡ Some w = ap (λ t. if t then Some v else entry_of k ws) (sym is) ∙ found in
@@ -84,7 +82,7 @@ counted_push ws old new count k m w are key more here others =
             omega (arith, now, more, was, test, of_queue_push q ws w)
         | inr ne ↦
             let now : count_at (get nat_cmp new) q ≡ count_at (get nat_cmp old) q = ap (λ o. unwrap_or o 0) (others q (apart k q ne)) in
-            let test : one (w.queue == q) ≡ 0 = ap one (eq_apart w.queue q (λ e. ne (key ∙ e))) in
+            let test : one (w.queue == q) ≡ 0 = ap one (ne_eqb w.queue q (λ e. ne (key ∙ e))) in
             omega (arith, now, are.queues q, test, of_queue_push q ws w)
       ];
     }
@@ -105,7 +103,7 @@ counted_take ws old new count number k m w are found key less here others =
             omega (arith, now, less, was, test, of_queue_without number q ws w found)
         | inr ne ↦
             let now : count_at (get nat_cmp new) q ≡ count_at (get nat_cmp old) q = ap (λ o. unwrap_or o 0) (others q (apart k q ne)) in
-            let test : one (w.queue == q) ≡ 0 = ap one (eq_apart w.queue q (λ e. ne (key ∙ e))) in
+            let test : one (w.queue == q) ≡ 0 = ap one (ne_eqb w.queue q (λ e. ne (key ∙ e))) in
             omega (arith, now, are.queues q, test, of_queue_without number q ws w found)
       ];
     }

@@ -1,35 +1,28 @@
 -- The current element queue of the open brackets.
-use Rattle.std.proofs.Common.{◌≡◌, ◌-◌, ℕ, suc, List, [], ◌∷◌, ◌++◌, length, get_or, take, set, refl, ap, sym, ◌∙◌, arith, Some, None}
+use Rattle.std.proofs.Common.{◌≡◌, ◌-◌, ℕ, List, [], ◌∷◌, length, get_or, refl, ap, sym, ◌∙◌, arith, Some, None}
 use Rattle.std.specs.Prelude.{reverse}
 use Rattle.std.specs.List.{slice_get}
-use Rattle.std.proofs.lemmas.List.{reverse-append, set_split, set-get_or, drop_all}
 use Rattle.std.proofs.lemmas.Option.{slice_get-get_or, get_or_from_slice_get}
 use Rattle.order_law.specs.Book.{Bracket, Filling, Draining, Reacting, Upgrading}
-use Rattle.order_law.specs.Reads.{current}
-use Rattle.order_checker.specs.Opened.{fillings_of}
+use Rattle.order_law.specs.Reads.{current, fillings}
+use Rattle.reaction_queue.proofs.StackLemmas.{reverse-last}
 
 abbrev pub head_or_zero : List ℕ → ℕ
 head_or_zero [] = 0
 head_or_zero (q ∷ qs) = q
 
-pub current_of : (bs : List Bracket) → current bs ≡ head_or_zero (fillings_of bs)
+pub current_of : (bs : List Bracket) → current bs ≡ head_or_zero (fillings bs)
 current_of [] = refl
 current_of (Filling q ∷ bs) = refl
 current_of (Draining q ∷ bs) = current_of bs
 current_of (Reacting w called ∷ bs) = current_of bs
 current_of (Upgrading n ∷ bs) = current_of bs
 
-reverse-last : (xs : List ℕ) (i x : ℕ) → length xs ≡ suc i → get_or xs i x ≡ x → reverse xs ≡ x ∷ reverse (take i xs)
-reverse-last xs i x len read =
-    let split : set xs i x ≡ take i xs ++ x ∷ [] = set_split xs i x (omega arith) ∙ ap (λ rest. take i xs ++ x ∷ rest) (drop_all (suc i) xs (omega arith)) in
-    let same : xs ≡ set xs i x = sym (set-get_or xs i x) ∙ ap (set xs i) read in
-    ap reverse (same ∙ split) ∙ reverse-append (take i xs) (x ∷ [])
-
 pub head_is : (xs : List ℕ) (q : ℕ) → Some q ≡ slice_get xs (length xs - 1) → q ≡ head_or_zero (reverse xs)
 head_is [] q read = absurd (cc read)
 head_is (y ∷ xs) q read =
     let last : get_or (y ∷ xs) (length (y ∷ xs) - 1) q ≡ q = get_or_from_slice_get (y ∷ xs) (length (y ∷ xs) - 1) q q (sym read) in
-    ap head_or_zero (sym (reverse-last (y ∷ xs) (length (y ∷ xs) - 1) q (omega arith) last))
+    ap head_or_zero (sym (reverse-last (y ∷ xs) (length (y ∷ xs) - 1) q (omega arith) (sym last)))
 
 pub zero_is : (xs : List ℕ) → None ≡ slice_get xs (length xs - 1) → 0 ≡ head_or_zero (reverse xs)
 zero_is [] read = refl

@@ -1,5 +1,5 @@
 -- A list read at an index: a longer one, and one with a value given anew.
-use Rattle.std.proofs.Common.{◌≡◌, ◌≢◌, ◌<◌, ℕ, zero, suc, List, [], ◌∷◌, ◌++◌, set, length, Some, refl, ap, arith, ◌⊎◌, inl, inr}
+use Rattle.std.proofs.Common.{◌≡◌, ◌≢◌, ℕ, zero, suc, List, [], ◌∷◌, ◌++◌, set, length, Some, refl, ap, ◌⊎◌, inl, inr}
 use Rattle.std.specs.List.{slice_get}
 
 pub not_within : {A : Type 0} → (i : ℕ) (x : A) → slice_get [] i ≡ Some x → ⊥
@@ -21,11 +21,6 @@ get_push (y ∷ xs) x (suc i) s read = get_push xs x i s read
 pub get_last : {A : Type 0} → (xs : List A) (x : A) → slice_get (xs ++ x ∷ []) (length xs) ≡ Some x
 get_last [] x = refl
 get_last (y ∷ xs) x = get_last xs x
-
-pub get_within : {A : Type 0} → (xs : List A) (i : ℕ) (s : A) → slice_get xs i ≡ Some s → i < length xs
-get_within [] i s read = absurd (not_within i s read)
-get_within (y ∷ xs) zero s read = omega arith
-get_within (y ∷ xs) (suc i) s read = omega (arith, get_within xs i s read)
 
 pub get_set_other : {A : Type 0} → (xs : List A) (i j : ℕ) (x : A) → j ≢ i → slice_get (set xs i x) j ≡ slice_get xs j
 get_set_other [] i j x ne = refl

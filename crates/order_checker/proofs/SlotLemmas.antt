@@ -8,22 +8,19 @@ use Rattle.std.specs.Ordering.{nat_cmp}
 use Rattle.std.specs.Map.{count_at}
 use Rattle.std.specs.Option.{unwrap_or}
 use Rattle.std.specs.BTreeMap.{BTreeMap, get, is_at}
-use Rattle.std.proofs.lemmas.Option.{slice_get-get_or}
+use Rattle.std.proofs.lemmas.Option.{slice_get-get_or, slice_get_within}
 use Rattle.std.proofs.lemmas.List.{length-set}
 use Rattle.order_law.specs.Clauses.{leads}
-use Rattle.std.proofs.lemmas.Bool.{cases_eq}
+use Rattle.std.proofs.lemmas.Bool.{cases_eq, ne_eqb, and_right, both_ways}
 use Rattle.std.proofs.lemmas.List.{length-append}
 use Rattle.order_checker.specs.declared.waits.Slot.{Slot}
 use Rattle.order_law.specs.Book.{Entry}
 use Rattle.order_law.specs.Reads.{entry_of, without, is_first, none_of_element}
 use Rattle.order_checker.specs.Slots.{Waiting, waits_in, waits_at, AreKnown, entry_of_slot, kept, waiting_from, LastOf, AreLinked}
-use Rattle.order_checker.proofs.ReadAt.{not_within, push_get, get_push, get_last, get_within, get_set_other, get_set_same}
+use Rattle.order_checker.proofs.ReadAt.{not_within, push_get, get_push, get_last, get_set_other, get_set_same}
 
 pub eq_same : (n : ℕ) → (n == n) ≡ true
 eq_same n = search rules
-
-pub eq_apart : (n m : ℕ) → n ≢ m → (n == m) ≡ false
-eq_apart n m ne = search rules
 
 -- one more at the end waits
 
@@ -41,7 +38,7 @@ waiting_push r n (t ∷ ss) s waits at =
 -- the one with a number
 
 entry_kept : (b : Bool) (r : ℕ) (w : Entry) (ws : List Entry) → w.number ≢ r → entry_of r (kept b w ws) ≡ entry_of r ws
-entry_kept true r w ws ne = ap (λ t. if t then Some w else entry_of r ws) (eq_apart w.number r ne)
+entry_kept true r w ws ne = ap (λ t. if t then Some w else entry_of r ws) (ne_eqb w.number r ne)
 entry_kept false r w ws ne = refl
 
 -- numbers below the first are not there
@@ -77,7 +74,7 @@ entry_at r (suc i) k (t ∷ ss) s read at =
 -- it waits no more
 
 without_kept : (b : Bool) (r : ℕ) (w : Entry) (ws : List Entry) → w.number ≢ r → without r (kept b w ws) ≡ kept b w (without r ws)
-without_kept true r w ws ne = ap (λ t. if t then ws else w ∷ without r ws) (eq_apart w.number r ne)
+without_kept true r w ws ne = ap (λ t. if t then ws else w ∷ without r ws) (ne_eqb w.number r ne)
 without_kept false r w ws ne = refl
 
 pub without_at : (r i k : ℕ) (ss : List Slot) (s : Slot) → slice_get ss i ≡ Some s → s.waits ≡ true → k ≡ r + i
@@ -96,8 +93,8 @@ without_at r (suc i) k (t ∷ ss) s read waits at =
 
 first_kept : (b : Bool) (k n : ℕ) (w : Entry) (ws : List Entry) → w.number ≢ k → (b ≡ true → w.element ≢ n) → is_first k n (kept b w ws) ≡ is_first k n ws
 first_kept true k n w ws ne other =
-    ap (λ t. if t then true else not (w.element == n) && is_first k n ws) (eq_apart w.number k ne)
-    ∙ ap (λ t. not t && is_first k n ws) (eq_apart w.element n (other refl))
+    ap (λ t. if t then true else not (w.element == n) && is_first k n ws) (ne_eqb w.number k ne)
+    ∙ ap (λ t. not t && is_first k n ws) (ne_eqb w.element n (other refl))
 first_kept false k n w ws ne other = refl
 
 first_here : (b : Bool) (r n : ℕ) (s : Slot) (ss : List Slot) → b ≡ true → is_first r n (kept b (entry_of_slot r s) (waiting_from (suc r) ss)) ≡ true
@@ -120,18 +117,14 @@ first_true r (suc i) k n (t ∷ ss) s read waits at none =
 
 first_stops : (b : Bool) (k n : ℕ) (w : Entry) (ws : List Entry) → w.number ≢ k → b ≡ true → w.element ≡ n → is_first k n (kept b w ws) ≡ false
 first_stops true k n w ws ne waits of =
-    ap (λ t. if t then true else not (w.element == n) && is_first k n ws) (eq_apart w.number k ne)
+    ap (λ t. if t then true else not (w.element == n) && is_first k n ws) (ne_eqb w.number k ne)
     ∙ ap (λ t. not t && is_first k n ws) (ap (λ m. w.element == m) (sym of) ∙ eq_same w.element)
 first_stops false k n w ws ne waits of = absurd (cc waits)
 
 first_goes_on : (b : Bool) (k n : ℕ) (w : Entry) (ws : List Entry) → w.number ≢ k → is_first k n ws ≡ false → is_first k n (kept b w ws) ≡ false
 first_goes_on true k n w ws ne rest =
-    ap (λ t. if t then true else not (w.element == n) && is_first k n ws) (eq_apart w.number k ne) ∙ ap (λ t. not (w.element == n) && t) rest
-    ∙ and_false (not (w.element == n))
-  where
-    and_false : (b : Bool) → (b && false) ≡ false
-    and_false true = refl
-    and_false false = refl
+    ap (λ t. if t then true else not (w.element == n) && is_first k n ws) (ne_eqb w.number k ne) ∙ ap (λ t. not (w.element == n) && t) rest
+    ∙ and_right (not (w.element == n)) false refl
 first_goes_on false k n w ws ne rest = rest
 
 pub first_false : (r i j k n : ℕ) (ss : List Slot) (t : Slot) → slice_get ss j ≡ Some t → j < i → t.waits ≡ true → t.element ≡ n → k ≡ r + i
@@ -149,7 +142,7 @@ first_false r (suc i) (suc j) k n (u ∷ ss) t read lt waits of at =
 -- whether none waits of an element
 
 none_kept : (b : Bool) (n : ℕ) (w : Entry) (ws : List Entry) → (b ≡ true → w.element ≢ n) → none_of_element n (kept b w ws) ≡ none_of_element n ws
-none_kept true n w ws other = ap (λ t. not t && none_of_element n ws) (eq_apart w.element n (other refl))
+none_kept true n w ws other = ap (λ t. not t && none_of_element n ws) (ne_eqb w.element n (other refl))
 none_kept false n w ws other = refl
 
 pub none_true : (r n : ℕ) (ss : List Slot) → ((j : ℕ) (t : Slot) → slice_get ss j ≡ Some t → t.waits ≡ true → t.element ≢ n)
@@ -163,11 +156,7 @@ none_stops true n w ws waits of = ap (λ t. not t && none_of_element n ws) (ap (
 none_stops false n w ws waits of = absurd (cc waits)
 
 none_goes_on : (b : Bool) (n : ℕ) (w : Entry) (ws : List Entry) → none_of_element n ws ≡ false → none_of_element n (kept b w ws) ≡ false
-none_goes_on true n w ws rest = ap (λ t. not (w.element == n) && t) rest ∙ and_false (not (w.element == n))
-  where
-    and_false : (b : Bool) → (b && false) ≡ false
-    and_false true = refl
-    and_false false = refl
+none_goes_on true n w ws rest = ap (λ t. not (w.element == n) && t) rest ∙ and_right (not (w.element == n)) false refl
 none_goes_on false n w ws rest = rest
 
 pub none_false : (r j n : ℕ) (ss : List Slot) (t : Slot) → slice_get ss j ≡ Some t → t.waits ≡ true → t.element ≡ n
@@ -180,9 +169,6 @@ none_false r (suc j) n (u ∷ ss) t read waits of =
     none_goes_on u.waits n (entry_of_slot r u) (waiting_from (suc r) ss) (none_false (suc r) j n ss t read waits of)
 
 -- the number that an element got last
-
-false_true : {b : Bool} → b ≡ false → b ≡ true → ⊥
-false_true f t = absurd (cc (f, t))
 
 below_or : (a b : ℕ) → (a ≤ b) ⊎ (b < a)
 below_or zero b = inl (omega arith)
@@ -217,7 +203,7 @@ first_by_previous ss i s true are read waits says none =
     by_previous s.previous refl
   where
     by_previous : (p : ℕ) → s.previous ≡ p → is_first (suc i) s.element (waiting_from 1 ss) ≡ false
-    by_previous zero at = absurd (false_true (sym (sym (none at))) refl)
+    by_previous zero at = absurd (both_ways true (none at) refl)
     by_previous (suc q) at =
         let h = (are.linked i s read).here q at in
         first_false 1 i q (suc i) s.element ss h.1.0 h.1.1 h.0 (says q h.1.0 at h.1.1) h.1.2 (omega arith)
@@ -225,20 +211,20 @@ first_by_previous ss i s false are read waits says none =
     first_true 1 i (suc i) s.element ss s read waits (omega arith)
     (λ j t there lt still of.
     let l = last_waits ss s.element i s.previous are (are.linked i s read) j t there lt still of in
-    false_true (says l.0 l.3.0 l.1 l.3.1) l.3.3)
+    both_ways _ (says l.0 l.3.0 l.1 l.3.1) l.3.3)
 
 -- whether none waits of an element, by the number that it got last
 pub none_by_last : (ss : List Slot) (n p : ℕ) (b : Bool) → AreLinked ss → LastOf n (length ss) ss p
     → ((q : ℕ) (t : Slot) → p ≡ suc q → slice_get ss q ≡ Some t → t.waits ≡ b) → (p ≡ 0 → b ≡ false)
     → none_of_element n (waiting_from 1 ss) ≡ not b
-none_by_last ss n zero true are last says none = absurd (false_true (sym (sym (none refl))) refl)
+none_by_last ss n zero true are last says none = absurd (both_ways true (none refl) refl)
 none_by_last ss n (suc q) true are last says none =
     let h = last.here q refl in
     none_false 1 q n ss h.1.0 h.1.1 (says q h.1.0 refl h.1.1) h.1.2
 none_by_last ss n p false are last says none =
     none_true 1 n ss (λ j t there still of.
-    let l = last_waits ss n (length ss) p are last j t there (get_within ss j t there) still of in
-    false_true (says l.0 l.3.0 l.1 l.3.1) l.3.3)
+    let l = last_waits ss n (length ss) p are last j t there (slice_get_within ss j t there) still of in
+    both_ways _ (says l.0 l.3.0 l.1 l.3.1) l.3.3)
 
 -- one more slot
 
@@ -253,14 +239,14 @@ pub linked_push : (ss : List Slot) (s : Slot) → AreLinked ss → LastOf s.elem
 linked_push ss s are last waits =
     record {
       linked = λ i t read. elim (push_get ss s i t read) [
-        | inl there ↦ last_push ss s t.element i t.previous (omega (arith, get_within ss i t there)) (are.linked i t there)
+        | inl there ↦ last_push ss s t.element i t.previous (omega (arith, slice_get_within ss i t there)) (are.linked i t there)
         | inr end ↦ subst (λ u. LastOf u.element i (ss ++ s ∷ []) u.previous) (sym end.1)
             (subst (λ m. LastOf s.element m (ss ++ s ∷ []) s.previous) (sym end.0) (last_push ss s s.element (length ss) s.previous (omega arith) last))
       ];
       in_order = λ i j t u first second lt same still. elim (push_get ss s j u second) [
         | inl there ↦ elim (push_get ss s i t first) [
           | inl before ↦ are.in_order i j t u before there lt same still
-          | inr end ↦ absurd (omega (arith, end.0, get_within ss j u there, lt))
+          | inr end ↦ absurd (omega (arith, end.0, slice_get_within ss j u there, lt))
         ]
         | inr end ↦ ap (λ v. v.waits) end.1 ∙ waits
       ];
@@ -269,7 +255,7 @@ linked_push ss s are last waits =
 pub last_same : (ss : List Slot) (s : Slot) → LastOf s.element (length (ss ++ s ∷ [])) (ss ++ s ∷ []) (suc (length ss))
 last_same ss s =
     record {
-      later = λ i t read past lt. absurd (omega (arith, past, get_within (ss ++ s ∷ []) i t read, length-append ss (s ∷ [])));
+      later = λ i t read past lt. absurd (omega (arith, past, slice_get_within (ss ++ s ∷ []) i t read, length-append ss (s ∷ [])));
       here = λ q at. (
         omega (arith, at, length-append ss (s ∷ [])),
         (s, (let k : q ≡ length ss = omega (arith, at) in ap (slice_get (ss ++ s ∷ [])) k ∙ get_last ss s), refl),
@@ -280,7 +266,7 @@ pub last_other : (ss : List Slot) (s : Slot) (n p : ℕ) → s.element ≢ n →
 last_other ss s n p ne last =
     record {
       later = λ i t read past lt. elim (push_get ss s i t read) [
-        | inl there ↦ last.later i t there past (get_within ss i t there)
+        | inl there ↦ last.later i t there past (slice_get_within ss i t there)
         | inr end ↦ (λ e. ne (ap (λ u. u.element) (sym end.1) ∙ e))
       ];
       here = λ q at. (let h = last.here q at in (omega (arith, h.0, length-append ss (s ∷ [])), (h.1.0, get_push ss s q h.1.0 h.1.1, h.1.2)));
@@ -322,7 +308,7 @@ there ss (suc i) waits = by_slot (slice_get ss i) refl
     by_slot (Some s) read = record { place = i; number = refl; slot = s; read = read; still = ap waits_in (sym read) ∙ waits }
 
 pub within : (ss : List Slot) (k : ℕ) → waits_at ss k ≡ true → (1 ≤ k) × (k - 1 < length ss)
-within ss k waits = let t = there ss k waits in (omega (arith, t.number), omega (arith, t.number, get_within ss t.place t.slot t.read))
+within ss k waits = let t = there ss k waits in (omega (arith, t.number), omega (arith, t.number, slice_get_within ss t.place t.slot t.read))
 
 leads_none : (o : Option Entry) (ws : List Entry) → is_some o ≡ false → leads o ws ≡ true
 leads_none None ws none = refl
@@ -399,7 +385,7 @@ linked_take ss i s are read first =
         | inr other ↦ last_set ss i s t.element j t.previous read (are.linked j t other.1)
       ];
       in_order = λ j k t u one two lt same still. elim (changed_get ss i j s t read one) [
-        | inl here ↦ absurd (false_true (ap (λ v. v.waits) here.1) still)
+        | inl here ↦ absurd (both_ways _ (ap (λ v. v.waits) here.1) still)
         | inr other ↦ elim (changed_get ss i k s u read two) [
           | inl there ↦ absurd (first j t other.1 (omega (arith, lt, there.0)) still (same ∙ ap (λ v. v.element) there.1))
           | inr another ↦ are.in_order j k t u other.1 another.1 lt same still
@@ -409,7 +395,7 @@ linked_take ss i s are read first =
 
 lower_none : (ss : List Slot) (i : ℕ) (s : Slot) → is_first (suc i) s.element (waiting_from 1 ss) ≡ true → (j : ℕ) (t : Slot) → slice_get ss j ≡ Some t → j < i
     → t.waits ≡ true → t.element ≢ s.element
-lower_none ss i s first j t read lt still = λ e. false_true (first_false 1 i j (suc i) s.element ss t read lt still e (omega arith)) first
+lower_none ss i s first j t read lt still = λ e. both_ways _ (first_false 1 i j (suc i) s.element ss t read lt still e (omega arith)) first
 
 pub taken : (ss : List Slot) (last : BTreeMap ℕ ℕ) (k : ℕ) (d : Slot) → AreKnown ss last → waits_at ss k ≡ true → d ≡ get_or ss (k - 1) d
     → leads (entry_of k (waiting_from 1 ss)) (waiting_from 1 ss) ≡ true

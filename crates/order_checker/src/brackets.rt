@@ -35,11 +35,12 @@ impl Model for Brackets {
 
     ghost Value = { List ABracket };
 
-    ghost use Rattle.order_checker.specs.Opened.{bracket_of, fillings_of};
+    ghost use Rattle.order_law.specs.Reads.{fillings};
+    ghost use Rattle.order_checker.specs.Opened.{bracket_of};
 
     ghost view = { λ b. reverse (map bracket_of b.open.items) };
 
-    ghost invariant = { λ b. reverse b.filling.items ≡ fillings_of (reverse (map bracket_of b.open.items)) };
+    ghost invariant = { λ b. reverse b.filling.items ≡ fillings (reverse (map bracket_of b.open.items)) };
 }
 
 impl Brackets {

@@ -40,14 +40,15 @@ Fits (Upgrading n ∷ bs) = Fits bs
 abbrev IsBegun : List Event → List Entry → Entry → Type 0
 IsBegun past ws w = Says past (Finished w.number) ⊎ (Says past (Dropped w.number) ⊎ IsAmong w ws)
 
-record Ends (past : List Event) (b : Book) : Type 0 where
+-- the book follows each reaction that was enqueued
+record Follows (past : List Event) (b : Book) : Type 0 where
   told : (w : Entry) → Says past (enqueue_line w) → w.queue ≤ b.queues
   runs : (w : Entry) → IsAmong w (running b.brackets) → Says past (enqueue_line w)
   fits : Fits b.brackets
   ends : (w : Entry) → Says past (enqueue_line w) → IsAmong w b.waiting ⊎ IsBegun past (running b.brackets) w
 
-ends_first : Ends [] blank
-ends_first = record { told = λ w i. absurd i; runs = λ w i. absurd i; fits = tt; ends = λ w i. absurd i }
+follows_first : Follows [] blank
+follows_first = record { told = λ w i. absurd i; runs = λ w i. absurd i; fits = tt; ends = λ w i. absurd i }
 
 more_begun : (past : List Event) (e : Event) (ws vs : List Entry) (w : Entry) → (IsAmong w ws → IsBegun (e ∷ past) vs w) → IsBegun past ws w →
     IsBegun (e ∷ past) vs w
@@ -56,8 +57,8 @@ more_begun past e ws vs w f (inr (inl i)) = inr (inl (inr i))
 more_begun past e ws vs w f (inr (inr i)) = f i
 
 -- an event at which no reaction is enqueued, starts, finishes or is dropped
-stays : (past : List Event) (b : Book) (e : Event) (c : Book) → Ends past b → ((w : Entry) → e ≡ enqueue_line w → ⊥) →
-    running c.brackets ≡ running b.brackets → Fits c.brackets → c.waiting ≡ b.waiting → b.queues ≤ c.queues → Ends (e ∷ past) c
+stays : (past : List Event) (b : Book) (e : Event) (c : Book) → Follows past b → ((w : Entry) → e ≡ enqueue_line w → ⊥) →
+    running c.brackets ≡ running b.brackets → Fits c.brackets → c.waiting ≡ b.waiting → b.queues ≤ c.queues → Follows (e ∷ past) c
 stays past b e c k no_line hr fits hw hq =
     record {
       told = λ w i. let f = k.told w (line w i) in omega (arith, f, hq);
@@ -70,8 +71,8 @@ stays past b e c k no_line hr fits hw hq =
     line : (w : Entry) → Says (e ∷ past) (enqueue_line w) → Says past (enqueue_line w)
     line w s = ⊎_elim (λ i. absurd (no_line w i)) (λ i. i) s
 
-enqueues : (past : List Event) (b : Book) (v : Entry) → Ends past b → Pushed past b → v.queue ≡ current b.brackets →
-    Ends (enqueue_line v ∷ past) (after b (enqueue_line v))
+enqueues : (past : List Event) (b : Book) (v : Entry) → Follows past b → Pushed past b → v.queue ≡ current b.brackets →
+    Follows (enqueue_line v ∷ past) (after b (enqueue_line v))
 enqueues past b v k p is =
     record {
       told = λ w i. ⊎_elim (λ e. let f = ap (λ (x : Entry). x.queue) (same_line v w e) in let g = low in omega (arith, f, g)) (λ e. k.told w e) i;
@@ -87,8 +88,8 @@ enqueues past b v k p is =
         (λ i. let f = p.below (current b.brackets) (p.filling (current b.brackets) i).0 in omega (arith, f, is)) (current_of b.brackets)
 
 -- a reaction starts
-starts : (past : List Event) (b : Book) (r : ℕ) (o : Option Entry) → entry_of r b.waiting ≡ o → is_some o ≡ true → Ends past b → Kept past b →
-    Ends (Started r ∷ past) (record (started o b) { dropping = None })
+starts : (past : List Event) (b : Book) (r : ℕ) (o : Option Entry) → entry_of r b.waiting ≡ o → is_some o ≡ true → Follows past b → Kept past b →
+    Follows (Started r ∷ past) (record (started o b) { dropping = None })
 starts past b r None e h k kept = false_true h
 starts past b r (Some v) e h k kept =
     record {
@@ -115,8 +116,8 @@ starts past b r (Some v) e h k kept =
     go w j false is = inl (without_among v.number b.waiting w (eqb-false w.number v.number is) j)
 
 -- a reaction finishes
-finishes : (past : List Event) (b : Book) (r : ℕ) (bs : List Bracket) → b.brackets ≡ bs → ends_reaction r bs ≡ true → Ends past b → (c : Book) →
-    c.brackets ≡ around bs → c.waiting ≡ b.waiting → c.queues ≡ b.queues → Ends (Finished r ∷ past) c
+finishes : (past : List Event) (b : Book) (r : ℕ) (bs : List Bracket) → b.brackets ≡ bs → ends_reaction r bs ≡ true → Follows past b → (c : Book) →
+    c.brackets ≡ around bs → c.waiting ≡ b.waiting → c.queues ≡ b.queues → Follows (Finished r ∷ past) c
 finishes past b r (Reacting v called ∷ bs) e h k c hb hw hq =
     record {
       told = λ w i. let f = k.told w (line w i) in omega (arith, f, hq);
@@ -139,7 +140,7 @@ finishes past b r (Draining q ∷ bs) e h k c hb hw hq = false_true h
 finishes past b r (Upgrading n ∷ bs) e h k c hb hw hq = false_true h
 
 -- a reaction is dropped
-drops : (past : List Event) (b : Book) (r : ℕ) → Ends past b → Ends (Dropped r ∷ past) (after b (Dropped r))
+drops : (past : List Event) (b : Book) (r : ℕ) → Follows past b → Follows (Dropped r ∷ past) (after b (Dropped r))
 drops past b r k =
     record {
       told = λ w i. k.told w (line w i);
@@ -192,52 +193,52 @@ marked_call (Some c) (Draining q ∷ bs) = record { running = refl; fits = λ f.
 marked_call (Some c) (Reacting w called ∷ bs) = record { running = refl; fits = λ f. f }
 marked_call (Some c) (Upgrading n ∷ bs) = record { running = refl; fits = λ f. f }
 
-same_stays : (past : List Event) (b : Book) (e : Event) (c : Book) → Ends past b → ((w : Entry) → e ≡ enqueue_line w → ⊥) →
-    Same b.brackets c.brackets → c.waiting ≡ b.waiting → c.queues ≡ b.queues → Ends (e ∷ past) c
+same_stays : (past : List Event) (b : Book) (e : Event) (c : Book) → Follows past b → ((w : Entry) → e ≡ enqueue_line w → ⊥) →
+    Same b.brackets c.brackets → c.waiting ≡ b.waiting → c.queues ≡ b.queues → Follows (e ∷ past) c
 same_stays past b e c k no_line s hw hq = stays past b e c k no_line s.running (s.fits k.fits) hw (omega (arith, hq))
 
-ends_step : (past : List Event) (b : Book) (e : Event) → Ends past b → Pushed past b → Kept past b → Keeps b e → Ends (e ∷ past) (after b e)
-ends_step past b (Enqueued r n what q) k p kept h =
+follows_step : (past : List Event) (b : Book) (e : Event) → Follows past b → Pushed past b → Kept past b → Keeps b e → Follows (e ∷ past) (after b e)
+follows_step past b (Enqueued r n what q) k p kept h =
     enqueues past b (record { number = r; element = n; what = what; queue = q }) k p
     (eqb-true q (current b.brackets) (right_true (r == b.numbers + 1) (q == current b.brackets) h.counts))
-ends_step past b (QueueOpened q) k p kept h =
+follows_step past b (QueueOpened q) k p kept h =
     let number = eqb-true q (b.queues + 1) h.counts in
     stays past b (QueueOpened q) (after b (QueueOpened q)) k (λ w i. absurd cc) refl
     ((λ w i. let f = k.told w (k.runs w i) in omega (arith, f, number)), k.fits) refl (omega (arith, number))
-ends_step past b (DrainBegun q) k p kept h =
+follows_step past b (DrainBegun q) k p kept h =
     same_stays past b (DrainBegun q) (after b (DrainBegun q)) k (λ w i. absurd cc)
     (begun_drain q b.brackets (left_true (begins_drain q b.brackets) _ h.nested)) refl refl
-ends_step past b (QueueClosed q) k p kept h =
+follows_step past b (QueueClosed q) k p kept h =
     same_stays past b (QueueClosed q) (after b (QueueClosed q)) k (λ w i. absurd cc)
     (ended_drain q b.brackets (left_true (ends_drain q b.brackets) _ h.nested)) refl refl
-ends_step past b (Started r) k p kept h =
+follows_step past b (Started r) k p kept h =
     starts past b r (entry_of r b.waiting) refl
     (left_true (is_some (entry_of r b.waiting)) (is_in_drain b.brackets) (left_true (is_some (entry_of r b.waiting) && is_in_drain b.brackets) _ h.runs)) k kept
-ends_step past b (Finished r) k p kept h =
+follows_step past b (Finished r) k p kept h =
     finishes past b r b.brackets refl (left_true (ends_reaction r b.brackets) _ h.nested) k (after b (Finished r)) refl refl refl
-ends_step past b (Dropped r) k p kept h = drops past b r k
-ends_step past b (UpgradeBegun n) k p kept h =
+follows_step past b (Dropped r) k p kept h = drops past b r k
+follows_step past b (UpgradeBegun n) k p kept h =
     same_stays past b (UpgradeBegun n) (after b (UpgradeBegun n)) k (λ w i. absurd cc) (record { running = refl; fits = λ f. f }) refl refl
-ends_step past b (UpgradeDone n) k p kept h =
+follows_step past b (UpgradeDone n) k p kept h =
     same_stays past b (UpgradeDone n) (after b (UpgradeDone n)) k (λ w i. absurd cc)
     (ended_upgrade n b.brackets (left_true (ends_upgrade n b.brackets) _ h.nested)) refl refl
-ends_step past b (UpgradeThrew n) k p kept h =
+follows_step past b (UpgradeThrew n) k p kept h =
     same_stays past b (UpgradeThrew n) (after b (UpgradeThrew n)) k (λ w i. absurd cc)
     (ended_upgrade n b.brackets (left_true (ends_upgrade n b.brackets) _ h.nested)) refl refl
-ends_step past b e k p kept h = same_stays past b e (after b e) k (λ w i. absurd cc) (marked_call (call_of e) b.brackets) refl refl
+follows_step past b e k p kept h = same_stays past b e (after b e) k (λ w i. absurd cc) (marked_call (call_of e) b.brackets) refl refl
 
 -- all three
 record All (past : List Event) (b : Book) : Type 0 where
-  ends : Ends past b
+  ends : Follows past b
   pushed : Pushed past b
   kept : Kept past b
 
 all_first : All [] blank
-all_first = record { ends = ends_first; pushed = pushed_first; kept = kept_first }
+all_first = record { ends = follows_first; pushed = pushed_first; kept = kept_first }
 
 all_step : (past : List Event) (b : Book) (e : Event) → All past b → Keeps b e → All (e ∷ past) (after b e)
 all_step past b e a h = record {
-  ends = ends_step past b e a.ends a.pushed a.kept h;
+  ends = follows_step past b e a.ends a.pushed a.kept h;
   pushed = pushed_step past b e a.pushed h;
   kept = kept_step past b e a.kept h;
 }

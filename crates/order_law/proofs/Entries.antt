@@ -6,7 +6,12 @@ use Rattle.order_law.specs.Book.{Entry}
 use Rattle.order_law.specs.Reads.{entry_of, without, none_of_element, none_of_queue, is_first}
 use Rattle.order_law.proofs.Fronts.{right_true}
 
--- one of them
+-- a number is one of these
+abbrev pub IsIn : ℕ → List ℕ → Type 0
+IsIn n [] = ⊥
+IsIn n (x ∷ xs) = (x ≡ n) ⊎ IsIn n xs
+
+-- a reaction is one of these
 abbrev pub IsAmong : Entry → List Entry → Type 0
 IsAmong v [] = ⊥
 IsAmong v (w ∷ ws) = (w ≡ v) ⊎ IsAmong v ws

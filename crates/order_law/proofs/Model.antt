@@ -3,7 +3,7 @@
 --
 -- The book, event by event, and a whole run of drops: Reading. The nodes of forests, and that each has its row: Weights, Forests,
 -- Sound. Nodes that steps have in hand: Hands. One change of the page, with its event where it has one: Rows, Upgrades, Reactions,
--- Closing, Ending, Lines, Making. Steps on a page: Steps, Giving, Primitives, Nodes, PageDeeds. Steps of a session: Upgrading,
+-- Enqueuing, Ending, Lines, Making. Steps on a page: Steps, Giving, Primitives, Nodes, PageDeeds. Steps of a session: Upgrading,
 -- Draining, Bodies, Submitting, Operations, Sessions, Scripts.
 --
 -- A new deed on the page is a case of `page_gives`, one on controls of `control_gives`, through internals of `internals_gives`, on
@@ -18,7 +18,7 @@ pub mod Hands
 pub mod Rows
 pub mod Upgrades
 pub mod Reactions
-pub mod Closing
+pub mod Enqueuing
 pub mod Ending
 pub mod Steps
 pub mod Giving

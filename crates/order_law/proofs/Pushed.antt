@@ -9,36 +9,25 @@ use Rattle.ce_events.specs.declared.event.Event.TheVariants.{Enqueued, QueueOpen
 use Rattle.ce_events.specs.declared.event.Event.TheVariants.{UpgradeThrew}
 use Rattle.order_law.specs.Book.{Book, Entry, Bracket, Filling, Draining, Reacting, Upgrading, blank}
 use Rattle.order_law.specs.Lines.{call_of}
-use Rattle.order_law.specs.Reads.{entry_of, current, around}
+use Rattle.order_law.specs.Reads.{entry_of, fillings, current, around}
 use Rattle.order_law.specs.Clauses.{begins_drain, ends_drain, ends_reaction, ends_upgrade}
 use Rattle.order_law.specs.After.{after, started, marked}
 use Rattle.order_law.specs.Law.{read, Lawful}
 use Rattle.order_law.specs.Words.{Says, IsFilling, IsCurrent}
 use Rattle.order_law.proofs.Fronts.{left_true, right_true, false_true}
 use Rattle.order_law.proofs.Walk.{Keeps, at, past_of, says_turned, says_back}
+use Rattle.order_law.proofs.Entries.{IsIn}
 use Rattle.order_law.proofs.Upgrading.{start_unmoved}
 
--- the queues that fill, the innermost first
-abbrev pub fillings : List Bracket → List ℕ
-fillings [] = []
-fillings (Filling q ∷ bs) = q ∷ fillings bs
-fillings (Draining q ∷ bs) = fillings bs
-fillings (Reacting w called ∷ bs) = fillings bs
-fillings (Upgrading n ∷ bs) = fillings bs
-
-abbrev pub IsOf : List ℕ → ℕ → Type 0
-IsOf [] q = ⊥
-IsOf (m ∷ ms) q = (m ≡ q) ⊎ IsOf ms q
-
 -- each is above those around it
-abbrev pub Falling : List ℕ → Type 0
-Falling [] = Unit {0}
-Falling (m ∷ ms) = ((q : ℕ) → IsOf ms q → q < m) × Falling ms
+abbrev pub Descending : List ℕ → Type 0
+Descending [] = Unit {0}
+Descending (m ∷ ms) = ((q : ℕ) → IsIn q ms → q < m) × Descending ms
 
 pub record Pushed (past : List Event) (b : Book) : Type 0 where
-  pub filling : (q : ℕ) → IsOf (fillings b.brackets) q → IsFilling past q
-  pub among : (q : ℕ) → IsFilling past q → IsOf (fillings b.brackets) q
-  pub falls : Falling (fillings b.brackets)
+  pub filling : (q : ℕ) → IsIn q (fillings b.brackets) → IsFilling past q
+  pub among : (q : ℕ) → IsFilling past q → IsIn q (fillings b.brackets)
+  pub falls : Descending (fillings b.brackets)
   pub below : (q : ℕ) → Says past (QueueOpened q) → q ≤ b.queues
   pub begun : (q : ℕ) → Says past (DrainBegun q) → q ≤ b.queues
 
@@ -50,9 +39,9 @@ same : (past : List Event) (b : Book) (e : Event) (c : Book) → Pushed past b �
     fillings c.brackets ≡ fillings b.brackets → c.queues ≡ b.queues → Pushed (e ∷ past) c
 same past b e c k no_push no_drain hf hq =
     record {
-      filling = λ q i. let f = k.filling q (subst (λ l. IsOf l q) hf i) in (inr f.0, λ s. ⊎_elim (λ j. no_drain q j) (λ j. f.1 j) s);
-      among = λ q i. subst (λ l. IsOf l q) (sym hf) (k.among q (⊎_elim (λ j. absurd (no_push q j)) (λ j. j) i.0, λ s. i.1 (inr s)));
-      falls = subst Falling (sym hf) k.falls;
+      filling = λ q i. let f = k.filling q (subst (IsIn q) hf i) in (inr f.0, λ s. ⊎_elim (λ j. no_drain q j) (λ j. f.1 j) s);
+      among = λ q i. subst (IsIn q) (sym hf) (k.among q (⊎_elim (λ j. absurd (no_push q j)) (λ j. j) i.0, λ s. i.1 (inr s)));
+      falls = subst Descending (sym hf) k.falls;
       below = λ q i. let f = k.below q (⊎_elim (λ j. absurd (no_push q j)) (λ j. j) i) in omega (arith, f, hq);
       begun = λ q i. let f = k.begun q (⊎_elim (λ j. absurd (no_drain q j)) (λ j. j) i) in omega (arith, f, hq);
     }
@@ -86,28 +75,28 @@ drains : (past : List Event) (b : Book) (q : ℕ) (ms : List ℕ) (c : Book) →
     c.queues ≡ b.queues → Pushed (DrainBegun q ∷ past) c
 drains past b q ms c k hb hc hq =
     record {
-      filling = λ p i. let j = subst (λ l. IsOf l p) hc i in let f =
-          k.filling p (subst (λ l. IsOf l p) (sym hb) (inr j)) in
+      filling = λ p i. let j = subst (IsIn p) hc i in let f =
+          k.filling p (subst (IsIn p) (sym hb) (inr j)) in
           (inr f.0, λ s. ⊎_elim (λ e. let g = ap queue_of e in let lt = falls.0 p j in absurd (omega (arith, g, lt))) (λ e. f.1 e) s);
-      among = λ p i. subst (λ l. IsOf l p) (sym hc)
-          (⊎_elim (λ j. absurd (i.1 (inl (ap DrainBegun j)))) (λ j. j) (subst (λ l. IsOf l p) hb (k.among p (no_push past q p i.0, λ s. i.1 (inr s)))));
-      falls = subst Falling (sym hc) falls.1;
+      among = λ p i. subst (IsIn p) (sym hc)
+          (⊎_elim (λ j. absurd (i.1 (inl (ap DrainBegun j)))) (λ j. j) (subst (IsIn p) hb (k.among p (no_push past q p i.0, λ s. i.1 (inr s)))));
+      falls = subst Descending (sym hc) falls.1;
       below = λ p i. let f = k.below p (no_push past q p i) in omega (arith, f, hq);
-      begun = λ p i. ⊎_elim (λ e. let g = ap queue_of e in let f = k.below q (k.filling q (subst (λ l. IsOf l q) (sym hb) (inl refl))).0 in
+      begun = λ p i. ⊎_elim (λ e. let g = ap queue_of e in let f = k.below q (k.filling q (subst (IsIn q) (sym hb) (inl refl))).0 in
           omega (arith, f, g, hq)) (λ e. let f = k.begun p e in omega (arith, f, hq)) i;
     }
   where
-    falls : Falling (q ∷ ms)
-    falls = subst Falling hb k.falls
+    falls : Descending (q ∷ ms)
+    falls = subst Descending hb k.falls
 
 -- none fills: the backup element queue begins to drain
 checks : (past : List Event) (b : Book) (c : Book) → Pushed past b → fillings b.brackets ≡ [] → fillings c.brackets ≡ [] → c.queues ≡ b.queues →
     Pushed (DrainBegun 0 ∷ past) c
 checks past b c k hb hc hq =
     record {
-      filling = λ p i. absurd (subst (λ l. IsOf l p) hc i);
-      among = λ p i. absurd (subst (λ l. IsOf l p) hb (k.among p (no_push past 0 p i.0, λ s. i.1 (inr s))));
-      falls = subst Falling (sym hc) tt;
+      filling = λ p i. absurd (subst (IsIn p) hc i);
+      among = λ p i. absurd (subst (IsIn p) hb (k.among p (no_push past 0 p i.0, λ s. i.1 (inr s))));
+      falls = subst Descending (sym hc) tt;
       below = λ p i. let f = k.below p (no_push past 0 p i) in omega (arith, f, hq);
       begun = λ p i. ⊎_elim (λ e. let g = ap queue_of e in omega (arith, g)) (λ e. let f = k.begun p e in omega (arith, f, hq)) i;
     }
@@ -183,14 +172,14 @@ pushed_step past b e k h = same past b e (after b e) k (λ p i. absurd cc) (λ p
 
 -- the current queue
 
-pub current_of : (bs : List Bracket) → (current bs ≡ 0) × (fillings bs ≡ []) ⊎ IsOf (fillings bs) (current bs)
+pub current_of : (bs : List Bracket) → (current bs ≡ 0) × (fillings bs ≡ []) ⊎ IsIn (current bs) (fillings bs)
 current_of [] = inl (refl, refl)
 current_of (Filling q ∷ bs) = inr (inl refl)
 current_of (Draining q ∷ bs) = current_of bs
 current_of (Reacting w called ∷ bs) = current_of bs
 current_of (Upgrading n ∷ bs) = current_of bs
 
-greatest : (bs : List Bracket) → Falling (fillings bs) → (p : ℕ) → IsOf (fillings bs) p → p ≤ current bs
+greatest : (bs : List Bracket) → Descending (fillings bs) → (p : ℕ) → IsIn p (fillings bs) → p ≤ current bs
 greatest [] h p i = absurd i
 greatest (Filling q ∷ bs) h p (inl i) = omega (arith, i)
 greatest (Filling q ∷ bs) h p (inr i) = let lt = h.0 p i in omega (arith, lt)

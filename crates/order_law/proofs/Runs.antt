@@ -100,7 +100,7 @@ reply_leaves_none before behind e w is h i =
 
 -- what follows a drop
 
-read_append : (b : Book) (front : List Event) (e : Event) → read b (front ++ e ∷ []) ≡ after (read b front) e
+pub read_append : (b : Book) (front : List Event) (e : Event) → read b (front ++ e ∷ []) ≡ after (read b front) e
 read_append b [] e = refl
 read_append b (x ∷ front) e = read_append (after b x) front e
 

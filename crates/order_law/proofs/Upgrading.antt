@@ -1,7 +1,7 @@
 -- Upgrades, checkpoints, numbers and the end of the fuel, in the words of the log.
 use Rattle.std.proofs.Common.{◌≡◌, ℕ, ◌+◌, Bool, true, false, List, [], ◌∷◌, ◌++◌, Option, Some, None, refl, sym, ap, ◌∙◌, arith, ⊎_elim, inl, inr}
 use Rattle.std.specs.Prelude.{◌⊎◌, ◌&&◌, ◌||◌, ◌==◌, not, if◌then◌else◌}
-use Rattle.std.proofs.lemmas.Bool.{eqb-true, eq-eqb}
+use Rattle.std.proofs.lemmas.Bool.{eqb-true, eq-eqb, or_right}
 use Rattle.rule_tokens.specs.declared.callback.CallName.{CallName}
 use Rattle.rule_tokens.specs.declared.callback.CallOrUpgrade.{CallOrUpgrade}
 use Rattle.rule_tokens.specs.declared.callback.CallOrUpgrade.TheVariants.{Call}
@@ -46,11 +46,7 @@ element_of_up (UpgradeThrew n) = n
 element_of_up e = 0
 
 more : (m n : ℕ) (ns : List ℕ) → is_one_of n ns ≡ true → is_one_of n (m ∷ ns) ≡ true
-more m n ns h = go (m == n)
-  where
-    go : (t : Bool) → t || is_one_of n ns ≡ true
-    go true = refl
-    go false = h
+more m n ns h = or_right (m == n) (is_one_of n ns) h
 
 knows_same : (past : List Event) (b : Book) (e : Event) (c : Book) → Knows past b → ((n : ℕ) → e ≡ UpgradeBegun n → ⊥) →
     ((n : ℕ) → e ≡ UpgradeThrew n → ⊥) → c.upgraded ≡ b.upgraded → c.thrown ≡ b.thrown → Knows (e ∷ past) c
@@ -83,15 +79,11 @@ not_both true true h i j = let f : false ≡ true = h in cc
 not_both true false h i j = let f : false ≡ true = j in cc
 not_both false b h i j = let f : false ≡ true = i in cc
 
-not_true : (a : Bool) → not a ≡ true → a ≡ true → ⊥
-not_true true h i = let f : false ≡ true = h in cc
-not_true false h i = let f : false ≡ true = i in cc
-
 pub one_upgrade : (before behind : List Event) (n : ℕ) → Lawful (before ++ UpgradeBegun n ∷ behind) → Says before (UpgradeBegun n) → ⊥
 one_upgrade before behind n h s =
     let a = at_knows before (UpgradeBegun n) behind h in
     let b = read blank before in
-    not_true (is_one_of n b.upgraded) (right_true (may_upgrade n b.brackets) (not (is_one_of n b.upgraded)) (left_true _ _ a.keeps.upgrades))
+    not_both true (is_one_of n b.upgraded) (right_true (may_upgrade n b.brackets) (not (is_one_of n b.upgraded)) (left_true _ _ a.keeps.upgrades)) refl
     (a.past.begun n (says_turned before (UpgradeBegun n) s))
 
 pub no_enqueue_behind_throw : (before behind : List Event) (r n q : ℕ) (name : CallName) → Lawful (before ++ Enqueued r n (Call name) q ∷ behind) →
@@ -140,11 +132,7 @@ checkpoint_before_reply before between behind r n what e is h =
     let rest = rest_from blank before (Enqueued r n what 0 ∷ (between ++ e ∷ behind)) h in
     let end = rest_from c between (e ∷ behind) (right_true (may_come b (Enqueued r n what 0)) _ rest) in
     let k = keeps (read c between) e (left_true (may_come (read c between) e) _ end) in
-    ⊎_elim (λ s. s) (λ o. absurd (not_both (is_reply e) (read c between).owed (right_true _ _ k.nested) is o)) (owes c between (or_true b.owed))
-  where
-    or_true : (t : Bool) → t || true ≡ true
-    or_true true = refl
-    or_true false = refl
+    ⊎_elim (λ s. s) (λ o. absurd (not_both (is_reply e) (read c between).owed (right_true _ _ k.nested) is o)) (owes c between (or_right b.owed true refl))
 
 -- numbers
 

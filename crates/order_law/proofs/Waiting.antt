@@ -19,7 +19,7 @@ pub data Change (b : Book) (e : Event) : Type 0 where
   Adds : (w : Entry) → e ≡ enqueue_line w → w.number ≡ b.numbers + 1 → (after b e).waiting ≡ b.waiting ++ w ∷ [] → (after b e).numbers ≡ w.number → Change b e
   Takes : (w : Entry) → (e ≡ Started w.number) ⊎ (e ≡ Dropped w.number) → entry_of w.number b.waiting ≡ Some w →
       (after b e).waiting ≡ without w.number b.waiting → (after b e).numbers ≡ b.numbers → Change b e
-  Stays : ((w : Entry) → e ≡ enqueue_line w → ⊥) → ((r : ℕ) → e ≡ Started r → ⊥) → ((r : ℕ) → e ≡ Dropped r → ⊥) → (after b e).waiting ≡ b.waiting →
+  Leaves : ((w : Entry) → e ≡ enqueue_line w → ⊥) → ((r : ℕ) → e ≡ Started r → ⊥) → ((r : ℕ) → e ≡ Dropped r → ⊥) → (after b e).waiting ≡ b.waiting →
       (after b e).numbers ≡ b.numbers → Change b e
 
 starts : (b : Book) (r : ℕ) (o : Option Entry) → entry_of r b.waiting ≡ o → is_some o && is_in_drain b.brackets ≡ true → Change b (Started r)
@@ -41,7 +41,7 @@ change b (Enqueued r n what q) h =
     (eqb-true r (b.numbers + 1) (left_true (r == b.numbers + 1) (q == current b.brackets) h.counts)) refl refl
 change b (Started r) h = starts b r (entry_of r b.waiting) refl (left_true _ _ h.runs)
 change b (Dropped r) h = drops b r (entry_of r b.waiting) refl (left_true _ _ h.runs)
-change b e h = Stays (λ w i. absurd cc) (λ r i. absurd cc) (λ r i. absurd cc) refl refl
+change b e h = Leaves (λ w i. absurd cc) (λ r i. absurd cc) (λ r i. absurd cc) refl refl
 
 -- the book and what was read
 pub record Kept (past : List Event) (b : Book) : Type 0 where
@@ -167,4 +167,4 @@ kept_step past b e k h = go (change b e h)
     go : Change b e → Kept (e ∷ past) (after b e)
     go (Adds w is number waiting numbers) = adds past b e w k is number (b.waiting ++ w ∷ []) refl w.number refl (after b e) waiting numbers
     go (Takes w is found waiting numbers) = takes past b e w k is found (after b e) waiting numbers
-    go (Stays no_line no_start no_drop waiting numbers) = stays past b e k no_line no_start no_drop (after b e) waiting numbers
+    go (Leaves no_line no_start no_drop waiting numbers) = stays past b e k no_line no_start no_drop (after b e) waiting numbers

@@ -49,6 +49,14 @@ is_first r n (w ∷ ws) = if w.number == r then true else not (w.element == n) &
 
 -- open brackets
 
+-- the queues whose draining has not begun, the innermost first
+abbrev pub fillings : List Bracket → List ℕ
+fillings [] = []
+fillings (Filling q ∷ bs) = q ∷ fillings bs
+fillings (Draining q ∷ bs) = fillings bs
+fillings (Reacting w called ∷ bs) = fillings bs
+fillings (Upgrading n ∷ bs) = fillings bs
+
 -- the element queue that was pushed last, of those whose draining has not begun; or 0
 abbrev pub current : List Bracket → ℕ
 current [] = 0

@@ -37,8 +37,8 @@ read_between s i (Some e) (l ∷ ls) is enough =
     ap (links_between s) is.between ∙ read_links s (slab_len s) i l ls is.cells enough
 
 -- no chain has more links than all have together
-no_longer : (links : List (List Link)) (i : ℕ) → i < length links → length (get_or links i []) ≤ sum_by length links
-no_longer links i there = omega (arith, sum_by-set length links i [] [] there)
+at_most_all : (links : List (List Link)) (i : ℕ) → i < length links → length (get_or links i []) ≤ sum_by length links
+at_most_all links i there = omega (arith, sum_by-set length links i [] [] there)
 
 -- and so all read as theirs
 pub all_read : (s : Slab Cell) (ends : List (Option Ends)) (links : List (List Link)) → AreChains s ends links → links_of s ends ≡ links
@@ -46,7 +46,7 @@ all_read s ends links are =
     ext_get_or [] (links_of s ends) links (length-map ends (links_between s) ∙ sym are.size)
     (λ i at. let there : i < length links = omega (arith, at, length-map ends (links_between s), are.size) in
     get_or-map (links_between s) ends i None [] (omega (arith, there, are.size))
-    ∙ read_between s i (get_or ends i None) (get_or links i []) (are.chains i) (omega (arith, no_longer links i there, are.count)))
+    ∙ read_between s i (get_or ends i None) (get_or links i []) (are.chains i) (omega (arith, at_most_all links i there, are.count)))
 
 pub as_read : (s : Slab Cell) (ends : List (Option Ends)) (links : List (List Link)) → AreChains s ends links → AreChains s ends (links_of s ends)
 as_read s ends links are = subst (AreChains s ends) (sym (all_read s ends links are)) are

@@ -230,8 +230,8 @@ row_none : (Action : Spelling) (rows : Rows) (t : Token) (ts : List Token) → S
 row_none Action (LastRow word wants) t ts spelled = either_none (is_word (spelling word) t) _ _ (λ x. x) (λ x. x) spelled
 row_none Action (Row word wants rows) t ts spelled = either_none (is_word (spelling word) t) _ _ (λ x. x) (λ x. row_none Action rows t ts x) spelled
 
-fewer : (g : ReadAs) (gs : List ReadAs) (n : ℕ) → length (g ∷ gs) ≤ n → length gs ≤ n
-fewer g gs n small = omega (arith, small)
+fewer_read : (g : ReadAs) (gs : List ReadAs) (n : ℕ) → length (g ∷ gs) ≤ n → length gs ≤ n
+fewer_read g gs n small = omega (arith, small)
 
 mutual
   wants_again : FlagsAgain → (Action : Spelling) (action : List ReadAs → List Token) (n : ℕ) → SpelledAgain n Action action → (wants : Wants)
@@ -240,11 +240,11 @@ mutual
   wants_again again Action action n is (One kind more) ok ts [] small spelled = absurd (one_none kind (Spell Action more) ts spelled)
   wants_again again Action action n is (One kind more) ok ts (g ∷ gs) small spelled =
       one_again again kind (Spell Action more) ts (canon action more gs) g gs spelled
-      (λ us rest. wants_again again Action action n is more ok us gs (fewer g gs n small) rest)
+      (λ us rest. wants_again again Action action n is more ok us gs (fewer_read g gs n small) rest)
   wants_again again Action action n is (Pick rows) ok [] gs small spelled = absurd spelled
   wants_again again Action action n is (Pick rows) ok (t ∷ ts) [] small spelled = absurd (row_none Action rows t ts spelled)
   wants_again again Action action n is (Pick rows) ok (t ∷ ts) (g ∷ gs) small spelled =
-      let r = row_again again Action action n is rows ok t ts g gs (fewer g gs n small) spelled in rw r.tokens r.spelled
+      let r = row_again again Action action n is rows ok t ts g gs (fewer_read g gs n small) spelled in rw r.tokens r.spelled
   wants_again again Action action n is (Keys keys) ok ts gs small spelled = keys_again again keys ok ts gs spelled
   wants_again again Action action n is (Maybe kind) ok ts gs small spelled = maybe_again again kind ts gs spelled
   wants_again again Action action n is (Many k kind) ok ts gs small spelled = many_again again k kind ts gs spelled

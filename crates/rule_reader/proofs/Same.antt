@@ -1,5 +1,5 @@
 -- What the table of forms gives is what the forms give.
-use Rattle.std.proofs.Common.{◌≡◌, Bool, true, false, List, [], ◌∷◌, ◌++◌, Option, Some, None, Result, Ok, Err, if◌then◌else◌, refl, sym, ap, ◌∙◌, append_assoc}
+use Rattle.std.proofs.Common.{◌≡◌, Bool, true, false, List, [], ◌∷◌, ◌++◌, Option, Some, None, Result, Ok, Err, if◌then◌else◌, refl, sym, ap, ◌∙◌}
 use Rattle.std.proofs.lemmas.List.{append-nil}
 use Rattle.std.specs.Option.{option_map}
 use Rattle.rule_tokens.specs.declared.refused.Bad.{Bad}
@@ -8,6 +8,7 @@ use Rattle.rule_tokens.specs.declared.operand.Operand.{Operand}
 use Rattle.rule_tokens.specs.declared.token.Token.{Token}
 use Rattle.rule_tokens.specs.Gives.{◌>>=◌, with_front, or_word}
 use Rattle.rule_tokens.specs.OperandForms.{is_word, node}
+use Rattle.rule_tokens.proofs.CutLaws.{with_more}
 use Rattle.rule_grammar.specs.Grammar.{said_as, Key, Wants, End, One, Pick, Maybe, LastRow, Row}
 use Rattle.rule_grammar.specs.Read.{Reads, then_read_as, no_keys, behind_key, read_keys, read}
 use Rattle.rule_grammar.specs.FixedWords.{keyword, spelling}
@@ -26,8 +27,7 @@ abbrev pub shows : {A : Type 0} → (A → List ReadAs) → Result A Bad → Rea
 shows see read = read >>= λ x. Ok (see x)
 
 pub fronts : (front : List ReadAs) (g : ReadAs) (read : Reads) → with_front front (with_front (g ∷ []) read) ≡ with_front (front ++ g ∷ []) read
-fronts front g (Ok rest) = ap Ok (sym (append_assoc front (g ∷ []) rest))
-fronts front g (Err b) = refl
+fronts front g read = with_more front (g ∷ []) read
 
 one_read_as : {A B : Type 0} (o : Option A) (g : A → ReadAs) (front : List ReadAs) (others : Reads) (ts : List Token) (k : A × List Token → Result B Bad)
     (see : B → List ReadAs) → ((a : A) → with_front (front ++ g a ∷ []) others ≡ shows see (k (a, ts)))

@@ -123,9 +123,9 @@ no_brace_behind_u : (c : ℕ) (rest : List ℕ) → c ≢ 123 → BeginsEscape (
 no_brace_behind_u c rest differ (inl (l, d, more, e)) = let same : l ≡ 117 = (cc) in not_u l d e.0 same
 no_brace_behind_u c rest differ (inr (ds, d, more, e)) = let same : c ≡ 123 = (cc) in differ same
 
-no_end : (ds : List ℕ) → NoBrace ds → BeginsEscape (117 ∷ 123 ∷ ds) → ⊥
-no_end ds none (inl (l, d, more, e)) = let same : l ≡ 117 = (cc) in not_u l d e.0 same
-no_end ds none (inr (es, d, more, e)) = let same : ds ≡ es ++ 125 ∷ more = (cc) in brace_behind es more (subst NoBrace same none)
+not_closed : (ds : List ℕ) → NoBrace ds → BeginsEscape (117 ∷ 123 ∷ ds) → ⊥
+not_closed ds none (inl (l, d, more, e)) = let same : l ≡ 117 = (cc) in not_u l d e.0 same
+not_closed ds none (inr (es, d, more, e)) = let same : ds ≡ es ++ 125 ∷ more = (cc) in brace_behind es more (subst NoBrace same none)
 
 no_name : (ds rest : List ℕ) → NoBrace ds → named ds ≡ None → BeginsEscape (117 ∷ 123 ∷ (ds ++ 125 ∷ rest)) → ⊥
 no_name ds rest none unnamed (inl (l, d, more, e)) = let same : l ≡ 117 = (cc) in not_u l d e.0 same
@@ -203,7 +203,7 @@ reads_none Outside = ([], (refl, tt))
 reads_none AfterBackslash = at_wrong [] nothing_behind
 reads_none AfterU = at_wrong (117 ∷ []) nothing_behind_u
 reads_none (Digits ds) = λ none. reads_as (92 ∷ 117 ∷ 123 ∷ ds) (92 ∷ 117 ∷ 123 ∷ (ds ++ [])) (Err Escape) (Err Escape)
-    (ap (λ (l : List ℕ). 92 ∷ 117 ∷ 123 ∷ l) (sym (append-nil ds))) refl (at_wrong (117 ∷ 123 ∷ ds) (no_end ds none))
+    (ap (λ (l : List ℕ). 92 ∷ 117 ∷ 123 ∷ l) (sym (append-nil ds))) refl (at_wrong (117 ∷ 123 ∷ ds) (not_closed ds none))
 
 reads_in : (cs : List ℕ) (e : InEscape) → ReadsIn e cs
 reads_in [] e = reads_none e

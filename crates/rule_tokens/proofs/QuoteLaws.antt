@@ -21,6 +21,7 @@ use Rattle.rule_tokens.specs.Laws.{IsAnswer}
 use Rattle.rule_tokens.proofs.CaseLaws.{lex_reads}
 use Rattle.rule_tokens.proofs.CutLaws.{cut_laid_out, pieces_more, are_more}
 use Rattle.rule_tokens.proofs.EscapeLaws.{unescape_read}
+use Rattle.rule_tokens.proofs.TextLaws.{control_small}
 
 -- characters with their escapes
 abbrev pub escapes : List ℕ → List ℕ
@@ -40,9 +41,6 @@ plain_backslash c is = grind (arith, nat_tests)
 
 plain_quote : (c : ℕ) → short_letter c ≡ None → eqb c 34 ≡ false
 plain_quote c is = grind (arith, nat_tests)
-
-control_small : (c : ℕ) → is_ascii_control c ≡ true → c < 128
-control_small c is = grind (arith, nat_tests)
 
 digit_plain : (d : ℕ) → d < 16 → ((eqb (digit_char d) 34 ≡ false) × (eqb (digit_char d) 92 ≡ false)) × (is_ascii_control (digit_char d) ≡ false)
 digit_plain d small = grind (arith, nat_tests)

@@ -166,16 +166,16 @@ tokens_read : (ts : List Token) → AreClean ts → tokens_in (raws_of ts) ≡ O
 tokens_read [] clean = refl
 tokens_read (t ∷ ts) clean = rw (token_read_by t.quoted t.text clean.0, tokens_read ts clean.1) refl
 
-plain_by : (b : Bool) (text : List ℕ) → IsCleanBy b text → list_any is_ascii_control (stands_by b text) ≡ false
-plain_by true text clean = quoted_plain (chars text)
-plain_by false text clean = none_control text (all_bare text clean.1)
+stands_plain : (b : Bool) (text : List ℕ) → IsCleanBy b text → list_any is_ascii_control (stands_by b text) ≡ false
+stands_plain true text clean = quoted_plain (chars text)
+stands_plain false text clean = none_control text (all_bare text clean.1)
 
 plain_spaced : (ts : List Token) → AreClean ts → list_any is_ascii_control (all_spaced ts) ≡ false
 plain_spaced [] clean = refl
-plain_spaced (t ∷ ts) clean = any_both is_ascii_control (stands t) (all_spaced ts) (plain_by t.quoted t.text clean.0) (plain_spaced ts clean.1)
+plain_spaced (t ∷ ts) clean = any_both is_ascii_control (stands t) (all_spaced ts) (stands_plain t.quoted t.text clean.0) (plain_spaced ts clean.1)
 
 plain_line : (t : Token) (ts : List Token) → AreClean (t ∷ ts) → list_any is_ascii_control (all_stand t ts) ≡ false
-plain_line t ts clean = any_both is_ascii_control (stands t) (all_spaced ts) (plain_by t.quoted t.text clean.0) (plain_spaced ts clean.1)
+plain_line t ts clean = any_both is_ascii_control (stands t) (all_spaced ts) (stands_plain t.quoted t.text clean.0) (plain_spaced ts clean.1)
 
 no_backslash_by : (b : Bool) (text : List ℕ) → IsCleanBy b text → has_bare_backslash (raw_by b text) ≡ false
 no_backslash_by true text clean = refl

@@ -42,13 +42,13 @@ hex_scalars : (b : Bool) (n : ℕ) → n < 256 → all_scalars (cond b (digit_ch
 hex_scalars true n small = rw (digit_scalar (n % 16) (omega arith)) refl
 hex_scalars false n small = rw (digit_scalar (n / 16) (omega arith), digit_scalar (n % 16) (omega arith)) refl
 
-control_small : (c : ℕ) → is_ascii_control c ≡ true → c < 256
+pub control_small : (c : ℕ) → is_ascii_control c ≡ true → c < 128
 control_small c is = grind (arith, nat_tests)
 
 escape_scalars : (letter : Option ℕ) (control : Bool) (c : ℕ) → scalar c ≡ true → short_letter c ≡ letter → is_ascii_control c ≡ control
     → all_scalars (escape_by letter c) ≡ true
 escape_scalars (Some d) control c is letter_is control_is = rw (letter_scalar c d letter_is) refl
-escape_scalars None true c is letter_is control_is = rw control_is (hex_scalars (nat_lt c 16) c (control_small c control_is))
+escape_scalars None true c is letter_is control_is = rw control_is (hex_scalars (nat_lt c 16) c (omega (arith, control_small c control_is)))
 escape_scalars None false c is letter_is control_is = rw (control_is, is) refl
 
 escape_text : (c : ℕ) → scalar c ≡ true → IsUtf8 (encode_utf8_all (escape c))

@@ -5,15 +5,13 @@ use Rattle.std.proofs.KnownBytes.{Appends-nil, Consumes-nil, Consumes-trans}
 use Rattle.std.specs.Io.KnownBytes.{Consumes, IsAtEnd}
 use Rattle.std.specs.declared.option.Option.{Option}
 use Rattle.ce_base.specs.Faults.{Rose}
+use Rattle.ce_base.proofs.Pieces.{took_no_more}
 use Rattle.ce_base.specs.Outside.{AppendsPart, IsPrefix}
 use Rattle.ce_base.specs.declared.stop.Stop.{Stop}
 use Rattle.ce_base.specs.declared.stop.Stop.TheVariants.{NoMemory as StopMemory, WriteFault as StopWrite}
-use Rattle.ce_events.specs.declared.event.Event.{Event}
 use Rattle.ce_algorithms.specs.Lines.{whole_lines, last_line}
-use Rattle.ce_algorithms.specs.State.{State}
-use Rattle.ce_algorithms.specs.Steps.{Outcome, Goes, Throws, Spent, is_spent}
+use Rattle.ce_algorithms.specs.Steps.{is_spent}
 use Rattle.ce_events.specs.Text.{text}
-use Rattle.ce_algorithms.specs.Written.{behind_in}
 use Rattle.order_law.specs.Law.{Lawful}
 use Rattle.order_law.proofs.Model.Scripts.{session_lawful}
 use Rattle.ce_machine.specs.Ended.{outcome_of}
@@ -31,12 +29,8 @@ use Rattle.command_words.specs.declared.words.Options.{Options}
 use Rattle.command_words.specs.declared.words.Meaning.{Meaning}
 use Rattle.command_words.specs.declared.words.Meaning.TheVariants.{Refused, Script, Made}
 use Rattle.script_runner.proofs.SittingLaws.{ran_answers}
+use Rattle.script_runner.proofs.MadeLaws.{is_spent-behind}
 use Rattle.script_runner.proofs.PieceLaws.{Streamed, answered_piece, part_piece, answered_end, part_end, answered_now}
-
-is_spent-behind : {A : Type 0} (events : List Event) (o : Outcome State A) → is_spent (behind_in events o) ≡ is_spent o
-is_spent-behind events (Goes a s) = refl
-is_spent-behind events (Throws f s) = refl
-is_spent-behind events (Spent s) = refl
 
 -- the fuel is spent where the end of the lines says so
 spends : (set : Options) (lines : List (List ℕ)) (end : End) (s : Sitting) (held held' : Option (List ℕ)) → Answered (fresh set) lines end s held held'
@@ -152,11 +146,6 @@ meets_stop stop set left mid left' held held' held'' s feed bytes front n sb sn 
 
 -- ---- nothing more was taken
 
-took_none : (a b c : Option (List ℕ)) (bytes : List ℕ) → Consumes a b bytes → Consumes b c [] → Consumes a c bytes
-took_none a b c bytes p q =
-    let P : List ℕ → Type 0 = λ l. Consumes a c l in
-    subst P (append-nil bytes) (Consumes-trans a b c bytes [] p q)
-
 pub meets_read_fault : (set : Options) (left mid left' held held' : Option (List ℕ)) (s : Sitting) (feed : List ℕ) (n sb sn kb kn : ℕ)
     → Streamed set left mid held held' s feed n → Consumes mid left' [] → Rose sb sn → RunMeets (Script set) ReadFault left left' held held' false sb sn kb kn
 meets_read_fault set left mid left' held held' s feed n sb sn kb kn before took rose =
@@ -164,7 +153,7 @@ meets_read_fault set left mid left' held held' s feed n sb sn kb kn before took 
     record {
       taken = before.taken;
       written = text set.trace all.events;
-      took = took_none left mid left' before.taken before.took took;
+      took = took_no_more left mid left' before.taken before.took took;
       wrote = all.wrote;
       as_said = (
         (rose, omega (arith, before.length_is, before.within), spends set _ Replied s held held' all, writes set _ Replied s held held' all),
@@ -215,7 +204,7 @@ meets_end set left mid left' held held' held'' s t end feed n sb sn kb kn before
     record {
       taken = before.taken;
       written = text set.trace all.events;
-      took = took_none left mid left' before.taken before.took took;
+      took = took_no_more left mid left' before.taken before.took took;
       wrote = all.wrote;
       as_said = (
         end_row set end t before.taken left' held held'' sb sn kb kn at_end (omega (arith, before.length_is, before.within)) all,
@@ -233,7 +222,7 @@ meets_end_stop stop set left mid left' held held' held'' s feed n sb sn kb kn be
     record {
       taken = before.taken;
       written = part.0;
-      took = took_none left mid left' before.taken before.took took;
+      took = took_no_more left mid left' before.taken before.took took;
       wrote = part.2;
       as_said = (
         stop_row stop set _ part.0 true left' sb sn kb kn cause part.1,

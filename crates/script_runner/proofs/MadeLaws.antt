@@ -82,10 +82,10 @@ fuel_behind events (Goes a s) = refl
 fuel_behind events (Throws f s) = refl
 fuel_behind events (Spent s) = refl
 
-spent_behind : (events : List Event) (o : Outcome State (Unit {0})) → is_spent (behind_in events o) ≡ is_spent o
-spent_behind events (Goes a s) = refl
-spent_behind events (Throws f s) = refl
-spent_behind events (Spent s) = refl
+pub is_spent-behind : {A : Type 0} (events : List Event) (o : Outcome State A) → is_spent (behind_in events o) ≡ is_spent o
+is_spent-behind events (Goes a s) = refl
+is_spent-behind events (Throws f s) = refl
+is_spent-behind events (Spent s) = refl
 
 fuel_at : (end : End) (s : State) → fuel_left (outcome_of end s) ≡ s.fuel
 fuel_at Replied s = refl
@@ -108,7 +108,7 @@ module _ (set : Options) (n : ℕ) (lt : n < 2 ^ 32) (t : Sitting) (end : End) (
   made_fuel = sym (ap fuel_left outcome ∙ fuel_behind done.events (outcome_of end t.state) ∙ fuel_at end t.state)
 
   pub made_end : says_spent end ≡ is_spent (made_session set n)
-  made_end = sym (ap is_spent outcome ∙ spent_behind done.events (outcome_of end t.state) ∙ spent_at end t.state)
+  made_end = sym (ap is_spent outcome ∙ is_spent-behind done.events (outcome_of end t.state) ∙ spent_at end t.state)
 
 pub made_short : (n : ℕ) → n < 2 ^ 32 → length (made_lines n) < 2 ^ 63
 made_short n lt = omega (arith, lt, length-made_lines n)

@@ -1,10 +1,9 @@
 -- What a run has done between two reads, and what a piece adds.
 use Rattle.std.proofs.Common.{◌≡◌, ◌≢◌, ◌≤◌, ◌+◌, ◌-◌, ◌⊎◌, min, nat_le, cond, inl, inr, ℕ, true, false, List, [], ◌++◌, length, take, drop, refl, sym, ap}
-use Rattle.std.proofs.Common.{subst, ◌∙◌, append-nil, arith, length-append, length-take-le, All}
+use Rattle.std.proofs.Common.{subst, ◌∙◌, arith, length-append, length-take-le, All}
 use Rattle.std.proofs.KnownBytes.{Consumes-nil, Consumes-trans}
 use Rattle.std.proofs.lemmas.Grind.{common_steps}
-use Rattle.std.proofs.lemmas.List.{take-append-le, take-append-drop}
-use Rattle.std.proofs.Math.ListN.{drop_of_length-le}
+use Rattle.std.proofs.lemmas.List.{take-append-le, take-append-drop, take_all}
 use Rattle.std.proofs.Math.Seq.{take-append-add}
 use Rattle.std.specs.Io.KnownBytes.{Consumes}
 use Rattle.std.specs.declared.option.Option.{Option}
@@ -50,14 +49,11 @@ streamed_first set left held s feed is none =
 
 -- ---- the lines that count
 
-take_all : (xs : List ℕ) (n : ℕ) → length xs ≤ n → take n xs ≡ xs
-take_all xs n h = sym (append-nil (take n xs)) ∙ (ap (λ l. take n xs ++ l) (sym (drop_of_length-le xs h)) ∙ take-append-drop n xs)
-
 le_test : (a b : ℕ) → a ≤ b → nat_le a b ≡ true
 le_test a b h = grind (arith, common_steps)
 
 pub counted-within : (taken : List ℕ) → length taken ≤ limit → counted false taken ≡ whole_lines taken
-counted-within taken h = ap whole_lines (take_all taken limit h)
+counted-within taken h = ap whole_lines (take_all limit taken h)
 
 pub counted-ended : (taken : List ℕ) → length taken ≤ limit → counted true taken ≡ lines_of taken
 counted-ended taken h = ap (λ t. cond t (lines_of taken) (whole_lines (take limit taken))) (le_test (length taken) limit h)
@@ -145,13 +141,13 @@ take_fewer xs a b h =
     let len : (a ≤ length xs) ⊎ (length xs ≤ a) = grind arith in
     elim len [
       | inl le ↦ sym (take-append-le b (take a xs) (drop a xs) (rw (length-take-le a xs le) h)) ∙ ap (take b) (take-append-drop a xs)
-      | inr ge ↦ ap (take b) (take_all xs a ge)
+      | inr ge ↦ ap (take b) (take_all a xs ge)
     ]
 
 pub within_limit : (buf : List ℕ) (count room within : ℕ) → count ≤ length buf → within ≡ min count room → take within buf ≡ take room (take count buf)
 within_limit buf count room within fits is =
     let cases : ((count ≤ room) × (within ≡ count)) ⊎ ((room ≤ count) × (within ≡ room)) = grind arith in
     elim cases [
-      | inl h ↦ ap (λ k. take k buf) h.1 ∙ sym (take_all (take count buf) room (rw (length-take-le count buf fits) h.0))
+      | inl h ↦ ap (λ k. take k buf) h.1 ∙ sym (take_all room (take count buf) (rw (length-take-le count buf fits) h.0))
       | inr h ↦ ap (λ k. take k buf) h.1 ∙ sym (take_fewer buf count room h.0)
     ]

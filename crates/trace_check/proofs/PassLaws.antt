@@ -8,10 +8,11 @@ use Rattle.event_reader.specs.Steps.{TextsTellSteps}
 use Rattle.order_law.specs.After.{after}
 use Rattle.order_law.specs.Book.{Book, blank}
 use Rattle.order_law.specs.Law.{Lawful, may_come, read}
+use Rattle.order_law.proofs.Runs.{read_append}
 use Rattle.trace_check.specs.Next.{IsAfterLine, NoneMayCome}
 use Rattle.trace_check.specs.Traces.{AreLawful, IsLog}
 use Rattle.trace_check.specs.Verdict.{BreaksAt}
-use Rattle.trace_check.proofs.TraceLaws.{log-append, read-append, lawful-append, none_goes_on}
+use Rattle.trace_check.proofs.TraceLaws.{log-append, lawful-append, none_goes_on}
 use Rattle.std.proofs.Common.{Some}
 
 -- these lines were read of all, and the rest is left: they are those of a lawful log, and this is the book after it
@@ -37,7 +38,7 @@ more_read all rest line behind count b next has cut is = record {
   split = append_assoc has.lines (line ∷ []) (lines_of behind) ∙ (ap (λ (l : List (List ℕ)). has.lines ++ l) (sym cut) ∙ has.split);
   count_is = omega (arith, has.count_is, length-append has.lines (line ∷ []));
   law = lawful-append blank has.log is.0 has.law (ap (λ (c : Book). may_come c is.0) has.book ∙ is.3);
-  book = read-append blank has.log is.0 ∙ (ap (λ (c : Book). after c is.0) has.book ∙ sym is.4);
+  book = read_append blank has.log is.0 ∙ (ap (λ (c : Book). after c is.0) has.book ∙ sym is.4);
 }
 
 -- with this line they are those of no lawful log

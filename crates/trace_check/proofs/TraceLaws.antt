@@ -24,10 +24,6 @@ log-append [] (d ∷ log) line e are is text = absurd are
 log-append (l ∷ lines) [] line e are is text = absurd are
 log-append (l ∷ lines) (d ∷ log) line e are is text = (are.0, are.1, log-append lines log line e are.2 is text)
 
-pub read-append : (b : Book) (log : List Event) (e : Event) → read b (log ++ e ∷ []) ≡ after (read b log) e
-read-append b [] e = refl
-read-append b (d ∷ log) e = read-append (after b d) log e
-
 pub lawful-append : (b : Book) (log : List Event) (e : Event) → is_lawful b log ≡ true → may_come (read b log) e ≡ true → is_lawful b (log ++ e ∷ []) ≡ true
 lawful-append b [] e law may = rw may refl
 lawful-append b (d ∷ log) e law may =

@@ -1,7 +1,7 @@
 -- A queue is closed; the checkpoint; elements without reactions; the fuel; what holds at rest.
 use Rattle.std.proofs.Common.{◌≡◌, ◌≢◌, ℕ, suc, ◌<◌, ◌≤◌, Bool, true, false, List, [], ◌∷◌, ◌++◌, map, None, refl, sym, ap, ◌∙◌, subst, arith, ⊎_elim, inl, inr}
 use Rattle.std.specs.Prelude.{◌==◌, ◌||◌, ◌&&◌, not}
-use Rattle.std.proofs.lemmas.Bool.{eqb-true, eqb-false, eq-eqb}
+use Rattle.std.proofs.lemmas.Bool.{eqb-false, eq-eqb, ne_eqb, or_right, and_right}
 use Rattle.rule_tokens.specs.declared.callback.CallOrUpgrade.{CallOrUpgrade}
 use Rattle.reaction_queue.specs.Queues.{Open, waiting_at}
 use Rattle.ce_events.specs.declared.event.Event.{Event}
@@ -15,9 +15,10 @@ use Rattle.order_law.specs.After.{after}
 use Rattle.order_law.specs.Law.{Lawful}
 use Rattle.order_law.specs.Reads.{around as outer_of}
 use Rattle.order_law.proofs.Model.Reading.{Reads, tested, reads_append, reads_one, told_at, Each, each_map, add_if}
-use Rattle.order_law.proofs.Model.Invariant.{Hold, InSteps, InDrain, InReaction, InUpgrade, InHand, brackets_of, fillings_of, Falling, IsIn, IsOpen, IsLeft}
+use Rattle.order_law.proofs.Model.Invariant.{Hold, InSteps, InDrain, InReaction, InUpgrade, InHand, brackets_of, fillings_of, Falling, IsOpen, IsLeft}
 use Rattle.order_law.proofs.Model.Invariant.{IsPlaced, is_checkpoint, has_any, told, SaysQueues, Holds}
 use Rattle.order_law.proofs.Model.Reactions.{falling_le}
+use Rattle.order_law.proofs.Entries.{IsIn}
 
 -- the close
 
@@ -51,20 +52,9 @@ left_less w l (InReaction v called ∷ h) f i = left_less w l h f i
 left_less w l (InUpgrade n ∷ h) f i = left_less w l h f i
 left_less w l (InHand n ∷ h) f i = left_less w l h f i
 
-differs : (x y : ℕ) → x ≢ y → x == y ≡ false
-differs x y n = go (x == y) refl
-  where
-    go : (b : Bool) → x == y ≡ b → b ≡ false
-    go true t = absurd (n (eqb-true x y t))
-    go false t = refl
-
 all_out : (q : ℕ) (ws : List Entry) → Each (λ w. w.queue ≢ q) ws → none_of_queue q ws ≡ true
 all_out q [] e = refl
-all_out q (w ∷ ws) e = ap (λ b. not b && none_of_queue q ws) (differs w.queue q e.0) ∙ all_out q ws e.1
-
-and_false : (a : Bool) → a && false ≡ false
-and_false true = refl
-and_false false = refl
+all_out q (w ∷ ws) e = ap (λ b. not b && none_of_queue q ws) (ne_eqb w.queue q e.0) ∙ all_out q ws e.1
 
 -- the event of a close, where nothing of the queue waits
 closing : (m : ℕ) (h : List Hold) (l : List Event) (p : Page) (k : Holds (InDrain m [] ∷ h) l p) → Each (λ w. w.queue ≢ m) k.book.waiting →
@@ -118,7 +108,7 @@ closed_holds m h l p high k = record {
     s = k.queues
 
     not_zero : m == 0 ≡ false
-    not_zero = differs m 0 (λ e. omega (arith, e, high))
+    not_zero = ne_eqb m 0 (λ e. omega (arith, e, high))
 
     out : (w : Entry) → IsPlaced p.queues.stack p.queues.backup (InDrain m [] ∷ h) w → w.queue ≢ m
     out w (inl i) e = let lt = open_less w m p.queues.stack (subst (AllLess m) (sym s.opens) (fillings_less m h s.falls.1)) i in omega (arith, e, lt)
@@ -174,7 +164,7 @@ checkpoint_holds l p k =
         falls = (omega arith, tt);
         placed = each_map (IsPlaced p.queues.stack p.queues.backup []) (IsPlaced p.queues.stack p.queues.backup (InDrain 0 [] ∷ [])) b.waiting
             (λ w i. ⊎_elim (λ x. inl x) (λ x. inr (⊎_elim (λ y. absurd y) (λ y. inr y) x)) i) s.placed;
-        owed = inr (or_true (has_any p.queues.backup));
+        owed = inr (or_right (has_any p.queues.backup) true refl);
       };
       elements = let e = k.elements in
           record {
@@ -187,10 +177,6 @@ checkpoint_holds l p k =
             ongoing = e.ongoing;
           };
     }
-  where
-    or_true : (a : Bool) → a || true ≡ true
-    or_true true = refl
-    or_true false = refl
 
 -- the first element of the backup element queue is taken
 pub taken_holds : (n : ℕ) (ns : List ℕ) (l : List Event) (p : Page) → p.queues.backup ≡ n ∷ ns → Holds (InDrain 0 [] ∷ []) l p →
@@ -213,7 +199,7 @@ taken_holds n ns l p is k =
         falls = s.falls;
         placed = each_map (IsPlaced p.queues.stack p.queues.backup (InDrain 0 [] ∷ [])) (IsPlaced p.queues.stack ns (InDrain 0 (n ∷ []) ∷ [])) k.book.waiting
             (λ w i. one w (subst (λ t. IsPlaced p.queues.stack t (InDrain 0 [] ∷ []) w) is i)) s.placed;
-        owed = inr (or_true (has_any ns));
+        owed = inr (or_right (has_any ns) true refl);
       };
       elements = let e = k.elements in
           record {
@@ -227,10 +213,6 @@ taken_holds n ns l p is k =
           };
     }
   where
-    or_true : (a : Bool) → a || true ≡ true
-    or_true true = refl
-    or_true false = refl
-
     one : (w : Entry) → IsPlaced p.queues.stack (n ∷ ns) (InDrain 0 [] ∷ []) w → IsPlaced p.queues.stack ns (InDrain 0 (n ∷ []) ∷ []) w
     one w (inl i) = inl i
     one w (inr (inl (inl i))) = absurd i.1
@@ -256,7 +238,7 @@ checkpoint_closed l p is k = record {
     falls = tt;
     placed = each_map (IsPlaced p.queues.stack p.queues.backup (InDrain 0 [] ∷ [])) (IsPlaced p.queues.stack p.queues.backup []) k.book.waiting
         (λ w i. absurd (nowhere w (subst (λ t. IsPlaced p.queues.stack t (InDrain 0 [] ∷ []) w) is i))) s.placed;
-    owed = inl (and_false k.book.owed);
+    owed = inl (and_right k.book.owed false refl);
   };
   elements = let e = k.elements in
       record { known = e.known; defined = e.defined; unset = e.unset; upgraded = e.upgraded; thrown = e.thrown; document = e.document; ongoing = e.ongoing };

@@ -19,7 +19,7 @@ use Rattle.order_law.specs.Book.{Entry, Bracket, Filling, Draining, Reacting, Up
 use Rattle.order_law.specs.Reads.{is_one_of}
 use Rattle.order_law.specs.Law.{Lawful}
 use Rattle.order_law.proofs.Model.Reading.{Reads, told_at, Each}
-use Rattle.order_law.proofs.Entries.{Rising}
+use Rattle.order_law.proofs.Entries.{Rising, IsIn}
 
 -- what is suspended, the innermost first: the steps of an operation; a drain with the elements that it has left, the one at hand
 -- among them (queue 0: the checkpoint); a reaction, and whether its call line has come; an upgrade; and a node that steps have
@@ -56,10 +56,6 @@ Falling l (InDrain q ns ∷ h) = (q < l) × Falling q h
 Falling l (InReaction w called ∷ h) = Falling l h
 Falling l (InUpgrade n ∷ h) = Falling l h
 Falling l (InHand n ∷ h) = Falling l h
-
-abbrev pub IsIn : ℕ → List ℕ → Type 0
-IsIn n [] = ⊥
-IsIn n (x ∷ xs) = (x ≡ n) ⊎ IsIn n xs
 
 -- the entry's element is in its queue, which is on the stack
 abbrev pub IsOpen : List Open → Entry → Type 0

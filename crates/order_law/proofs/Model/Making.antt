@@ -2,6 +2,7 @@
 use Rattle.std.proofs.Common.{◌≡◌, ℕ, zero, suc, ◌-◌, true, false, List, [], ◌∷◌, ◌++◌, length-append, Option, Some, None, refl, sym, ap, ◌∙◌, subst, arith}
 use Rattle.std.specs.Prelude.{slice_get}
 use Rattle.std.specs.Option.{option_and_then}
+use Rattle.std.proofs.lemmas.Bool.{both_ways}
 use Rattle.node_trees.specs.Trees.{Trees}
 use Rattle.ce_events.specs.declared.event.Event.{Event}
 use Rattle.ce_algorithms.specs.Page.{Page, Element, element_of, or_uncustomized, uncustomized, state_of, definition_of, with_element}
@@ -14,7 +15,7 @@ use Rattle.ce_algorithms.specs.Upgrade.{is_upgradable}
 use Rattle.order_law.specs.Reads.{is_one_of}
 use Rattle.order_law.proofs.Model.Reading.{each_map}
 use Rattle.order_law.proofs.Model.Invariant.{Hold, InSteps, InDrain, InReaction, InUpgrade, InHand, Known, fits, Ongoing, Holds}
-use Rattle.order_law.proofs.Model.Upgrades.{says_row, only_upgrades, both}
+use Rattle.order_law.proofs.Model.Upgrades.{says_row, only_upgrades}
 
 -- a new row reads as one that is not there
 same_row : (rows : List Element) (i : ℕ) → or_uncustomized (slice_get (rows ++ uncustomized ∷ []) i) ≡ or_uncustomized (slice_get rows i)
@@ -72,8 +73,8 @@ fresh_holds n e h l p known may unset k = record {
   elements = says_row k.book h p n e known (record {
     defined = only_upgrades p n e.definition k.book.waiting (k.elements.unset n may) k.elements.defined;
     unset = unset;
-    upgraded = λ m. absurd (both (is_upgradable (state_of p n)) may (k.elements.upgraded n m));
-    thrown = λ m. absurd (both (is_upgradable (state_of p n)) may (k.elements.thrown n m).0);
+    upgraded = λ m. absurd (both_ways (is_upgradable (state_of p n)) (k.elements.upgraded n m) may);
+    thrown = λ m. absurd (both_ways (is_upgradable (state_of p n)) (k.elements.thrown n m).0 may);
   }) k.elements;
 }
 
@@ -91,7 +92,7 @@ failed_holds n e h l p known not_again same k = record {
         → fits w.what (option_and_then (slice_get p.definitions) e.definition) ≡ true) k.book.waiting
         (λ w f is. ap (λ d. fits w.what (option_and_then (slice_get p.definitions) d)) same ∙ sym (ap (λ m. fits w.what (definition_of p m)) is)
         ∙ f) k.elements.defined;
-    unset = λ x. absurd (both (is_upgradable e.state) x not_again);
+    unset = λ x. absurd (both_ways (is_upgradable e.state) not_again x);
     upgraded = λ _. not_again;
     thrown = λ m. (not_again, same ∙ (k.elements.thrown n m).1);
   }) k.elements;

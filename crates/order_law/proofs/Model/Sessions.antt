@@ -1,6 +1,7 @@
 -- Replies, levels, the model, commands.
 use Rattle.std.proofs.Common.{◌≡◌, ℕ, zero, suc, true, false, List, [], ◌∷◌, Some, None, refl, sym, ap, ◌∙◌, subst}
 use Rattle.std.specs.Prelude.{Bool, not, ◌&&◌, ◌||◌, Result, Ok, Err}
+use Rattle.std.proofs.lemmas.Bool.{or_right}
 use Rattle.ce_base.specs.declared.fault.Fault.{Fault}
 use Rattle.rule_tokens.specs.declared.refused.Bad.{Bad}
 use Rattle.rule_lines.specs.declared.line.Cmd.{Cmd}
@@ -43,15 +44,11 @@ reply_tests : (b : Book) (e : Event) → is_line b e ≡ true → calls_once b e
     b.brackets ≡ [] → b.waiting ≡ [] → Tests b e
 reply_tests b e line calls over dropping owed brackets waiting = line_tests b e line over dropping calls
     (ap (λ t. not (is_reply e && t)) owed ∙ never (is_reply e)) (ap (λ bs. not (is_reply e) || (is_empty bs && is_empty b.waiting)) brackets
-    ∙ ap (λ ws. not (is_reply e) || is_empty ws) waiting ∙ always (not (is_reply e)))
+    ∙ ap (λ ws. not (is_reply e) || is_empty ws) waiting ∙ or_right (not (is_reply e)) true refl)
   where
     never : (t : Bool) → not (t && false) ≡ true
     never true = refl
     never false = refl
-
-    always : (t : Bool) → t || true ≡ true
-    always true = refl
-    always false = refl
 
 pub replies : (line : ℕ) (r : Result Given Fault) → Replies (reply line r)
 replies line (Ok Nothing) = record { at = λ b. reply_tests b (Fine line) refl refl; is = λ b i. refl }

@@ -26,7 +26,7 @@ use Rattle.order_law.proofs.Model.Forests.{Alike}
 use Rattle.order_law.proofs.Model.Sound.{All, IsEntry, Sound, sound_apart, sound_alike, sound_stacks}
 use Rattle.order_law.proofs.Model.Invariant.{Hold, Known, fits, nodes_of, Holds, HoldsIn, After}
 use Rattle.order_law.proofs.Model.Hands.{with_hands, take_hands, drop_hands, hand_rows}
-use Rattle.order_law.proofs.Model.Closing.{enqueued_holds}
+use Rattle.order_law.proofs.Model.Enqueuing.{enqueued_holds}
 use Rattle.order_law.proofs.Model.Ending.{spent_lawful}
 use Rattle.std.proofs.lemmas.Bool.{and_parts}
 use Rattle.node_trees.proofs.Weights.{IsApart}

@@ -3,7 +3,7 @@ use Rattle.std.proofs.Common.{◌≡◌, ℕ, ◌≤◌, Bool, true, false, List
 use Rattle.std.proofs.Common.{append_assoc, append-nil}
 use Rattle.std.specs.Prelude.{slice_get, ◌-◌, ◌==◌, ◌||◌, ◌&&◌, not}
 use Rattle.std.specs.Option.{option_and_then}
-use Rattle.std.proofs.lemmas.Bool.{eqb-true, eqb-false, eq-eqb, false_from_ne_true}
+use Rattle.std.proofs.lemmas.Bool.{eqb-true, eqb-false, eq-eqb, false_from_ne_true, both_ways, or_right}
 use Rattle.ce_base.specs.declared.custom_state.CustomState.TheVariants.{Failed, Custom}
 use Rattle.ce_base.specs.declared.fault.Fault.{Fault}
 use Rattle.rule_tokens.specs.declared.callback.CallOrUpgrade.{CallOrUpgrade}
@@ -240,9 +240,6 @@ may_begin n (InReaction w called ∷ h) m = ap (λ x. x && not (is_callback w.wh
 may_begin n (InUpgrade k ∷ h) m = absurd m
 may_begin n (InHand k ∷ h) m = may_begin n h m
 
-pub both : (b : Bool) → b ≡ true → b ≡ false → ⊥
-both b h k = let x : true ≡ false = sym h ∙ k in cc
-
 -- where no definition is set, only upgrades wait
 pub only_upgrades : (p : Page) (n : ℕ) (d : Option ℕ) (ws : List Entry) → (element_of p n).definition ≡ None →
     Each (λ w. fits w.what (definition_of p w.element) ≡ true) ws →
@@ -265,14 +262,14 @@ up_holds n d h l p known may upgradable k =
     let first : Element = record (element_of p n) { definition = Some d } in
     let none = k.elements.unset n upgradable in
     let again : is_one_of n b.upgraded ≡ false =
-    false_from_ne_true (is_one_of n b.upgraded) (λ m. both (is_upgradable (state_of p n)) upgradable (k.elements.upgraded n m)) in
+    false_from_ne_true (is_one_of n b.upgraded) (λ m. both_ways (is_upgradable (state_of p n)) (k.elements.upgraded n m) upgradable) in
     let row : with_state n Failed (with_definition n (Some d) p) ≡ with_element n e p =
     ap (λ (x : Element). with_element n (record x { state = Failed }) (with_definition n (Some d) p)) (row_same p n first known) ∙ row_twice p n first e in
     let t = says_row b h p n e known (record {
       defined = only_upgrades p n (Some d) b.waiting none k.elements.defined;
       unset = λ x. absurd (let y : false ≡ true = x in cc);
       upgraded = λ _. refl;
-      thrown = λ m. absurd (both (is_upgradable (state_of p n)) upgradable (k.elements.thrown n m).0);
+      thrown = λ m. absurd (both_ways (is_upgradable (state_of p n)) (k.elements.thrown n m).0 upgradable);
     }) k.elements in
     subst (Holds (InUpgrade n ∷ h) (l ++ UpgradeBegun n ∷ [])) (sym row) (record {
       book = after b (UpgradeBegun n);
@@ -325,11 +322,7 @@ up_holds n d h l p known may upgradable k =
     more rows (InDrain q ns ∷ g) o = more rows g o
     more rows (InReaction w called ∷ g) o = (o.0, more rows g o.1)
     more rows (InHand m ∷ g) o = (o.0, more rows g o.1)
-    more rows (InUpgrade m ∷ g) o = (o.0, or_right (n == m) o.1, more rows g o.2)
-      where
-        or_right : (a : Bool) {b : Bool} → b ≡ true → a || b ≡ true
-        or_right true h = refl
-        or_right false h = h
+    more rows (InUpgrade m ∷ g) o = (o.0, or_right (n == m) (is_one_of m k.book.upgraded) o.1, more rows g o.2)
 
 -- the end
 pub done_holds : (n : ℕ) (h : List Hold) (l : List Event) (p : Page) → Holds (InUpgrade n ∷ h) l p → Holds h (l ++ UpgradeDone n ∷ []) (with_state n Custom p)

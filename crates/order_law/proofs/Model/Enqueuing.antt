@@ -17,11 +17,11 @@ use Rattle.order_law.specs.Book.{Entry, Book, blank}
 use Rattle.order_law.specs.Reads.{current, is_one_of, is_callback}
 use Rattle.order_law.specs.Clauses.{goes_on}
 use Rattle.order_law.proofs.Model.Reading.{Reads, tested, reads_append, reads_one, told_at, Each, each_map, each_append, add_if}
-use Rattle.order_law.proofs.Model.Invariant.{Hold, InSteps, InDrain, InReaction, InUpgrade, InHand, brackets_of, fillings_of, Falling, IsIn, IsPlaced}
+use Rattle.order_law.proofs.Model.Invariant.{Hold, InSteps, InDrain, InReaction, InUpgrade, InHand, brackets_of, fillings_of, Falling, IsPlaced}
 use Rattle.order_law.proofs.Model.Invariant.{is_checkpoint, has_any, told, SaysQueues, Known, fits, SaysElements, Holds}
 use Rattle.order_law.proofs.Model.Rows.{waits_same, waits_other}
 use Rattle.ce_base.proofs.Places.{each_number}
-use Rattle.order_law.proofs.Entries.{Rising}
+use Rattle.order_law.proofs.Entries.{Rising, IsIn}
 
 -- an enqueue
 
