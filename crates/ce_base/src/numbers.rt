@@ -3,8 +3,7 @@ ghost use Rattle.std.specs.Prelude.{◌≡◌, ◌-◌};
 
 use std::marker::Model;
 
-/// A node, numbered from 1 in the order of making. Node 1 is the page's document. No node has the number 0; a call that asks
-/// for no node of this number takes it as 1.
+/// A node, numbered from 1 in the order of making. Node 1 is the page's document, and no node has the number 0.
 #[derive(Clone, Copy, Debug, PartialEq, Eq)]
 pub struct NodeNo(pub u64);
 
@@ -19,7 +18,8 @@ impl Model for NodeNo {
 }
 
 impl NodeNo {
-    /// The place of the node's row in a table with a row for each node: that of node 1 comes first.
+    /// The place of the node's row in a table with a row for each node: that of node 1 comes first. The number 0 has the
+    /// same place, so that whoever asks such a table for it is answered for node 1.
     pub fn place(self) -> usize
         ensures { result ≡ self - 1 }
     {
