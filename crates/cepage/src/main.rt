@@ -5,9 +5,9 @@ mod usage;
 
 use ce_base::{StdSink, StdSource};
 use page_runner::{Status, run};
+use program_words::{NoWords, words};
 use std::process::ExitCode;
-use std::{env, io};
-use usage::tell_usage;
+use usage::USAGE;
 
 fn main(rt: HostRuntime) -> ExitCode {
     let status = match words(&rt) {
@@ -16,27 +16,11 @@ fn main(rt: HostRuntime) -> ExitCode {
             let mut sink = StdSink::make(rt.stdout());
             run(rt.alloc(), &words, &mut source, &mut sink)
         }
-        Err(error) => status_without_words(&error),
+        Err(NoWords::NoTexts) => Status::Usage,
+        Err(NoWords::NoMemory) => Status::NoMemory,
     };
     if status == Status::Usage {
-        tell_usage(&rt);
+        USAGE.tell(&rt);
     }
     ExitCode::from(status.number())
-}
-
-// The words after the program's name.
-fn words(rt: &HostRuntime) -> io::Result<Vec<String>> {
-    let mut words = Vec::new(rt.alloc());
-    for word in env::args(rt)?.skip(1) {
-        words.push(word)?;
-    }
-    Ok(words)
-}
-
-// A word that is no text is refused; want of memory is told as that.
-fn status_without_words(error: &io::Error) -> Status {
-    match error.kind() {
-        io::ErrorKind::OutOfMemory => Status::NoMemory,
-        _ => Status::Usage,
-    }
 }
