@@ -29,6 +29,11 @@ slice_get-append_front [] ys i within = absurd (omega (arith, within))
 slice_get-append_front (x ∷ xs) ys zero within = refl
 slice_get-append_front (x ∷ xs) ys (suc i) within = slice_get-append_front xs ys i (omega (arith, within))
 
+-- what is appended last is found behind all others
+pub slice_get-append_last : {A : Type 0} (xs : List A) (x : A) → slice_get (xs ++ x ∷ []) (length xs) ≡ Some x
+slice_get-append_last [] x = refl
+slice_get-append_last (y ∷ xs) x = slice_get-append_last xs x
+
 -- a claim of each number, from the one at hand and from the others
 pub each_number : (P : ℕ → Type 0) (n : ℕ) → P n → ((m : ℕ) → n == m ≡ false → P m) → (m : ℕ) → P m
 each_number P n here others m = go (n == m) refl

@@ -1,7 +1,7 @@
 -- What a definition that is put last is found by; the set of its observed names, a name at a time.
 use Rattle.std.proofs.Common.{◌≡◌, ◌<◌, ◌+◌, ◌++◌, ◌∷◌, ◌&&◌, ◌==◌, ◌||◌, [], ℕ, Bool, true, false, cond, List, Option, None, Some, String, length, take}
 use Rattle.std.proofs.Common.{get_or, sym, refl, ap, ◌∙◌, arith}
-use Rattle.std.specs.Prelude.{IfSome, bytes_eq, slice_get}
+use Rattle.std.specs.Prelude.{IfSome, bytes_eq}
 use Rattle.std.specs.BTreeMap.{BTreeMap, get, get_by_text}
 use Rattle.std.specs.BTreeSet.{BTreeSet, contains_text}
 use Rattle.std.specs.Cmp.{unsigned_Decides}
@@ -10,11 +10,9 @@ use Rattle.std.specs.List.{list_any, position, position_from}
 use Rattle.std.specs.Map.{update}
 use Rattle.std.specs.Ordering.{nat_cmp, is_eq}
 use Rattle.std.proofs.lemmas.Iterator.Adapters.{position_from-zero}
-use Rattle.std.proofs.lemmas.List.{get_or_push, length-append}
 use Rattle.std.proofs.lemmas.List.Folds.{list_any_more}
 use Rattle.std.proofs.lemmas.List.Quantifiers.{position-Some}
-use Rattle.std.proofs.lemmas.Option.{slice_get-get_or}
-use Rattle.ce_base.proofs.Places.{slice_get-append_front}
+use Rattle.ce_base.proofs.Places.{slice_get-append_front, slice_get-append_last}
 use Rattle.ce_registry.specs.declared.definition.Definition.{Definition}
 use Rattle.ce_registry.specs.Registry.{by_name, by_class, by_names}
 use Rattle.ce_registry.specs.Found.{Finds, has_local, with_local}
@@ -50,9 +48,6 @@ found-within p xs d = go (position p xs) refl
     go None e = tt
     go (Some i) e = (position-Some p xs i d e).0
 
-get-last : (ds : List Definition) (d : Definition) → slice_get (ds ++ d ∷ []) (length ds) ≡ Some d
-get-last ds d = slice_get-get_or (ds ++ d ∷ []) (length ds) d (rw (length-append ds (d ∷ [])) (omega arith)) ∙ ap Some (get_or_push ds d d (length ds) refl)
-
 name-added : (ds : List Definition) (d : Definition) (name : List ℕ) → by_name ds d.name ≡ None
     → by_name (ds ++ d ∷ []) name ≡ cond (bytes_eq d.name name) (Some (length ds)) (by_name ds name)
 name-added ds d name none = added (λ (e : Definition). bytes_eq e.name name) d ds (λ e. ap (by_name ds) (sym ((bytes_decides d.name name).0 e)) ∙ none)
@@ -86,7 +81,7 @@ local-kept ds d local (Some i) within = ap (λ (e : Option Definition). cond (ha
 
 local-last : (ds : List Definition) (d : Definition) (local : List ℕ)
     → with_local (ds ++ d ∷ []) (Some (length ds)) local ≡ cond (bytes_eq d.local local) (Some (length ds)) None
-local-last ds d local = ap (λ (e : Option Definition). cond (has_local e local) (Some (length ds)) None) (get-last ds d)
+local-last ds d local = ap (λ (e : Option Definition). cond (has_local e local) (Some (length ds)) None) (slice_get-append_last ds d)
 
 -- the one that is found by a name stays the only one with it, where no other definition has the name of the new one
 only-added : (ds : List Definition) (d : Definition) (name local : List ℕ)

@@ -33,7 +33,7 @@ owners_alike None (Some y) e = cc
 owners_alike (Some x) None e = cc
 owners_alike (Some x) (Some y) e = ap Some (eqb-true x y e)
 
-owners_tell : Tells (option_eq nat_eq)
+pub owners_tell : Tells (option_eq nat_eq)
 owners_tell = record { yes = owners_alike; no = no }
   where
     itself : (a : Option ℕ) → option_eq nat_eq a a ≡ true
@@ -49,7 +49,7 @@ states_alike true false e = cc
 states_alike false true e = cc
 states_alike false false e = refl
 
-states_tell : Tells beq
+pub states_tell : Tells beq
 states_tell = record { yes = states_alike; no = no }
   where
     itself : (a : Bool) → beq a a ≡ true
@@ -60,6 +60,9 @@ states_tell = record { yes = states_alike; no = no }
     no a b e = subst (λ c. beq a c ≡ true) e (itself a)
 
 -- what is new
+
+pub new-none : {A : Type 0} (same : A → A → Bool) → Tells same → (a : A) → where_new same a a ≡ None
+new-none same tells a = ap (λ b. if b then None else Some a) (tells.no a a refl)
 
 module _ {A : Type 0} (same : A → A → Bool) (tells : Tells same) (old new : A) where
   news : IsNews old new (where_new same old new)

@@ -1,9 +1,9 @@
 -- Where a form owner and a disabled state stay, nothing is told; and they stay where forms are not about a node.
-use Rattle.std.proofs.Common.{◌≡◌, ℕ, Bool, true, false, cond, Option, Some, None, refl, sym, ap, ◌∙◌}
+use Rattle.std.proofs.Common.{◌≡◌, ℕ, Bool, false, None, refl, sym, ap, ◌∙◌}
 use Rattle.std.specs.Prelude.{◌||◌, nat_eq, is_some}
 use Rattle.std.specs.Bool.{beq}
 use Rattle.std.specs.Option.{option_eq}
-use Rattle.std.proofs.lemmas.Bool.{eq-eqb, or_parts}
+use Rattle.std.proofs.lemmas.Bool.{or_parts}
 use Rattle.element_names.specs.declared.natives.Native.TheVariants.{OptionItem}
 use Rattle.element_names.specs.Natives.{native, same_native}
 use Rattle.node_trees.specs.Spots.{facts_at}
@@ -11,23 +11,16 @@ use Rattle.form_controls.specs.Changes.{differs, where_new}
 use Rattle.form_controls.specs.Disabled.{is_disabled}
 use Rattle.form_controls.specs.Kinds.{is_a}
 use Rattle.form_controls.specs.Owners.{Forms, form_owner, is_associated, is_listed_native}
+use Rattle.form_controls.proofs.Differ.{new-none, owners_tell, states_tell}
 use Rattle.owner_laws.specs.Locality.{IsUnchanged}
 use Rattle.owner_reading.specs.Owners.{listed_by}
-
-same-owner : (o : Option ℕ) → where_new (option_eq nat_eq) o o ≡ None
-same-owner None = refl
-same-owner (Some n) = ap (λ b. cond b None (Some (Some n))) (eq-eqb n n refl)
-
-same-state : (b : Bool) → where_new beq b b ≡ None
-same-state true = refl
-same-state false = refl
 
 pub no-change : (before now : Forms) (m : ℕ) → IsUnchanged before now m → differs before now m ≡ false
 no-change before now m same =
     ap (λ o. is_some (where_new (option_eq nat_eq) (form_owner before m) o) || is_some (where_new beq (is_disabled before m) (is_disabled now m))) same.owner
-    ∙ ap (λ o. is_some o || is_some (where_new beq (is_disabled before m) (is_disabled now m))) (same-owner (form_owner before m))
+    ∙ ap (λ o. is_some o || is_some (where_new beq (is_disabled before m) (is_disabled now m))) (new-none (option_eq nat_eq) owners_tell (form_owner before m))
     ∙ ap (λ b. is_some (where_new beq (is_disabled before m) b)) same.disabled
-    ∙ ap is_some (same-state (is_disabled before m))
+    ∙ ap is_some (new-none beq states_tell (is_disabled before m))
 
 unlisted-owner : (f : Forms) (m : ℕ) → listed_by f.forest m (is_associated f m) ≡ false → form_owner f m ≡ None
 unlisted-owner f m out = rw out refl

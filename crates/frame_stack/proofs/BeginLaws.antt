@@ -3,7 +3,7 @@ use Rattle.std.proofs.Common.{◌≡◌, ℕ, zero, suc, ◌<◌, ◌≤◌, tru
 use Rattle.std.specs.Prelude.{slice_get, slice_set, is_some, MatchOption}
 use Rattle.std.proofs.lemmas.List.{length-set, map-append, set-append_left, set_at, length-append}
 use Rattle.std.proofs.lemmas.Option.{slice_get_within, slice_get_past}
-use Rattle.ce_base.proofs.Places.{slice_get-append_front}
+use Rattle.ce_base.proofs.Places.{slice_get-append_front, slice_get-append_last}
 use Rattle.rule_tokens.specs.declared.callback.CallName.{CallName}
 use Rattle.rule_lines.specs.Acts.{Act}
 use Rattle.ce_frames.specs.Frames.{Frame}
@@ -17,7 +17,6 @@ use Rattle.frame_stack.specs.Stacked.{behaviours_of, bodies_in, frames_of, place
 use Rattle.frame_stack.proofs.ChainLaws.{chained_known, chained_push, holding_indices, topmost_at, topmost_none, unknown_indices}
 use Rattle.frame_stack.proofs.PushLaws.{frames_are}
 use Rattle.frame_stack.proofs.Settled.{behaviours_are, in_order}
-use Rattle.frame_stack.proofs.TopLaws.{get_push}
 
 -- lists
 
@@ -36,7 +35,7 @@ pub holding_last : (frames : List Held) (f : Held) (n : ℕ) (b : Option Behavio
     → holding_at n b (frames ++ f ∷ []) ≡ frames ++ holding b f ∷ []
 holding_last frames f n b is =
     ap (λ (m : ℕ). holding_at m b (frames ++ f ∷ [])) (sym is)
-    ∙ ap (λ (o : Option Held). slice_set (frames ++ f ∷ []) (length frames) (holding b (or_waiting o))) (get_push frames f)
+    ∙ ap (λ (o : Option Held). slice_set (frames ++ f ∷ []) (length frames) (holding b (or_waiting o))) (slice_get-append_last frames f)
     ∙ set_at frames f [] (holding b f) (length frames) refl
 
 -- a frame that is there

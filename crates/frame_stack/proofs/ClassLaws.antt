@@ -5,6 +5,7 @@ use Rattle.std.specs.Prelude.{slice_get, slice_set, is_some, ◌⊎◌, OnOk, On
 use Rattle.std.proofs.Common.{inl, inr}
 use Rattle.std.proofs.lemmas.Bool.{cases_lt}
 use Rattle.std.proofs.lemmas.List.{map-append}
+use Rattle.ce_base.proofs.Places.{slice_get-append_last}
 use Rattle.ce_base.specs.declared.memory.NoMemory.{NoMemory}
 use Rattle.rule_tokens.specs.declared.callback.CallName.{CallName}
 use Rattle.rule_lines.specs.Acts.{Act}
@@ -16,7 +17,6 @@ use Rattle.frame_stack.specs.Changes.{extended as extended_in}
 use Rattle.frame_stack.specs.Order.{AreInOrder}
 use Rattle.frame_stack.specs.Stacked.{Stacked, behaviour_at, behaviours_of, placed_from}
 use Rattle.frame_stack.proofs.Settled.{behaviours_are, in_order}
-use Rattle.frame_stack.proofs.TopLaws.{get_push}
 
 -- all behaviours are at home
 pub homes_are : (homes : Homes) (chains : List (List ℕ)) (frames : List Held) → AreInOrder homes chains frames → frames ≡ []
@@ -53,7 +53,7 @@ more_chains n chains c = record {
         within : (k : ℕ) → k < n + 1 → slice_get (chains ++ [] ∷ []) k ≡ slice_get chains k → (k < n) ⊎ (n ≤ k) → slice_get (chains ++ [] ∷ []) k ≡ Some []
         within k h e (inl less) = e ∙ c.known k less
         within k h e (inr past) = let each = c.each in let is : length chains ≡ k =
-            omega (arith, h, past, each) in ap (slice_get (chains ++ [] ∷ [])) (sym is) ∙ get_push chains []
+            omega (arith, h, past, each) in ap (slice_get (chains ++ [] ∷ [])) (sym is) ∙ slice_get-append_last chains []
 
 -- one class more
 module _ (homes : Homes) (chains : List (List ℕ)) (frames : List Held) (o : AreInOrder homes chains frames) (none : frames ≡ []) where

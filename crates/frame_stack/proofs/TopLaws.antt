@@ -1,6 +1,7 @@
 -- The topmost frame, and those below it.
 use Rattle.std.proofs.Common.{◌≡◌, ◌-◌, ◌<◌, List, [], ◌∷◌, ◌++◌, length, Some, None, refl, ap, ◌∙◌, arith, length-append}
 use Rattle.std.specs.Prelude.{slice_get}
+use Rattle.ce_base.proofs.Places.{slice_get-append_last}
 use Rattle.ce_frames.specs.Frames.{Frame}
 use Rattle.frame_stack.specs.declared.waiting.Waiting.{Waiting}
 use Rattle.frame_stack.specs.declared.waiting.Waiting.TheVariants.{Replying, Checking, DrainingBackup, Naming, Stepping, Draining, InReaction, CreatingFit}
@@ -43,12 +44,8 @@ plain_body Constructing r e = cc
 
 -- the last frame, as it is kept
 
-pub get_push : {X : Type 0} (xs : List X) (x : X) → slice_get (xs ++ x ∷ []) (length xs) ≡ Some x
-get_push [] x = refl
-get_push (y ∷ xs) x = get_push xs x
-
 pub last_push : {X : Type 0} (xs : List X) (x : X) → slice_get (xs ++ x ∷ []) (length (xs ++ x ∷ []) - 1) ≡ Some x
-last_push xs x = let n : length (xs ++ x ∷ []) - 1 ≡ length xs = omega (arith, length-append xs (x ∷ [])) in ap (slice_get (xs ++ x ∷ [])) n ∙ get_push xs x
+last_push xs x = let n : length (xs ++ x ∷ []) - 1 ≡ length xs = omega (arith, length-append xs (x ∷ [])) in ap (slice_get (xs ++ x ∷ [])) n ∙ slice_get-append_last xs x
 
 -- a list is empty, or has a last member
 pub data Ends {X : Type 0} (xs : List X) : Type 0 where

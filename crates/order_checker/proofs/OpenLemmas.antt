@@ -3,9 +3,9 @@ use Rattle.std.proofs.Common.{◌≡◌, ◌-◌, ℕ, List, [], ◌∷◌, leng
 use Rattle.std.specs.Prelude.{reverse}
 use Rattle.std.specs.List.{slice_get}
 use Rattle.std.proofs.lemmas.Option.{slice_get-get_or, get_or_from_slice_get}
+use Rattle.ce_base.proofs.LastFirst.{reverse-last}
 use Rattle.order_law.specs.Book.{Bracket, Filling, Draining, Reacting, Upgrading}
 use Rattle.order_law.specs.Reads.{current, fillings}
-use Rattle.reaction_queue.proofs.StackLemmas.{reverse-last}
 
 abbrev pub head_or_zero : List ℕ → ℕ
 head_or_zero [] = 0

@@ -13,11 +13,12 @@ use Rattle.std.proofs.lemmas.List.{length-set}
 use Rattle.order_law.specs.Clauses.{leads}
 use Rattle.std.proofs.lemmas.Bool.{cases_eq, ne_eqb, and_right, both_ways}
 use Rattle.std.proofs.lemmas.List.{length-append}
+use Rattle.ce_base.proofs.Places.{set_found, set_other, slice_get-append_last}
 use Rattle.order_checker.specs.declared.waits.Slot.{Slot}
 use Rattle.order_law.specs.Book.{Entry}
 use Rattle.order_law.specs.Reads.{entry_of, without, is_first, none_of_element}
 use Rattle.order_checker.specs.Slots.{Waiting, waits_in, waits_at, AreKnown, entry_of_slot, kept, waiting_from, LastOf, AreLinked}
-use Rattle.order_checker.proofs.ReadAt.{not_within, push_get, get_push, get_last, get_set_other, get_set_same}
+use Rattle.order_checker.proofs.ReadAt.{not_within, push_get, get_push}
 
 pub eq_same : (n : ℕ) → (n == n) ≡ true
 eq_same n = search rules
@@ -258,7 +259,7 @@ last_same ss s =
       later = λ i t read past lt. absurd (omega (arith, past, slice_get_within (ss ++ s ∷ []) i t read, length-append ss (s ∷ [])));
       here = λ q at. (
         omega (arith, at, length-append ss (s ∷ [])),
-        (s, (let k : q ≡ length ss = omega (arith, at) in ap (slice_get (ss ++ s ∷ [])) k ∙ get_last ss s), refl),
+        (s, (let k : q ≡ length ss = omega (arith, at) in ap (slice_get (ss ++ s ∷ [])) k ∙ slice_get-append_last ss s), refl),
       );
     }
 
@@ -348,9 +349,9 @@ changed_get ss i j s t read changed =
       | inl same ↦ inl (
         same,
         (let e : Some t ≡ Some (record s { waits = false }) = sym changed ∙ ap (slice_get (set ss i (record s { waits = false }))) same
-            ∙ get_set_same ss i (record s { waits = false }) s read in cc e),
+            ∙ set_found ss i s (record s { waits = false }) read in cc e),
       )
-      | inr ne ↦ inr (ne, sym (get_set_other ss i j (record s { waits = false }) ne) ∙ changed)
+      | inr ne ↦ inr (ne, sym (set_other ss i j (record s { waits = false }) (λ e. ne (sym e))) ∙ changed)
     ]
 
 last_set : (ss : List Slot) (i : ℕ) (s : Slot) (n m p : ℕ) → slice_get ss i ≡ Some s → LastOf n m ss p → LastOf n m (set ss i (record s { waits = false })) p
@@ -365,10 +366,10 @@ last_set ss i s n m p read last =
         elim (cases_eq q i) [
           | inl same ↦ (
             record s { waits = false },
-            ap (slice_get (set ss i (record s { waits = false }))) same ∙ get_set_same ss i (record s { waits = false }) s read,
+            ap (slice_get (set ss i (record s { waits = false }))) same ∙ set_found ss i s (record s { waits = false }) read,
             (let e : Some s ≡ Some h.1.0 = sym read ∙ ap (slice_get ss) (sym same) ∙ h.1.1 in (let k : s ≡ h.1.0 = cc e in ap (λ u. u.element) k ∙ h.1.2)),
           )
-          | inr ne ↦ (h.1.0, get_set_other ss i q (record s { waits = false }) ne ∙ h.1.1, h.1.2)
+          | inr ne ↦ (h.1.0, set_other ss i q (record s { waits = false }) (λ e. ne (sym e)) ∙ h.1.1, h.1.2)
         ],
       ));
     }

@@ -11,7 +11,7 @@ use Rattle.node_trees.specs.Nodes.{times}
 use Rattle.node_trees.specs.Orders.{tree_order, tree_order_of}
 use Rattle.node_trees.proofs.Weights.{IsApart}
 use Rattle.tree_laws.proofs.Pieces.{tree_of-absent, tree_of-here}
-use Rattle.tree_laws.proofs.NewNode.{order-join}
+use Rattle.tree_laws.proofs.NewNode.{tree_order-join}
 use Rattle.tree_laws.proofs.OrderSteps.{tree_of-inside}
 use Rattle.owner_laws.proofs.Aside.{tree_of-without, tree_of-place}
 
@@ -26,7 +26,7 @@ module _ (q : ℕ → Bool) where
   found_in f = filter q (tree_order f)
 
   found-join : (f g : Trees) → found_in (join f g) ≡ found_in f ++ found_in g
-  found-join f g = ap (filter q) (order-join f g) ∙ filter-append q (tree_order f) (tree_order g)
+  found-join f g = ap (filter q) (tree_order-join f g) ∙ filter-append q (tree_order f) (tree_order g)
 
   pub found-tree : (m : ℕ) (x : Facts) (s k r : Trees) → found_in (tree m x s k r) ≡ cond (q m) (m ∷ (found_in k ++ found_in r)) (found_in k ++ found_in r)
   found-tree m x s k r = ap (λ v. cond (q m) (m ∷ v) v) (filter-append q (tree_order k) (tree_order r))

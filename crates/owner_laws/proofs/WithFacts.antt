@@ -10,7 +10,7 @@ use Rattle.node_trees.specs.Paths.{path, root_at, has_parent, connected, or_numb
 use Rattle.node_trees.specs.Spots.{kind_at, first_of}
 use Rattle.tree_laws.proofs.Changed.{path-with}
 use Rattle.tree_laws.proofs.ChangedReads.{parent_at-with, kind_at-with}
-use Rattle.tree_laws.proofs.NewNode.{order-join}
+use Rattle.tree_laws.proofs.NewNode.{tree_order-join}
 use Rattle.form_controls.specs.Owners.{ancestors_below}
 use Rattle.owner_laws.proofs.Tests.{find-same}
 
@@ -32,10 +32,10 @@ order_of-with n c i (tree m x s k r) =
       order_of-with n c i k,
       order_of-with n c i r,
       order-with n c k,
-      order-join (tree_of i (with_facts n c s)) (join (tree_of i (with_facts n c k)) (tree_of i (with_facts n c r))),
-      order-join (tree_of i (with_facts n c k)) (tree_of i (with_facts n c r)),
-      order-join (tree_of i s) (join (tree_of i k) (tree_of i r)),
-      order-join (tree_of i k) (tree_of i r),
+      tree_order-join (tree_of i (with_facts n c s)) (join (tree_of i (with_facts n c k)) (tree_of i (with_facts n c r))),
+      tree_order-join (tree_of i (with_facts n c k)) (tree_of i (with_facts n c r)),
+      tree_order-join (tree_of i s) (join (tree_of i k) (tree_of i r)),
+      tree_order-join (tree_of i k) (tree_of i r),
     )
 
 -- the root of each node's tree, and whether it is connected

@@ -3,7 +3,7 @@ use Rattle.std.proofs.Common.{◌≡◌, ◌↔◌, ◌||◌, ℕ, Bool, true, f
 use Rattle.std.specs.Prelude.{nat_eq}
 use Rattle.std.specs.List.{starts_with}
 use Rattle.std.specs.Str.Iter.{HasSubslice}
-use Rattle.std.proofs.lemmas.Bool.{and_parts, eqb-true, eq-eqb}
+use Rattle.std.proofs.lemmas.Bool.{and_parts, eqb-true, eq-eqb, or_right}
 use Rattle.form_submission.specs.Encodings.{occurs}
 
 -- ---- at the front
@@ -27,14 +27,10 @@ occurs_at_front text (b ∷ bytes) is = rw is refl
 
 -- ---- anywhere
 
-or_true : (s t : Bool) → t ≡ true → (s || t) ≡ true
-or_true true t is = refl
-or_true false t is = is
-
 pub occurs_within : (front text rest : List ℕ) → occurs text (front ++ (text ++ rest)) ≡ true
 occurs_within [] text rest = occurs_at_front text (text ++ rest) (begins_with text rest)
 occurs_within (b ∷ front) text rest =
-    or_true (starts_with nat_eq (b ∷ front ++ (text ++ rest)) text) (occurs text (front ++ (text ++ rest))) (occurs_within front text rest)
+    or_right (starts_with nat_eq (b ∷ front ++ (text ++ rest)) text) (occurs text (front ++ (text ++ rest))) (occurs_within front text rest)
 
 found_first : (c : ℕ) (text : List ℕ) (b : ℕ) (bytes : List ℕ) → (occurs (c ∷ text) bytes ≡ true → HasSubslice bytes (c ∷ text)) → (first : Bool)
     → starts_with nat_eq (b ∷ bytes) (c ∷ text) ≡ first → (first || occurs (c ∷ text) bytes) ≡ true → HasSubslice (b ∷ bytes) (c ∷ text)

@@ -4,7 +4,7 @@ use Rattle.std.proofs.Common.{Option, Some, None, refl, ap, arith, inl, inr}
 use Rattle.std.specs.Bool.{beq}
 use Rattle.std.specs.List.{AllByRecursion, range_with_len}
 use Rattle.std.specs.Option.{option_eq}
-use Rattle.std.proofs.lemmas.Bool.{cases_eq, eq-eqb}
+use Rattle.std.proofs.lemmas.Bool.{cases_eq}
 use Rattle.std.proofs.lemmas.Bool.Decides.{nat_tests}
 use Rattle.node_trees.specs.Nodes.{size, IsNode}
 use Rattle.node_trees.specs.Paths.{is_among}
@@ -12,7 +12,8 @@ use Rattle.tree_laws.proofs.Counts.{count, AreApart}
 use Rattle.form_controls.specs.declared.change.Change.{Change}
 use Rattle.form_controls.specs.Owners.{Forms, form_owner}
 use Rattle.form_controls.specs.Disabled.{is_disabled}
-use Rattle.form_controls.specs.Changes.{where_new, form_change, is_change, differs, numbers, form_changes}
+use Rattle.form_controls.specs.Changes.{form_change, is_change, differs, numbers, form_changes}
+use Rattle.form_controls.proofs.Differ.{new-none, owners_tell, states_tell}
 use Rattle.ce_algorithms.specs.Page.{Page, definition_of}
 use Rattle.ce_algorithms.specs.Forms.{is_custom_form_associated}
 use Rattle.ce_algorithms.specs.Enqueue.{gives_reaction}
@@ -78,13 +79,6 @@ due-of_changes p old new n is =
 
 -- nothing differs from what is the same
 
-same-owner : (o : Option ℕ) → where_new (option_eq nat_eq) o o ≡ None
-same-owner None = refl
-same-owner (Some n) = ap (λ b. if b then None else Some (Some n)) (eq-eqb n n refl)
-
-same-state : (b : Bool) → where_new beq b b ≡ None
-same-state true = refl
-same-state false = refl
-
 pub unchanged : (f : Forms) (n : ℕ) → is_change (form_change f f n) ≡ false
-unchanged f n = λ i. is_some (same-owner (form_owner f n) i) || is_some (same-state (is_disabled f n) i)
+unchanged f n =
+    λ i. is_some (new-none (option_eq nat_eq) owners_tell (form_owner f n) i) || is_some (new-none beq states_tell (is_disabled f n) i)

@@ -47,9 +47,9 @@ order-hung : (q : ℕ) (t f : Trees) → tree_order (with_shadow q t f) ≡ tree
 order-hung q t none = refl
 order-hung q t (tree m y s k r) = grind (arith, nat_tests, order-hung q t k, order-hung q t r)
 
-pub order-join : (f g : Trees) → tree_order (join f g) ≡ tree_order f ++ tree_order g
-order-join none g = refl
-order-join (tree m y s k r) g = ap (λ v. m ∷ v) (ap (λ v. tree_order k ++ v) (order-join r g) ∙ sym (append_assoc (tree_order k) (tree_order r) (tree_order g)))
+pub tree_order-join : (f g : Trees) → tree_order (join f g) ≡ tree_order f ++ tree_order g
+tree_order-join none g = refl
+tree_order-join (tree m y s k r) g = ap (λ v. m ∷ v) (ap (λ v. tree_order k ++ v) (tree_order-join r g) ∙ sym (append_assoc (tree_order k) (tree_order r) (tree_order g)))
 
 module _ (i n q : ℕ) (x : Facts) (ne : i ≢ n) where
   spot-hung : (p h : Option ℕ) (f : Trees) → unshadowed (spot_in p h i (with_shadow q (single n x) f)) ≡ unshadowed (spot_in p h i f)
@@ -88,10 +88,10 @@ module _ (i n q : ℕ) (x : Facts) (ne : i ≢ n) where
         order_of-hung r,
         order-hung q (single n x) k,
         tree_of-beside i n x ne s,
-        order-join (tree_of i (with_shadow q (single n x) s)) (join (tree_of i (with_shadow q (single n x) k)) (tree_of i (with_shadow q (single n x) r))),
-        order-join (tree_of i (with_shadow q (single n x) k)) (tree_of i (with_shadow q (single n x) r)),
-        order-join (tree_of i s) (join (tree_of i k) (tree_of i r)),
-        order-join (tree_of i k) (tree_of i r),
+        tree_order-join (tree_of i (with_shadow q (single n x) s)) (join (tree_of i (with_shadow q (single n x) k)) (tree_of i (with_shadow q (single n x) r))),
+        tree_order-join (tree_of i (with_shadow q (single n x) k)) (tree_of i (with_shadow q (single n x) r)),
+        tree_order-join (tree_of i s) (join (tree_of i k) (tree_of i r)),
+        tree_order-join (tree_of i k) (tree_of i r),
       )
 
 -- the new root: there is none where the host is none

@@ -8,7 +8,7 @@ use Rattle.node_trees.specs.Orders.{tree_order}
 use Rattle.tree_laws.specs.Alike.{AreAlike}
 use Rattle.tree_laws.proofs.Changed.{path-with}
 use Rattle.tree_laws.proofs.ChangedReads.{read-with, parent_at-with, children_at-with, kind_at-with}
-use Rattle.tree_laws.proofs.NewNode.{order-join}
+use Rattle.tree_laws.proofs.NewNode.{tree_order-join}
 
 module _ (n : ℕ) (c : Facts → Facts) where
   order-with : (f : Trees) → tree_order (with_facts n c f) ≡ tree_order f
@@ -25,10 +25,10 @@ module _ (n : ℕ) (c : Facts → Facts) where
         order_of-with i k,
         order_of-with i r,
         order-with k,
-        order-join (tree_of i (with_facts n c s)) (join (tree_of i (with_facts n c k)) (tree_of i (with_facts n c r))),
-        order-join (tree_of i (with_facts n c k)) (tree_of i (with_facts n c r)),
-        order-join (tree_of i s) (join (tree_of i k) (tree_of i r)),
-        order-join (tree_of i k) (tree_of i r),
+        tree_order-join (tree_of i (with_facts n c s)) (join (tree_of i (with_facts n c k)) (tree_of i (with_facts n c r))),
+        tree_order-join (tree_of i (with_facts n c k)) (tree_of i (with_facts n c r)),
+        tree_order-join (tree_of i s) (join (tree_of i k) (tree_of i r)),
+        tree_order-join (tree_of i k) (tree_of i r),
       )
 
   -- free is any number that no node has
