@@ -3,14 +3,6 @@ use ce_base::Text;
 use std::alloc::{AllocError, Global};
 use std::process::Abort;
 
-// A text before and behind the first place where another stands in it; all of it, and nothing, where there is none.
-pub(crate) fn cut<'a>(text: &'a str, at: &str) -> (&'a str, &'a str) {
-    match text.split_once(at) {
-        Some(parts) => parts,
-        None => (text, ""),
-    }
-}
-
 // The two sides of a row.
 pub(crate) fn sides(row: &str) -> (&str, &str) {
     match row.split_once(" => ") {
