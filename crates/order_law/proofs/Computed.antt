@@ -1,9 +1,9 @@
 -- The law computes.
-use Rattle.std.specs.Prelude.{◌≡◌, false, refl}
+use Rattle.std.specs.Prelude.{[], ◌∷◌, refl}
 use Rattle.std.specs.Str.{chars}
 use Rattle.ce_algorithms.specs.Worked.Logs as logs
-use Rattle.order_law.specs.Book.{blank}
-use Rattle.order_law.specs.Law.{Lawful, is_lawful}
+use Rattle.order_law.specs.Broken.{Breaks, CountsUp, RunsOnce, RunsInOrder, DropsByThrow, ClosesEmpty, Nests, UpgradesOnce, RepliesAtRest, FuelIsLast}
+use Rattle.order_law.specs.Law.{Lawful}
 use Rattle.order_law.specs.Samples as samples
 
 pub traced_lawful : Lawful logs.traced
@@ -26,206 +26,206 @@ pub ruleset logs_lawful = (traced_lawful, traced_throws_lawful, upgrade_lawful, 
 
 -- first clause
 
-pub number_skipped_unlawful : is_lawful blank samples.number_skipped ≡ false
+pub number_skipped_breaks : Breaks (CountsUp ∷ []) samples.number_skipped
 unfolding chars
-number_skipped_unlawful = refl
+number_skipped_breaks = (refl, refl)
 
-pub number_again_unlawful : is_lawful blank samples.number_again ≡ false
+pub number_again_breaks : Breaks (CountsUp ∷ []) samples.number_again
 unfolding chars
-number_again_unlawful = refl
+number_again_breaks = (refl, refl)
 
-pub queue_skipped_unlawful : is_lawful blank samples.queue_skipped ≡ false
+pub queue_skipped_breaks : Breaks (CountsUp ∷ []) samples.queue_skipped
 unfolding chars
-queue_skipped_unlawful = refl
+queue_skipped_breaks = (refl, refl)
 
-pub other_queue_unlawful : is_lawful blank samples.other_queue ≡ false
+pub other_queue_breaks : Breaks (CountsUp ∷ []) samples.other_queue
 unfolding chars
-other_queue_unlawful = refl
+other_queue_breaks = (refl, refl)
 
-pub current_queue_passed_over_unlawful : is_lawful blank samples.current_queue_passed_over ≡ false
+pub current_queue_passed_over_breaks : Breaks (CountsUp ∷ []) samples.current_queue_passed_over
 unfolding chars
-current_queue_passed_over_unlawful = refl
+current_queue_passed_over_breaks = (refl, refl)
 
-pub ruleset counts_up_unlawful = (
-  number_skipped_unlawful,
-  number_again_unlawful,
-  queue_skipped_unlawful,
-  other_queue_unlawful,
-  current_queue_passed_over_unlawful,
+pub ruleset counts_up_breaks = (
+  number_skipped_breaks,
+  number_again_breaks,
+  queue_skipped_breaks,
+  other_queue_breaks,
+  current_queue_passed_over_breaks,
 )
 
 -- second clause
 
-pub start_of_nothing_unlawful : is_lawful blank samples.start_of_nothing ≡ false
+pub start_of_nothing_breaks : Breaks (RunsOnce ∷ []) samples.start_of_nothing
 unfolding chars
-start_of_nothing_unlawful = refl
+start_of_nothing_breaks = (refl, refl)
 
-pub second_start_unlawful : is_lawful blank samples.second_start ≡ false
+pub second_start_breaks : Breaks (RunsOnce ∷ []) samples.second_start
 unfolding chars
-second_start_unlawful = refl
+second_start_breaks = (refl, refl)
 
-pub start_in_upgrade_unlawful : is_lawful blank samples.start_in_upgrade ≡ false
+pub start_in_upgrade_breaks : Breaks (RunsOnce ∷ []) samples.start_in_upgrade
 unfolding chars
-start_in_upgrade_unlawful = refl
+start_in_upgrade_breaks = (refl, refl)
 
-pub call_outside_unlawful : is_lawful blank samples.call_outside ≡ false
+pub call_outside_breaks : Breaks (RunsOnce ∷ []) samples.call_outside
 unfolding chars
-call_outside_unlawful = refl
+call_outside_breaks = (refl, refl)
 
-pub call_in_upgrade_unlawful : is_lawful blank samples.call_in_upgrade ≡ false
+pub call_in_upgrade_breaks : Breaks (RunsOnce ∷ []) samples.call_in_upgrade
 unfolding chars
-call_in_upgrade_unlawful = refl
+call_in_upgrade_breaks = (refl, refl)
 
-pub call_of_other_element_unlawful : is_lawful blank samples.call_of_other_element ≡ false
+pub call_of_other_element_breaks : Breaks (RunsOnce ∷ []) samples.call_of_other_element
 unfolding chars
-call_of_other_element_unlawful = refl
+call_of_other_element_breaks = (refl, refl)
 
-pub other_callback_unlawful : is_lawful blank samples.other_callback ≡ false
+pub other_callback_breaks : Breaks (RunsOnce ∷ []) samples.other_callback
 unfolding chars
-other_callback_unlawful = refl
+other_callback_breaks = (refl, refl)
 
-pub second_call_unlawful : is_lawful blank samples.second_call ≡ false
+pub second_call_breaks : Breaks (RunsOnce ∷ []) samples.second_call
 unfolding chars
-second_call_unlawful = refl
+second_call_breaks = (refl, refl)
 
-pub no_call_unlawful : is_lawful blank samples.no_call ≡ false
+pub no_call_breaks : Breaks (RunsOnce ∷ []) samples.no_call
 unfolding chars
-no_call_unlawful = refl
+no_call_breaks = (refl, refl)
 
-pub ruleset runs_once_unlawful = (
-  start_of_nothing_unlawful,
-  second_start_unlawful,
-  start_in_upgrade_unlawful,
-  call_outside_unlawful,
-  call_in_upgrade_unlawful,
-  call_of_other_element_unlawful,
-  other_callback_unlawful,
-  second_call_unlawful,
-  no_call_unlawful,
+pub ruleset runs_once_breaks = (
+  start_of_nothing_breaks,
+  second_start_breaks,
+  start_in_upgrade_breaks,
+  call_outside_breaks,
+  call_in_upgrade_breaks,
+  call_of_other_element_breaks,
+  other_callback_breaks,
+  second_call_breaks,
+  no_call_breaks,
 )
 
 -- third clause
 
-pub start_before_lower_unlawful : is_lawful blank samples.start_before_lower ≡ false
+pub start_before_lower_breaks : Breaks (RunsInOrder ∷ []) samples.start_before_lower
 unfolding chars
-start_before_lower_unlawful = refl
+start_before_lower_breaks = (refl, refl)
 
-pub drop_before_lower_unlawful : is_lawful blank samples.drop_before_lower ≡ false
+pub drop_before_lower_breaks : Breaks (RunsInOrder ∷ []) samples.drop_before_lower
 unfolding chars
-drop_before_lower_unlawful = refl
+drop_before_lower_breaks = (refl, refl)
 
-pub ruleset runs_in_order_unlawful = (start_before_lower_unlawful, drop_before_lower_unlawful)
+pub ruleset runs_in_order_breaks = (start_before_lower_breaks, drop_before_lower_breaks)
 
 -- fourth clause
 
-pub drop_without_throw_unlawful : is_lawful blank samples.drop_without_throw ≡ false
+pub drop_without_throw_breaks : Breaks (DropsByThrow ∷ []) samples.drop_without_throw
 unfolding chars
-drop_without_throw_unlawful = refl
+drop_without_throw_breaks = (refl, refl)
 
-pub drop_and_no_throw_unlawful : is_lawful blank samples.drop_and_no_throw ≡ false
+pub drop_and_no_throw_breaks : Breaks (DropsByThrow ∷ []) samples.drop_and_no_throw
 unfolding chars
-drop_and_no_throw_unlawful = refl
+drop_and_no_throw_breaks = (refl, refl)
 
-pub drop_in_reaction_unlawful : is_lawful blank samples.drop_in_reaction ≡ false
+pub drop_in_reaction_breaks : Breaks (DropsByThrow ∷ []) samples.drop_in_reaction
 unfolding chars
-drop_in_reaction_unlawful = refl
+drop_in_reaction_breaks = (refl, refl)
 
-pub drop_in_drain_unlawful : is_lawful blank samples.drop_in_drain ≡ false
+pub drop_in_drain_breaks : Breaks (DropsByThrow ∷ []) samples.drop_in_drain
 unfolding chars
-drop_in_drain_unlawful = refl
+drop_in_drain_breaks = (refl, refl)
 
-pub throw_with_one_waiting_unlawful : is_lawful blank samples.throw_with_one_waiting ≡ false
+pub throw_with_one_waiting_breaks : Breaks (DropsByThrow ∷ []) samples.throw_with_one_waiting
 unfolding chars
-throw_with_one_waiting_unlawful = refl
+throw_with_one_waiting_breaks = (refl, refl)
 
-pub ruleset drops_by_throw_unlawful = (
-  drop_without_throw_unlawful,
-  drop_and_no_throw_unlawful,
-  drop_in_reaction_unlawful,
-  drop_in_drain_unlawful,
-  throw_with_one_waiting_unlawful,
+pub ruleset drops_by_throw_breaks = (
+  drop_without_throw_breaks,
+  drop_and_no_throw_breaks,
+  drop_in_reaction_breaks,
+  drop_in_drain_breaks,
+  throw_with_one_waiting_breaks,
 )
 
 -- fifth clause
 
-pub close_with_one_waiting_unlawful : is_lawful blank samples.close_with_one_waiting ≡ false
+pub close_with_one_waiting_breaks : Breaks (ClosesEmpty ∷ []) samples.close_with_one_waiting
 unfolding chars
-close_with_one_waiting_unlawful = refl
+close_with_one_waiting_breaks = (refl, refl)
 
 -- sixth clause
 
-pub end_around_another_unlawful : is_lawful blank samples.end_around_another ≡ false
+pub end_around_another_breaks : Breaks (Nests ∷ []) samples.end_around_another
 unfolding chars
-end_around_another_unlawful = refl
+end_around_another_breaks = (refl, refl)
 
-pub end_of_other_reaction_unlawful : is_lawful blank samples.end_of_other_reaction ≡ false
+pub end_of_other_reaction_breaks : Breaks (Nests ∷ []) samples.end_of_other_reaction
 unfolding chars
-end_of_other_reaction_unlawful = refl
+end_of_other_reaction_breaks = (refl, refl)
 
-pub end_of_other_upgrade_unlawful : is_lawful blank samples.end_of_other_upgrade ≡ false
+pub end_of_other_upgrade_breaks : Breaks (Nests ∷ []) samples.end_of_other_upgrade
 unfolding chars
-end_of_other_upgrade_unlawful = refl
+end_of_other_upgrade_breaks = (refl, refl)
 
-pub close_of_other_queue_unlawful : is_lawful blank samples.close_of_other_queue ≡ false
+pub close_of_other_queue_breaks : Breaks (Nests ∷ []) samples.close_of_other_queue
 unfolding chars
-close_of_other_queue_unlawful = refl
+close_of_other_queue_breaks = (refl, refl)
 
-pub drain_twice_unlawful : is_lawful blank samples.drain_twice ≡ false
+pub drain_twice_breaks : Breaks (Nests ∷ []) samples.drain_twice
 unfolding chars
-drain_twice_unlawful = refl
+drain_twice_breaks = (refl, refl)
 
-pub checkpoint_in_drain_unlawful : is_lawful blank samples.checkpoint_in_drain ≡ false
+pub checkpoint_in_drain_breaks : Breaks (Nests ∷ []) samples.checkpoint_in_drain
 unfolding chars
-checkpoint_in_drain_unlawful = refl
+checkpoint_in_drain_breaks = (refl, refl)
 
-pub no_checkpoint_unlawful : is_lawful blank samples.no_checkpoint ≡ false
+pub no_checkpoint_breaks : Breaks (Nests ∷ []) samples.no_checkpoint
 unfolding chars
-no_checkpoint_unlawful = refl
+no_checkpoint_breaks = (refl, refl)
 
-pub ruleset nests_unlawful = (
-  end_around_another_unlawful,
-  end_of_other_reaction_unlawful,
-  end_of_other_upgrade_unlawful,
-  close_of_other_queue_unlawful,
-  drain_twice_unlawful,
-  checkpoint_in_drain_unlawful,
-  no_checkpoint_unlawful,
+pub ruleset nests_breaks = (
+  end_around_another_breaks,
+  end_of_other_reaction_breaks,
+  end_of_other_upgrade_breaks,
+  close_of_other_queue_breaks,
+  drain_twice_breaks,
+  checkpoint_in_drain_breaks,
+  no_checkpoint_breaks,
 )
 
 -- seventh clause
 
-pub second_upgrade_unlawful : is_lawful blank samples.second_upgrade ≡ false
+pub second_upgrade_breaks : Breaks (UpgradesOnce ∷ []) samples.second_upgrade
 unfolding chars
-second_upgrade_unlawful = refl
+second_upgrade_breaks = (refl, refl)
 
-pub upgrade_in_drain_unlawful : is_lawful blank samples.upgrade_in_drain ≡ false
+pub upgrade_in_drain_breaks : Breaks (UpgradesOnce ∷ []) samples.upgrade_in_drain
 unfolding chars
-upgrade_in_drain_unlawful = refl
+upgrade_in_drain_breaks = (refl, refl)
 
-pub callback_after_throw_unlawful : is_lawful blank samples.callback_after_throw ≡ false
+pub callback_after_throw_breaks : Breaks (UpgradesOnce ∷ []) samples.callback_after_throw
 unfolding chars
-callback_after_throw_unlawful = refl
+callback_after_throw_breaks = (refl, refl)
 
-pub ruleset upgrades_once_unlawful = (
-  second_upgrade_unlawful,
-  upgrade_in_drain_unlawful,
-  callback_after_throw_unlawful,
+pub ruleset upgrades_once_breaks = (
+  second_upgrade_breaks,
+  upgrade_in_drain_breaks,
+  callback_after_throw_breaks,
 )
 
 -- eighth clause
 
-pub reply_in_bracket_unlawful : is_lawful blank samples.reply_in_bracket ≡ false
+pub reply_in_bracket_breaks : Breaks (RepliesAtRest ∷ []) samples.reply_in_bracket
 unfolding chars
-reply_in_bracket_unlawful = refl
+reply_in_bracket_breaks = (refl, refl)
 
-pub reply_with_one_waiting_unlawful : is_lawful blank samples.reply_with_one_waiting ≡ false
+pub reply_with_one_waiting_breaks : Breaks (Nests ∷ RepliesAtRest ∷ []) samples.reply_with_one_waiting
 unfolding chars
-reply_with_one_waiting_unlawful = refl
+reply_with_one_waiting_breaks = (refl, refl)
 
-pub ruleset replies_at_rest_unlawful = (reply_in_bracket_unlawful, reply_with_one_waiting_unlawful)
+pub ruleset replies_at_rest_breaks = (reply_in_bracket_breaks, reply_with_one_waiting_breaks)
 
 -- the end of the fuel
 
-pub behind_fuel_unlawful : is_lawful blank samples.behind_fuel ≡ false
+pub behind_fuel_breaks : Breaks (FuelIsLast ∷ []) samples.behind_fuel
 unfolding chars
-behind_fuel_unlawful = refl
+behind_fuel_breaks = (refl, refl)

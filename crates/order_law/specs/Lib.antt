@@ -4,6 +4,7 @@ pub mod Reads
 pub mod Clauses
 pub mod After
 pub mod Law
+pub mod Broken
 pub mod Words
 pub mod Brackets
 pub mod Samples

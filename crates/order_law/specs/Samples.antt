@@ -113,13 +113,13 @@ drop_before_lower = changed 7 (Dropped 3 ∷ Dropped 2 ∷ []) (changed 8 [] thr
 -- fourth clause
 
 abbrev pub drop_without_throw : List Event
-drop_without_throw = changed 9 [] throws
+drop_without_throw = changed 9 (Enqueued 4 3 (Call names.Connected) 0 ∷ []) throws
 
 abbrev pub drop_and_no_throw : List Event
 drop_and_no_throw = changed 9 (UpgradeDone 3 ∷ []) throws
 
 abbrev pub drop_in_reaction : List Event
-drop_in_reaction = changed 4 (Dropped 1 ∷ UpgradeBegun 3 ∷ []) throws
+drop_in_reaction = changed 4 (Enqueued 2 3 (Call names.Connected) 0 ∷ Dropped 2 ∷ []) throws
 
 abbrev pub drop_in_drain : List Event
 drop_in_drain = QueueOpened 1 ∷ Enqueued 1 3 Upgrade 1 ∷ DrainBegun 1 ∷ Dropped 1 ∷ []
@@ -135,7 +135,7 @@ close_with_one_waiting = QueueOpened 1 ∷ Enqueued 1 3 Upgrade 1 ∷ DrainBegun
 -- sixth clause
 
 abbrev pub end_around_another : List Event
-end_around_another = changed 7 (Finished 1 ∷ []) upgrade
+end_around_another = changed 8 (QueueClosed 1 ∷ []) upgrade
 
 abbrev pub end_of_other_reaction : List Event
 end_of_other_reaction = changed 11 (Finished 1 ∷ []) upgrade
