@@ -1,16 +1,18 @@
 -- What a run has done at each of its ends.
-use Rattle.std.proofs.Common.{◌≡◌, ◌≤◌, ℕ, Bool, List, [], ◌++◌, length, Option, Some, None, Result, Ok, Err, refl, sym, ap, subst, ◌∙◌, append-nil, arith}
-use Rattle.std.proofs.Common.{length-append, inl, inr}
-use Rattle.std.proofs.KnownBytes.{Appends-nil, Consumes-nil}
+use Rattle.std.proofs.Common.{◌≡◌, ◌≤◌, ℕ, Bool, List, [], length, Option, Some, None, Result, Ok, Err, refl, subst, arith}
+use Rattle.std.proofs.Common.{inl, inr}
+use Rattle.std.proofs.KnownBytes.{Appends-nil, Consumes-nil, Consumes-whole}
 use Rattle.std.specs.Prelude.{IsErrOf, OnErr, OnOk}
-use Rattle.std.specs.Io.KnownBytes.{Appends, Consumes, IsAtEnd}
+use Rattle.std.specs.Io.KnownBytes.{Appends, Consumes}
+use Rattle.ce_base.specs.Call.{Call}
 use Rattle.ce_base.specs.Faults.{Rose}
 use Rattle.ce_base.specs.Outside.{AppendsPart, IsPrefix}
 use Rattle.ce_base.specs.declared.entries.Entry.{Entry}
 use Rattle.ce_base.specs.declared.stop.Stop.{Stop}
 use Rattle.ce_base.specs.declared.stop.Stop.TheVariants.{NoMemory as StopMemory, WriteFault as StopWrite}
+use Rattle.ce_base.proofs.Pieces.{took_within}
 use Rattle.body_reader.specs.Listing.{listing, refused_line}
-use Rattle.body_reader.specs.Table.{AnswerMeets, AnswerRow, Call, IsAsSaid, IsBody, IsFront, IsListed, IsRefused, Row, RunMeets, RunsWhole, limit, status_after}
+use Rattle.body_reader.specs.Table.{AnswerMeets, AnswerRow, IsAsSaid, IsBody, IsFront, IsListed, IsRefused, Row, RunMeets, RunsWhole, limit, status_after}
 use Rattle.body_reader.specs.declared.body_type.BodyType.{BodyType}
 use Rattle.body_reader.specs.declared.status.ReadStatus.{ReadStatus}
 use Rattle.body_reader.specs.declared.status.ReadStatus.TheVariants.{Done, Refused, Usage, ReadFault, WriteFault, NoMemory, TooLong}
@@ -56,31 +58,19 @@ meets_unread (Some t) left held ended sb sn kb kn some =
 
 -- ---- a run that nothing disturbed
 
--- all bytes were taken where none is left
-all_taken : (bytes : List ℕ) (left : Option (List ℕ)) (taken : List ℕ) → Consumes (Some bytes) left taken → IsAtEnd left → taken ≡ bytes
-all_taken bytes None taken took none = absurd took
-all_taken bytes (Some rest) taken took none = sym (took ∙ (ap (λ l. taken ++ l) none ∙ append-nil taken))
-
--- and never more than there are
-few_taken : (bytes : List ℕ) (left : Option (List ℕ)) (taken : List ℕ) → Consumes (Some bytes) left taken → length taken ≤ length bytes
-few_taken bytes None taken took = absurd took
-few_taken bytes (Some rest) taken took = omega (arith, ap length took, length-append taken rest)
-
 whole_row : (t : BodyType) (bytes : List ℕ) (status : ReadStatus) (call : Call) (held held' : Option (List ℕ)) → Row status t call
     → Consumes (Some bytes) call.left call.taken → Appends held held' call.written
     → length bytes ≤ limit → (Rose call.source_before call.source_now → ⊥) → (Rose call.sink_before call.sink_now → ⊥) → RunsWhole t bytes status held held'
 whole_row t bytes Done call held held' row took wrote within calm_source calm_sink =
-    let all = all_taken bytes call.left call.taken took row.0.1 in
-    inl (refl, call.written, subst (λ (l : List ℕ). IsListed t l call.written) all row.1, wrote)
+    inl (refl, call.written, Consumes-whole (Some bytes) call.left call.taken (λ l. IsListed t l call.written) took row.0.1 row.1, wrote)
 whole_row t bytes Refused call held held' row took wrote within calm_source calm_sink =
-    let all = all_taken bytes call.left call.taken took row.0.1 in
-    inr (inl (refl, call.written, subst (λ (l : List ℕ). IsRefused t l call.written) all row.1, wrote))
+    inr (inl (refl, call.written, Consumes-whole (Some bytes) call.left call.taken (λ l. IsRefused t l call.written) took row.0.1 row.1, wrote))
 whole_row t bytes Usage call held held' row took wrote within calm_source calm_sink = absurd row
 whole_row t bytes ReadFault call held held' row took wrote within calm_source calm_sink = absurd (calm_source row.0)
 whole_row t bytes WriteFault call held held' row took wrote within calm_source calm_sink = absurd (calm_sink row.1)
 whole_row t bytes NoMemory call held held' row took wrote within calm_source calm_sink = inr (inr refl)
 whole_row t bytes TooLong call held held' row took wrote within calm_source calm_sink =
-    let few = few_taken bytes call.left call.taken took in
+    let few = took_within bytes call.left call.taken took in
     absurd (omega (arith, few, within, row.0))
 
 pub runs_whole : (said : Option BodyType) (t : BodyType) (bytes : List ℕ) (status : ReadStatus) (left left' held held' : Option (List ℕ)) (ended : Bool)

@@ -1,6 +1,7 @@
 -- What the status of a run says of the bytes that it took and wrote.
-use Rattle.std.specs.Prelude.{ℕ, ◌≡◌, ◌≤◌, ◌<◌, ◌⊎◌, Bool, true, false, List, [], length, Option, Some, None, Result, Ok, Err}
-use Rattle.std.specs.Io.KnownBytes.{Consumes, Appends, IsAtEnd}
+use Rattle.std.specs.Prelude.{ℕ, ◌≡◌, ◌≤◌, ◌<◌, ◌⊎◌, Bool, false, List, [], length, Option, Some, None, Result, Ok, Err}
+use Rattle.std.specs.Io.KnownBytes.{Consumes, Appends}
+use Rattle.ce_base.specs.Call.{Call, ReadsAll}
 use Rattle.ce_base.specs.Faults.{Rose}
 use Rattle.ce_base.specs.Outside.{IsPrefix}
 use Rattle.ce_base.specs.declared.entries.Entry.{Entry}
@@ -51,29 +52,14 @@ IsRefused body_type bytes written = ((list : List Entry) → IsBody body_type li
 abbrev pub IsFront : BodyType → List ℕ → List ℕ → Type 0
 IsFront body_type bytes written = (whole : List ℕ) × (IsListed body_type bytes whole ⊎ IsRefused body_type bytes whole) × IsPrefix written whole
 
--- what is seen of such a call from outside
-pub record Call : Type 0 where
-  pub taken : List ℕ  -- the bytes that it took from the source
-  pub written : List ℕ  -- the bytes that it gave to the sink
-  pub ended : Bool  -- the last read gave the end
-  pub left : Option (List ℕ)  -- what the source has left, where it tells
-  pub source_before : ℕ  -- the counts of faults
-  pub source_now : ℕ
-  pub sink_before : ℕ
-  pub sink_now : ℕ
-
--- the source was read to its end, which is within the limit
-abbrev pub ReadsAll : Call → Type 0
-ReadsAll call = (call.ended ≡ true) × IsAtEnd call.left × (length call.taken ≤ limit)
-
 -- the row of each status, where a body of this type is asked for
 abbrev pub Row : ReadStatus → BodyType → Call → Type 0
-Row Done body_type call = ReadsAll call × IsListed body_type call.taken call.written
-Row Refused body_type call = ReadsAll call × IsRefused body_type call.taken call.written
+Row Done body_type call = ReadsAll limit call × IsListed body_type call.taken call.written
+Row Refused body_type call = ReadsAll limit call × IsRefused body_type call.taken call.written
 Row Usage body_type call = ⊥
 Row ReadFault body_type call = Rose call.source_before call.source_now × (length call.taken ≤ limit) × (call.ended ≡ false) × (call.written ≡ [])
-Row WriteFault body_type call = ReadsAll call × Rose call.sink_before call.sink_now × IsFront body_type call.taken call.written
-Row NoMemory body_type call = (length call.taken ≤ limit) × ((call.written ≡ []) ⊎ (ReadsAll call × IsFront body_type call.taken call.written))
+Row WriteFault body_type call = ReadsAll limit call × Rose call.sink_before call.sink_now × IsFront body_type call.taken call.written
+Row NoMemory body_type call = (length call.taken ≤ limit) × ((call.written ≡ []) ⊎ (ReadsAll limit call × IsFront body_type call.taken call.written))
 Row TooLong body_type call = (limit < length call.taken) × (call.written ≡ [])
 
 -- the call is as its words and its status say

@@ -1,3 +1,5 @@
+pub mod Call
+pub mod Digits
 pub mod Failing
 pub mod Gathered
 pub mod Faults

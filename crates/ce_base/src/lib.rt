@@ -4,6 +4,7 @@
 mod bytes;
 mod calls;
 mod custom_state;
+mod digits;
 mod endless;
 mod entries;
 mod failing;
@@ -26,6 +27,7 @@ mod whole;
 
 pub use bytes::Bytes;
 pub use custom_state::CustomState;
+pub use digits::number_in;
 pub use endless::EndlessSource;
 pub use entries::{Entries, Entry};
 pub use failing::{MemSink, MemSource};

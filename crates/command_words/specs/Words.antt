@@ -2,7 +2,7 @@
 use Rattle.std.specs.Prelude.{ℕ, Bool, true, false, not, ◌&&◌, ◌||◌, ◌==◌, nat_le, if◌then◌else◌}
 use Rattle.std.specs.Prelude.{codes, List, [], ◌∷◌, length, Option, Some, None, is_some, unwrap_or, Ok, Err, bytes_eq}
 use Rattle.std.specs.List.{after_first, before_first, list_any}
-use Rattle.command_words.specs.Numbers.{number_in}
+use Rattle.ce_base.specs.Digits.{number_in}
 use Rattle.url.specs.Parser.{Parsed, parse_url}
 use Rattle.url.specs.Parts.{Parts}
 use Rattle.form_submission.specs.Encodings.{is_boundary}

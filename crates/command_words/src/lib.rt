@@ -2,7 +2,6 @@
 #![tactic(auto)]
 
 mod choice;
-mod numbers;
 mod page_url;
 mod values;
 mod words;

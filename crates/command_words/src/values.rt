@@ -2,7 +2,7 @@
 ghost use Rattle.std.specs.Prelude.{◌≡◌};
 ghost use Rattle.command_words.specs.Words.{count_in, fuel_in};
 
-use crate::numbers::number_in;
+use ce_base::number_in;
 
 // The most fuel that a session may have.
 const MOST_FUEL: u32 = 200_000;

@@ -1,9 +1,8 @@
 -- Validity flags, and the controls that are invalid (HTML Standard, sections "Constraints", "The constraint validation API").
-use Rattle.std.specs.Prelude.{ℕ, Bool, false, not, ◌&&◌, ◌||◌, if◌then◌else◌, List, [], ◌∷◌, codes, filter, length, nat_lt, nat_le, Option, Some, None, is_none}
-use Rattle.std.specs.List.{list_any, list_all}
-use Rattle.std.specs.Char.{is_ascii_digit}
-use Rattle.std.specs.Str.Parse.{digits_value}
+use Rattle.std.specs.Prelude.{ℕ, Bool, false, not, ◌&&◌, ◌||◌, if◌then◌else◌, List, [], ◌∷◌, codes, filter, length, nat_lt, Option, Some, None, is_none}
+use Rattle.std.specs.List.{list_any}
 use Rattle.ce_base.specs.declared.flags.Flags.{Flags}
+use Rattle.ce_base.specs.Digits.{number_in}
 use Rattle.element_names.specs.declared.natives.Native.TheVariants.{Select}
 use Rattle.element_names.specs.declared.input_kinds.InputKind.TheVariants.{Checkbox, Radio}
 use Rattle.node_trees.specs.Trees.{Trees, is_number}
@@ -54,13 +53,10 @@ is_missing f controls n =
 -- "suffering from being too long", "suffering from being too short" (sections "Limiting user input length: the maxlength attribute",
 -- "Setting minimum input length requirements: the minlength attribute")
 
-abbrev pub is_limit : List ℕ → Bool
-is_limit digits = list_all is_ascii_digit digits && nat_lt 0 (length digits) && nat_le (length digits) 9
-
 -- "maximum allowed value length", "minimum allowed value length": one to nine ASCII digits are a limit; any other text is none
 abbrev pub limit_in : Option (List ℕ) → Option ℕ
 limit_in None = None
-limit_in (Some digits) = if is_limit digits then Some (digits_value 10 digits) else None
+limit_in (Some text) = number_in text
 
 abbrev pub is_above : ℕ → Option ℕ → Bool
 is_above n None = false

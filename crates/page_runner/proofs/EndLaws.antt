@@ -25,7 +25,8 @@ use Rattle.script_runner.proofs.PieceLaws.{counted-ended, counted-within}
 use Rattle.script_runner.proofs.SittingLaws.{run_from-append}
 use Rattle.script_runner.proofs.WholeLaws.{runs_whole}
 use Rattle.script_runner.specs.Script.{has_bad, readings, run_from, session, settings}
-use Rattle.script_runner.specs.Table.{Call, Row, RunMeets, RunsWhole, counted, limit, lines_that_count, script_status, spends_all, transcript}
+use Rattle.ce_base.specs.Call.{Call}
+use Rattle.script_runner.specs.Table.{Row, RunMeets, RunsWhole, counted, limit, lines_that_count, script_status, spends_all, transcript}
 use Rattle.script_runner.specs.declared.status.Status.{Status}
 use Rattle.script_runner.specs.declared.status.Status.TheVariants.{Done, BadLines, Usage, Fuel, ReadFault, WriteFault, NoMemory, TooLong}
 

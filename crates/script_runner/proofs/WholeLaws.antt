@@ -1,8 +1,10 @@
 -- A run that nothing disturbed ran the whole script.
 use Rattle.std.proofs.Common.{◌≡◌, ◌≤◌, inl, inr, cond, ℕ, Bool, true, false, List, [], ◌++◌, length, refl, sym, ap, subst, ◌∙◌, append-nil, arith}
 use Rattle.std.proofs.Common.{length-append, None, Some}
+use Rattle.std.proofs.KnownBytes.{Consumes-whole}
 use Rattle.std.specs.Io.KnownBytes.{Appends, Consumes, IsAtEnd}
 use Rattle.std.specs.declared.option.Option.{Option}
+use Rattle.ce_base.specs.Call.{Call, ReadsAll}
 use Rattle.ce_base.specs.Faults.{Rose}
 use Rattle.ce_algorithms.specs.Lines.{lines_of}
 use Rattle.ce_algorithms.specs.Session.{start, log_of}
@@ -10,7 +12,7 @@ use Rattle.ce_algorithms.specs.State.{State}
 use Rattle.ce_algorithms.specs.Steps.{Step, Outcome, Goes, Throws, Spent, then_do, is_spent}
 use Rattle.ce_events.specs.Text.{text}
 use Rattle.script_runner.specs.Script.{has_bad, session, settings}
-use Rattle.script_runner.specs.Table.{limit, counted, lines_that_count, spends_all, transcript, Call, ReadsAll, WritesAll, Row, IsAsSaid, RunMeets, RunsWhole}
+use Rattle.script_runner.specs.Table.{limit, counted, lines_that_count, spends_all, transcript, WritesAll, Row, IsAsSaid, RunMeets, RunsWhole}
 use Rattle.script_runner.specs.Table.{script_status}
 use Rattle.script_runner.specs.declared.status.Status.{Status}
 use Rattle.script_runner.specs.declared.status.Status.TheVariants.{Done, BadLines, Usage, Fuel, ReadFault, WriteFault, NoMemory, TooLong}
@@ -37,8 +39,7 @@ front_taken script (Some rest) taken took = (rest, took)
 
 -- and all of it where no byte is left
 pub all_taken : (script : List ℕ) (left : Option (List ℕ)) (taken : List ℕ) → Consumes (Some script) left taken → IsAtEnd left → script ≡ taken
-all_taken script None taken took none = absurd took
-all_taken script (Some rest) taken took none = took ∙ (ap (λ l. taken ++ l) none ∙ append-nil taken)
+all_taken script left taken took none = Consumes-whole (Some script) left taken (λ l. l ≡ taken) took none refl
 
 -- the lines that count are the first lines of the script
 counted-front : (script taken : List ℕ) (ended : Bool) (left : Option (List ℕ)) → Consumes (Some script) left taken → length script ≤ limit
@@ -60,7 +61,7 @@ status_is set lines spent bad p q = rw (p, q) refl
 
 -- a script that was read to its end
 read_all : (set : Options) (script : List ℕ) (call : Call) (status : Status) (held held' : Option (List ℕ)) (bad : Bool)
-    → Consumes (Some script) call.left call.taken → ReadsAll call
+    → Consumes (Some script) call.left call.taken → ReadsAll limit call
     → spends_all set (lines_that_count call) ≡ false → has_bad (lines_that_count call) ≡ bad → WritesAll set call → Appends held held' call.written
     → status ≡ cond bad BadLines Done → RunsWhole set script status held held'
 read_all set script call status held held' bad took reads goes bad_is all wrote is =

@@ -2,6 +2,7 @@
 use Rattle.std.specs.Prelude.{ℕ, ◌≡◌, ◌≤◌, ◌<◌, nat_le, Bool, true, false, ◌&&◌, ◌⊎◌, if◌then◌else◌, List, [], ◌++◌, length, take, Result, Ok, Err}
 use Rattle.std.specs.Io.KnownBytes.{Consumes, Appends, IsAtEnd}
 use Rattle.std.specs.declared.option.Option.{Option}
+use Rattle.ce_base.specs.Call.{Call, ReadsAll}
 use Rattle.ce_base.specs.Faults.{Rose}
 use Rattle.ce_base.specs.Outside.{IsPrefix}
 use Rattle.ce_base.specs.Whole.{piece}
@@ -38,17 +39,6 @@ number_of WriteFault = 5
 number_of NoMemory = 6
 number_of TooLong = 7
 
--- what is seen of a call from outside
-pub record Call : Type 0 where
-  pub taken : List ℕ  -- the bytes that it took from the source
-  pub written : List ℕ  -- the bytes that it gave to the sink
-  pub ended : Bool  -- the last read gave the end
-  pub left : Option (List ℕ)  -- what the source has left, where it tells
-  pub source_before : ℕ  -- the counts of faults
-  pub source_now : ℕ
-  pub sink_before : ℕ
-  pub sink_now : ℕ
-
 -- the lines that count: all of them where the source gave the end within the limit, else the whole ones within the limit
 abbrev pub counted : Bool → List ℕ → List (List ℕ)
 counted ended taken = if ended && nat_le (length taken) limit then lines_of taken else whole_lines (take limit taken)
@@ -67,10 +57,6 @@ logged set lines = log_of (session (settings set) lines)
 abbrev pub transcript : Options → List (List ℕ) → List ℕ
 transcript set lines = text set.trace (logged set lines)
 
--- the script was read to its end, which is within the limit
-abbrev pub ReadsAll : Call → Type 0
-ReadsAll call = (call.ended ≡ true) × IsAtEnd call.left × (length call.taken ≤ limit)
-
 -- the whole transcript was written, or a front of it
 abbrev pub WritesAll : Options → Call → Type 0
 WritesAll set call = call.written ≡ transcript set (lines_that_count call)
@@ -80,8 +66,8 @@ WritesPart set call = IsPrefix call.written (transcript set (lines_that_count ca
 
 -- the row of each status, where a script is run with these options
 abbrev pub Row : Status → Options → Call → Type 0
-Row Done set call = ReadsAll call × (spends_all set (lines_that_count call) ≡ false) × (has_bad (lines_that_count call) ≡ false) × WritesAll set call
-Row BadLines set call = ReadsAll call × (spends_all set (lines_that_count call) ≡ false) × (has_bad (lines_that_count call) ≡ true) × WritesAll set call
+Row Done set call = ReadsAll limit call × (spends_all set (lines_that_count call) ≡ false) × (has_bad (lines_that_count call) ≡ false) × WritesAll set call
+Row BadLines set call = ReadsAll limit call × (spends_all set (lines_that_count call) ≡ false) × (has_bad (lines_that_count call) ≡ true) × WritesAll set call
 Row Usage set call = ⊥
 Row Fuel set call = (call.ended ≡ true → IsAtEnd call.left) × (spends_all set (lines_that_count call) ≡ true) × WritesAll set call
 Row ReadFault set call = Rose call.source_before call.source_now × (length call.taken ≤ limit)

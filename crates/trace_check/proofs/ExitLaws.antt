@@ -1,15 +1,18 @@
 -- What is true of a check at each of its ends.
-use Rattle.std.proofs.Common.{◌≡◌, ◌≤◌, ℕ, Bool, true, List, [], ◌++◌, length, Some, None, Result, Ok, Err, refl, sym, ap, subst, ◌∙◌, append-nil, arith}
-use Rattle.std.proofs.Common.{length-append, inl, inr}
+use Rattle.std.proofs.Common.{◌≡◌, ◌≤◌, ℕ, Bool, true, List, [], length, Some, Result, Ok, Err, refl, subst, arith}
+use Rattle.std.proofs.Common.{inl, inr}
+use Rattle.std.proofs.KnownBytes.{Consumes-whole}
 use Rattle.std.specs.Io.KnownBytes.{Consumes, Appends, IsAtEnd}
 use Rattle.std.specs.declared.option.Option.{Option}
+use Rattle.ce_base.specs.Call.{Call}
 use Rattle.ce_base.specs.Faults.{Rose}
 use Rattle.ce_base.specs.Whole.{ReadMeets}
 use Rattle.ce_base.specs.declared.stop.Stop.{Stop}
 use Rattle.ce_base.specs.declared.stop.Stop.TheVariants.{NoMemory as StopMemory, WriteFault as StopWrite}
 use Rattle.ce_base.specs.declared.whole.Read.TheVariants.{Whole}
+use Rattle.ce_base.proofs.Pieces.{took_within}
 use Rattle.ce_algorithms.specs.Lines.{lines_of}
-use Rattle.trace_check.specs.Table.{Call, CheckMeets, ChecksWhole, Judges, Row, limit, status_of}
+use Rattle.trace_check.specs.Table.{CheckMeets, ChecksWhole, Judges, Row, limit, status_of}
 use Rattle.trace_check.specs.Told.{TellsVerdict, line_of}
 use Rattle.trace_check.specs.Verdict.{IsVerdict}
 use Rattle.trace_check.specs.declared.status.CheckStatus.{CheckStatus}
@@ -21,7 +24,7 @@ use Rattle.trace_check.specs.declared.verdict.Verdict.TheVariants.{Yes, No}
 judges : (v : Verdict) (bytes : List ℕ) (call : Call) → bytes ≡ call.taken → call.ended ≡ true → IsAtEnd call.left → length call.taken ≤ limit
     → IsVerdict v (lines_of bytes)
     → Judges v call
-judges v bytes call same ended end within is = (ended, end, within, subst (λ (t : List ℕ). IsVerdict v (lines_of t)) same is)
+judges v bytes call same ended end within is = ((ended, end, within), subst (λ (t : List ℕ). IsVerdict v (lines_of t)) same is)
 
 pub meets_whole : (bytes : List ℕ) (r : Result Verdict Stop) (left left' held held' : Option (List ℕ)) (ended : Bool) (sb sn kb kn : ℕ)
     → ReadMeets limit (Ok (Whole bytes)) left left' ended sb sn → TellsVerdict (lines_of bytes) r held held' kb kn
@@ -114,17 +117,10 @@ told_apart (Err StopMemory) same = cc
 
 -- ---- a source that tells its bytes, and faults that do not come
 
--- what was taken of the bytes that the source told is no more than these, and all of them where it is at its end
-taken_within : (trace taken : List ℕ) (left' : Option (List ℕ)) → Consumes (Some trace) left' taken → length taken ≤ length trace
-taken_within trace taken None took = absurd took
-taken_within trace taken (Some rest) took = omega (arith, ap length took, length-append taken rest)
-
-taken_all : (trace taken : List ℕ) (left' : Option (List ℕ)) → Consumes (Some trace) left' taken → IsAtEnd left' → taken ≡ trace
-taken_all trace taken None took end = absurd took
-taken_all trace taken (Some rest) took end = sym (took ∙ (ap (λ (l : List ℕ). taken ++ l) end ∙ append-nil taken))
-
-judged : (trace taken : List ℕ) (v : Verdict) → taken ≡ trace → IsVerdict v (lines_of taken) → IsVerdict v (lines_of trace)
-judged trace taken v same is = subst (λ (t : List ℕ). IsVerdict v (lines_of t)) same is
+-- the verdict on what was taken is the verdict on the trace, where the source is at its end
+judged : (trace taken : List ℕ) (v : Verdict) (left' : Option (List ℕ)) → Consumes (Some trace) left' taken → IsAtEnd left' → IsVerdict v (lines_of taken)
+    → IsVerdict v (lines_of trace)
+judged trace taken v left' took end is = Consumes-whole (Some trace) left' taken (λ t. IsVerdict v (lines_of t)) took end is
 
 whole_row : (trace taken written : List ℕ) (status : CheckStatus) (left' held held' : Option (List ℕ)) (ended : Bool) (sb sn kb kn : ℕ)
     → Row status (record {
@@ -141,16 +137,16 @@ whole_row : (trace taken written : List ℕ) (status : CheckStatus) (left' held 
     → ChecksWhole trace status held held'
 whole_row trace taken written Lawful left' held held' ended sb sn kb kn row took wrote read within calm_source calm_sink =
     let is = row.1 in
-    inl (Yes row.0, judged trace taken (Yes row.0) (taken_all trace taken left' took is.1) is.3, refl, subst (Appends held held') row.2 wrote)
+    inl (Yes row.0, judged trace taken (Yes row.0) left' took is.0.1 is.1, refl, subst (Appends held held') row.2 wrote)
 whole_row trace taken written Unlawful left' held held' ended sb sn kb kn row took wrote read within calm_source calm_sink =
     let is = row.1 in
-    inl (No row.0, judged trace taken (No row.0) (taken_all trace taken left' took is.1) is.3, refl, subst (Appends held held') row.2 wrote)
+    inl (No row.0, judged trace taken (No row.0) left' took is.0.1 is.1, refl, subst (Appends held held') row.2 wrote)
 whole_row trace taken written Usage left' held held' ended sb sn kb kn row took wrote read within calm_source calm_sink = absurd (read refl)
 whole_row trace taken written ReadFault left' held held' ended sb sn kb kn row took wrote read within calm_source calm_sink = absurd (calm_source row.0)
 whole_row trace taken written WriteFault left' held held' ended sb sn kb kn row took wrote read within calm_source calm_sink = absurd (calm_sink row.0)
 whole_row trace taken written NoMemory left' held held' ended sb sn kb kn row took wrote read within calm_source calm_sink = inr refl
 whole_row trace taken written TooLong left' held held' ended sb sn kb kn row took wrote read within calm_source calm_sink =
-    absurd (omega (arith, row.0, taken_within trace taken left' took))
+    absurd (omega (arith, row.0, took_within trace left' taken took))
 
 pub checks_whole : (trace : List ℕ) (status : CheckStatus) (left left' held held' : Option (List ℕ)) (ended : Bool) (sb sn kb kn : ℕ)
     → CheckMeets status left left' held held' ended sb sn kb kn → (status ≡ Usage → ⊥) → left ≡ Some trace → length trace ≤ limit → (Rose sb sn → ⊥)

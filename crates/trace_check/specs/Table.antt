@@ -1,7 +1,8 @@
 -- What the status of a check says of the bytes that it took and wrote.
-use Rattle.std.specs.Prelude.{ℕ, ◌≡◌, ◌≤◌, ◌<◌, ◌⊎◌, Bool, true, false, List, [], length, Result, Ok, Err}
-use Rattle.std.specs.Io.KnownBytes.{Consumes, Appends, IsAtEnd}
+use Rattle.std.specs.Prelude.{ℕ, ◌≡◌, ◌≤◌, ◌<◌, ◌⊎◌, Bool, false, List, [], length, Result, Ok, Err}
+use Rattle.std.specs.Io.KnownBytes.{Consumes, Appends}
 use Rattle.std.specs.declared.option.Option.{Option}
+use Rattle.ce_base.specs.Call.{Call, ReadsAll}
 use Rattle.ce_base.specs.Faults.{Rose}
 use Rattle.ce_base.specs.Outside.{IsPrefix}
 use Rattle.ce_base.specs.declared.stop.Stop.{Stop}
@@ -39,20 +40,9 @@ status_of (Ok v) = status_of_verdict v
 status_of (Err StopWrite) = WriteFault
 status_of (Err StopMemory) = NoMemory
 
--- what is seen of a call from outside
-pub record Call : Type 0 where
-  pub taken : List ℕ  -- the bytes that it took from the source
-  pub written : List ℕ  -- the bytes that it gave to the sink
-  pub ended : Bool  -- the last read gave the end
-  pub left : Option (List ℕ)  -- what the source has left, where it tells
-  pub source_before : ℕ  -- the counts of faults
-  pub source_now : ℕ
-  pub sink_before : ℕ
-  pub sink_now : ℕ
-
 -- the trace was read to its end, which is within the limit, and this is the verdict on its lines
 abbrev pub Judges : Verdict → Call → Type 0
-Judges v call = (call.ended ≡ true) × IsAtEnd call.left × (length call.taken ≤ limit) × IsVerdict v (lines_of call.taken)
+Judges v call = ReadsAll limit call × IsVerdict v (lines_of call.taken)
 
 -- it was judged, and a front of the verdict's line was written
 abbrev pub WritesPart : Call → Type 0

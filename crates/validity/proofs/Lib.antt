@@ -1,2 +1,1 @@
-pub mod LimitLaws
 pub use Rattle.checkedness.proofs.GroupWalks

@@ -1,40 +1,22 @@
 // Values that are too long or too short.
-ghost use Rattle.std.specs.Prelude.{◌≡◌, ◌<◌, ◌^◌, option_copied, IfSome};
-ghost use Rattle.std.specs.Char.{is_ascii_digit};
-ghost use Rattle.std.specs.List.{list_all};
+ghost use Rattle.std.specs.Prelude.{◌≡◌, option_copied};
 ghost use Rattle.node_trees.specs.Nodes.{IsNode};
 ghost use Rattle.form_controls.specs.Texts.{units_of};
-ghost use Rattle.form_controls.specs.Validity.{is_above, is_below, is_edited_text, is_limit, is_too_long, is_too_short, limit_in};
+ghost use Rattle.form_controls.specs.Validity.{is_above, is_below, is_edited_text, is_too_long, is_too_short, limit_in};
 ghost use Rattle.form_controls.specs.Values.{value};
 
-use ce_base::NodeNo;
+use ce_base::{NodeNo, number_in};
 use control_state::ControlTable;
 use form_kinds::is_text_control;
 use node_arena::Tree;
 
-// How many digits a limit may have.
-const MOST_DIGITS: usize = 9;
-
-fn is_limit(digits: &str) -> bool
-    ensures { result ≡ is_limit digits.now }
-{
-    are_digits(digits.as_bytes()) && !digits.is_empty() && digits.len() <= MOST_DIGITS
-}
-
-fn are_digits(bytes: &[u8]) -> bool
-    ensures { result ≡ list_all is_ascii_digit bytes.now }
-{
-    bytes.iter().all(|b| b.is_ascii_digit())
-}
-
 // The limit that an attribute names: one to nine ASCII digits name one.
-fn limit_in(text: Option<&str>) -> Option<u64>
-    ensures limit { result ≡ limit_in (option_copied text.entry) }
-    ensures small { IfSome result (λ limit. limit < 10 ^ 9) }
+fn limit_in(text: Option<&str>) -> Option<u32>
+    ensures { result ≡ limit_in (option_copied text.entry) }
 {
     match text {
-        Some(digits) if is_limit(digits) => digits.parse::<u64>().ok(),
-        _ => None,
+        None => None,
+        Some(digits) => number_in(digits),
     }
 }
 
@@ -47,26 +29,24 @@ fn is_edited_text(controls: &ControlTable, tree: &Tree, n: NodeNo) -> bool
 }
 
 // Whether a value is longer than a limit, where there is one.
-fn is_above(controls: &ControlTable, tree: &Tree, n: NodeNo, limit: Option<u64>) -> bool
-    requires node { IsNode tree.now n }
-    requires small { IfSome limit (λ most. most < 10 ^ 9) }
+fn is_above(controls: &ControlTable, tree: &Tree, n: NodeNo, limit: Option<u32>) -> bool
+    requires { IsNode tree.now n }
     ensures { result ≡ is_above (units_of (value controls.now tree.now n)) limit }
 {
     match limit {
         None => false,
-        Some(most) => controls.units(tree, n) > most,
+        Some(most) => controls.units(tree, n) > u64::from(most),
     }
 }
 
 // Whether a value is shorter than a limit, where there is one.
-fn is_below(controls: &ControlTable, tree: &Tree, n: NodeNo, limit: Option<u64>) -> bool
-    requires node { IsNode tree.now n }
-    requires small { IfSome limit (λ least. least < 10 ^ 9) }
+fn is_below(controls: &ControlTable, tree: &Tree, n: NodeNo, limit: Option<u32>) -> bool
+    requires { IsNode tree.now n }
     ensures { result ≡ is_below (units_of (value controls.now tree.now n)) limit }
 {
     match limit {
         None => false,
-        Some(least) => controls.units(tree, n) < least,
+        Some(least) => controls.units(tree, n) < u64::from(least),
     }
 }
 

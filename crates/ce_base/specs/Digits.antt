@@ -5,9 +5,9 @@ use Rattle.std.specs.List.{list_all}
 use Rattle.std.specs.Str.Parse.{digits_value}
 
 -- one to nine ASCII digits
-abbrev pub is_number : List ℕ → Bool
-is_number text = (nat_le 1 (length text) && nat_le (length text) 9) && list_all is_ascii_digit text
+abbrev pub is_numeral : List ℕ → Bool
+is_numeral text = (nat_le 1 (length text) && nat_le (length text) 9) && list_all is_ascii_digit text
 
 -- the number that such a text writes
 abbrev pub number_in : List ℕ → Option ℕ
-number_in text = if is_number text then Some (digits_value 10 text) else None
+number_in text = if is_numeral text then Some (digits_value 10 text) else None
