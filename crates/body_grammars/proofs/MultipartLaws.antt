@@ -8,7 +8,7 @@ use Rattle.std.specs.List.{AllByRecursion}
 use Rattle.std.specs.Prelude.{nat_lt, IsUtf8, flat_map}
 use Rattle.ce_base.specs.Texts.{HasTexts}
 use Rattle.ce_base.specs.declared.entries.Entry.{Entry}
-use Rattle.form_submission.proofs.Characters.{IsUtf8-ascii}
+use Rattle.ce_base.proofs.Utf8.{IsUtf8-ascii}
 use Rattle.form_submission.specs.LineEnds.{newline}
 use Rattle.body_grammars.specs.Bodies.{FitsPart, part, PartText, IsBoundary}
 use Rattle.body_grammars.specs.Cuts.{behind}

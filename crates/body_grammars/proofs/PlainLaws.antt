@@ -8,7 +8,7 @@ use Rattle.std.specs.Prelude.{IsUtf8, flat_map}
 use Rattle.std.specs.Str.{is_utf8}
 use Rattle.ce_base.specs.Texts.{HasTexts}
 use Rattle.ce_base.specs.declared.entries.Entry.{Entry}
-use Rattle.form_submission.proofs.Characters.{IsUtf8-ascii}
+use Rattle.ce_base.proofs.Utf8.{IsUtf8-ascii}
 use Rattle.form_submission.specs.Encodings.{plain}
 use Rattle.body_grammars.specs.Bodies.{part, HasNo, IsPlain, line, PlainText}
 use Rattle.body_grammars.specs.Cuts.{behind, cut_at, is_byte, only_utf8}

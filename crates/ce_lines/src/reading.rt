@@ -19,7 +19,7 @@ fn has_text(alloc: Global, e: &Event, bytes: &[u8]) -> Result<bool, NoMemory>
 }
 
 // The event, where it is written so.
-#[tactic(auto, using(crate::proofs::ReadLaws::text_tests))]
+#[tactic(auto, using(ce_base::proofs::SameTexts::text_tests))]
 fn kept(alloc: Global, e: Event, bytes: &[u8]) -> Result<Event, EventRefused>
     ensures { IsKept e bytes.now result }
 {

@@ -9,6 +9,7 @@ use Rattle.std.proofs.lemmas.Bool.Decides.{nat_tests}
 use Rattle.std.proofs.lemmas.List.{length-set}
 use Rattle.ce_base.proofs.Places.{slice_get-append_front}
 use Rattle.node_trees.specs.Paths.{is_among}
+use Rattle.node_trees.proofs.Absent.{is_among-filter}
 use Rattle.ce_registry.specs.declared.definition.Definition.{Definition}
 use Rattle.form_owner.specs.Touches.{with_associated}
 use Rattle.form_owner.proofs.Rows.{filter-members, range-more}
@@ -70,37 +71,6 @@ definition_behind definitions x elements given =
 
 -- numbers that are among others
 
-among_by : (p : ℕ → Bool) (xs : List ℕ) (x m : ℕ) → is_among m (filter p xs) ≡ (p m && is_among m xs) → (b : Bool) → p x ≡ b
-    → is_among m (cond b (x ∷ filter p xs) (filter p xs)) ≡ (p m && ((x == m) || is_among m xs))
-among_by p xs x m rest b is = elim (cases_eq x m) [
-  | inl e ↦ subst (λ k. is_among k (filter p xs) ≡ (p k && is_among k xs)
-      → is_among k (cond b (x ∷ filter p xs) (filter p xs)) ≡ (p k && ((x == k) || is_among k xs))) e (here b is) rest
-  | inr ne ↦ other (apart ne) b
-]
-  where
-    same : (x == x) ≡ true
-    same = grind (arith, nat_tests)
-
-    apart : x ≢ m → (x == m) ≡ false
-    apart ne = grind (arith, nat_tests)
-
-    here : (b : Bool) → p x ≡ b → is_among x (filter p xs) ≡ (p x && is_among x xs)
-        → is_among x (cond b (x ∷ filter p xs) (filter p xs)) ≡ (p x && ((x == x) || is_among x xs))
-    here true e h = ap (λ v. v || is_among x (filter p xs)) same ∙ sym (ap (λ v. v && ((x == x) || is_among x xs)) e ∙ ap (λ v. v || is_among x xs) same)
-    here false e h = h ∙ ap (λ v. v && is_among x xs) e ∙ sym (ap (λ v. v && ((x == x) || is_among x xs)) e)
-
-    other : (x == m) ≡ false → (b : Bool) → is_among m (cond b (x ∷ filter p xs) (filter p xs)) ≡ (p m && ((x == m) || is_among m xs))
-    other differs true = ap (λ v. v || is_among m (filter p xs)) differs ∙ rest ∙ sym (ap (λ v. p m && (v || is_among m xs)) differs)
-    other differs false = rest ∙ sym (ap (λ v. p m && (v || is_among m xs)) differs)
-
-among_filter : (p : ℕ → Bool) (xs : List ℕ) (m : ℕ) → is_among m (filter p xs) ≡ (p m && is_among m xs)
-among_filter p [] m = none (p m)
-  where
-    none : (b : Bool) → false ≡ (b && false)
-    none true = refl
-    none false = refl
-among_filter p (x ∷ xs) m = among_by p xs x m (among_filter p xs m) (p x) refl
-
 among_below : (a n m : ℕ) → m < a → is_among m (range_with_len a n) ≡ false
 among_below a zero m lt = refl
 among_below a (suc n) m lt =
@@ -120,7 +90,7 @@ has_row definitions (e ∷ elements) (suc i) is = let h = has_row definitions el
 pub is_associated_at : (definitions : List Definition) (elements : List Element) (n : ℕ) → 0 < n
     → is_among n (associated_in elements definitions) ≡ is_associated_in elements definitions n
 is_associated_at definitions elements n low =
-    among_filter (is_associated_in elements definitions) (range_with_len 1 (length elements)) n ∙ by_test (is_associated_in elements definitions n) refl
+    is_among-filter (is_associated_in elements definitions) n (range_with_len 1 (length elements)) ∙ by_test (is_associated_in elements definitions n) refl
   where
     by_test : (b : Bool) → is_associated_in elements definitions n ≡ b → (b && is_among n (range_with_len 1 (length elements))) ≡ b
     by_test false is = refl
@@ -145,7 +115,7 @@ module _ (definitions : List Definition) (elements : List Element) (n : ℕ) (d 
   elsewhere m above apart = ap (associated_by definitions) (definition_in-other elements (n - 1) (m - 1) _ (λ e. apart (omega (arith, e, low, above))))
 
   listed : (m : ℕ) → is_among m (associated_in (redefined elements n d) definitions) ≡ (now m && is_among m numbers)
-  listed m = among_filter now (range_with_len 1 (length (redefined elements n d))) m ∙ ap (λ k. now m && is_among m (range_with_len 1 k)) long
+  listed m = is_among-filter now m (range_with_len 1 (length (redefined elements n d))) ∙ ap (λ k. now m && is_among m (range_with_len 1 k)) long
 
   there : now n ≡ true → is_among n numbers ≡ true
   there on = let lt = has_row definitions (redefined elements n d) (n - 1) on in
@@ -171,16 +141,16 @@ module _ (definitions : List Definition) (elements : List Element) (n : ℕ) (d 
         ∙ subst (λ k. true ≡ (now k && is_among k numbers)) e (sym (ap (λ v. v && is_among n numbers) (sym is) ∙ there (sym is)))
     | inr ne ↦
         let other : (n == m) ≡ false = grind (arith, nat_tests) in
-        ap (λ v. v || is_among m (associated_in elements definitions)) other ∙ among_filter before numbers m ∙ sym (apart_stays m ne)
+        ap (λ v. v || is_among m (associated_in elements definitions)) other ∙ is_among-filter before m numbers ∙ sym (apart_stays m ne)
   ]
-  marked false is m = among_filter (λ k. not (k == n)) (associated_in elements definitions) m ∙ elim (cases_eq n m) [
+  marked false is m = is_among-filter (λ k. not (k == n)) m (associated_in elements definitions) ∙ elim (cases_eq n m) [
     | inl e ↦
         let here : (m == n) ≡ true = grind (arith, nat_tests) in
         ap (λ v. not v && is_among m (associated_in elements definitions)) here
         ∙ subst (λ k. false ≡ (now k && is_among k numbers)) e (sym (ap (λ v. v && is_among n numbers) (sym is)))
     | inr ne ↦
         let other : (m == n) ≡ false = grind (arith, nat_tests) in
-        ap (λ v. not v && is_among m (associated_in elements definitions)) other ∙ among_filter before numbers m ∙ sym (apart_stays m ne)
+        ap (λ v. not v && is_among m (associated_in elements definitions)) other ∙ is_among-filter before m numbers ∙ sym (apart_stays m ne)
   ]
 
   -- which are form-associated, as the owner table has it

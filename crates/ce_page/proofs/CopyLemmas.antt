@@ -5,12 +5,13 @@ use Rattle.std.specs.Prelude.{◌-◌, ◌≤◌, ◌++◌, map, reverse, slice_
 use Rattle.std.proofs.lemmas.Grind.{common_steps}
 use Rattle.std.proofs.lemmas.Bool.Decides.{nat_tests}
 use Rattle.std.proofs.lemmas.List.{drop_all}
+use Rattle.std.specs.Prelude.{unwrap_or}
 use Rattle.ce_base.specs.declared.fault.Fault.TheVariants.{HierarchyRequestError}
 use Rattle.node_trees.specs.declared.kind.NodeKind.{NodeKind}
 use Rattle.node_trees.specs.Facts.{Facts, is_document, is_shadow_root, is_text}
 use Rattle.node_trees.specs.Trees.{Trees}
 use Rattle.node_trees.specs.Spots.{kind_at, first_of}
-use Rattle.node_trees.specs.Paths.{path, connected, is_among, or_number}
+use Rattle.node_trees.specs.Paths.{path, connected, is_among}
 use Rattle.node_trees.specs.Insertion.{may_insert, has_element_child}
 use Rattle.node_trees.specs.Kinds.{IsElement, KeepsKinds}
 use Rattle.node_trees.specs.Links.{IsAlone}
@@ -129,7 +130,7 @@ pushed f nodes left from old new first some within here more waiting =
 -- what stands alone, and is neither a document nor a shadow root, is not connected
 pub alone_apart : (f : Trees) (n : ℕ) → IsAlone f n → (is_document (kind_at f n) || is_shadow_root (kind_at f n)) ≡ false → connected f n ≡ false
 alone_apart f n alone kind =
-    let root : connected f n ≡ is_document (kind_at f n) = ap (λ ms. is_document (kind_at f (or_number (first_of ms) n))) alone.above in
+    let root : connected f n ≡ is_document (kind_at f n) = ap (λ ms. is_document (kind_at f (unwrap_or (first_of ms) n))) alone.above in
     let no_document : is_document (kind_at f n) ≡ false = grind arith in
     root ∙ no_document
 

@@ -11,7 +11,7 @@ use Rattle.ce_algorithms.specs.Steps.{Outcome, Goes, Spent}
 use Rattle.telling_law.specs.Told.{TellsExactly, TellsPart}
 use Rattle.telling_law.proofs.Attributes.{setting-exactly, setting-partly, taking-exactly, taking-partly}
 use Rattle.telling_law.proofs.Mutations.{insertion-exactly, insertion-partly, removal-exactly, removal-partly}
-use Rattle.tree_laws.proofs.Allowed.{not_inside}
+use Rattle.node_trees.proofs.Allowed.{not_inside}
 use Rattle.ce_page.specs.declared.stop.PageStop.{PageStop}
 use Rattle.ce_page.specs.declared.stop.PageStop.TheVariants.{Refused, FuelSpent, NoMemory}
 use Rattle.ce_page.specs.Ends.{Does}

@@ -1,11 +1,11 @@
 -- The changes are the differences.
 use Rattle.std.proofs.Common.{◌≡◌, ◌≢◌, ℕ, ◌<◌, ◌+◌, Bool, true, false, List, [], ◌∷◌, Option, Some, None, refl, sym, ap, ◌∙◌, subst, arith, inl, inr, ⊎_elim}
-use Rattle.std.specs.Prelude.{◌⊎◌, ◌||◌, filter, map, is_some, nat_eq, if◌then◌else◌}
+use Rattle.std.specs.Prelude.{◌⊎◌, filter, map, is_some, nat_eq, if◌then◌else◌}
 use Rattle.std.specs.Bool.{beq}
 use Rattle.std.specs.List.{Contains}
 use Rattle.std.specs.List.Sorted.{IsStrictlyIncreasing}
 use Rattle.std.specs.Option.{option_eq}
-use Rattle.std.proofs.lemmas.Bool.{eqb-true, eq-eqb, or_left, or_right}
+use Rattle.std.proofs.lemmas.Bool.{eqb-true, eq-eqb, or_cases, or_left, or_right}
 use Rattle.std.proofs.lemmas.List.Kept.{IsStrictlyIncreasing-filter}
 use Rattle.std.proofs.lemmas.Option.{none-some}
 use Rattle.node_trees.specs.Nodes.{IsNode, size}
@@ -89,12 +89,6 @@ module _ {A : Type 0} (same : A → A → Bool) (tells : Tells same) (old new : 
       by_test true e = absurd (n (tells.yes old new e))
       by_test false e = refl
 
--- one of two tests
-
-either : (a b : Bool) → (a || b) ≡ true → (a ≡ true) ⊎ (b ≡ true)
-either true b e = inl refl
-either false b e = inr e
-
 -- what differs
 
 module _ (old new : Forms) (n : ℕ) where
@@ -102,7 +96,7 @@ module _ (old new : Forms) (n : ℕ) where
   differs_if e = ⊎_elim
       (λ i. inl (told_is_new (option_eq nat_eq) owners_tell (form_owner old n) (form_owner new n) i))
       (λ i. inr (told_is_new beq states_tell (is_disabled old n) (is_disabled new n) i))
-      (either (is_some (form_change old new n).owner) (is_some (form_change old new n).disabled) e)
+      (or_cases (is_some (form_change old new n).owner) (is_some (form_change old new n).disabled) e)
 
   if_differs : Differs old new n → differs old new n ≡ true
   if_differs d = ⊎_elim

@@ -1,13 +1,11 @@
 -- Lists that are filtered, and what is made of each member; and numbers that rise.
 use Rattle.std.proofs.Common.{◌≡◌, ℕ, zero, suc, ◌+◌, ◌-◌, ◌<◌, ◌≤◌, Bool, true, false, List, [], ◌∷◌, length, get_or, refl, sym, ap, ◌∙◌, subst, arith, inl}
-use Rattle.std.proofs.Common.{inr, ⊎_elim, take, Some, ◌++◌}
-use Rattle.std.specs.Prelude.{◌⊎◌, filter, map, cond, slice_get}
+use Rattle.std.proofs.Common.{inr, ⊎_elim}
+use Rattle.std.specs.Prelude.{◌⊎◌, filter, map, cond}
 use Rattle.std.specs.List.{Contains, range_with_len}
 use Rattle.std.specs.List.Sorted.{IsStrictlyIncreasing}
 use Rattle.std.proofs.lemmas.Bool.{false≢true}
-use Rattle.std.proofs.lemmas.List.Elements.{filter_more}
 use Rattle.std.proofs.lemmas.List.FromFn.{get_or-range_with_len, length-range_with_len}
-use Rattle.std.proofs.lemmas.Option.{get_or_from_slice_get, slice_get_within}
 
 -- members of lists
 
@@ -58,19 +56,6 @@ module _ {X Y : Type 0} (f : X → Y) (p : X → Bool) where
       by_test rest true t (inr i) = contains_later (f y) (f x) (map f (filter p xs)) (rest i)
       by_test rest false t (inl same) = absurd (false≢true (sym t ∙ ap p same ∙ e))
       by_test rest false t (inr i) = rest i
-
--- those of a list that pass, one more at a time
-
-module _ (p : ℕ → Bool) (xs : List ℕ) (i x : ℕ) (at : slice_get xs i ≡ Some x) where
-  pub kept-more : filter p (take (i + 1) xs) ≡ filter p (take i xs) ++ cond (p x) (x ∷ []) []
-  kept-more =
-      let read : get_or xs i x ≡ x = get_or_from_slice_get xs i x x at in
-      filter_more p xs i x (slice_get_within xs i x at) ∙ ap (λ y. filter p (take i xs) ++ cond (p y) (y ∷ []) []) read
-
-  pub filter-next : (found new : List ℕ) (passes : Bool) → found ≡ filter p (take i xs) → passes ≡ p x → new ≡ found ++ cond passes (x ∷ []) []
-      → new ≡ filter p (take (i + 1) xs)
-  filter-next found new passes so_far is longer =
-      longer ∙ ap (λ b. found ++ cond b (x ∷ []) []) is ∙ ap (λ ys. ys ++ cond (p x) (x ∷ []) []) so_far ∙ sym kept-more
 
 -- rising numbers
 

@@ -6,6 +6,7 @@ use Rattle.std.specs.List.{list_any}
 use Rattle.std.proofs.lemmas.Bool.{cases_eq}
 use Rattle.std.proofs.lemmas.Bool.Decides.{nat_tests}
 use Rattle.std.proofs.lemmas.List.{take_more, take_all}
+use Rattle.std.proofs.lemmas.List.Folds.{list_any-append}
 use Rattle.std.proofs.lemmas.Option.{get_or_from_slice_get, slice_get_within}
 use Rattle.node_trees.specs.Trees.{Trees}
 use Rattle.node_trees.specs.Nodes.{IsNode, size}
@@ -14,14 +15,9 @@ use Rattle.tree_laws.proofs.Members.{all-members}
 use Rattle.form_owner.specs.Candidates.{Considers}
 use Rattle.form_owner.proofs.Nodes.{all-among}
 
--- some member of two lists passes where one of the first does, or one of the second
-any-append : {X : Type 0} (p : X → Bool) (xs ys : List X) → list_any p (xs ++ ys) ≡ (list_any p xs || list_any p ys)
-any-append p [] ys = refl
-any-append p (x ∷ xs) ys = let more = any-append p xs ys in grind (arith, more)
-
 -- one more behind a list
 any-last : {X : Type 0} (p : X → Bool) (xs : List X) (x : X) → list_any p (xs ++ x ∷ []) ≡ (list_any p xs || p x)
-any-last p xs x = any-append p xs (x ∷ []) ∙ grind arith
+any-last p xs x = list_any-append p xs (x ∷ []) ∙ grind arith
 
 any-more : {X : Type 0} (p : X → Bool) (xs : List X) (i : ℕ) (x : X) → slice_get xs i ≡ Some x → list_any p (take (i + 1) xs) ≡ (list_any p (take i xs) || p x)
 any-more p xs i x at =

@@ -19,7 +19,7 @@ use Rattle.ordered_tables.specs.declared.id_index.IdIndex.{IdIndex}
 use Rattle.owner_laws.specs.Locality.{IsAsideOfMove, IsUnchanged}
 use Rattle.owner_laws.proofs.Moves.{unchanged-graft, unchanged-cut}
 use Rattle.owner_laws.proofs.PutBack.{graft-up}
-use Rattle.owner_laws.proofs.Shift.{node-still}
+use Rattle.tree_laws.proofs.Sizes.{node-still}
 use Rattle.owner_rows.specs.OwnerRow.{OwnerRow, row_of}
 use Rattle.form_owner.specs.Candidates.{Considers, Covers, is_concerned, is_named_among, is_of_legend, is_of_move}
 use Rattle.form_owner.specs.OwnerRows.{OwnerRows}

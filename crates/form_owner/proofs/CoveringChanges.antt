@@ -28,7 +28,7 @@ use Rattle.ordered_tables.specs.Held.{is_held}
 use Rattle.owner_laws.specs.Locality.{IsAsideOfAttribute, IsUnchanged}
 use Rattle.owner_laws.proofs.Attributes.{unchanged-with}
 use Rattle.owner_laws.proofs.SameReads.{unchanged-marked}
-use Rattle.owner_laws.proofs.Shift.{node-still}
+use Rattle.tree_laws.proofs.Sizes.{node-still}
 use Rattle.owner_rows.specs.OwnerRow.{Seen, row_of}
 use Rattle.owner_rows.specs.Attributes.{seen_at}
 use Rattle.form_owner.specs.Candidates.{Considers, Covers, is_concerned, is_named_by, is_of_change, is_of_group, is_of_ids}

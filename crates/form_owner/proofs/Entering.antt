@@ -1,5 +1,5 @@
 -- Lists that nodes are put into, a change at a time from the last one on.
-use Rattle.std.proofs.Common.{◌≡◌, ◌≢◌, ℕ, zero, suc, ◌+◌, ◌-◌, ◌<◌, ◌==◌, Bool, true, false, cond, List, [], ◌∷◌, take, get_or, Option, Some, None, refl, sym}
+use Rattle.std.proofs.Common.{◌≡◌, ◌≢◌, ℕ, zero, suc, ◌+◌, ◌-◌, ◌<◌, ◌==◌, Bool, true, false, List, [], ◌∷◌, take, get_or, Option, Some, None, refl, sym}
 use Rattle.std.proofs.Common.{ap, ◌∙◌, subst, arith, inl, inr}
 use Rattle.std.specs.Prelude.{filter, find, length, slice_get, unwrap_or, not, is_some, IfSome, ◌||◌, ◌&&◌}
 use Rattle.std.proofs.lemmas.Bool.{cases_eq}
@@ -10,6 +10,7 @@ use Rattle.node_trees.specs.Trees.{Trees, is_number}
 use Rattle.node_trees.specs.Nodes.{IsTidy, size}
 use Rattle.node_trees.specs.Orders.{tree_order_of}
 use Rattle.node_trees.specs.Paths.{is_among, root_at}
+use Rattle.node_trees.proofs.Absent.{is_among-filter}
 use Rattle.tree_laws.specs.Numbers.{insert_number}
 use Rattle.tree_laws.proofs.Counts.{AreApart}
 use Rattle.tree_laws.proofs.Children.{tree_order-apart}
@@ -26,27 +27,6 @@ use Rattle.form_owner.proofs.Lasts.{none-last}
 use Rattle.form_owner.proofs.Leaving.{moved-more}
 use Rattle.form_owner.proofs.Placing.{after-in, at_its_place, or_one}
 use Rattle.form_owner.proofs.Told.{behind, rises}
-
--- lists
-
-among-filter : (p : ℕ → Bool) (m : ℕ) (xs : List ℕ) → is_among m (filter p xs) ≡ (p m && is_among m xs)
-among-filter p m [] = by_test (p m)
-  where
-    by_test : (b : Bool) → false ≡ (b && false)
-    by_test true = refl
-    by_test false = refl
-among-filter p m (x ∷ xs) = by_test (among-filter p m xs) (p x) refl
-  where
-    by_test : is_among m (filter p xs) ≡ (p m && is_among m xs) → (b : Bool) → p x ≡ b
-        → is_among m (cond b (x ∷ filter p xs) (filter p xs)) ≡ (p m && (x == m || is_among m xs))
-    by_test more true e = elim (cases_eq x m) [
-      | inl same ↦ let passes : p m ≡ true = ap p (sym same) ∙ e in grind (arith, nat_tests, more)
-      | inr other ↦ grind (arith, nat_tests, more)
-    ]
-    by_test more false e = elim (cases_eq x m) [
-      | inl same ↦ let fails : p m ≡ false = ap p (sym same) ∙ e in grind (arith, nat_tests, more)
-      | inr other ↦ grind (arith, nat_tests, more)
-    ]
 
 -- no earlier change is of the same node
 pub earlier : (cs : List Change) (k : ℕ) (c : Change) → AreRising cs → slice_get cs k ≡ Some c → is_moved_by (take k cs) c.node ≡ false
@@ -158,7 +138,7 @@ module _ (old : List OwnerRow) (cs : List Change) (k : ℕ) (c : Change) (at : s
       in-list m among =
           ap (λ (r : OwnerRow). is_number r.owner g && is_among m (row_of mid g).controls) (before.same (m - 1))
           ∙ ap (λ v. is_owned_in old g m && is_among m v) listed
-          ∙ ap (λ b. is_owned_in old g m && b) (among-filter test m order ∙ ap (λ b. test m && b) among)
+          ∙ ap (λ b. is_owned_in old g m && b) (is_among-filter test m order ∙ ap (λ b. test m && b) among)
           ∙ by_test (is_owned_in old g m) (stays (take (k + 1) cs) m)
         where
           by_test : (o s : Bool) → (o && ((o && s) && true)) ≡ (o && s)

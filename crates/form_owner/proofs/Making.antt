@@ -5,13 +5,14 @@ use Rattle.std.specs.Prelude.{not, ◌&&◌, ◌||◌, ◌==◌, codes, filter, 
 use Rattle.std.specs.List.{list_any}
 use Rattle.std.proofs.lemmas.Bool.{cases_eq, cases_lt, eq-eqb}
 use Rattle.std.proofs.lemmas.Bool.Decides.{nat_tests}
+use Rattle.std.specs.Option.{option_or}
 use Rattle.element_names.specs.declared.natives.Native.{Native}
 use Rattle.element_names.specs.declared.natives.Native.TheVariants.{Fieldset, Form, Legend, Optgroup, OptionItem}
 use Rattle.element_names.specs.Natives.{native, same_native}
 use Rattle.node_trees.specs.Facts.{Facts, is_element, value_in}
 use Rattle.node_trees.specs.Trees.{Trees, none, tree, join, single, with_node, with_shadow, with_document, roots, is_number}
 use Rattle.node_trees.specs.Nodes.{times, size, IsNode, IsTidy}
-use Rattle.node_trees.specs.Spots.{Spot, spot_in, or_spot, or_no_spot, facts_at, parent_at, children_at, attribute_at}
+use Rattle.node_trees.specs.Spots.{Spot, spot_in, or_no_spot, facts_at, parent_at, children_at, attribute_at}
 use Rattle.node_trees.specs.Paths.{is_among, root_at, connected}
 use Rattle.node_trees.specs.Orders.{tree_order_of}
 use Rattle.node_trees.specs.Ids.{has_id, is_id, first_with_id}
@@ -24,6 +25,8 @@ use Rattle.tree_laws.proofs.Alike.{attribute-alike, root-alike, named-alike, con
 use Rattle.tree_laws.proofs.NewNode.{alike_new, alike_hung}
 use Rattle.tree_laws.proofs.OtherFacts.{alike_facts}
 use Rattle.tree_laws.proofs.Changed.{size-with}
+use Rattle.tree_laws.proofs.Parents.{number-is}
+use Rattle.tree_laws.proofs.Sizes.{new-absent}
 use Rattle.ordered_tables.specs.Held.{is_known}
 use Rattle.form_controls.specs.Kinds.{native_at, is_a}
 use Rattle.form_controls.specs.Owners.{Forms, is_associated, is_listed_native, owner_by, form_owner, where_form, named_form, nearest_form, ancestors_below}
@@ -42,7 +45,7 @@ use Rattle.above_reading.specs.Disabled.{disabled_with}
 use Rattle.form_owner.specs.Stands.{Stands}
 use Rattle.form_controls.proofs.Ancestors.{above-absent}
 use Rattle.owner_reading.proofs.Ancestors.{ancestors-up}
-use Rattle.form_owner.proofs.Nodes.{absent, found-passes, not-a-form, not-listed, no-owner, not-disabled, no-controls, owner-form, is-number}
+use Rattle.form_owner.proofs.Nodes.{absent, found-passes, not-a-form, not-listed, no-owner, not-disabled, no-controls, owner-form}
 use Rattle.form_owner.proofs.Rows.{filter-members}
 use Rattle.form_owner.proofs.Looking.{right-still}
 
@@ -73,7 +76,7 @@ abbrev lacks : ℕ → Option Spot → Bool
 lacks n None = true
 lacks n (Some s) = not (is_among n s.children)
 
-lacks-or : (n : ℕ) (a b : Option Spot) → lacks n a ≡ true → lacks n b ≡ true → lacks n (or_spot a b) ≡ true
+lacks-or : (n : ℕ) (a b : Option Spot) → lacks n a ≡ true → lacks n b ≡ true → lacks n (option_or a b) ≡ true
 lacks-or n None b x y = y
 lacks-or n (Some s) b x y = x
 
@@ -84,7 +87,7 @@ spot-free n p h i (tree m x s k r) z =
       arith,
       nat_tests,
       roots-free n k (omega arith),
-      lacks-or n (spot_in None (Some m) i s) (or_spot (spot_in (Some m) None i k) (spot_in p h i r)) (spot-free n None (Some m) i s (omega arith))
+      lacks-or n (spot_in None (Some m) i s) (option_or (spot_in (Some m) None i k) (spot_in p h i r)) (spot-free n None (Some m) i s (omega arith))
           (lacks-or n (spot_in (Some m) None i k) (spot_in p h i r) (spot-free n (Some m) None i k (omega arith)) (spot-free n p h i r (omega arith))),
     )
 
@@ -340,7 +343,7 @@ module _ (f : Forms) (made : Trees) (tidy : IsTidy f.forest) (knows : (m : ℕ) 
           (λ j _. by_test j (is_owned_by after k j) refl)
         where
           by_test : (j : ℕ) (b : Bool) → is_owned_by after k j ≡ b → b ≡ false
-          by_test j true e = absurd (let yes = owner-form f j k (sym (owner-after j) ∙ is-number (form_owner after j) k e) in cc)
+          by_test j true e = absurd (let yes = owner-form f j k (sym (owner-after j) ∙ number-is (form_owner after j) k e) in cc)
           by_test j false e = refl
 
       none-new : controls_of after n ≡ []
@@ -389,18 +392,11 @@ stands_alike table f made n tidy alike above_is more s = record {
     seen_in : List (List ℕ × List ℕ) → Seen
     seen_in items = record { id = value_in items (codes "id"); form = value_in items (codes "form"); disabled = is_some (value_in items (codes "disabled")) }
 
--- a number that no node has yet
-next-free : (f : Trees) → IsTidy f → times (size f + 1) f ≡ 0
-next-free f tidy = elim (cases_lt 0 (times (size f + 1) f)) [
-  | inl low ↦ let high = (tidy.only (size f + 1) low).high in absurd (omega arith)
-  | inr z ↦ omega arith
-]
-
 pub stands_made : (table : OwnerRows) (f : Forms) (x : Facts) → IsTidy f.forest → x.attributes ≡ [] → Stands table f
     → Stands table (record f { forest = with_node (size f.forest + 1) x f.forest })
 stands_made table f x tidy bare =
     stands_alike table f (with_node (size f.forest + 1) x f.forest) (size f.forest + 1) tidy
-    (alike_new (size f.forest + 1) x f.forest (next-free f.forest tidy) bare)
+    (alike_new (size f.forest + 1) x f.forest (new-absent f.forest tidy) bare)
     (λ i. ancestors-beside i (size f.forest + 1) x f.forest)
     (omega (arith, weight-join (λ m y. 1) f.forest (single (size f.forest + 1) x)))
 
@@ -408,7 +404,7 @@ pub stands_hung : (table : OwnerRows) (f : Forms) (host : ℕ) (x : Facts) → I
     → Stands table (record f { forest = with_shadow host (single (size f.forest + 1) x) f.forest })
 stands_hung table f host x tidy bare =
     stands_alike table f (with_shadow host (single (size f.forest + 1) x) f.forest) (size f.forest + 1) tidy
-    (alike_hung (size f.forest + 1) x f.forest (next-free f.forest tidy) host bare)
+    (alike_hung (size f.forest + 1) x f.forest (new-absent f.forest tidy) host bare)
     (λ i. ancestors-hung [] i (size f.forest + 1) host x f.forest)
     (omega (arith, weight-shadow (λ m y. 1) host (single (size f.forest + 1) x) f.forest (tidy-apart f.forest tidy host)))
 
@@ -416,6 +412,6 @@ pub stands_adopted : (table : OwnerRows) (f : Forms) (n document : ℕ) → IsTi
     → Stands table (record f { forest = with_document n document f.forest })
 stands_adopted table f n document tidy =
     stands_alike table f (with_document n document f.forest) (size f.forest + 1) tidy
-    (alike_facts n (λ x. record x { document = document }) f.forest (size f.forest + 1) (next-free f.forest tidy) (λ x. refl) (λ x. refl) (λ x. refl))
+    (alike_facts n (λ x. record x { document = document }) f.forest (size f.forest + 1) (new-absent f.forest tidy) (λ x. refl) (λ x. refl) (λ x. refl))
     (λ i. above-with n (λ x. record x { document = document }) [] i f.forest)
     (omega (arith, size-with n (λ x. record x { document = document }) f.forest))

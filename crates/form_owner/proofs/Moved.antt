@@ -8,6 +8,7 @@ use Rattle.node_trees.specs.Nodes.{IsNode, IsTidy, size}
 use Rattle.node_trees.specs.Orders.{tree_order_of}
 use Rattle.node_trees.specs.Paths.{root_at}
 use Rattle.tree_laws.proofs.InOrder.{member_is_node}
+use Rattle.tree_laws.proofs.Parents.{number-is}
 use Rattle.form_controls.specs.declared.change.Change.{Change}
 use Rattle.form_controls.specs.Changes.{is_change, numbers}
 use Rattle.owner_reading.specs.Owners.{owner_with}
@@ -17,7 +18,7 @@ use Rattle.form_owner.specs.Reading.{change_read, changes_read, is_owned_in}
 use Rattle.form_owner.specs.Writing.{AreRenewed, IsKept, ListsStood, unlisted, with_changes, with_told}
 use Rattle.form_owner.proofs.Changed.{new-is, owner-has-it, owner-is-node, unmoved}
 use Rattle.form_owner.proofs.Leaving.{filter-filter}
-use Rattle.form_owner.proofs.Nodes.{is-number, numbers-nodes}
+use Rattle.form_owner.proofs.Nodes.{numbers-nodes}
 use Rattle.form_owner.proofs.Rows.{associated-stays, filter-members, reached, read_row, seen-stays}
 
 -- changes leave a list
@@ -77,7 +78,7 @@ module _ (f : Trees) (tidy : IsTidy f) (old left written : List OwnerRow) (cs : 
         let both = and_parts (stays cs m) (is_owned_in old (i + 1) m) test in
         record {
           owned = both.1;
-          owns = sym (unmoved f old m node (ap (λ v. stays v m) (sym is) ∙ both.0)) ∙ is-number (row_of old m).owner (i + 1) both.1;
+          owns = sym (unmoved f old m node (ap (λ v. stays v m) (sym is) ∙ both.0)) ∙ number-is (row_of old m).owner (i + 1) both.1;
         }
 
     settled : (i m : ℕ) → IsNode f m → (stays cs m && is_owned_in old (i + 1) m) ≡ is_settled written cs (i + 1) m

@@ -2,23 +2,16 @@
 use Rattle.std.proofs.Common.{◌≡◌, ℕ, Bool, true, false, ◌==◌, List, [], ◌∷◌, Option, Some, None, refl, sym, ap, ◌∙◌, subst}
 use Rattle.std.specs.Prelude.{◌||◌, bytes_eq, codes}
 use Rattle.std.specs.List.{list_any}
-use Rattle.std.proofs.lemmas.Bool.{and_parts, eqb-true, false_from_ne_true, or_parts}
+use Rattle.std.proofs.lemmas.Bool.{eqb-true, false_from_ne_true, or_parts}
 use Rattle.std.proofs.lemmas.Slice.Eq.{bytes_eq-Decides}
-use Rattle.node_trees.specs.Facts.{Facts, is_element, value_in}
-use Rattle.node_trees.specs.Ids.{has_id, is_id}
+use Rattle.node_trees.specs.Facts.{Facts, value_in}
+use Rattle.node_trees.specs.Ids.{has_id}
 use Rattle.node_trees.specs.Trees.{Trees}
 use Rattle.node_trees.specs.Paths.{is_among}
 use Rattle.node_trees.specs.Spots.{attribute_at, facts_at}
+use Rattle.node_arena.proofs.Covering.{has_id-value}
 use Rattle.form_owner.specs.Attributes.{is_naming}
 use Rattle.form_owner.specs.Candidates.{is_named_by, is_named_among}
-
-id-is : (id : List ℕ) (o : Option (List ℕ)) → is_id id o ≡ true → o ≡ Some id
-id-is [] o e = absurd cc
-id-is (y ∷ ys) None e = absurd cc
-id-is (y ∷ ys) (Some v) e = ap Some ((bytes_eq-Decides v (y ∷ ys)).0 e)
-
-id-of : (id : List ℕ) (x : Facts) → has_id id x ≡ true → value_in x.attributes (codes "id") ≡ Some id
-id-of id x e = id-is id (value_in x.attributes (codes "id")) (and_parts (is_element x.kind) (is_id id (value_in x.attributes (codes "id"))) e).1
 
 any-false : (p : ℕ → Bool) (xs : List ℕ) → list_any p xs ≡ false → (x : ℕ) → is_among x xs ≡ true → p x ≡ false
 any-false p [] none x among = absurd cc
@@ -42,7 +35,7 @@ module _ (old : Trees) (named : List ℕ → ℕ → Bool) (seen : (id : List �
   pub has-other : (o : Option (List ℕ)) → is_named_by named o m ≡ false → (id : List ℕ) → attribute_at now m (codes "form") ≡ Some id → (x : Facts)
       → value_in x.attributes (codes "id") ≡ o → has_id id x ≡ false
   has-other o none id is x is_o = false_from_ne_true (has_id id x) (λ has.
-      let same_id : o ≡ Some id = sym is_o ∙ id-of id x has in
+      let same_id : o ≡ Some id = sym is_o ∙ has_id-value id x has in
       let by : is_named_by named o m ≡ true = ap (λ v. is_named_by named v m) same_id ∙ named-by id is in
       absurd cc)
 

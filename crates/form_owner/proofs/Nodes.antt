@@ -7,7 +7,7 @@ use Rattle.std.proofs.lemmas.Bool.Decides.{nat_tests}
 use Rattle.std.proofs.lemmas.List.Elements.{All-map, All-filter, All-nil, All-cons, All-head, All-tail}
 use Rattle.std.proofs.lemmas.List.FromFn.{length-range_with_len, get_or-range_with_len}
 use Rattle.element_names.specs.declared.natives.Native.TheVariants.{Form, OptionItem}
-use Rattle.node_trees.specs.Trees.{Trees, none, tree, is_number, roots}
+use Rattle.node_trees.specs.Trees.{Trees, none, tree, roots}
 use Rattle.node_trees.specs.Links.{AreRead}
 use Rattle.node_trees.specs.Nodes.{times, size, IsNode, IsNodeOrNone, IsTidy}
 use Rattle.node_trees.specs.Orders.{tree_order_of}
@@ -17,6 +17,7 @@ use Rattle.node_trees.specs.Spots.{attribute_at, or_no_spot, facts_at}
 use Rattle.node_trees.proofs.Absent.{spot-absent}
 use Rattle.tree_laws.proofs.InOrder.{member_is_node}
 use Rattle.tree_laws.proofs.Members.{all-members}
+use Rattle.tree_laws.proofs.Parents.{number-is}
 use Rattle.form_controls.specs.declared.change.Change.{Change}
 use Rattle.form_controls.specs.Changes.{is_change, numbers}
 use Rattle.form_controls.specs.Kinds.{is_a}
@@ -151,13 +152,9 @@ controls-nodes f form tidy =
 
 -- so what is no form has no controls
 
-pub is-number : (o : Option ℕ) (k : ℕ) → is_number o k ≡ true → o ≡ Some k
-is-number None k e = absurd cc
-is-number (Some n) k e = grind (arith, nat_tests)
-
 pub no-controls : (f : Forms) (n : ℕ) → is_a Form f.forest n ≡ false → controls_of f n ≡ []
 no-controls f n not_form = filter-none (is_owned_by f n) (tree_order_of f.forest (root_at f.forest n)) (λ m _. by_test m (is_owned_by f n m) refl)
   where
     by_test : (m : ℕ) (b : Bool) → is_owned_by f n m ≡ b → b ≡ false
-    by_test m true e = absurd (let yes = owner-form f m n (is-number (form_owner f m) n e) in cc)
+    by_test m true e = absurd (let yes = owner-form f m n (number-is (form_owner f m) n e) in cc)
     by_test m false e = refl

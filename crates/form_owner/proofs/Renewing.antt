@@ -10,6 +10,7 @@ use Rattle.node_trees.specs.Nodes.{size, IsNode, IsTidy}
 use Rattle.node_trees.specs.Orders.{tree_order_of}
 use Rattle.node_trees.specs.Paths.{is_among, root_at}
 use Rattle.tree_laws.proofs.InOrder.{member_is_node}
+use Rattle.tree_laws.proofs.Parents.{number-is}
 use Rattle.form_controls.specs.declared.change.Change.{Change}
 use Rattle.form_controls.specs.Changes.{is_change, where_new, numbers}
 use Rattle.form_controls.proofs.Differ.{owners_alike}
@@ -19,7 +20,6 @@ use Rattle.form_owner.specs.Candidates.{Considers}
 use Rattle.form_owner.specs.Reading.{change_read, changes_read, is_owned_in, owned_in}
 use Rattle.form_owner.specs.Writing.{AreListed, AreRenewed, ListsStood, is_moved, is_moved_among, with_changes}
 use Rattle.form_owner.proofs.Listing.{owned-same}
-use Rattle.form_owner.proofs.Nodes.{is-number}
 use Rattle.form_owner.proofs.Rows.{associated-stays, controls-stay, seen-stays, filter-members, reached, read_row}
 
 -- what no change says
@@ -79,7 +79,7 @@ module _ (f : Trees) (tidy : IsTidy f) (old written new : List OwnerRow) (forms 
     kept-list =
         sym (lists.owned i)
         ∙ lists.kept i (record { low = omega arith; high = omega arith }) (is_owned_in old (i + 1))
-        (λ m node owned. record { owned = owned; owns = is-number (owner_with f m (row_of old m).associated) (i + 1) (sym (keeps m node) ∙ owned) })
+        (λ m node owned. record { owned = owned; owns = number-is (owner_with f m (row_of old m).associated) (i + 1) (sym (keeps m node) ∙ owned) })
         ∙ filter-members (is_owned_in old (i + 1)) (is_owned_in new (i + 1)) (tree_order_of f (root_at f (i + 1)))
         (λ m among. owned-now m (member_is_node f (root_at f (i + 1)) m tidy among))
       where

@@ -11,13 +11,13 @@ use Rattle.tree_laws.proofs.InOrder.{member_is_node}
 use Rattle.form_controls.specs.Owners.{Forms, form_owner, is_associated, is_owned_by, controls_of}
 use Rattle.owner_reading.specs.Owners.{owner_with}
 use Rattle.owner_laws.proofs.OwnerTogether.{owner-together}
-use Rattle.owner_laws.proofs.Shift.{node-still}
+use Rattle.tree_laws.proofs.Sizes.{node-still}
+use Rattle.tree_laws.proofs.Parents.{number-is}
 use Rattle.owner_laws.proofs.TogetherCut.{AreTogether}
 use Rattle.owner_rows.specs.OwnerRow.{OwnerRow, row_in, row_of}
 use Rattle.form_owner.specs.Reading.{is_owned_in}
 use Rattle.form_owner.specs.Writing.{IsKept, ListsStood}
 use Rattle.form_owner.proofs.Leaving.{filter-filter, filter-swap}
-use Rattle.form_owner.proofs.Nodes.{is-number}
 use Rattle.form_owner.proofs.Rows.{filter-members}
 
 -- one test after another
@@ -96,7 +96,7 @@ module _ (before after : Forms) (old_tidy : IsTidy before.forest) (tidy : IsTidy
         let both = and_parts (test m) (is_number_of_node m) e in
         let at = of_node m both.1 in
         let it = kept m at both.0 in
-        let was : form_owner before m ≡ Some (i + 1) = is-number (form_owner before m) (i + 1) (sym (owned-before m (i + 1) at.low) ∙ it.owned) in
+        let was : form_owner before m ≡ Some (i + 1) = number-is (form_owner before m) (i + 1) (sym (owned-before m (i + 1) at.low) ∙ it.owned) in
         let flag : (row_of rows m).associated ≡ is_associated after m = flags (m - 1) ∙ ap (is_associated after) (number m at.low) in
         let is : form_owner after m ≡ Some (i + 1) = ap (owner_with after.forest m) (sym flag) ∙ it.owns in
         let at_before = node-still before.forest after.forest long m at in

@@ -2,7 +2,7 @@
 use Rattle.std.proofs.Common.{◌≡◌, ◌+◌, ℕ, Bool, true, false, cond, List, [], ◌∷◌, ◌++◌, take, Some, refl, ap, ◌∙◌, sym}
 use Rattle.std.specs.Prelude.{filter, map, slice_get}
 use Rattle.std.proofs.lemmas.List.{map-append}
-use Rattle.form_controls.proofs.Listed.{kept-more}
+use Rattle.ce_base.proofs.Filtered.{kept-more}
 
 -- one more that is made, where it says something
 pub made-next : {Y : Type 0} (f : ℕ → Y) (says : Y → Bool) (xs : List ℕ) (i x : ℕ) (made new : List Y) (y : Y) → slice_get xs i ≡ Some x

@@ -2,7 +2,7 @@
 use Rattle.std.proofs.Common.{◌≡◌, ◌<◌, ◌≤◌, ◌⊎◌, ℕ, Bool, true, false, List, [], ◌∷◌, ◌++◌, refl, sym, ap, ◌∙◌, subst, inl, inr, All, append-nil, arith}
 use Rattle.std.specs.Prelude.{IsUtf8, nat_lt}
 use Rattle.std.specs.List.{AllByRecursion}
-use Rattle.std.proofs.Math.Utf8.{scalar, scalars, scalar_cases, low_scalar, encode, encodes}
+use Rattle.std.proofs.Math.Utf8.{scalar, scalars, scalar_cases, encode, encodes}
 use Rattle.std.proofs.lemmas.Bool.{and_parts, cond_both, ltb-true, cases_lt}
 use Rattle.std.proofs.lemmas.List.Elements.{All-nil, All-cons, All-append}
 use Rattle.std.proofs.lemmas.Str.{IsUtf8-append, IsUtf8-nil, encode_ascii}
@@ -40,9 +40,6 @@ encode_cases c is = cases (cases_lt c 128)
 
 IsUtf8-character : (c : ℕ) → scalar c ≡ true → IsUtf8 (encode c)
 IsUtf8-character c is = (c ∷ [], (rw is refl, append-nil (encode c)))
-
-pub IsUtf8-ascii : (c : ℕ) → c < 128 → IsUtf8 (c ∷ [])
-IsUtf8-ascii c low = subst IsUtf8 (encode_ascii c low) (IsUtf8-character c (low_scalar c (omega arith)))
 
 -- ---- bytes
 

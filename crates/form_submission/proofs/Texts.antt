@@ -5,7 +5,8 @@ use Rattle.std.proofs.lemmas.Bool.{cond_both, ne_eqb}
 use Rattle.std.proofs.lemmas.Str.{IsUtf8-append}
 use Rattle.form_submission.specs.Encodings.{escaped, escaped_byte}
 use Rattle.form_submission.specs.LineEnds.{begins_with_line_feed, full_byte, full_from, newline, with_full_newlines}
-use Rattle.form_submission.proofs.Characters.{GoesByCharacter, IsUtf8-ascii, IsUtf8-made}
+use Rattle.ce_base.proofs.Utf8.{IsUtf8-ascii}
+use Rattle.form_submission.proofs.Characters.{GoesByCharacter, IsUtf8-made}
 
 high_differs : (b c : ℕ) → 128 ≤ b → c < 128 → nat_eq b c ≡ false
 high_differs b c high low = ne_eqb b c (λ e. omega (arith, e))

@@ -7,7 +7,7 @@ use Rattle.std.proofs.Math.ListN.{set}
 use Rattle.std.proofs.lemmas.List.{take_more}
 use Rattle.std.proofs.lemmas.Bool.Decides.{nat_tests}
 use Rattle.node_trees.specs.Facts.{value_in, with_value, without_value}
-use Rattle.ordered_tables.proofs.Places.{bytes_sym, same_text, text_same}
+use Rattle.ce_base.proofs.SameTexts.{bytes_sym, same_text, text_same}
 use Rattle.ordered_tables.proofs.TextMapPlaces.{with_value-new}
 use Rattle.node_arena.specs.Attributes.{name_place, is_once}
 

@@ -58,10 +58,6 @@ apart_of f links p n b is is_p is_n may e = omega (arith, parent-outside f p n b
 pub counts : (nodes : List Node) (f : Trees) → IsLinked (links nodes) f → length nodes ≡ size f
 counts nodes f is = omega (arith, is.counted, length-map nodes link_from)
 
--- a node of trees is one of any with as many nodes
-pub still_node : (f g : Trees) (n : ℕ) → size g ≡ size f → IsNode f n → IsNode g n
-still_node f g n long at = let high = at.high in record { low = at.low; high = omega (arith, high, long) }
-
 -- the node that was made last
 pub last_node : (g : Trees) (n k : ℕ) → size g ≡ k + 1 → n ≡ k + 1 → IsNode g n
 last_node g n k long is = record { low = omega (arith, is); high = omega (arith, is, long) }

@@ -13,7 +13,7 @@ use Rattle.node_trees.proofs.Absent.{is_among-append}
 use Rattle.tree_laws.specs.Walks.{IsUp}
 use Rattle.tree_laws.proofs.AtNode.{node_stands}
 use Rattle.tree_laws.proofs.Changed.{size-with}
-use Rattle.tree_laws.proofs.Connected.{IsMoved, connected-outside, connected-inside, connected-with}
+use Rattle.tree_laws.proofs.Connected.{IsMoved, was_node, connected-outside, connected-inside, connected-with}
 use Rattle.tree_laws.proofs.ConnectedBelow.{same_first, connected-below}
 use Rattle.tree_laws.proofs.Counts.{count-among}
 use Rattle.tree_laws.proofs.Pieces.{path-long}
@@ -74,9 +74,6 @@ module _ (f g : Trees) (n : ℕ) (moved : IsMoved f g n) where
   in_order : (m : ℕ) → is_among m (order_of g n) ≡ is_among n (path m g)
   in_order m = walked g n m moved.tidy_now
 
-  was_node : (m : ℕ) → IsNode g m → IsNode f m
-  was_node m at = let high = at.high in let long = moved.long in record { low = at.low; high = omega (arith, high, long) }
-
   connected-here : IsNode g n → (m : ℕ) → is_among n (path m g) ≡ true → connected g m ≡ connected g n
   connected-here node m on = connected-below g n moved.tidy_now node m (among-inside m (in_order m ∙ on))
     where
@@ -88,9 +85,9 @@ module _ (f g : Trees) (n : ℕ) (moved : IsMoved f g n) where
   hold_stays node marks was is hold m at = by_path (is_among n (path m g)) refl
     where
       by_path : (b : Bool) → is_among n (path m g) ≡ b → Allows (mark_at marks m) (connected g m)
-      by_path false off = subst (Allows (mark_at marks m)) (connected-outside f g n moved m at off) (hold m (was_node m at))
+      by_path false off = subst (Allows (mark_at marks m)) (connected-outside f g n moved m at off) (hold m (was_node f g n moved m at))
       by_path true on = subst (Allows (mark_at marks m)) (connected-inside f g n moved m at on ∙ was ∙ sym is ∙ sym (connected-here node m on))
-          (hold m (was_node m at))
+          (hold m (was_node f g n moved m at))
 
   -- and any other, once it is noted with all below it
   pub hold_noted : IsNode g n → (old new : List Mark) → AreNoted g n (connected g n) old new → MarksHold old f → MarksHold new g
@@ -98,7 +95,7 @@ module _ (f g : Trees) (n : ℕ) (moved : IsMoved f g n) where
     where
       by_path : (b : Bool) → is_among n (path m g) ≡ b → Allows (mark_at new m) (connected g m)
       by_path false off = subst (Allows (mark_at new m)) (connected-outside f g n moved m at off)
-          (noted.others m (in_order m ∙ off) at.low _ (hold m (was_node m at)))
+          (noted.others m (in_order m ∙ off) at.low _ (hold m (was_node f g n moved m at)))
       by_path true on = subst (Allows (mark_at new m)) (sym (connected-here node m on)) (noted.below m (in_order m ∙ on) at.low)
 
   -- either way

@@ -2,7 +2,7 @@
 use Rattle.std.proofs.Common.{◌≡◌, ℕ, true, false, cond, List, [], ◌∷◌, Some, refl, ap, ◌∙◌, arith}
 use Rattle.std.specs.Prelude.{bytes_eq}
 use Rattle.node_trees.specs.Facts.{value_in, with_value, without_value}
-use Rattle.ordered_tables.proofs.Places.{same_text, text_same}
+use Rattle.ce_base.proofs.SameTexts.{same_text, text_same}
 use Rattle.node_arena.proofs.AttributeLemmas.{value_in-with}
 
 -- no text is two others

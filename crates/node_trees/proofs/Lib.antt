@@ -1,3 +1,4 @@
 pub mod Absent
+pub mod Allowed
 pub mod Elements
 pub mod Weights

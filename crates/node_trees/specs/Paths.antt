@@ -1,6 +1,7 @@
 -- What is above a node.
-use Rattle.std.specs.Prelude.{ℕ, Bool, false, not, ◌==◌, ◌||◌, if◌then◌else◌, List, [], ◌∷◌, ◌++◌, reverse, Option, Some, None, is_some}
+use Rattle.std.specs.Prelude.{ℕ, Bool, false, not, ◌==◌, ◌||◌, if◌then◌else◌, List, [], ◌∷◌, ◌++◌, reverse, is_some}
 use Rattle.std.specs.List.{find}
+use Rattle.std.specs.Prelude.{unwrap_or}
 use Rattle.node_trees.specs.Facts.{is_document}
 use Rattle.node_trees.specs.Trees.{Trees, none, tree}
 use Rattle.node_trees.specs.Spots.{kind_at, parent_at, first_of}
@@ -22,20 +23,16 @@ abbrev pub is_among : ℕ → List ℕ → Bool
 is_among n [] = false
 is_among n (m ∷ ms) = m == n || is_among n ms
 
-abbrev pub or_number : Option ℕ → ℕ → ℕ
-or_number None n = n
-or_number (Some m) n = m
-
 abbrev pub has_parent : Trees → ℕ → Bool
 has_parent forest n = is_some (parent_at forest n)
 
 -- the root of n's own tree: of n and what is above it, the nearest that has no parent (DOM Standard, section "Trees", "root")
 abbrev pub root_at : Trees → ℕ → ℕ
-root_at forest n = or_number (find (λ m. not (has_parent forest m)) (reverse (path n forest))) n
+root_at forest n = unwrap_or (find (λ m. not (has_parent forest m)) (reverse (path n forest))) n
 
 -- the root of n's tree, from each shadow root on the root of its host's (DOM Standard, section "Interface ShadowRoot", "shadow-including root")
 abbrev pub shadow_including_root_at : Trees → ℕ → ℕ
-shadow_including_root_at forest n = or_number (first_of (path n forest)) n
+shadow_including_root_at forest n = unwrap_or (first_of (path n forest)) n
 
 -- whether that root is a document (DOM Standard, section "Shadow tree", "connected")
 abbrev pub connected : Trees → ℕ → Bool

@@ -1,5 +1,6 @@
 -- What stands at a node, read off the nesting.
 use Rattle.std.specs.Prelude.{ℕ, ◌==◌, if◌then◌else◌, List, [], ◌∷◌, Option, Some, None}
+use Rattle.std.specs.Option.{option_or}
 use Rattle.node_trees.specs.declared.kind.NodeKind.{NodeKind}
 use Rattle.node_trees.specs.declared.kind.NodeKind.TheVariants.{Document}
 use Rattle.node_trees.specs.Facts.{Facts, blank, value_in}
@@ -16,16 +17,12 @@ pub record Spot : Type 0 where
 abbrev pub spot_of : Facts → Option ℕ → Option ℕ → Trees → Trees → Spot
 spot_of x parent host shadow children = record { facts = x; parent = parent; host = host; shadow = roots shadow; children = roots children }
 
-abbrev pub or_spot : Option Spot → Option Spot → Option Spot
-or_spot None other = other
-or_spot (Some s) other = Some s
-
 -- what stands at n in a list of trees under this parent and this host
 abbrev pub spot_in : Option ℕ → Option ℕ → ℕ → Trees → Option Spot
 spot_in parent host n none = None
 spot_in parent host n (tree m x shadow children rest) =
     if m == n then Some (spot_of x parent host shadow children)
-    else or_spot (spot_in None (Some m) n shadow) (or_spot (spot_in (Some m) None n children) (spot_in parent host n rest))
+    else option_or (spot_in None (Some m) n shadow) (option_or (spot_in (Some m) None n children) (spot_in parent host n rest))
 
 -- what stands at n in the forest
 abbrev pub spot : Trees → ℕ → Option Spot

@@ -11,7 +11,8 @@ use Rattle.std.specs.BTreeSet.{BTreeSet, contains}
 use Rattle.std.specs.String.{string_cmp}
 use Rattle.std.proofs.lemmas.Map.Text.{btree_map_updates_text}
 use Rattle.std.proofs.lemmas.Slice.Eq.{bytes_eq-Decides}
-use Rattle.ordered_tables.proofs.Places.{number_test, same_text}
+use Rattle.ce_base.proofs.SameTexts.{same_text}
+use Rattle.ordered_tables.proofs.Places.{number_test}
 
 -- whether the group of this id has the number
 abbrev pub holds : {Y : Type 0} → BTreeMap (String Y) (BTreeSet ℕ) → List ℕ → ℕ → Bool

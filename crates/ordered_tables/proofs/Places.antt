@@ -5,19 +5,8 @@ use Rattle.std.specs.Map.{remove_entry, values_of}
 use Rattle.std.specs.Ordering.{nat_cmp, is_eq}
 use Rattle.std.specs.BTreeMap.{BTreeMap, get_by_text, insert_entry, is_at}
 use Rattle.std.proofs.lemmas.Bool.Decides.{nat_tests}
-use Rattle.std.proofs.lemmas.Slice.Eq.{bytes_eq-Decides}
+use Rattle.ce_base.proofs.SameTexts.{same_text, text_same, bytes_sym}
 use Rattle.ordered_tables.specs.Found.{place_of, is_once, is_rising, Finds}
-
--- ---- names
-
-pub same_text : (a b : List ℕ) → bytes_eq a b ≡ true → a ≡ b
-same_text a b e = (bytes_eq-Decides a b).0 e
-
-pub text_same : (a b : List ℕ) → a ≡ b → bytes_eq a b ≡ true
-text_same a b e = (bytes_eq-Decides a b).1 e
-
-pub bytes_sym : (a b : List ℕ) → bytes_eq a b ≡ bytes_eq b a
-bytes_sym a b = grind (arith, same_text a b, same_text b a, text_same a b, text_same b a)
 
 pub is_nothing : (o : Option ℕ) → is_none o ≡ true → o ≡ None
 is_nothing None e = refl

@@ -7,7 +7,8 @@ use Rattle.std.specs.BTreeMap.{BTreeMap, get_by_text, is_at}
 use Rattle.std.proofs.lemmas.Bool.Decides.{nat_tests}
 use Rattle.node_trees.specs.Facts.{value_in, with_value, without_value}
 use Rattle.ordered_tables.specs.Found.{place_of, is_rising, Finds}
-use Rattle.ordered_tables.proofs.Places.{number_test, place_from, place-without, text_same, with_item, without}
+use Rattle.ce_base.proofs.SameTexts.{text_same}
+use Rattle.ordered_tables.proofs.Places.{number_test, place_from, place-without, with_item, without}
 
 abbrev pub name_of : List ℕ × List ℕ → List ℕ
 name_of a = a.0

@@ -4,7 +4,8 @@ use Rattle.std.specs.Prelude.{bytes_eq, filter, is_some}
 use Rattle.std.specs.List.{list_any}
 use Rattle.std.specs.Map.{values_of}
 use Rattle.ordered_tables.specs.Found.{place_of, is_once}
-use Rattle.ordered_tables.proofs.Places.{bytes_sym, is_nothing, same_text, without}
+use Rattle.ce_base.proofs.SameTexts.{bytes_sym, same_text}
+use Rattle.ordered_tables.proofs.Places.{is_nothing, without}
 
 -- a text is its own name
 abbrev pub text_of : List ℕ → List ℕ

@@ -5,7 +5,7 @@ use Rattle.std.proofs.lemmas.Bool.Decides.{nat_tests}
 use Rattle.node_trees.specs.Trees.{Trees, none, tree, join, tree_of, without, place}
 use Rattle.node_trees.specs.Nodes.{times}
 use Rattle.node_trees.proofs.Weights.{IsApart}
-use Rattle.node_trees.proofs.Absent.{without-absent}
+use Rattle.node_trees.proofs.Absent.{without-absent, without-join}
 use Rattle.tree_laws.proofs.Sums.{apart-shadow, apart-children, apart-rest, times-join, times-without}
 use Rattle.tree_laws.proofs.Pieces.{tree_of-absent, tree_of-here}
 
@@ -19,14 +19,6 @@ tree_of-right r (tree m x s k q) g z =
 -- what is in the tree of r was in the list
 inside-less : (i r : ℕ) (f : Trees) → times r f ≤ 1 → times i (tree_of r f) ≤ times i f
 inside-less i r f one = omega (arith, times-without i r f one)
-
-without-join : (n : ℕ) (f g : Trees) → times n f + times n g ≤ 1 → without n (join f g) ≡ join (without n f) (without n g)
-without-join n none g one = refl
-without-join n (tree m x s k r) g one =
-    elim (cases_eq m n) [
-      | inl e ↦ grind (arith, nat_tests, without-absent n g (grind (arith, nat_tests)))
-      | inr ne ↦ grind (arith, nat_tests, without-join n r g (omega arith))
-    ]
 
 -- the tree of r, where a tree is taken out that r is not in
 pub tree_of-without : (r n : ℕ) (f : Trees) → IsApart f → times r (tree_of n f) ≡ 0 → tree_of r (without n f) ≡ without n (tree_of r f)

@@ -4,7 +4,8 @@ use Rattle.node_trees.specs.Facts.{with_value, without_value}
 use Rattle.node_trees.specs.Trees.{Trees, with_attribute, without_attribute}
 use Rattle.node_trees.specs.Orders.{tree_order_of}
 use Rattle.node_trees.specs.Paths.{root_at}
-use Rattle.owner_laws.proofs.WithFacts.{order_of-with, root-with}
+use Rattle.tree_laws.proofs.OtherFacts.{order_of-with}
+use Rattle.owner_laws.proofs.WithFacts.{root-with}
 
 module _ (f : Trees) (n : ℕ) (name : List ℕ) where
   pub order-set : (value : List ℕ) (r : ℕ) → tree_order_of (with_attribute n name value f) r ≡ tree_order_of f r

@@ -16,13 +16,15 @@ use Rattle.node_trees.specs.Ids.{has_id, first_with_id}
 use Rattle.node_trees.specs.Spots.{facts_at, attribute_at, parent_at, children_at, or_no_spot}
 use Rattle.tree_laws.proofs.Changed.{spot-with-other}
 use Rattle.tree_laws.proofs.ChangedReads.{read-with, parent_at-with, children_at-with}
+use Rattle.tree_laws.proofs.Connected.{connected-with}
+use Rattle.tree_laws.proofs.OtherFacts.{order_of-with}
 use Rattle.form_controls.specs.Kinds.{native_at, is_a}
 use Rattle.form_controls.specs.Owners.{Forms, ancestors, where_form, named_form}
 use Rattle.form_controls.specs.Disabled.{has_disabled, first_legend, is_inside, disables, is_in_disabled_group}
 use Rattle.owner_laws.specs.Locality.{IsAsideOfAttribute, IsUnchanged}
 use Rattle.owner_laws.proofs.Ancestors.{ancestor-order}
 use Rattle.owner_laws.proofs.SameReads.{ReadsSame, is_a-same, unchanged}
-use Rattle.owner_laws.proofs.WithFacts.{above-with, order_of-with, root-with, joined-with}
+use Rattle.owner_laws.proofs.WithFacts.{above-with, root-with}
 use Rattle.owner_laws.proofs.Tests.{find-same}
 
 -- a change of n's facts that leaves its local name and its kind
@@ -122,7 +124,7 @@ module _ (f : Trees) (n : ℕ) (c : Facts → Facts) (local : (x : Facts) → (c
       attribute = attributes;
       group = group-at (parent_at g m) refl ∙ ap (is_in_disabled_group f) (parent_at-with n c f m);
       above = above-same;
-      joined = joined-with f n c kind m;
+      joined = connected-with n c f kind m;
       named = named-same;
       disabling = disabling-same;
     }

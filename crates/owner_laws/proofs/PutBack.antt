@@ -44,9 +44,6 @@ module _ (f : Trees) (p n : ℕ) (b : Option ℕ) (tidy : IsTidy f) (is_p : IsNo
   put_in : Moved f (graft f p n b) p n (Some p) (insert_number b n (children_at f p))
   put_in = grafted f tidy p n is_p is_n ne b may free
 
-  pub graft-tidy : IsTidy (graft f p n b)
-  graft-tidy = put_in.tidy
-
   pub graft-node : (m : ℕ) → IsNode f m → IsNode (graft f p n b) m
   graft-node m at =
       let long = put_in.long in
@@ -58,7 +55,7 @@ module _ (f : Trees) (p n : ℕ) (b : Option ℕ) (tidy : IsTidy f) (is_p : IsNo
   graft-up = ap (λ (s : Spot). s.parent) put_in.moved
 
   taken_out : Moved (graft f p n b) (cut (graft f p n b) n) p n None (remove_number n (children_at (graft f p n b) p))
-  taken_out = removed (graft f p n b) graft-tidy p n (graft-node p is_p) (graft-node n is_n) ne graft-up
+  taken_out = removed (graft f p n b) put_in.tidy p n (graft-node p is_p) (graft-node n is_n) ne graft-up
 
   lacks : is_among n (children_at f p) ≡ false
   lacks = false_from_ne_true (is_among n (children_at f p)) (λ h. let claim = child-parent f p tidy is_p n h in cc)

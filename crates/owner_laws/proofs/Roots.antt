@@ -5,10 +5,11 @@ use Rattle.std.specs.Prelude.{reverse, is_some}
 use Rattle.std.specs.List.{find}
 use Rattle.std.proofs.lemmas.Bool.{cases_eq, cases_lt}
 use Rattle.std.proofs.lemmas.List.{reverse-append}
+use Rattle.std.specs.Prelude.{unwrap_or}
 use Rattle.node_trees.specs.Trees.{Trees, tree_of}
 use Rattle.node_trees.specs.Nodes.{times, IsNode, IsTidy}
 use Rattle.node_trees.specs.Orders.{tree_order_of}
-use Rattle.node_trees.specs.Paths.{path, is_among, or_number, has_parent, root_at}
+use Rattle.node_trees.specs.Paths.{path, is_among, has_parent, root_at}
 use Rattle.node_trees.specs.Spots.{parent_at}
 use Rattle.tree_laws.proofs.Above.{nothing, a_parent, a_host, row_above, parent-above}
 use Rattle.tree_laws.proofs.AtNode.{node_spot, node_stands}
@@ -106,7 +107,7 @@ module _ (f : Trees) (tidy : IsTidy f) where
     its_root : IsRootOf f m (root_at f m)
     its_root =
         let it = climb (length (path m f)) m (omega arith) node in
-        let is : root_at f m ≡ it.root = ap (λ o. or_number o m) it.is.found in
+        let is : root_at f m ≡ it.root = ap (λ o. unwrap_or o m) it.is.found in
         subst (IsRootOf f m) (sym is) it.is
 
     pub root-free : parent_at f (root_at f m) ≡ None
@@ -119,14 +120,14 @@ module _ (f : Trees) (tidy : IsTidy f) where
     pub root-top : parent_at f m ≡ None → root_at f m ≡ m
     root-top free =
         let e = ends_here f m tidy node in
-        ap (λ o. or_number o m) (ap (rootward f) e.is ∙ rootward-here f m e.above free)
+        ap (λ o. unwrap_or o m) (ap (rootward f) e.is ∙ rootward-here f m e.above free)
 
     pub root-up : (q : ℕ) → parent_at f m ≡ Some q → root_at f m ≡ root_at f q
     root-up q up =
         let a = parent-above f m q tidy node up in
         let on = climb (length (path q f)) q (omega arith) a.is_node in
-        let here : root_at f q ≡ on.root = ap (λ o. or_number o q) on.is.found in
-        ap (λ o. or_number o m) (ap (rootward f) a.path_is ∙ rootward-on f m (path q f) q up ∙ on.is.found) ∙ sym here
+        let here : root_at f q ≡ on.root = ap (λ o. unwrap_or o q) on.is.found in
+        ap (λ o. unwrap_or o m) (ap (rootward f) a.path_is ∙ rootward-on f m (path q f) q up ∙ on.is.found) ∙ sym here
 
   -- ---- who stands in the order of a tree
 

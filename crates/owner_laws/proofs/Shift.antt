@@ -16,12 +16,14 @@ use Rattle.tree_laws.proofs.CutReads.{facts_at-cut, parent_at-cut, path-cut-outs
 use Rattle.tree_laws.proofs.MovedSpots.{Moved, removed}
 use Rattle.tree_laws.proofs.Next.{order-absent}
 use Rattle.tree_laws.proofs.Parents.{parent-other}
+use Rattle.tree_laws.proofs.Sizes.{node-still}
 use Rattle.tree_laws.proofs.Sums.{tidy-apart}
+use Rattle.tree_laws.proofs.AllowedGraft.{allowed-tidy}
 use Rattle.form_controls.specs.Owners.{ancestors}
 use Rattle.owner_laws.proofs.CutRoots.{cut-tree, root-cut-out}
 use Rattle.owner_laws.proofs.Kept.{kept-cut}
 use Rattle.owner_laws.proofs.Outside.{ancestors-cut}
-use Rattle.owner_laws.proofs.PutBack.{graft-tidy, graft-node, graft-up, cut-graft}
+use Rattle.owner_laws.proofs.PutBack.{graft-node, graft-up, cut-graft}
 use Rattle.owner_laws.proofs.Tests.{find-removed}
 
 -- g is f where the tree of n came to p or went from there
@@ -43,12 +45,6 @@ pub record IsShift (f g : Trees) (n p : ℕ) : Type 0 where
       → filter q (tree_order_of g r) ≡ filter q (tree_order_of f r)
 
 -- seen from behind
-pub node-still : (f g : Trees) → size g ≡ size f → (i : ℕ) → IsNode g i → IsNode f i
-node-still f g long i at =
-    let low = at.low in
-    let high = at.high in
-    record { low = low; high = omega (arith, high, long) }
-
 module _ (f g : Trees) (n p : ℕ) (s : IsShift f g n p) where
   outside : (i : ℕ) → times i (tree_of n g) ≡ 0 → times i (tree_of n f) ≡ 0
   outside i z = ap (times i) (sym s.whole) ∙ z
@@ -108,6 +104,6 @@ module _ (f : Trees) (n p : ℕ) (tidy : IsTidy f) (node : IsNode f n) (up : par
 pub graft-shift : (f : Trees) (p n : ℕ) (b : Option ℕ) → IsTidy f → IsNode f p → IsNode f n → may_insert f p n b ≡ None → parent_at f n ≡ None
     → IsShift f (graft f p n b) n p
 graft-shift f p n b tidy is_p is_n may free =
-    let back = cut-shift (graft f p n b) n p (graft-tidy f p n b tidy is_p is_n may free) (graft-node f p n b tidy is_p is_n may free n is_n)
+    let back = cut-shift (graft f p n b) n p (allowed-tidy f p n b tidy is_p is_n may) (graft-node f p n b tidy is_p is_n may free n is_n)
     (graft-up f p n b tidy is_p is_n may free) in
     turned (graft f p n b) f n p (subst (λ v. IsShift (graft f p n b) v n p) (cut-graft f p n b tidy is_p is_n may free) back)

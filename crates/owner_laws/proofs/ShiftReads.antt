@@ -3,6 +3,7 @@ use Rattle.std.proofs.Common.{◌≡◌, ◌≢◌, ℕ, Bool, true, false, cond
 use Rattle.std.specs.Prelude.{codes, filter, not, is_some, ◌&&◌}
 use Rattle.std.specs.List.{find}
 use Rattle.std.proofs.lemmas.Bool.{cases_eq, cases_lt}
+use Rattle.std.specs.Prelude.{unwrap_or}
 use Rattle.element_names.specs.declared.natives.Native.{Native}
 use Rattle.element_names.specs.declared.natives.Native.TheVariants.{Form, Fieldset, Legend, Optgroup}
 use Rattle.element_names.specs.Natives.{native}
@@ -10,7 +11,7 @@ use Rattle.node_trees.specs.Facts.{Facts, is_document, value_in}
 use Rattle.node_trees.specs.Trees.{Trees, tree_of}
 use Rattle.node_trees.specs.Nodes.{times, IsNode}
 use Rattle.node_trees.specs.Orders.{order, tree_order, tree_order_of}
-use Rattle.node_trees.specs.Paths.{is_among, path, root_at, connected, or_number}
+use Rattle.node_trees.specs.Paths.{is_among, path, root_at, connected}
 use Rattle.node_trees.specs.Ids.{has_id, first_with_id}
 use Rattle.node_trees.specs.Spots.{facts_at, kind_at, attribute_at, parent_at, children_at, first_of}
 use Rattle.tree_laws.proofs.CutReads.{in-tree}
@@ -65,8 +66,8 @@ module _ (f g : Trees) (n p m : ℕ) (is_n : IsNode f n) (is_m : IsNode f m) (sh
 
   joined-same : connected g m ≡ connected f m
   joined-same =
-      ap (λ xs. is_document (kind_at g (or_number (first_of xs) m))) (shift.way m outside)
-      ∙ ap (λ (x : Facts). is_document x.kind) (shift.facts (or_number (first_of (path m f)) m))
+      ap (λ xs. is_document (kind_at g (unwrap_or (first_of xs) m))) (shift.way m outside)
+      ∙ ap (λ (x : Facts). is_document x.kind) (shift.facts (unwrap_or (first_of (path m f)) m))
 
   -- the form that an ID names
 

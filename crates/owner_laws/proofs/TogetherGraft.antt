@@ -8,7 +8,8 @@ use Rattle.node_trees.specs.Nodes.{IsNode, IsTidy}
 use Rattle.node_trees.specs.Orders.{tree_order_of}
 use Rattle.node_trees.specs.Paths.{root_at}
 use Rattle.node_trees.specs.Spots.{parent_at}
-use Rattle.owner_laws.proofs.PutBack.{graft-tidy, graft-node, graft-up, cut-graft}
+use Rattle.tree_laws.proofs.AllowedGraft.{allowed-tidy}
+use Rattle.owner_laws.proofs.PutBack.{graft-node, graft-up, cut-graft}
 use Rattle.owner_laws.proofs.TogetherCut.{AreTogether, together-cut}
 
 module _ (f : Trees) (p n : ℕ) (b : Option ℕ) (tidy : IsTidy f) (is_p : IsNode f p) (is_n : IsNode f n) (may : may_insert f p n b ≡ None)
@@ -23,5 +24,5 @@ module _ (f : Trees) (p n : ℕ) (b : Option ℕ) (tidy : IsTidy f) (is_p : IsNo
   pub together-graft : filter q (tree_order_of (graft f p n b) (root_at (graft f p n b) g)) ≡ filter q (tree_order_of f (root_at f g))
   together-graft =
       sym (ap (λ v. filter q (tree_order_of v (root_at v g))) (sym (cut-graft f p n b tidy is_p is_n may free))
-      ∙ together-cut (graft f p n b) n p (graft-tidy f p n b tidy is_p is_n may free) (graft-node f p n b tidy is_p is_n may free n is_n)
+      ∙ together-cut (graft f p n b) n p (allowed-tidy f p n b tidy is_p is_n may) (graft-node f p n b tidy is_p is_n may free n is_n)
       (graft-up f p n b tidy is_p is_n may free) g (graft-node f p n b tidy is_p is_n may free g at) q together-back)

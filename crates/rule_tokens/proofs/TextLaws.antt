@@ -6,20 +6,17 @@ use Rattle.std.specs.List.{list_all}
 use Rattle.std.specs.Str.{all_scalars, chars, IsUtf8}
 use Rattle.std.proofs.lemmas.Bool.{and_parts}
 use Rattle.std.proofs.lemmas.Bool.Decides.{nat_tests}
-use Rattle.std.proofs.lemmas.Str.{IsUtf8-append, IsUtf8-from_ascii, IsUtf8-nil, scalars-chars}
-use Rattle.std.proofs.lemmas.Str.Ascii.{IsAscii-cons, IsAscii-nil}
+use Rattle.std.proofs.lemmas.Str.{IsUtf8-append, IsUtf8-nil, scalars-chars}
 use Rattle.std.proofs.Math.Utf8.{scalar}
+use Rattle.ce_base.proofs.Utf8.{IsUtf8-ascii}
 use Rattle.rule_tokens.specs.declared.token.Token.{Token}
 use Rattle.rule_tokens.specs.Quoted.{escape, escape_by, escaped, in_quotes, short_letter}
 use Rattle.rule_tokens.specs.Spaced.{written_by, written, spaced, is_bare_byte, IsCleanBy, AreClean, WrittenIsText}
 
 -- ---- bytes
 
-byte_text : (b : ℕ) → b < 128 → IsUtf8 (b ∷ [])
-byte_text b small = IsUtf8-from_ascii (b ∷ []) (IsAscii-cons b [] small IsAscii-nil)
-
 more_text : (b : ℕ) (bs : List ℕ) → b < 128 → IsUtf8 bs → IsUtf8 (b ∷ bs)
-more_text b bs small text = IsUtf8-append (b ∷ []) bs (byte_text b small) text
+more_text b bs small text = IsUtf8-append (b ∷ []) bs (IsUtf8-ascii b small) text
 
 pub bare_small : (b : ℕ) → is_bare_byte b ≡ true → b < 128
 bare_small b is = grind (arith, nat_tests)
@@ -63,7 +60,7 @@ escaped_text (c ∷ cs) are =
 
 quotes_text : (text : List ℕ) → IsUtf8 text → IsUtf8 (in_quotes text)
 quotes_text text utf8 = more_text 34 (escaped (chars text) ++ 34 ∷ []) (omega arith)
-    (IsUtf8-append (escaped (chars text)) (34 ∷ []) (escaped_text (chars text) (scalars-chars text utf8)) (byte_text 34 (omega arith)))
+    (IsUtf8-append (escaped (chars text)) (34 ∷ []) (escaped_text (chars text) (scalars-chars text utf8)) (IsUtf8-ascii 34 (omega arith)))
 
 -- ---- tokens
 

@@ -1,6 +1,7 @@
 -- Where a text stands in another.
 use Rattle.std.proofs.Common.{◌≡◌, ◌↔◌, ◌||◌, ℕ, Bool, true, false, List, [], ◌∷◌, ◌++◌, length, refl, sym, ap, ◌∙◌, subst, arith}
 use Rattle.std.specs.Prelude.{nat_eq}
+use Rattle.std.specs.Cmp.Derive.{one_truth}
 use Rattle.std.specs.List.{starts_with}
 use Rattle.std.specs.Str.Iter.{HasSubslice}
 use Rattle.std.proofs.lemmas.Bool.{and_parts, eqb-true, eq-eqb, or_right}
@@ -42,14 +43,9 @@ found [] bytes is = ([], bytes, refl)
 found (c ∷ text) [] is = absurd (omega (arith, eqb-true (length (c ∷ text)) 0 is))
 found (c ∷ text) (b ∷ bytes) is = found_first c text b bytes (found (c ∷ text) bytes) (starts_with nat_eq (b ∷ bytes) (c ∷ text)) refl is
 
-same_truth : (s t : Bool) → (s ≡ true → t ≡ true) → (t ≡ true → s ≡ true) → s ≡ t
-same_truth true t to from = sym (to refl)
-same_truth false true to from = from refl
-same_truth false false to from = refl
-
 -- a search that is true where the text stands, and only there
 pub occurs_by_search : (search_result : Bool) (text bytes : List ℕ) → (search_result ≡ true) ↔ HasSubslice bytes text → search_result ≡ occurs text bytes
 occurs_by_search r text bytes told =
-    same_truth r (occurs text bytes)
+    one_truth r (occurs text bytes)
     (λ yes. let at = told.0 yes in subst (λ l. occurs text l ≡ true) (sym at.2) (occurs_within at.0 text at.1))
     (λ yes. told.1 (found text bytes yes))

@@ -4,11 +4,12 @@ use Rattle.std.specs.Prelude.{not, ◌&&◌, reverse, codes, is_some}
 use Rattle.std.specs.List.{find}
 use Rattle.std.proofs.lemmas.Bool.Decides.{nat_tests}
 use Rattle.std.proofs.lemmas.Bool.{cases_eq}
+use Rattle.std.specs.Prelude.{unwrap_or}
 use Rattle.node_trees.specs.Facts.{Facts, is_element, is_document, value_in}
 use Rattle.node_trees.specs.Trees.{Trees}
 use Rattle.node_trees.specs.Nodes.{times}
 use Rattle.node_trees.specs.Spots.{or_no_spot, facts_at, attribute_at, kind_at, first_of}
-use Rattle.node_trees.specs.Paths.{path, is_among, or_number, root_at, has_parent, connected, shadow_including_root_at}
+use Rattle.node_trees.specs.Paths.{path, is_among, root_at, has_parent, connected, shadow_including_root_at}
 use Rattle.node_trees.specs.Orders.{tree_order_of}
 use Rattle.node_trees.specs.Ids.{is_id, has_id, first_with_id}
 use Rattle.node_trees.proofs.Absent.{spot-absent}
@@ -53,8 +54,8 @@ module _ (n : ℕ) (f g : Trees) (alike : AreAlike n f g) where
 
   pub root-alike : (i : ℕ) → i ≢ n → root_at g i ≡ root_at f i
   root-alike i ne =
-      ap (λ xs. or_number (find (λ m. not (has_parent g m)) (reverse xs)) i) (alike.path_is i ne)
-      ∙ ap (λ o. or_number o i) (find-same (λ m. not (has_parent g m)) (λ m. not (has_parent f m)) (reverse (path i f))
+      ap (λ xs. unwrap_or (find (λ m. not (has_parent g m)) (reverse xs)) i) (alike.path_is i ne)
+      ∙ ap (λ o. unwrap_or o i) (find-same (λ m. not (has_parent g m)) (λ m. not (has_parent f m)) (reverse (path i f))
       (λ m. ap (λ o. not (is_some o)) (alike.parent m)))
 
   pub named-alike : (id : List ℕ) (i : ℕ) → i ≢ n → first_with_id g i id ≡ first_with_id f i id
@@ -64,12 +65,12 @@ module _ (n : ℕ) (f g : Trees) (alike : AreAlike n f g) where
 
   pub connected-alike : (i : ℕ) → i ≢ n → connected g i ≡ connected f i
   connected-alike i ne =
-      ap (λ xs. is_document (kind_at g (or_number (first_of xs) i))) (alike.path_is i ne)
+      ap (λ xs. is_document (kind_at g (unwrap_or (first_of xs) i))) (alike.path_is i ne)
       ∙ ap is_document (alike.kind (shadow_including_root_at f i) other)
     where
       other : shadow_including_root_at f i ≢ n
       other e = by_first (first_of (path i f)) refl e
         where
-          by_first : (o : Option ℕ) → first_of (path i f) ≡ o → or_number o i ≡ n → ⊥
+          by_first : (o : Option ℕ) → first_of (path i f) ≡ o → unwrap_or o i ≡ n → ⊥
           by_first None z e = ne e
           by_first (Some m) z e = let low = path-first i m f z in let gone : times m f ≡ 0 = subst (λ v. times v f ≡ 0) (sym e) alike.free in omega arith

@@ -25,9 +25,6 @@ tested text_parent inside sibling top_node text_node document_parent element_chi
     else if document_parent && element_child then Some HierarchyRequestError
     else None
 
-not_inside_test : (a b c d e g k : Bool) → tested a b c d e g k ≡ None → b ≡ false
-not_inside_test a b c d e g k h = grind arith
-
 is_sibling_test : (a b c d e g k : Bool) → tested a b c d e g k ≡ None → c ≡ true
 is_sibling_test a b c d e g k h = grind arith
 
@@ -45,10 +42,6 @@ module _ (f : Trees) (p n : ℕ) (b : Option ℕ) (may : may_insert f p n b ≡ 
   pub not_top : (is_document (kind_at f n) || is_shadow_root (kind_at f n)) ≡ false
   not_top = not_top_test (is_text (kind_at f p)) (is_among n (path p f)) (is_child_or_none f p b) (is_document (kind_at f n) || is_shadow_root (kind_at f n))
       (is_text (kind_at f n)) (is_document (kind_at f p)) (has_element_child f p) may
-
-  pub not_inside : is_among n (path p f) ≡ false
-  not_inside = not_inside_test (is_text (kind_at f p)) (is_among n (path p f)) (is_child_or_none f p b)
-      (is_document (kind_at f n) || is_shadow_root (kind_at f n)) (is_text (kind_at f n)) (is_document (kind_at f p)) (has_element_child f p) may
 
   pub is_sibling : is_child_or_none f p b ≡ true
   is_sibling = is_sibling_test (is_text (kind_at f p)) (is_among n (path p f)) (is_child_or_none f p b)

@@ -14,7 +14,8 @@ use Rattle.tree_laws.proofs.CutReads.{parent_at-cut, kind_at-cut, path-cut-outsi
 use Rattle.tree_laws.proofs.Children.{child-parent, children_at-apart, after-among}
 use Rattle.tree_laws.proofs.Onward.{after-other}
 use Rattle.tree_laws.proofs.Parents.{number-is}
-use Rattle.tree_laws.proofs.Allowed.{not_inside, is_sibling, may_insert-still}
+use Rattle.node_trees.proofs.Allowed.{not_inside}
+use Rattle.tree_laws.proofs.Allowed.{is_sibling, may_insert-still}
 
 module _ (f : Trees) (p n : ℕ) (b : Option ℕ) (tidy : IsTidy f) (node : IsNode f n) (may : may_insert f p n b ≡ None) where
   -- the parent is not in the node's tree

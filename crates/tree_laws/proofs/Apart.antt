@@ -1,10 +1,11 @@
 -- What is not connected stays so.
 use Rattle.std.proofs.Common.{◌≡◌, ℕ, zero, suc, ◌≤◌, true, false, List, [], ◌∷◌, Option, Some, None, ap, sym, ◌∙◌, subst, arith, inl, inr, length}
 use Rattle.std.proofs.lemmas.Bool.{cases_lt, cases_eq}
+use Rattle.std.specs.Prelude.{unwrap_or}
 use Rattle.node_trees.specs.Facts.{Facts, is_document}
 use Rattle.node_trees.specs.Trees.{Trees, with_node, with_facts}
 use Rattle.node_trees.specs.Spots.{Spot, spot_of, spot_at, or_no_spot, kind_at, parent_at, host_at, first_of}
-use Rattle.node_trees.specs.Paths.{path, connected, or_number}
+use Rattle.node_trees.specs.Paths.{path, connected}
 use Rattle.node_trees.specs.Nodes.{size, times, IsNode, IsTidy}
 use Rattle.node_trees.specs.Links.{KeepsApart}
 use Rattle.tree_laws.specs.Numbers.{insert_number}
@@ -24,7 +25,7 @@ use Rattle.node_trees.proofs.Absent.{spot-absent}
 -- a root is connected where it is a document, and another node where what is above it is
 
 pub connected-root : (f : Trees) (m : ℕ) → path m f ≡ m ∷ [] → connected f m ≡ is_document (kind_at f m)
-connected-root f m is = ap (λ xs. is_document (kind_at f (or_number (first_of xs) m))) is
+connected-root f m is = ap (λ xs. is_document (kind_at f (unwrap_or (first_of xs) m))) is
 
 pub connected-above : (f : Trees) (m q : ℕ) → IsTidy f → IsAbove f q m → connected f m ≡ connected f q
 connected-above f m q tidy a =
@@ -38,7 +39,7 @@ apart-node f m tidy apart = elim (cases_lt 0 (times m f)) [
   | inl low ↦ tidy.only m low
   | inr out ↦
       let gone : times m f ≡ 0 = omega arith in
-      let root : connected f m ≡ is_document (kind_at f m) = ap (λ xs. is_document (kind_at f (or_number (first_of xs) m))) (path-absent m f gone) in
+      let root : connected f m ≡ is_document (kind_at f m) = ap (λ xs. is_document (kind_at f (unwrap_or (first_of xs) m))) (path-absent m f gone) in
       let kind : is_document (kind_at f m) ≡ true = ap (λ o. is_document (or_no_spot o).facts.kind) (spot-absent None None m f gone) in
       let both : true ≡ false = sym kind ∙ sym root ∙ apart in
       absurd cc
@@ -155,7 +156,7 @@ apart-grafted rows rows' f g p n b a a' w node_p apart_p =
 -- a change of a node's facts
 pub apart-with : (n : ℕ) (c : Facts → Facts) (f g : Trees) → ((x : Facts) → (c x).kind ≡ x.kind) → g ≡ with_facts n c f → KeepsApart f g
 apart-with n c f g keeps is m apart =
-    rw (is, path-with n c m f) (ap is_document (kind_at-with n c f keeps (or_number (first_of (path m f)) m)) ∙ apart)
+    rw (is, path-with n c m f) (ap is_document (kind_at-with n c f keeps (unwrap_or (first_of (path m f)) m)) ∙ apart)
 
 pub apart-same : (f g : Trees) → g ≡ f → KeepsApart f g
 apart-same f g is m apart = rw is apart

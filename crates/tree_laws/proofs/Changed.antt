@@ -1,11 +1,12 @@
 -- What is read after one node's facts were changed.
 use Rattle.std.proofs.Common.{◌≡◌, ◌≢◌, ℕ, ◌==◌, if◌then◌else◌, Option, Some, None, refl, arith}
 use Rattle.std.proofs.lemmas.Bool.Decides.{nat_tests}
+use Rattle.std.specs.Option.{option_or}
 use Rattle.node_trees.specs.Facts.{Facts}
 use Rattle.node_trees.specs.Trees.{Trees, none, tree, roots, with_facts}
 use Rattle.node_trees.specs.Nodes.{times, size}
 use Rattle.node_trees.specs.Paths.{path}
-use Rattle.node_trees.specs.Spots.{Spot, spot_in, or_spot}
+use Rattle.node_trees.specs.Spots.{Spot, spot_in}
 use Rattle.node_trees.proofs.Weights.{weight-with}
 
 module _ (n : ℕ) (c : Facts → Facts) where
@@ -28,7 +29,7 @@ abbrev pub changed : (Facts → Facts) → Option Spot → Option Spot
 changed c None = None
 changed c (Some s) = Some (record s { facts = c s.facts })
 
-changed-or : (c : Facts → Facts) (a b : Option Spot) → changed c (or_spot a b) ≡ or_spot (changed c a) (changed c b)
+changed-or : (c : Facts → Facts) (a b : Option Spot) → changed c (option_or a b) ≡ option_or (changed c a) (changed c b)
 changed-or c None b = refl
 changed-or c (Some a) b = refl
 
@@ -55,6 +56,6 @@ module _ (n : ℕ) (c : Facts → Facts) where
         spot-with-here None (Some m) s,
         spot-with-here (Some m) None k,
         spot-with-here p h r,
-        changed-or c (spot_in None (Some m) n s) (or_spot (spot_in (Some m) None n k) (spot_in p h n r)),
+        changed-or c (spot_in None (Some m) n s) (option_or (spot_in (Some m) None n k) (spot_in p h n r)),
         changed-or c (spot_in (Some m) None n k) (spot_in p h n r),
       )

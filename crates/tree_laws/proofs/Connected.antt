@@ -5,10 +5,11 @@ use Rattle.std.specs.Prelude.{⊤}
 use Rattle.std.proofs.lemmas.Bool.{cases_eq}
 use Rattle.std.proofs.lemmas.Bool.Decides.{nat_tests}
 use Rattle.std.specs.Option.{option_or}
+use Rattle.std.specs.Prelude.{unwrap_or}
 use Rattle.node_trees.specs.Facts.{Facts, is_document}
 use Rattle.node_trees.specs.Trees.{Trees, tree_of, cut, with_node, with_facts}
 use Rattle.node_trees.specs.Spots.{Spot, spot_of, spot_at, kind_at, parent_at, host_at, first_of}
-use Rattle.node_trees.specs.Paths.{path, connected, or_number, is_among}
+use Rattle.node_trees.specs.Paths.{path, connected, is_among}
 use Rattle.node_trees.specs.Orders.{order_of}
 use Rattle.node_trees.specs.Nodes.{size, times, IsNode, IsTidy}
 use Rattle.node_trees.proofs.Absent.{is_among-append}
@@ -106,8 +107,8 @@ outside-path f n i tidy z = by_test (is_among n (path i f)) refl
         count-order i (tree_of n f) in absurd (omega (arith, low, count, z))
 
 module _ (f g : Trees) (n : ℕ) (moved : IsMoved f g n) where
-  over : (m : ℕ) → IsNode g m → IsNode f m
-  over m at = let high = at.high in let long = moved.long in record { low = at.low; high = omega (arith, high, long) }
+  pub was_node : (m : ℕ) → IsNode g m → IsNode f m
+  was_node m at = let high = at.high in let long = moved.long in record { low = at.low; high = omega (arith, high, long) }
 
   differs : (m : ℕ) → IsNode g m → is_among n (path m g) ≡ false → m ≢ n
   differs m at off = elim (up_of g m moved.tidy_now at) [
@@ -118,7 +119,7 @@ module _ (f g : Trees) (n : ℕ) (moved : IsMoved f g n) where
   -- what n is not above
   pub connected-outside : (m : ℕ) → IsNode g m → is_among n (path m g) ≡ false → connected f m ≡ connected g m
   connected-outside = connected-same g f moved.tidy_now moved.tidy_before (λ m. is_among n (path m g) ≡ false)
-      (λ q m a off. off_path n m (path q g) (ap (is_among n) (sym a.path_is) ∙ off)) over (λ m at off. moved.alike m at (differs m at off))
+      (λ q m a off. off_path n m (path q g) (ap (is_among n) (sym a.path_is) ∙ off)) was_node (λ m at off. moved.alike m at (differs m at off))
 
   inside : (k m : ℕ) → length (path m g) ≤ k → IsNode g m → is_among n (path m g) ≡ true → connected f m ≡ connected f n
   inside zero m short at on = absurd (omega (arith, short, path-long m g (node_stands g m moved.tidy_now at)))
@@ -128,7 +129,7 @@ module _ (f g : Trees) (n : ℕ) (moved : IsMoved f g n) where
         let link = same_above g f m (moved.alike m at ne) in
         elim (up_of g m moved.tidy_now at) [
           | top e z ↦ absurd (let away = on_path n m [] (ap (is_among n) (sym z) ∙ on) ne in cc)
-          | below q e a ↦ elim (up_of f m moved.tidy_before (over m at)) [
+          | below q e a ↦ elim (up_of f m moved.tidy_before (was_node m at)) [
             | top e' z' ↦ absurd cc
             | below q' e' a' ↦
                 let one : q' ≡ q = cc in
@@ -244,4 +245,4 @@ connected-attached rows rows' f g h n x a a' last w m at =
 
 -- a change of a node's facts that leaves its kind
 pub connected-with : (n : ℕ) (c : Facts → Facts) (f : Trees) → ((x : Facts) → (c x).kind ≡ x.kind) → (m : ℕ) → connected (with_facts n c f) m ≡ connected f m
-connected-with n c f keeps m = rw (path-with n c m f) (ap is_document (kind_at-with n c f keeps (or_number (first_of (path m f)) m)))
+connected-with n c f keeps m = rw (path-with n c m f) (ap is_document (kind_at-with n c f keeps (unwrap_or (first_of (path m f)) m)))

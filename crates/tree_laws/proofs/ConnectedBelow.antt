@@ -3,11 +3,12 @@ use Rattle.std.proofs.Common.{◌≡◌, ℕ, ◌<◌, List, [], ◌∷◌, ◌+
 use Rattle.std.specs.List.{All}
 use Rattle.std.proofs.lemmas.List.Elements.{All-nil, All-cons, All-same, All-append}
 use Rattle.std.proofs.lemmas.Bool.Decides.{nat_tests}
+use Rattle.std.specs.Prelude.{unwrap_or}
 use Rattle.node_trees.specs.Facts.{Facts, is_document}
 use Rattle.node_trees.specs.Trees.{Trees, none, tree, tree_of}
 use Rattle.node_trees.specs.Nodes.{times, IsNode, IsTidy}
 use Rattle.node_trees.specs.Orders.{order, order_of}
-use Rattle.node_trees.specs.Paths.{path, or_number, connected}
+use Rattle.node_trees.specs.Paths.{path, connected}
 use Rattle.node_trees.specs.Spots.{kind_at, first_of}
 use Rattle.tree_laws.proofs.Sums.{tidy-apart, apart-rest, here, in_shadow, in_children, in_rest, stands_where, times-without}
 use Rattle.tree_laws.proofs.Pieces.{tree_of-here, tree_of-shadow, tree_of-children, tree_of-rest, path-here, path-shadow, path-children, path-rest, path-long}
@@ -54,9 +55,9 @@ first_shared n i (tree m x s k r) apart pos low =
           ∙ ap first_of (sym (path-rest n m x s k r ne a b))
     ]
 
-pub same_first : (xs ys : List ℕ) (i j : ℕ) → 0 < length xs → first_of xs ≡ first_of ys → or_number (first_of xs) i ≡ or_number (first_of ys) j
+pub same_first : (xs ys : List ℕ) (i j : ℕ) → 0 < length xs → first_of xs ≡ first_of ys → unwrap_or (first_of xs) i ≡ unwrap_or (first_of ys) j
 same_first [] ys i j pos e = absurd (omega arith)
-same_first (x ∷ xs) ys i j pos e = ap (λ v. or_number v j) e
+same_first (x ∷ xs) ys i j pos e = ap (λ v. unwrap_or v j) e
 
 -- the shadow-including order of trees has their nodes alone
 all_in_order : (P : ℕ → Type 0) (g : Trees) → ((i : ℕ) → 0 < times i g → P i) → All P (order g)

@@ -2,31 +2,32 @@
 use Rattle.std.proofs.Common.{◌≡◌, ◌≢◌, ℕ, ◌+◌, Option, Some, None, refl, arith, inl, inr}
 use Rattle.std.proofs.lemmas.Bool.Decides.{nat_tests}
 use Rattle.std.proofs.lemmas.Bool.{cases_eq}
+use Rattle.std.specs.Option.{option_or}
 use Rattle.node_trees.specs.Facts.{Facts}
 use Rattle.node_trees.specs.Trees.{Trees, none, tree, join, tree_of, without, place}
 use Rattle.node_trees.specs.Nodes.{times}
 use Rattle.node_trees.specs.Paths.{path}
-use Rattle.node_trees.specs.Spots.{Spot, spot_in, or_spot}
+use Rattle.node_trees.specs.Spots.{Spot, spot_in}
 use Rattle.tree_laws.proofs.Sums.{apart-shadow, apart-children, apart-rest, times-join}
-use Rattle.tree_laws.proofs.Pieces.{or_spot-none, path-absent, tree_of-absent, tree_of-here}
+use Rattle.tree_laws.proofs.Pieces.{option_or-nothing, path-absent, tree_of-absent, tree_of-here}
 use Rattle.tree_laws.proofs.Lists.{spot_lacking, roots-without}
 use Rattle.node_trees.proofs.Weights.{IsApart}
 use Rattle.node_trees.proofs.Absent.{spot-absent, without-absent}
 
 -- ---- trees side by side
 
-or_spot-assoc : (a b c : Option Spot) → or_spot (or_spot a b) c ≡ or_spot a (or_spot b c)
+or_spot-assoc : (a b c : Option Spot) → option_or (option_or a b) c ≡ option_or a (option_or b c)
 or_spot-assoc None b c = refl
 or_spot-assoc (Some a) b c = refl
 
-pub spot-join : (p h : Option ℕ) (i : ℕ) (f g : Trees) → spot_in p h i (join f g) ≡ or_spot (spot_in p h i f) (spot_in p h i g)
+pub spot-join : (p h : Option ℕ) (i : ℕ) (f g : Trees) → spot_in p h i (join f g) ≡ option_or (spot_in p h i f) (spot_in p h i g)
 spot-join p h i none g = refl
 spot-join p h i (tree m x s k r) g =
     grind (
       arith,
       nat_tests,
       spot-join p h i r g,
-      or_spot-assoc (spot_in None (Some m) i s) (or_spot (spot_in (Some m) None i k) (spot_in p h i r)) (spot_in p h i g),
+      or_spot-assoc (spot_in None (Some m) i s) (option_or (spot_in (Some m) None i k) (spot_in p h i r)) (spot_in p h i g),
       or_spot-assoc (spot_in (Some m) None i k) (spot_in p h i r) (spot_in p h i g),
     )
 
@@ -47,7 +48,7 @@ spot-place-in p h i n t (tree m x s k r) z =
       arith,
       nat_tests,
       spot-join p h i t (tree m x s k r),
-      or_spot-none (spot_in p h i t),
+      option_or-nothing (spot_in p h i t),
       spot-place-in p h i n t r (omega arith),
       spot-absent None (Some m) i s (omega arith),
       spot-absent (Some m) None i k (omega arith),
@@ -66,7 +67,7 @@ path-place-out i n t (tree m x s k r) z =
 
 -- ---- the trees without that of n
 
-lacking-or : (n : ℕ) (a b : Option Spot) → spot_lacking n (or_spot a b) ≡ or_spot (spot_lacking n a) (spot_lacking n b)
+lacking-or : (n : ℕ) (a b : Option Spot) → spot_lacking n (option_or a b) ≡ option_or (spot_lacking n a) (spot_lacking n b)
 lacking-or n None b = refl
 lacking-or n (Some a) b = refl
 
@@ -103,7 +104,7 @@ spot-without p h i n (tree m x s k r) apart z =
             on_r,
             roots-without n s,
             roots-without n k,
-            lacking-or n (spot_in None (Some m) i s) (or_spot (spot_in (Some m) None i k) (spot_in p h i r)),
+            lacking-or n (spot_in None (Some m) i s) (option_or (spot_in (Some m) None i k) (spot_in p h i r)),
             lacking-or n (spot_in (Some m) None i k) (spot_in p h i r),
           )
     ]

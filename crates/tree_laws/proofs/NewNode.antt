@@ -2,12 +2,13 @@
 use Rattle.std.proofs.Common.{◌≡◌, ◌≢◌, ℕ, ◌⊎◌, [], ◌∷◌, ◌++◌, Option, Some, None, refl, sym, ap, ◌∙◌, subst, arith, inl, inr, append_assoc}
 use Rattle.std.proofs.lemmas.Bool.{cases_eq}
 use Rattle.std.proofs.lemmas.Bool.Decides.{nat_tests}
+use Rattle.std.specs.Option.{option_or}
 use Rattle.node_trees.specs.Facts.{Facts}
 use Rattle.node_trees.specs.Trees.{Trees, none, tree, join, single, with_shadow, tree_of}
 use Rattle.node_trees.specs.Nodes.{times}
 use Rattle.node_trees.specs.Orders.{tree_order}
 use Rattle.node_trees.specs.Paths.{path}
-use Rattle.node_trees.specs.Spots.{Spot, spot_of, spot_in, or_spot, or_no_spot}
+use Rattle.node_trees.specs.Spots.{Spot, spot_of, spot_in, or_no_spot}
 use Rattle.node_trees.proofs.Absent.{spot-absent}
 use Rattle.tree_laws.specs.Alike.{AreAlike}
 use Rattle.tree_laws.proofs.CutSpots.{path-join-left}
@@ -39,7 +40,7 @@ abbrev unshadowed : Option Spot → Option Spot
 unshadowed None = None
 unshadowed (Some s) = Some (record s { shadow = [] })
 
-unshadowed-or : (a b : Option Spot) → unshadowed (or_spot a b) ≡ or_spot (unshadowed a) (unshadowed b)
+unshadowed-or : (a b : Option Spot) → unshadowed (option_or a b) ≡ option_or (unshadowed a) (unshadowed b)
 unshadowed-or None b = refl
 unshadowed-or (Some s) b = refl
 
@@ -67,9 +68,9 @@ module _ (i n q : ℕ) (x : Facts) (ne : i ≢ n) where
         roots-shadow q (single n x) k,
         spot-beside i n x ne None (Some m) s,
         unshadowed-or (spot_in None (Some m) i (with_shadow q (single n x) s))
-            (or_spot (spot_in (Some m) None i (with_shadow q (single n x) k)) (spot_in p h i (with_shadow q (single n x) r))),
+            (option_or (spot_in (Some m) None i (with_shadow q (single n x) k)) (spot_in p h i (with_shadow q (single n x) r))),
         unshadowed-or (spot_in (Some m) None i (with_shadow q (single n x) k)) (spot_in p h i (with_shadow q (single n x) r)),
-        unshadowed-or (spot_in None (Some m) i s) (or_spot (spot_in (Some m) None i k) (spot_in p h i r)),
+        unshadowed-or (spot_in None (Some m) i s) (option_or (spot_in (Some m) None i k) (spot_in p h i r)),
         unshadowed-or (spot_in (Some m) None i k) (spot_in p h i r),
       )
 
@@ -98,9 +99,9 @@ module _ (i n q : ℕ) (x : Facts) (ne : i ≢ n) where
 abbrev IsHung : Facts → ℕ → Option Spot → Type 0
 IsHung x q o = (o ≡ None) ⊎ (o ≡ Some (spot_of x None (Some q) none none))
 
-hung-or : (x : Facts) (q : ℕ) (a b : Option Spot) → IsHung x q a → IsHung x q b → IsHung x q (or_spot a b)
-hung-or x q a b (inl e) other = subst (λ v. IsHung x q (or_spot v b)) (sym e) other
-hung-or x q a b (inr e) other = inr (ap (λ v. or_spot v b) e)
+hung-or : (x : Facts) (q : ℕ) (a b : Option Spot) → IsHung x q a → IsHung x q b → IsHung x q (option_or a b)
+hung-or x q a b (inl e) other = subst (λ v. IsHung x q (option_or v b)) (sym e) other
+hung-or x q a b (inr e) other = inr (ap (λ v. option_or v b) e)
 
 hung : (n q : ℕ) (x : Facts) (p h : Option ℕ) (f : Trees) → times n f ≡ 0 → IsHung x q (spot_in p h n (with_shadow q (single n x) f))
 hung n q x p h none z = inl refl
@@ -110,13 +111,13 @@ hung n q x p h (tree m y s k r) z = elim (cases_eq m q) [
       inr (grind (arith, nat_tests, here))
   | inr ne ↦
       let all = hung-or x q (spot_in None (Some m) n (with_shadow q (single n x) s))
-      (or_spot (spot_in (Some m) None n (with_shadow q (single n x) k)) (spot_in p h n (with_shadow q (single n x) r)))
+      (option_or (spot_in (Some m) None n (with_shadow q (single n x) k)) (spot_in p h n (with_shadow q (single n x) r)))
       (hung n q x None (Some m) s (omega arith))
       (hung-or x q (spot_in (Some m) None n (with_shadow q (single n x) k)) (spot_in p h n (with_shadow q (single n x) r))
       (hung n q x (Some m) None k (omega arith)) (hung n q x p h r (omega arith))) in
       let is : spot_in p h n (with_shadow q (single n x) (tree m y s k r))
-      ≡ or_spot (spot_in None (Some m) n (with_shadow q (single n x) s))
-      (or_spot (spot_in (Some m) None n (with_shadow q (single n x) k)) (spot_in p h n (with_shadow q (single n x) r))) = grind (arith, nat_tests) in
+      ≡ option_or (spot_in None (Some m) n (with_shadow q (single n x) s))
+      (option_or (spot_in (Some m) None n (with_shadow q (single n x) k)) (spot_in p h n (with_shadow q (single n x) r))) = grind (arith, nat_tests) in
       subst (IsHung x q) (sym is) all
 ]
 

@@ -9,9 +9,10 @@ use Rattle.node_trees.specs.Orders.{order, order_of}
 use Rattle.node_trees.specs.Spots.{after}
 use Rattle.tree_laws.proofs.Children.{after-among}
 use Rattle.tree_laws.proofs.Counts.{AreApart}
+use Rattle.tree_laws.proofs.CutReads.{in-tree}
 use Rattle.tree_laws.proofs.Onward.{onward, onward-last, onward-step, onward-less}
 use Rattle.tree_laws.proofs.Past.{in_order}
-use Rattle.tree_laws.proofs.PastIn.{its_tree, inside-node, root-inside}
+use Rattle.tree_laws.proofs.PastIn.{its_tree, inside-node}
 use Rattle.tree_laws.proofs.Sums.{tidy-apart}
 use Rattle.tree_laws.proofs.Walked.{order-apart, order-has}
 
@@ -29,7 +30,7 @@ module _ (f : Trees) (root : ℕ) (tidy : IsTidy f) (node : IsNode f root) where
   apart = order-apart root f (tidy-apart f tidy)
 
   pub list-start : Listing f root root []
-  list-start = record { inside = root-inside f root tidy node; is = let e = (its_tree f root tidy node).tree_is in rw e (grind (arith, nat_tests)) }
+  list-start = record { inside = in-tree f root tidy node; is = let e = (its_tree f root tidy node).tree_is in rw e (grind (arith, nat_tests)) }
 
   pub list-less : (at d : ℕ) → Some d ≡ after at (order_of f root) → left_from f root d < left_from f root at
   list-less at d e = onward-less at d (order_of f root) apart (sym e)

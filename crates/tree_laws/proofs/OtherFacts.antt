@@ -4,7 +4,7 @@ use Rattle.std.proofs.lemmas.Bool.Decides.{nat_tests}
 use Rattle.node_trees.specs.Facts.{Facts}
 use Rattle.node_trees.specs.Trees.{Trees, none, tree, join, tree_of, with_facts}
 use Rattle.node_trees.specs.Nodes.{times}
-use Rattle.node_trees.specs.Orders.{tree_order}
+use Rattle.node_trees.specs.Orders.{tree_order, tree_order_of}
 use Rattle.tree_laws.specs.Alike.{AreAlike}
 use Rattle.tree_laws.proofs.Changed.{path-with}
 use Rattle.tree_laws.proofs.ChangedReads.{read-with, parent_at-with, children_at-with, kind_at-with}
@@ -15,7 +15,7 @@ module _ (n : ℕ) (c : Facts → Facts) where
   order-with none = refl
   order-with (tree m x s k r) = grind (arith, nat_tests, order-with k, order-with r)
 
-  order_of-with : (i : ℕ) (f : Trees) → tree_order (tree_of i (with_facts n c f)) ≡ tree_order (tree_of i f)
+  pub order_of-with : (i : ℕ) (f : Trees) → tree_order_of (with_facts n c f) i ≡ tree_order_of f i
   order_of-with i none = refl
   order_of-with i (tree m x s k r) =
       grind (

@@ -1,9 +1,10 @@
 -- What stands at the other nodes stays.
 use Rattle.std.proofs.Common.{◌≡◌, ℕ, List, Option, None, ap, sym, ◌∙◌, arith, inl, inr}
 use Rattle.std.proofs.lemmas.Bool.{cases_lt}
+use Rattle.std.specs.Option.{option_or}
 use Rattle.node_trees.specs.Facts.{Facts}
 use Rattle.node_trees.specs.Trees.{Trees, single, with_node, with_facts}
-use Rattle.node_trees.specs.Spots.{Spot, spot_in, spot_at, or_spot, or_no_spot}
+use Rattle.node_trees.specs.Spots.{Spot, spot_in, spot_at, or_no_spot}
 use Rattle.node_trees.specs.Nodes.{times, IsNode, IsTidy}
 use Rattle.node_trees.specs.Links.{KeepsSpots}
 use Rattle.tree_laws.specs.Rows.{IsForest, Grafted}
@@ -23,7 +24,7 @@ spots-with n c f g e m ne again = spots-same (with_facts n c f) g m e ∙ ap or_
 pub spot_at-new : (n : ℕ) (x : Facts) (f : Trees) (i : ℕ) → IsTidy f → IsNode f i → spot_at (with_node n x f) i ≡ spot_at f i
 spot_at-new n x f i tidy at =
     let st = node_spot f i tidy at in
-    ap or_no_spot (spot-join None None i f (single n x) ∙ ap (λ v. or_spot v (spot_in None None i (single n x))) st.is ∙ sym st.is)
+    ap or_no_spot (spot-join None None i f (single n x) ∙ ap (λ v. option_or v (spot_in None None i (single n x))) st.is ∙ sym st.is)
 
 pub spots-grafted : (rows rows' : List Spot) (f g : Trees) (p n : ℕ) (b : Option ℕ) → IsForest rows f → IsForest rows' g → Grafted rows rows' p n b
     → KeepsSpots p n f g

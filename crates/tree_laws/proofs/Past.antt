@@ -12,7 +12,7 @@ use Rattle.node_trees.specs.Spots.{Spot, spot_of, spot_in, first_of, after}
 use Rattle.node_trees.proofs.Weights.{IsApart}
 use Rattle.tree_laws.proofs.Counts.{count-among}
 use Rattle.tree_laws.proofs.Next.{option_or-assoc, first_of-append, after-left, after-right}
-use Rattle.tree_laws.proofs.Pieces.{spot-here, spot-shadow, spot-children, spot-rest}
+use Rattle.tree_laws.proofs.Pieces.{option_or-nothing, spot-here, spot-shadow, spot-children, spot-rest}
 use Rattle.tree_laws.proofs.Sums.{apart-shadow, apart-children, apart-rest, here, in_shadow, in_children, in_rest, stands_where}
 use Rattle.tree_laws.proofs.Walked.{count-order, order-has, order-lacks}
 
@@ -122,10 +122,6 @@ module _ (p h p' h' : Option ℕ) (n : ℕ) (f part : Trees) (row : Spot) (rest 
             (start ∙ ap (λ v. option_or v rest) z ∙ option_or-assoc (after n up.shadow) (option_or (first_of up.children) (past q part)) rest
             ∙ ap (option_or (after n up.shadow)) (option_or-assoc (first_of up.children) (past q part) rest ∙ ap (option_or (first_of up.children)) (sym w.2)))
       ]
-
-option_or-nothing : (o : Option ℕ) → option_or o None ≡ o
-option_or-nothing None = refl
-option_or-nothing (Some n) = refl
 
 module _ (p h : Option ℕ) (n m : ℕ) (x : Facts) (s k r : Trees) (row : Spot) (apart : IsApart (tree m x s k r)) (ne : m ≢ n) where
   abbrev all : Trees

@@ -30,9 +30,6 @@ module _ (f : Trees) (root : ℕ) (tidy : IsTidy f) (is : IsNode f root) where
   pub inside-node : (n : ℕ) → 0 < times n (tree_of root f) → IsNode f n
   inside-node n low = tidy.only n (omega (arith, low, times-without n root f (tidy-apart f tidy root)))
 
-  pub root-inside : 0 < times root (tree_of root f)
-  root-inside = let e = its_tree.tree_is in rw e (grind (arith, nat_tests))
-
   row_of : (n : ℕ) → 0 < times n (tree_of root f) → (row : Spot) × (spot f n ≡ Some row) × (spot_in its_tree.parent its_tree.host n (tree_of root f) ≡ Some row)
   row_of n low =
       let it = found its_tree.parent its_tree.host n (tree_of root f) (tree_apart root f (tidy-apart f tidy)) low in

@@ -2,28 +2,29 @@
 use Rattle.std.proofs.Common.{◌≡◌, ◌≢◌, ℕ, ◌+◌, ◌<◌, ◌≤◌, List, [], ◌∷◌, ◌++◌, Option, Some, None, refl, ap, arith, inl, inr, length, length-append, append-nil}
 use Rattle.std.proofs.lemmas.Bool.Decides.{nat_tests}
 use Rattle.std.proofs.lemmas.Bool.{cases_lt, cases_eq}
+use Rattle.std.specs.Option.{option_or}
 use Rattle.node_trees.specs.Facts.{Facts}
 use Rattle.node_trees.specs.Trees.{Trees, none, tree, join, tree_of}
 use Rattle.node_trees.specs.Nodes.{times}
-use Rattle.node_trees.specs.Spots.{Spot, spot_of, spot_in, or_spot}
+use Rattle.node_trees.specs.Spots.{spot_of, spot_in}
 use Rattle.node_trees.specs.Paths.{path, under}
 use Rattle.node_trees.proofs.Absent.{spot-absent}
 
 -- ---- what stands at a number
 
-pub or_spot-none : (a : Option Spot) → or_spot a None ≡ a
-or_spot-none None = refl
-or_spot-none (Some a) = refl
+pub option_or-nothing : {A : Type 0} (o : Option A) → option_or o None ≡ o
+option_or-nothing None = refl
+option_or-nothing (Some a) = refl
 
 pub spot-here : (p h : Option ℕ) (n m : ℕ) (x : Facts) (s k r : Trees) → m ≡ n → spot_in p h n (tree m x s k r) ≡ Some (spot_of x p h s k)
 spot-here p h n m x s k r e = grind (arith, nat_tests)
 
 module _ (p h : Option ℕ) (n m : ℕ) (x : Facts) (s k r : Trees) (ne : m ≢ n) where
   pub spot-shadow : times n k ≡ 0 → times n r ≡ 0 → spot_in p h n (tree m x s k r) ≡ spot_in None (Some m) n s
-  spot-shadow b c = grind (arith, nat_tests, spot-absent (Some m) None n k b, spot-absent p h n r c, or_spot-none (spot_in None (Some m) n s))
+  spot-shadow b c = grind (arith, nat_tests, spot-absent (Some m) None n k b, spot-absent p h n r c, option_or-nothing (spot_in None (Some m) n s))
 
   pub spot-children : times n s ≡ 0 → times n r ≡ 0 → spot_in p h n (tree m x s k r) ≡ spot_in (Some m) None n k
-  spot-children a c = grind (arith, nat_tests, spot-absent None (Some m) n s a, spot-absent p h n r c, or_spot-none (spot_in (Some m) None n k))
+  spot-children a c = grind (arith, nat_tests, spot-absent None (Some m) n s a, spot-absent p h n r c, option_or-nothing (spot_in (Some m) None n k))
 
   pub spot-rest : times n s ≡ 0 → times n k ≡ 0 → spot_in p h n (tree m x s k r) ≡ spot_in p h n r
   spot-rest a b = grind (arith, nat_tests, spot-absent None (Some m) n s a, spot-absent (Some m) None n k b)

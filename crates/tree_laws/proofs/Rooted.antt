@@ -1,19 +1,16 @@
 -- The root of a node's tree is a node.
-use Rattle.std.proofs.Common.{◌≡◌, ℕ, ◌<◌, ◌⊎◌, Bool, true, false, not, List, [], ◌∷◌, ◌++◌, Option, Some, None, refl, sym, ap, ◌∙◌, arith, inl}
+use Rattle.std.proofs.Common.{◌≡◌, ℕ, ◌<◌, ◌⊎◌, true, not, List, [], ◌∷◌, ◌++◌, Option, Some, None, refl, sym, ap, ◌∙◌, arith, inl}
 use Rattle.std.proofs.Common.{inr}
-use Rattle.std.specs.Prelude.{find, reverse, ◌||◌}
-use Rattle.std.proofs.lemmas.Bool.{cases_eq}
+use Rattle.std.specs.Prelude.{find, reverse}
+use Rattle.std.proofs.lemmas.Bool.{cases_eq, or_cases}
 use Rattle.std.proofs.lemmas.List.{reverse-append}
 use Rattle.std.proofs.lemmas.Bool.Decides.{nat_tests}
+use Rattle.std.specs.Prelude.{unwrap_or}
 use Rattle.node_trees.specs.Trees.{Trees, none, tree}
 use Rattle.node_trees.specs.Nodes.{times, IsNode, IsTidy}
-use Rattle.node_trees.specs.Paths.{path, under, is_among, or_number, root_at, has_parent}
+use Rattle.node_trees.specs.Paths.{path, under, is_among, root_at, has_parent}
 use Rattle.node_trees.proofs.Absent.{is_among-append}
 use Rattle.tree_laws.proofs.Members.{among-found}
-
-either : (a b : Bool) → (a || b) ≡ true → (a ≡ true) ⊎ (b ≡ true)
-either true b e = inl refl
-either false b e = inr e
 
 -- what is on a path stands in the trees
 
@@ -38,11 +35,11 @@ path-inside k n (tree m x s c r) h =
       | inr ne ↦
           let is : path n (tree m x s c r) ≡ under m (path n s ++ path n c) ++ path n r = grind (arith, nat_tests) in
           let all : is_among k (under m (path n s ++ path n c) ++ path n r) ≡ true = rw is at h in
-          elim (either (is_among k (under m (path n s ++ path n c))) (is_among k (path n r))
+          elim (or_cases (is_among k (under m (path n s ++ path n c))) (is_among k (path n r))
           (sym (is_among-append k (under m (path n s ++ path n c)) (path n r)) ∙ all)) [
             | inl u ↦ elim (among-under k m (path n s ++ path n c) u) [
               | inl e ↦ grind (arith, nat_tests)
-              | inr v ↦ elim (either (is_among k (path n s)) (is_among k (path n c)) (sym (is_among-append k (path n s) (path n c)) ∙ v)) [
+              | inr v ↦ elim (or_cases (is_among k (path n s)) (is_among k (path n c)) (sym (is_among-append k (path n s) (path n c)) ∙ v)) [
                 | inl a ↦ let low = in_s a in omega arith
                 | inr b ↦ let low = in_c b in omega arith
               ]
@@ -57,7 +54,7 @@ among-reverse : (k : ℕ) (xs : List ℕ) → is_among k (reverse xs) ≡ true �
 among-reverse k [] h = absurd cc
 among-reverse k (x ∷ xs) h =
     let is : reverse (x ∷ xs) ≡ reverse xs ++ x ∷ [] = reverse-append (x ∷ []) xs in
-    elim (either (is_among k (reverse xs)) (is_among k (x ∷ [])) (sym (is_among-append k (reverse xs) (x ∷ [])) ∙ ap (is_among k) (sym is) ∙ h)) [
+    elim (or_cases (is_among k (reverse xs)) (is_among k (x ∷ [])) (sym (is_among-append k (reverse xs) (x ∷ [])) ∙ ap (is_among k) (sym is) ∙ h)) [
       | inl a ↦ let more = among-reverse k xs a in grind (arith, nat_tests)
       | inr b ↦ grind (arith, nat_tests)
     ]
@@ -65,6 +62,6 @@ among-reverse k (x ∷ xs) h =
 pub root_is_node : (f : Trees) (n : ℕ) → IsTidy f → IsNode f n → IsNode f (root_at f n)
 root_is_node f n tidy node = by_found (find (λ m. not (has_parent f m)) (reverse (path n f))) refl
   where
-    by_found : (o : Option ℕ) → find (λ m. not (has_parent f m)) (reverse (path n f)) ≡ o → IsNode f (or_number o n)
+    by_found : (o : Option ℕ) → find (λ m. not (has_parent f m)) (reverse (path n f)) ≡ o → IsNode f (unwrap_or o n)
     by_found None e = node
     by_found (Some k) e = tidy.only k (path-inside k n f (among-reverse k (path n f) (among-found (λ m. not (has_parent f m)) (reverse (path n f)) k e)))

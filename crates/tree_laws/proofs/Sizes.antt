@@ -45,3 +45,10 @@ new-absent f tidy = elim (cases_lt 0 (times (size f + 1) f)) [
   | inl low ↦ let node = tidy.only (size f + 1) low in absurd (omega (arith, node.high))
   | inr out ↦ omega arith
 ]
+
+-- a node of trees is one of any with as many nodes
+pub node-still : (f g : Trees) → size g ≡ size f → (i : ℕ) → IsNode g i → IsNode f i
+node-still f g long i at =
+    let low = at.low in
+    let high = at.high in
+    record { low = low; high = omega (arith, high, long) }

@@ -1,6 +1,7 @@
 -- No node has a part that its kind lacks, after each change.
-use Rattle.std.proofs.Common.{◌≡◌, ℕ, Bool, true, false, ◌+◌, ◌≤◌, if◌then◌else◌, List, [], ◌∷◌, Option, Some, None, refl, ap, sym, ◌∙◌, arith, length}
+use Rattle.std.proofs.Common.{◌≡◌, ℕ, Bool, true, false, ◌+◌, ◌≤◌, if◌then◌else◌, List, Option, Some, None, refl, ap, sym, ◌∙◌, arith, length}
 use Rattle.std.proofs.lemmas.Bool.Decides.{nat_tests}
+use Rattle.std.proofs.lemmas.List.{nil_from_length}
 use Rattle.std.specs.Option.{option_to_list}
 use Rattle.node_trees.specs.declared.kind.NodeKind.TheVariants.{Element}
 use Rattle.node_trees.specs.Facts.{Facts, is_element, is_text}
@@ -36,10 +37,6 @@ surplus-at f n tidy node =
     let here = only-facts f n surplus_at tidy node in
     omega (arith, here, only-le n surplus_at f, tidy.parts)
 
-nothing-in : {A : Type 0} (xs : List A) → length xs ≡ 0 → xs ≡ []
-nothing-in [] h = refl
-nothing-in (x ∷ xs) h = absurd (omega arith)
-
 no-value : {A : Type 0} (o : Option A) → length (option_to_list o) ≡ 0 → o ≡ None
 no-value None h = refl
 no-value (Some a) h = absurd (omega arith)
@@ -58,10 +55,10 @@ text-parts x z h = not-left-out (is_text x.kind) (length x.chars) 0 (omega (arit
 
 own-parts : (x : Facts) → surplus_at x ≡ 0 → HasOwnParts x
 own-parts x z = record {
-  local = λ h. nothing-in x.local (omega (arith, element-parts x z h));
+  local = λ h. nil_from_length x.local (omega (arith, element-parts x z h));
   is_value = λ h. no-value x.is_value (omega (arith, element-parts x z h));
-  attributes = λ h. nothing-in x.attributes (omega (arith, element-parts x z h));
-  chars = λ h. nothing-in x.chars (text-parts x z h);
+  attributes = λ h. nil_from_length x.attributes (omega (arith, element-parts x z h));
+  chars = λ h. nil_from_length x.chars (text-parts x z h);
 }
 
 pub has-own-parts : (f : Trees) (n : ℕ) → IsTidy f → IsNode f n → HasOwnParts (facts_at f n)

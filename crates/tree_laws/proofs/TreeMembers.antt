@@ -1,5 +1,6 @@
 -- Who is in the tree of a node: by its parent, up to the root of the walk.
-use Rattle.std.proofs.Common.{◌≡◌, ◌≢◌, ℕ, Bool, true, false, ◌<◌, Option, Some, None, refl, ap, sym, ◌∙◌, arith, length}
+use Rattle.std.proofs.Common.{◌≡◌, ◌≢◌, ℕ, true, false, ◌<◌, Option, Some, None, ap, sym, ◌∙◌, arith, length}
+use Rattle.std.specs.Cmp.Derive.{one_truth}
 use Rattle.std.proofs.lemmas.Bool.Decides.{nat_tests}
 use Rattle.node_trees.specs.Trees.{Trees, none, tree, roots, tree_of}
 use Rattle.node_trees.specs.Nodes.{IsNode, IsTidy}
@@ -43,21 +44,16 @@ child-among p h q c (tree m x s k r) up apart among is child = elim (stands_wher
       grind (arith, nat_tests, on, is_among-append c (tree_order k) (tree_order r))
 ]
 
-both-ways : (a b : Bool) → (a ≡ true → b ≡ true) → (b ≡ true → a ≡ true) → a ≡ b
-both-ways true b f g = sym (f refl)
-both-ways false true f g = g refl
-both-ways false false f g = refl
-
 module _ (f : Trees) (root : ℕ) (tidy : IsTidy f) (is : IsNode f root) (n : ℕ) where
   pub member-root : n ≡ root → true ≡ is_among n (tree_order_of f root)
   member-root e = sym (ap (λ v. is_among v (tree_order_of f root)) e ∙ among-root f root tidy is)
 
   module _ (ne : n ≢ root) where
     pub member-none : None ≡ parent_at f n → false ≡ is_among n (tree_order_of f root)
-    member-none gone = both-ways false (is_among n (tree_order_of f root)) (λ h. absurd cc) (λ h. absurd (parent-there f root tidy is n ne h (sym gone)))
+    member-none gone = one_truth false (is_among n (tree_order_of f root)) (λ h. absurd cc) (λ h. absurd (parent-there f root tidy is n ne h (sym gone)))
 
     pub member-parent : (p : ℕ) → Some p ≡ parent_at f n → is_among n (tree_order_of f root) ≡ is_among p (tree_order_of f root)
-    member-parent p up = both-ways (is_among n (tree_order_of f root)) (is_among p (tree_order_of f root)) (λ h. among-parent f root tidy is n p ne h (sym up))
+    member-parent p up = one_truth (is_among n (tree_order_of f root)) (is_among p (tree_order_of f root)) (λ h. among-parent f root tidy is n p ne h (sym up))
         (λ among.
         let its_tree = found None None root f (tidy-apart f tidy) (node_stands f root tidy is) in
         let low = order-inside p (tree_of root f) among in

@@ -8,7 +8,7 @@ use Rattle.node_trees.specs.Trees.{Trees, none, tree, join, tree_of}
 use Rattle.node_trees.specs.Nodes.{times, IsTidy}
 use Rattle.node_trees.specs.Orders.{order, order_of}
 use Rattle.node_trees.specs.Paths.{path, under, is_among}
-use Rattle.node_trees.proofs.Absent.{is_among-append}
+use Rattle.node_trees.proofs.Absent.{is_among-append, is_among-under}
 use Rattle.node_trees.proofs.Weights.{IsApart}
 use Rattle.tree_laws.proofs.Counts.{count, AreApart, count-append, among-count, count-absent}
 use Rattle.tree_laws.proofs.Pieces.{path-absent, path-long, path-here, path-rest, tree_of-here}
@@ -41,10 +41,6 @@ order-lacks i f z = count-absent i (order f) (omega (arith, count-order i f))
 under-first : (m : ℕ) (xs : List ℕ) → 0 < length xs → is_among m (under m xs) ≡ true
 under-first m [] long = absurd (omega arith)
 under-first m (x ∷ xs) long = grind (arith, nat_tests)
-
-under-other : (n m : ℕ) (xs : List ℕ) → m ≢ n → is_among n (under m xs) ≡ is_among n xs
-under-other n m [] ne = refl
-under-other n m (x ∷ xs) ne = grind (arith, nat_tests)
 
 -- a number that no node has is on no path
 pub off-path : (n i : ℕ) (f : Trees) → times n f ≡ 0 → is_among n (path i f) ≡ false
@@ -99,7 +95,7 @@ module _ (n i m : ℕ) (x : Facts) (s k r : Trees) (apart : IsApart (tree m x s 
         rw (path-here i m x s k r at) (parts ∙ grind (arith, nat_tests))
     | inr ne ↦
         let above : is_among n (under m (path i s ++ path i k)) ≡ (is_among n (path i s) || is_among n (path i k)) =
-        under-other n m (path i s ++ path i k) other ∙ is_among-append n (path i s) (path i k) in
+        is_among-under n m (path i s ++ path i k) other ∙ is_among-append n (path i s) (path i k) in
         rw (
           path-parts ne,
           is_among-append n (under m (path i s ++ path i k)) (path i r),

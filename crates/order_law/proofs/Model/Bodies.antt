@@ -17,6 +17,8 @@ use Rattle.ce_algorithms.specs.Steps.{◌>>=◌, ◌>>◌, done, throw_if, throw
 use Rattle.ce_algorithms.specs.Construction.{base_call}
 use Rattle.ce_base.specs.declared.custom_state.CustomState.TheVariants.{Precustomized}
 use Rattle.std.specs.Option.{option_and_then}
+use Rattle.std.specs.List.{AllByRecursion as Each}
+use Rattle.std.specs.Option.{option_to_list}
 use Rattle.ce_algorithms.specs.Page.{Page, Element, element_of, definition_of, definition_at, with_state}
 use Rattle.ce_algorithms.specs.Upgrade.{is_shadow_refused, construct_class}
 use Rattle.ce_algorithms.specs.State.{State, View, view, Class, value_of, log, on_page, change_page, spend, spend_from, class_of, change_class, read_page}
@@ -25,18 +27,19 @@ use Rattle.ce_algorithms.specs.Operands.{node}
 use Rattle.ce_algorithms.specs.Values.{Args, no_args, text_of, fixed}
 use Rattle.ce_algorithms.specs.Body.{Flow, Next, Ended, bumped, told, on_flow, returned, holds, act, body, actions_of}
 use Rattle.ce_algorithms.specs.Construct.{construct, constructor_body, base_alone}
-use Rattle.order_law.proofs.Model.Sound.{IsRow, All}
+use Rattle.order_law.proofs.Model.Sound.{IsRow}
 use Rattle.order_law.proofs.Model.Invariant.{Hold, InUpgrade, fits, nodes_of, Holds, HoldsIn, After}
-use Rattle.order_law.proofs.Model.Reading.{line_tests, each_map}
+use Rattle.order_law.proofs.Model.Reading.{line_tests}
 use Rattle.order_law.proofs.Model.Upgrades.{says_row, rest_row}
 use Rattle.order_law.proofs.Model.Hands.{with_hands, IsHeld, all_rows, all_under, all_taken}
 use Rattle.order_law.proofs.Model.Ending.{spent_lawful}
 use Rattle.order_law.proofs.Model.Lines.{Plain, plain_holds, construct_plain, caught_plain, asked_plain}
 use Rattle.order_law.proofs.Model.Steps.{Keeps, keeps_bind, keeps_seq, keeps_throw}
-use Rattle.order_law.proofs.Model.Giving.{one, maybe, given_nodes, Gives, gives_bind, gives_after, gives_seq, gives_give, gives_throw, gives_if, gives_catch}
+use Rattle.order_law.proofs.Model.Giving.{one, given_nodes, Gives, gives_bind, gives_after, gives_seq, gives_give, gives_throw, gives_if, gives_catch}
 use Rattle.order_law.proofs.Model.Giving.{gives_look, gives_keeps, gives_page, FoundRows}
 use Rattle.order_law.proofs.Model.Nodes.{base_gives}
 use Rattle.order_law.proofs.Model.Draining.{KeepsLaw, ConstructsKeep, BodiesKeep}
+use Rattle.order_law.proofs.Model.Each.{each_map}
 
 pub keeps_done : {h : List Hold} → Keeps h done
 keeps_done = record { at = λ s o. o }
@@ -77,17 +80,17 @@ keeps_told (Node n) = keeps_done
 keeps_told Ignored = keeps_done
 
 -- the node that an operand names
-pub node_row : (rows : ℕ) (v : View) (operand : Operand) → IsRow rows 1 → All (IsRow rows) (maybe v.this) → All (IsRow rows) (nodes_of v.variables) →
+pub node_row : (rows : ℕ) (v : View) (operand : Operand) → IsRow rows 1 → Each (IsRow rows) (option_to_list v.this) → Each (IsRow rows) (nodes_of v.variables) →
     FoundRows one rows (node v operand)
 node_row rows v Doc first this named = (first, tt)
 node_row rows v This first this named = go v.this this
   where
-    go : (o : Option ℕ) → All (IsRow rows) (maybe o) → FoundRows one rows (ok_or o ReferenceError)
+    go : (o : Option ℕ) → Each (IsRow rows) (option_to_list o) → FoundRows one rows (ok_or o ReferenceError)
     go None row = tt
     go (Some n) row = row
 node_row rows v (Variable name) first this named = go v.variables named
   where
-    go : (vs : List (List ℕ × ℕ)) → All (IsRow rows) (nodes_of vs) → FoundRows one rows (ok_or (value_of vs name) TypeError)
+    go : (vs : List (List ℕ × ℕ)) → Each (IsRow rows) (nodes_of vs) → FoundRows one rows (ok_or (value_of vs name) TypeError)
     go [] named = tt
     go (b ∷ vs) named = at (bytes_eq b.0 name) (go vs named.1)
       where
@@ -100,16 +103,16 @@ first_row : (h : List Hold) (s : State) → HoldsIn h s → IsRow (length s.page
 first_row h s k = let some = k.rest.sound.some in record { low = omega arith; high = omega (arith, some) }
 
 -- in a view of a state
-pub view_row : (h : List Hold) (this : Option ℕ) (operand : Operand) (s : State) → All (λ n. IsHeld n h) (maybe this) → HoldsIn h s →
+pub view_row : (h : List Hold) (this : Option ℕ) (operand : Operand) (s : State) → Each (λ n. IsHeld n h) (option_to_list this) → HoldsIn h s →
     FoundRows one (length s.page.elements) (node (view this s) operand)
 view_row h this operand s held k =
-    node_row (length s.page.elements) (view this s) operand (first_row h s k) (all_rows (maybe this) h s.log s.page held k.holds) k.rest.named
+    node_row (length s.page.elements) (view this s) operand (first_row h s k) (all_rows (option_to_list this) h s.log s.page held k.holds) k.rest.named
 
 abbrev pub flow_nodes : Flow → List ℕ
-flow_nodes (Next this) = maybe this
-flow_nodes (Ended result) = maybe result
+flow_nodes (Next this) = option_to_list this
+flow_nodes (Ended result) = option_to_list result
 
-returned_gives : (h : List Hold) (this : Option ℕ) (o : Option Operand) → All (λ n. IsHeld n h) (maybe this) → Gives flow_nodes h (returned this o)
+returned_gives : (h : List Hold) (this : Option ℕ) (o : Option Operand) → Each (λ n. IsHeld n h) (option_to_list this) → Gives flow_nodes h (returned this o)
 returned_gives h this None held = gives_give (Ended this) held
 returned_gives h this (Some operand) held =
     gives_bind {nodes = one} (gives_look this (λ v. node v operand) (λ s k. view_row h this operand s held k)) (λ n. gives_give (Ended (Some n)) (inl refl, tt))
@@ -151,11 +154,11 @@ base : (class : ℕ) (h : List Hold) → Gives one h (on_page (base_call class))
 base class h = gives_page (λ vs l. base_gives class)
 
 module _ (again : Again) (keeps : KeepsLaw again) where
-  act_gives : (class : ℕ) (args : Args) (this : Option ℕ) (a : Act) (h : List Hold) → All (λ n. IsHeld n h) (maybe this)
+  act_gives : (class : ℕ) (args : Args) (this : Option ℕ) (a : Act) (h : List Hold) → Each (λ n. IsHeld n h) (option_to_list this)
       → Gives flow_nodes h (act again class args this a)
   act_gives class args this (Both op) h held =
       gives_after (keeps_read (λ s. (class_of s class).memory)) (λ memory. gives_bind (keeps.operates this (fixed memory args op) h held)
-      (λ given. gives_seq (keeps_told given) (gives_give (Next this) (all_under (given_nodes given) (maybe this) h held))))
+      (λ given. gives_seq (keeps_told given) (gives_give (Next this) (all_under (given_nodes given) (option_to_list this) h held))))
   act_gives class args this (Log vals) h held =
       gives_after (keeps_read (λ s. (class_of s class).memory))
       (λ memory. gives_seq (keeps_plain (Logged (map (text_of memory args) vals)) (logged_plain (map (text_of memory args) vals)))
@@ -178,22 +181,22 @@ module _ (again : Again) (keeps : KeepsLaw again) where
       (λ memory. gives_if (holds equal (text_of memory args left) (text_of memory args right))
       (gives_seq keeps_spend (act_gives class args this action h held)) (gives_give (Next this) held))
 
-  body_gives : (class : ℕ) (args : Args) (this : Option ℕ) (actions : List Act) (h : List Hold) → All (λ n. IsHeld n h) (maybe this) →
-      Gives maybe h (body again class args this actions)
+  body_gives : (class : ℕ) (args : Args) (this : Option ℕ) (actions : List Act) (h : List Hold) → Each (λ n. IsHeld n h) (option_to_list this) →
+      Gives option_to_list h (body again class args this actions)
   body_gives class args this [] h held = gives_give this held
   body_gives class args this (a ∷ rest) h held =
       gives_seq keeps_spend (gives_bind (act_gives class args this a h held) (λ flow. flows flow (λ next g held. body_gives class args next rest g held)))
     where
       flows : (flow : Flow) →
-          ((next : Option ℕ) (g : List Hold) → All (λ n. IsHeld n g) (maybe next) → Gives maybe g (body again class args next rest)) →
-          Gives maybe (with_hands (flow_nodes flow) h) (on_flow (λ next. body again class args next rest) flow)
-      flows (Next next) goes = goes next (with_hands (maybe next) h) (all_taken (maybe next) h)
-      flows (Ended result) goes = gives_give result (all_taken (maybe result) h)
+          ((next : Option ℕ) (g : List Hold) → Each (λ n. IsHeld n g) (option_to_list next) → Gives option_to_list g (body again class args next rest)) →
+          Gives option_to_list (with_hands (flow_nodes flow) h) (on_flow (λ next. body again class args next rest) flow)
+      flows (Next next) goes = goes next (with_hands (option_to_list next) h) (all_taken (option_to_list next) h)
+      flows (Ended result) goes = gives_give result (all_taken (option_to_list result) h)
 
-  alone_gives : (class : ℕ) (h : List Hold) → Gives maybe h (base_alone class)
+  alone_gives : (class : ℕ) (h : List Hold) → Gives option_to_list h (base_alone class)
   alone_gives class h = gives_bind (base class h) (λ n. gives_give (Some n) (inl refl, tt))
 
-  result_gives : (h : List Hold) (o : Option ℕ) → All (λ n. IsHeld n h) (maybe o) → Gives one h (found o ReferenceError)
+  result_gives : (h : List Hold) (o : Option ℕ) → Each (λ n. IsHeld n h) (option_to_list o) → Gives one h (found o ReferenceError)
   result_gives h None held = gives_throw ReferenceError
   result_gives h (Some n) held = gives_give n held
 
@@ -201,9 +204,9 @@ module _ (again : Again) (keeps : KeepsLaw again) where
   construct_of : (class : ℕ) (k : Class) (h : List Hold) →
       Gives one h (log (Construct k.name) >> (constructor_body again class k >>= (λ result. found result ReferenceError)))
   construct_of class k h = gives_seq (keeps_plain (Construct k.name) (construct_plain k.name))
-      (gives_bind {nodes = maybe} (gives_if (has_call Constructor k.facts.calls) (body_gives class no_args None (actions_of Constructor k.bodies) h tt)
+      (gives_bind {nodes = option_to_list} (gives_if (has_call Constructor k.facts.calls) (body_gives class no_args None (actions_of Constructor k.bodies) h tt)
       (alone_gives class h))
-      (λ result. result_gives (with_hands (maybe result) h) result (all_taken (maybe result) h)))
+      (λ result. result_gives (with_hands (option_to_list result) h) result (all_taken (option_to_list result) h)))
 
   pub construct_gives : (class : ℕ) (h : List Hold) → Gives one h (construct again class)
   construct_gives class h = record { at = λ s o. (construct_of class (class_of s class) h).at s o }

@@ -1,6 +1,8 @@
 -- Reactions, drains, reacting operations, the checkpoint.
 use Rattle.std.proofs.Common.{◌≡◌, ℕ, ◌+◌, ◌<◌, Bool, true, false, List, [], ◌∷◌, ◌++◌, Option, Some, None, refl, sym, ap, ◌∙◌, subst, arith, inl}
 use Rattle.std.specs.Prelude.{◌||◌, not}
+use Rattle.std.specs.List.{AllByRecursion as Each}
+use Rattle.std.specs.Option.{option_to_list}
 use Rattle.rule_tokens.specs.declared.callback.CallName.{CallName}
 use Rattle.rule_tokens.specs.declared.callback.CallName.TheVariants.{Connected as ConnectedName, Disconnected as DisconnectedName, Adopted as AdoptedName}
 use Rattle.rule_tokens.specs.declared.callback.CallName.TheVariants.{Attribute as AttributeName, FormAssociated as FormAssociatedName}
@@ -34,10 +36,9 @@ use Rattle.order_law.proofs.Model.Invariant.{Hold, InSteps, InDrain, InReaction,
 use Rattle.order_law.proofs.Model.Reactions.{opened_holds, drained_holds, started_holds, finished_holds}
 use Rattle.order_law.proofs.Model.Ending.{closed_holds, skipped_holds, taken_holds, checkpoint_holds, checkpoint_closed}
 use Rattle.order_law.proofs.Model.Lines.{plain_holds, reported_plain, call_line}
-use Rattle.order_law.proofs.Model.Sound.{All}
 use Rattle.order_law.proofs.Model.Hands.{IsHeld, with_hands, take_in_below, hand_rows}
 use Rattle.order_law.proofs.Model.Steps.{AfterCalm, Keeps, keeps_seq}
-use Rattle.order_law.proofs.Model.Giving.{maybe, given_nodes, AfterGives, Gives, let_go}
+use Rattle.order_law.proofs.Model.Giving.{given_nodes, AfterGives, Gives, let_go}
 use Rattle.order_law.proofs.Model.Upgrading.{upgrade_after}
 
 -- a drain of the backup element queue leaves it empty
@@ -54,7 +55,7 @@ AfterRest (Spent s) = Lawful s.log
 
 -- what goes on again keeps the law: operations and drains whatever is suspended, the backup element queue in the checkpoint alone
 pub record KeepsLaw (again : Again) : Type 0 where
-  pub operates : (this : Option ℕ) (op : Op) (h : List Hold) → All (λ n. IsHeld n h) (maybe this) → Gives given_nodes h (again (Operate this op))
+  pub operates : (this : Option ℕ) (op : Op) (h : List Hold) → Each (λ n. IsHeld n h) (option_to_list this) → Gives given_nodes h (again (Operate this op))
   pub drains : (ns : List ℕ) (q : ℕ) (h : List Hold) (s : State) → HoldsIn (InDrain q ns ∷ h) s → AfterCalm (InDrain q [] ∷ h) (again (DrainRest ns) s)
   pub backups : (s : State) → HoldsIn (InDrain 0 [] ∷ []) s → AfterBackup (again DrainBackup s)
 
@@ -65,7 +66,7 @@ ConstructsKeep again = (n d : ℕ) (h : List Hold) → Keeps (InUpgrade n ∷ h)
 -- bodies keep it, where `this` is a node at hand
 abbrev pub BodiesKeep : Again → Type 0
 BodiesKeep again =
-    (class : ℕ) (args : Args) (this : Option ℕ) (actions : List Act) (h : List Hold) → All (λ n. IsHeld n h) (maybe this)
+    (class : ℕ) (args : Args) (this : Option ℕ) (actions : List Act) (h : List Hold) → Each (λ n. IsHeld n h) (option_to_list this)
     → Keeps h (body again class args this actions)
 
 module _ (again : Again) (keeps : KeepsLaw again) (constructs : ConstructsKeep again) (bodies : BodiesKeep again) where

@@ -2,6 +2,7 @@
 use Rattle.std.proofs.Common.{◌≡◌, ◌≢◌, ℕ, suc, ◌<◌, ◌≤◌, Bool, true, false, List, [], ◌∷◌, ◌++◌, map, None, refl, sym, ap, ◌∙◌, subst, arith, ⊎_elim, inl, inr}
 use Rattle.std.specs.Prelude.{◌==◌, ◌||◌, ◌&&◌, not}
 use Rattle.std.proofs.lemmas.Bool.{eqb-false, eq-eqb, ne_eqb, or_right, and_right}
+use Rattle.std.specs.List.{AllByRecursion as Each}
 use Rattle.rule_tokens.specs.declared.callback.CallOrUpgrade.{CallOrUpgrade}
 use Rattle.reaction_queue.specs.Queues.{Open, waiting_at}
 use Rattle.ce_events.specs.declared.event.Event.{Event}
@@ -14,11 +15,13 @@ use Rattle.order_law.specs.Clauses.{begins_drain, ends_drain, goes_on}
 use Rattle.order_law.specs.After.{after}
 use Rattle.order_law.specs.Law.{Lawful}
 use Rattle.order_law.specs.Reads.{around as outer_of}
-use Rattle.order_law.proofs.Model.Reading.{Reads, tested, reads_append, reads_one, told_at, Each, each_map, add_if}
+use Rattle.order_law.proofs.Model.Reading.{Reads, tested, reads_append, reads_one, told_at, add_if}
 use Rattle.order_law.proofs.Model.Invariant.{Hold, InSteps, InDrain, InReaction, InUpgrade, InHand, brackets_of, fillings_of, Falling, IsOpen, IsLeft}
-use Rattle.order_law.proofs.Model.Invariant.{IsPlaced, is_checkpoint, has_any, told, SaysQueues, Holds}
+use Rattle.order_law.proofs.Model.Invariant.{IsPlaced, is_checkpoint, told, SaysQueues, Holds}
 use Rattle.order_law.proofs.Model.Reactions.{falling_le}
 use Rattle.order_law.proofs.Entries.{IsIn}
+use Rattle.ce_algorithms.specs.Create.{has_any}
+use Rattle.order_law.proofs.Model.Each.{each_map}
 
 -- the close
 
@@ -329,7 +332,7 @@ spent_lawful h l p k =
 pub at_rest : (l : List Event) (p : Page) → p.queues.backup ≡ [] → (k : Holds [] l p) → (k.book.waiting ≡ []) × (k.book.owed ≡ false)
 at_rest l p is k = (
   none k.book.waiting k.queues.placed,
-  ⊎_elim (λ f. f) (λ t. absurd (let x : has_any [] || false ≡ true = sym (ap (λ ns. has_any ns || false) is) ∙ t in let y : false ≡ true = x in cc))
+  ⊎_elim (λ f. f) (λ t. absurd (let x : false ≡ true = sym (ap (λ (ns : List ℕ). has_any ns || false) is) ∙ t in cc))
       k.queues.owed,
 )
   where

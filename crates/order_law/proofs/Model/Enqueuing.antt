@@ -5,6 +5,7 @@ use Rattle.std.specs.Option.{option_and_then}
 use Rattle.std.specs.Prelude.{slice_get, ◌==◌, ◌||◌, ◌&&◌, not}
 use Rattle.std.proofs.lemmas.Bool.{eqb-true, eq-eqb, or_left}
 use Rattle.std.proofs.lemmas.List.{map-append}
+use Rattle.std.specs.List.{AllByRecursion as Each}
 use Rattle.rule_tokens.specs.declared.callback.CallOrUpgrade.{CallOrUpgrade}
 use Rattle.rule_tokens.specs.declared.callback.CallOrUpgrade.TheVariants.{Call, Upgrade as IsUpgrade}
 use Rattle.reaction_queue.specs.declared.reaction.Reaction.{Reaction}
@@ -16,12 +17,14 @@ use Rattle.ce_algorithms.specs.Page.{Page, definition_of, with_queues}
 use Rattle.order_law.specs.Book.{Entry, Book, blank}
 use Rattle.order_law.specs.Reads.{current, is_one_of, is_callback}
 use Rattle.order_law.specs.Clauses.{goes_on}
-use Rattle.order_law.proofs.Model.Reading.{Reads, tested, reads_append, reads_one, told_at, Each, each_map, each_append, add_if}
+use Rattle.order_law.proofs.Model.Reading.{Reads, tested, reads_append, reads_one, told_at, each_among, add_if}
 use Rattle.order_law.proofs.Model.Invariant.{Hold, InSteps, InDrain, InReaction, InUpgrade, InHand, brackets_of, fillings_of, Falling, IsPlaced}
-use Rattle.order_law.proofs.Model.Invariant.{is_checkpoint, has_any, told, SaysQueues, Known, fits, SaysElements, Holds}
+use Rattle.order_law.proofs.Model.Invariant.{is_checkpoint, told, SaysQueues, Known, fits, SaysElements, Holds}
 use Rattle.order_law.proofs.Model.Rows.{waits_same, waits_other}
 use Rattle.ce_base.proofs.Places.{each_number}
-use Rattle.order_law.proofs.Entries.{Rising, IsIn}
+use Rattle.order_law.proofs.Entries.{Rising, rising_append, IsIn}
+use Rattle.ce_algorithms.specs.Create.{has_any}
+use Rattle.order_law.proofs.Model.Each.{each_map, each_append}
 
 -- an enqueue
 
@@ -53,11 +56,6 @@ told_append n (w ∷ ws) vs = go (w.element == n) (told_append n ws vs)
         add_if b (w.number, w.what) (told_at n (ws ++ vs)) ≡ add_if b (w.number, w.what) (told_at n ws) ++ told_at n vs
     go true h = ap (λ l. (w.number, w.what) ∷ l) h
     go false h = h
-
-rising_append : (low top : ℕ) (ws : List Entry) (w : Entry) → Rising low ws → Each (λ v. v.number ≤ top) ws → top < w.number → low < w.number →
-    Rising low (ws ++ w ∷ [])
-rising_append low top [] w r b t l = (l, tt)
-rising_append low top (v ∷ ws) w r b t l = (r.0, rising_append v.number top ws w r.1 b.1 t (omega (arith, b.0, t)))
 
 is_in_more : (x n : ℕ) (xs : List ℕ) → IsIn x xs → IsIn x (xs ++ n ∷ [])
 is_in_more x n [] i = absurd i
@@ -153,7 +151,8 @@ enqueued_holds n x h l p known fitting k = go p.queues.stack refl
         ∙ sym (ap (map told) (waits_other n m (waiting_at (counted p.queues) n ++ (r, x) ∷ []) (counted p.queues) known.low o)))
 
     rising : (q : ℕ) → Rising 0 (b.waiting ++ entry q ∷ [])
-    rising q = rising_append 0 b.numbers b.waiting (entry q) s.rising s.below (let e = s.numbers in omega (arith, e)) (omega arith)
+    rising q = rising_append 0 b.numbers b.waiting (entry q) s.rising (each_among (λ w. w.number ≤ b.numbers) b.waiting s.below) (omega arith)
+        (let e = s.numbers in omega (arith, e))
 
     below : (q : ℕ) → Each (λ w. w.number ≤ r) (b.waiting ++ entry q ∷ [])
     below q = each_append (λ w. w.number ≤ r) b.waiting (entry q ∷ [])

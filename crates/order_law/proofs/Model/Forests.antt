@@ -1,23 +1,22 @@
 -- Changes of a forest, seen by its nodes: which numbers there are, of what kinds, and what stands in the tree of which.
 use Rattle.std.proofs.Common.{◌≡◌, ℕ, ◌+◌, ◌<◌, ◌≤◌, Bool, true, false, [], Option, Some, None, refl, sym, ap, ◌∙◌, arith, inl, inr, if◌then◌else◌, ◌==◌, ◌&&◌}
-use Rattle.std.specs.Prelude.{◌⊎◌, ◌||◌, not}
-use Rattle.ce_base.specs.declared.fault.Fault.{Fault}
-use Rattle.ce_base.specs.declared.fault.Fault.TheVariants.{HierarchyRequestError, NotFoundError}
+use Rattle.std.specs.Prelude.{◌⊎◌}
 use Rattle.std.proofs.lemmas.Bool.Decides.{nat_tests}
 use Rattle.std.proofs.lemmas.Bool.{cases_lt}
 use Rattle.node_trees.specs.declared.kind.NodeKind.{NodeKind}
-use Rattle.node_trees.specs.Facts.{Facts, is_document, is_element, is_shadow_root, is_text}
+use Rattle.node_trees.specs.Facts.{Facts, is_element}
 use Rattle.node_trees.specs.Trees.{Trees, none, tree, single, tree_of, without, cut, graft, with_node, with_shadow, with_facts}
 use Rattle.node_trees.specs.Nodes.{weight, times}
-use Rattle.node_trees.specs.Spots.{Spot, spot_in, or_spot, or_no_spot, spot_of, facts_at, kind_at}
-use Rattle.node_trees.specs.Paths.{path, is_among}
-use Rattle.node_trees.specs.Insertion.{may_insert, is_child_or_none, has_element_child}
+use Rattle.node_trees.specs.Spots.{Spot, spot_in, or_no_spot, spot_of, facts_at, kind_at}
+use Rattle.node_trees.specs.Insertion.{may_insert}
 use Rattle.element_names.specs.Names.{custom_name}
 use Rattle.element_names.specs.Hosts.{shadow_host}
 use Rattle.std.specs.Str.{chars}
+use Rattle.std.specs.Option.{option_or}
 use Rattle.order_law.proofs.Model.Weights.{on_path}
 use Rattle.node_trees.proofs.Weights.{IsApart, weight-join, weight-without, weight-place, weight-put, weight-shadow, weight-with}
 use Rattle.node_trees.proofs.Absent.{spot-absent}
+use Rattle.node_trees.proofs.Allowed.{not_inside}
 
 -- the nodes of one forest are those of another, each of its kind
 abbrev pub Alike : Trees → Trees → Type 0
@@ -67,7 +66,7 @@ element_there f n is = elim (cases_lt 0 (times n f)) [
       ∙ is in cc)
 ]
 
-first_or : (a b : Option Spot) → reads_element (or_spot a b) ≡ true → (reads_element a ≡ true) ⊎ (reads_element b ≡ true)
+first_or : (a b : Option Spot) → reads_element (option_or a b) ≡ true → (reads_element a ≡ true) ⊎ (reads_element b ≡ true)
 first_or None b is = inr is
 first_or (Some s) b is = inl is
 
@@ -82,8 +81,8 @@ element_counts parent host n (tree m x shadow children rest) is =
     count f = weight (λ m x. one_element n m x.kind) f
 
     go : (t : Bool) → m == n ≡ t →
-        reads_element (if t then Some (spot_of x parent host shadow children) else or_spot (spot_in None (Some m) n shadow)
-        (or_spot (spot_in (Some m) None n children) (spot_in parent host n rest))) ≡ true
+        reads_element (if t then Some (spot_of x parent host shadow children) else option_or (spot_in None (Some m) n shadow)
+        (option_or (spot_in (Some m) None n children) (spot_in parent host n rest))) ≡ true
         → (reads_element (spot_in None (Some m) n shadow) ≡ true → 0 < count shadow)
         → (reads_element (spot_in (Some m) None n children) ≡ true → 0 < count children)
         → (reads_element (spot_in parent host n rest) ≡ true → 0 < count rest)
@@ -91,7 +90,7 @@ element_counts parent host n (tree m x shadow children rest) is =
     go true t is in_shadow in_children in_rest = let first : one_element n m x.kind ≡ 1 =
         ap (λ v. if v && is_element x.kind then 1 else 0) t ∙ ap (λ v. if v then 1 else 0) is in omega (arith, first)
     go false t is in_shadow in_children in_rest =
-        elim (first_or (spot_in None (Some m) n shadow) (or_spot (spot_in (Some m) None n children) (spot_in parent host n rest)) is) [
+        elim (first_or (spot_in None (Some m) n shadow) (option_or (spot_in (Some m) None n children) (spot_in parent host n rest)) is) [
           | inl a ↦ let h = in_shadow a in omega (arith, h)
           | inr b ↦ elim (first_or (spot_in (Some m) None n children) (spot_in parent host n rest) b) [
             | inl a ↦ let h = in_children a in omega (arith, h)
@@ -111,22 +110,6 @@ host_there f n is = elim (cases_lt 0 (times n f)) [
 ]
 
 -- what is outside of the tree of a node
-
-not_inside : (f : Trees) (p n : ℕ) (b : Option ℕ) → may_insert f p n b ≡ None → is_among n (path p f) ≡ false
-not_inside f p n b may = go (is_text (kind_at f p)) (is_among n (path p f)) may
-  where
-    others : Option Fault
-    others =
-        if not (is_child_or_none f p b) then Some NotFoundError
-        else if is_document (kind_at f n) || is_shadow_root (kind_at f n) then Some HierarchyRequestError
-        else if is_text (kind_at f n) && is_document (kind_at f p) then Some HierarchyRequestError
-        else if is_document (kind_at f p) && has_element_child f p then Some HierarchyRequestError
-        else None
-
-    go : (text inside : Bool) → (if text then Some HierarchyRequestError else if inside then Some HierarchyRequestError else others) ≡ None → inside ≡ false
-    go true inside e = absurd (let x : Some HierarchyRequestError ≡ None = e in cc)
-    go false true e = absurd (let x : Some HierarchyRequestError ≡ None = e in cc)
-    go false false e = refl
 
 -- a parent under which the node may be inserted
 pub outside_allowed : (f : Trees) (p n : ℕ) (b : Option ℕ) → IsApart f → times p f ≡ 1 → 0 < times n f → may_insert f p n b ≡ None → times p (without n f) ≡ 1

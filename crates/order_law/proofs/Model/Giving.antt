@@ -1,6 +1,7 @@
 -- Steps that keep the law, may throw, and give nodes: those of a page with its notes, and those of a session.
 use Rattle.std.proofs.Common.{ℕ, Bool, true, false, List, [], ◌∷◌, ◌++◌, length, map, Option, Some, None}
 use Rattle.std.specs.Prelude.{Result, Ok, Err, if◌then◌else◌}
+use Rattle.std.specs.List.{AllByRecursion as Each}
 use Rattle.ce_base.specs.declared.fault.Fault.{Fault}
 use Rattle.ce_events.specs.declared.event.Event.{Event}
 use Rattle.ce_algorithms.specs.declared.given.Given.{Given}
@@ -10,7 +11,7 @@ use Rattle.ce_algorithms.specs.Steps.{catch_in, settle}
 use Rattle.ce_algorithms.specs.Page.{Work}
 use Rattle.ce_algorithms.specs.State.{State, View, view, look, event_of, with_outcome, work_of, on_page}
 use Rattle.order_law.specs.Law.{Lawful}
-use Rattle.order_law.proofs.Model.Sound.{IsRow, All}
+use Rattle.order_law.proofs.Model.Sound.{IsRow}
 use Rattle.order_law.proofs.Model.Invariant.{Hold, nodes_of, HoldsIn, After}
 use Rattle.order_law.proofs.Model.Hands.{with_hands, IsHeld, all_rows, take_hands, drop_hands, take_in, drop_in}
 use Rattle.order_law.proofs.Model.Ending.{spent_lawful}
@@ -24,10 +25,6 @@ none a = []
 abbrev pub one : ℕ → List ℕ
 one n = n ∷ []
 
-abbrev pub maybe : Option ℕ → List ℕ
-maybe None = []
-maybe (Some n) = n ∷ []
-
 abbrev pub given_nodes : Given → List ℕ
 given_nodes (Node n) = n ∷ []
 given_nodes given = []
@@ -35,14 +32,14 @@ given_nodes given = []
 -- on a page
 
 abbrev pub AfterGivesAt : {A : Type 0} → (A → List ℕ) → List Hold → List Event → Outcome Work A → Type 0
-AfterGivesAt nodes h l (Goes a w) = HoldsAt Any h l w × All (IsRow (length w.page.elements)) (nodes a)
+AfterGivesAt nodes h l (Goes a w) = HoldsAt Any h l w × Each (IsRow (length w.page.elements)) (nodes a)
 AfterGivesAt nodes h l (Throws f w) = HoldsAt Any h l w
 AfterGivesAt nodes h l (Spent w) = HoldsAt Any h l w
 
 pub record GivesAt {A : Type 0} (nodes : A → List ℕ) (h : List Hold) (l : List Event) (f : Step Work A) : Type 0 where
   pub at : (w : Work) → HoldsAt Any h l w → AfterGivesAt nodes h l (f w)
 
-pub take_at : (ns : List ℕ) (h : List Hold) (l : List Event) (w : Work) → All (IsRow (length w.page.elements)) ns → HoldsAt Any h l w →
+pub take_at : (ns : List ℕ) (h : List Hold) (l : List Event) (w : Work) → Each (IsRow (length w.page.elements)) ns → HoldsAt Any h l w →
     HoldsAt Any (with_hands ns h) l w
 take_at ns h l w rows k = record { holds = take_hands ns h (l ++ map event_of w.page.notes) w.page rows k.holds; sound = k.sound; known = tt }
 
@@ -80,7 +77,7 @@ pub give_seq_at : {A B : Type 0} {others : B → List ℕ} {h : List Hold} {l : 
     GivesAt others h l g → GivesAt others h l (f >> g)
 give_seq_at {others = others} {h = h} {l = l} {f = f} {g = g} x n = record { at = λ w o. give_then_at none others h l (f w) (λ _. g) (x.at w o) (λ _. n) }
 
-pub give_at : {A : Type 0} {nodes : A → List ℕ} {h : List Hold} {l : List Event} (a : A) → All (λ n. IsHeld n h) (nodes a) → GivesAt nodes h l (give a)
+pub give_at : {A : Type 0} {nodes : A → List ℕ} {h : List Hold} {l : List Event} (a : A) → Each (λ n. IsHeld n h) (nodes a) → GivesAt nodes h l (give a)
 give_at {nodes = nodes} {h = h} {l = l} a held = record { at = λ w o. (o, all_rows (nodes a) h (l ++ map event_of w.page.notes) w.page held o.holds) }
 
 pub give_throw_if_at : {h : List Hold} {l : List Event} (t : Bool) (f : Fault) → GivesAt none h l (throw_if t f)
@@ -100,7 +97,7 @@ give_refuse_at tests = record { at = λ w o. (any_thrown (tests w)).at w o }
 -- in a session
 
 abbrev pub AfterGives : {A : Type 0} → (A → List ℕ) → List Hold → Outcome State A → Type 0
-AfterGives nodes h (Goes a s) = HoldsIn h s × All (IsRow (length s.page.elements)) (nodes a)
+AfterGives nodes h (Goes a s) = HoldsIn h s × Each (IsRow (length s.page.elements)) (nodes a)
 AfterGives nodes h (Throws f s) = HoldsIn h s
 AfterGives nodes h (Spent s) = Lawful s.log
 
@@ -148,7 +145,7 @@ pub gives_after : {A B : Type 0} {others : B → List ℕ} {h : List Hold} {f : 
     ((a : A) → Gives others h (k a)) → Gives others h (f >>= k)
 gives_after {others = others} {h = h} {f = f} {k = k} x n = record { at = λ s o. gives_then none others h (f s) k (of_kept h (f s) (x.at s o)) n }
 
-pub gives_give : {A : Type 0} {nodes : A → List ℕ} {h : List Hold} (a : A) → All (λ n. IsHeld n h) (nodes a) → Gives nodes h (give a)
+pub gives_give : {A : Type 0} {nodes : A → List ℕ} {h : List Hold} (a : A) → Each (λ n. IsHeld n h) (nodes a) → Gives nodes h (give a)
 gives_give {nodes = nodes} {h = h} a held = record { at = λ s o. (o, all_rows (nodes a) h s.log s.page held o.holds) }
 
 pub gives_throw : {A : Type 0} {nodes : A → List ℕ} {h : List Hold} (f : Fault) → Gives nodes h (throw f)
@@ -183,7 +180,7 @@ gives_page {nodes = nodes} {h = h} {f = f} n =
 
 -- what is looked up
 abbrev pub FoundRows : {A : Type 0} → (A → List ℕ) → ℕ → Result A Fault → Type 0
-FoundRows nodes rows (Ok a) = All (IsRow rows) (nodes a)
+FoundRows nodes rows (Ok a) = Each (IsRow rows) (nodes a)
 FoundRows nodes rows (Err f) = Unit {0}
 
 settles : {A : Type 0} (nodes : A → List ℕ) (h : List Hold) (s : State) (r : Result A Fault) → HoldsIn h s →

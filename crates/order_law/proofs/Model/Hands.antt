@@ -1,10 +1,11 @@
 -- Nodes in hand: they stay nodes, whatever is done. So steps know of them that they are, and forget them in the end.
 use Rattle.std.proofs.Common.{◌≡◌, ℕ, List, [], ◌∷◌, length, inl, inr, subst, arith, refl}
 use Rattle.std.specs.Prelude.{◌⊎◌}
+use Rattle.std.specs.List.{AllByRecursion as Each}
 use Rattle.ce_events.specs.declared.event.Event.{Event}
 use Rattle.ce_algorithms.specs.Page.{Page, Element}
 use Rattle.ce_algorithms.specs.State.{State}
-use Rattle.order_law.proofs.Model.Sound.{IsRow, All}
+use Rattle.order_law.proofs.Model.Sound.{IsRow}
 use Rattle.order_law.proofs.Model.Invariant.{Hold, InSteps, InDrain, InReaction, InUpgrade, InHand, Known, Ongoing, Holds, HoldsIn}
 
 abbrev pub with_hands : List ℕ → List Hold → List Hold
@@ -41,17 +42,17 @@ pub held_under : (ns : List ℕ) (n : ℕ) (h : List Hold) → IsHeld n h → Is
 held_under [] n h held = held
 held_under (m ∷ ns) n h held = inr (held_under ns n h held)
 
-pub all_under : (ms ns : List ℕ) (h : List Hold) → All (λ n. IsHeld n h) ns → All (λ n. IsHeld n (with_hands ms h)) ns
+pub all_under : (ms ns : List ℕ) (h : List Hold) → Each (λ n. IsHeld n h) ns → Each (λ n. IsHeld n (with_hands ms h)) ns
 all_under ms [] h held = tt
 all_under ms (n ∷ ns) h held = (held_under ms n h held.0, all_under ms ns h held.1)
 
 -- the nodes that were taken
-pub all_taken : (ns : List ℕ) (h : List Hold) → All (λ n. IsHeld n (with_hands ns h)) ns
+pub all_taken : (ns : List ℕ) (h : List Hold) → Each (λ n. IsHeld n (with_hands ns h)) ns
 all_taken [] h = tt
 all_taken (n ∷ ns) h = (inl refl, all_under (n ∷ []) ns (with_hands ns h) (all_taken ns h))
 
 -- all of them
-pub all_rows : (ns : List ℕ) (h : List Hold) (l : List Event) (p : Page) → All (λ n. IsHeld n h) ns → Holds h l p → All (IsRow (length p.elements)) ns
+pub all_rows : (ns : List ℕ) (h : List Hold) (l : List Event) (p : Page) → Each (λ n. IsHeld n h) ns → Holds h l p → Each (IsRow (length p.elements)) ns
 all_rows [] h l p held k = tt
 all_rows (n ∷ ns) h l p held k = (held_row n h l p held.0 k, all_rows ns h l p held.1 k)
 
@@ -140,11 +141,11 @@ take_below n m h l p row k = record {
 }
 
 -- nodes taken into the hand
-pub take_hands : (ns : List ℕ) (h : List Hold) (l : List Event) (p : Page) → All (IsRow (length p.elements)) ns → Holds h l p → Holds (with_hands ns h) l p
+pub take_hands : (ns : List ℕ) (h : List Hold) (l : List Event) (p : Page) → Each (IsRow (length p.elements)) ns → Holds h l p → Holds (with_hands ns h) l p
 take_hands [] h l p rows k = k
 take_hands (n ∷ ns) h l p rows k = take_one n (with_hands ns h) l p rows.0 (take_hands ns h l p rows.1 k)
 
-pub take_hands_below : (ns : List ℕ) (m : ℕ) (h : List Hold) (l : List Event) (p : Page) → All (IsRow (length p.elements)) ns →
+pub take_hands_below : (ns : List ℕ) (m : ℕ) (h : List Hold) (l : List Event) (p : Page) → Each (IsRow (length p.elements)) ns →
     Holds (InSteps m ∷ h) l p → Holds (InSteps m ∷ with_hands ns h) l p
 take_hands_below [] m h l p rows k = k
 take_hands_below (n ∷ ns) m h l p rows k = take_below n m (with_hands ns h) l p rows.0 (take_hands_below ns m h l p rows.1 k)
@@ -155,15 +156,15 @@ drop_hands [] h l p k = k
 drop_hands (n ∷ ns) h l p k = drop_hands ns h l p (drop_one n (with_hands ns h) l p k)
 
 -- what is in hand is a node
-pub hand_rows : (ns : List ℕ) (h : List Hold) (l : List Event) (p : Page) → Holds (with_hands ns h) l p → All (IsRow (length p.elements)) ns
+pub hand_rows : (ns : List ℕ) (h : List Hold) (l : List Event) (p : Page) → Holds (with_hands ns h) l p → Each (IsRow (length p.elements)) ns
 hand_rows [] h l p k = tt
 hand_rows (n ∷ ns) h l p k = (k.elements.ongoing.0, hand_rows ns h l p (drop_one n (with_hands ns h) l p k))
 
 -- in a state
-pub take_in : (ns : List ℕ) (h : List Hold) (s : State) → All (IsRow (length s.page.elements)) ns → HoldsIn h s → HoldsIn (with_hands ns h) s
+pub take_in : (ns : List ℕ) (h : List Hold) (s : State) → Each (IsRow (length s.page.elements)) ns → HoldsIn h s → HoldsIn (with_hands ns h) s
 take_in ns h s rows k = record { holds = take_hands ns h s.log s.page rows k.holds; notes = k.notes; rest = k.rest }
 
-pub take_in_below : (ns : List ℕ) (m : ℕ) (h : List Hold) (s : State) → All (IsRow (length s.page.elements)) ns → HoldsIn (InSteps m ∷ h) s →
+pub take_in_below : (ns : List ℕ) (m : ℕ) (h : List Hold) (s : State) → Each (IsRow (length s.page.elements)) ns → HoldsIn (InSteps m ∷ h) s →
     HoldsIn (InSteps m ∷ with_hands ns h) s
 take_in_below ns m h s rows k = record { holds = take_hands_below ns m h s.log s.page rows k.holds; notes = k.notes; rest = k.rest }
 

@@ -1,6 +1,7 @@
 -- What holds between the log and the state while algorithms are suspended.
 use Rattle.std.proofs.Common.{◌≡◌, ℕ, suc, ◌<◌, ◌≤◌, Bool, true, false, List, [], ◌∷◌, length, map, Option, Some, None, subst}
 use Rattle.std.specs.Prelude.{◌==◌, ◌⊎◌, ◌||◌}
+use Rattle.std.specs.List.{AllByRecursion as Each}
 use Rattle.rule_tokens.specs.declared.callback.CallOrUpgrade.{CallOrUpgrade}
 use Rattle.rule_tokens.specs.declared.callback.CallOrUpgrade.TheVariants.{Call, Upgrade as IsUpgrade}
 use Rattle.reaction_queue.specs.declared.reaction.Reaction.{Reaction}
@@ -13,13 +14,14 @@ use Rattle.ce_algorithms.specs.Steps.{Outcome, Goes, Throws, Spent}
 use Rattle.ce_algorithms.specs.Page.{Page, Element, element_of, state_of, definition_of}
 use Rattle.ce_algorithms.specs.State.{State}
 use Rattle.node_trees.specs.Trees.{Trees}
-use Rattle.order_law.proofs.Model.Sound.{IsRow, All, Sound}
+use Rattle.order_law.proofs.Model.Sound.{IsRow, Sound}
 use Rattle.ce_algorithms.specs.Upgrade.{is_upgradable}
 use Rattle.order_law.specs.Book.{Entry, Bracket, Filling, Draining, Reacting, Upgrading, Book, blank}
 use Rattle.order_law.specs.Reads.{is_one_of}
 use Rattle.order_law.specs.Law.{Lawful}
-use Rattle.order_law.proofs.Model.Reading.{Reads, told_at, Each}
+use Rattle.order_law.proofs.Model.Reading.{Reads, told_at}
 use Rattle.order_law.proofs.Entries.{Rising, IsIn}
+use Rattle.ce_algorithms.specs.Create.{has_any}
 
 -- what is suspended, the innermost first: the steps of an operation; a drain with the elements that it has left, the one at hand
 -- among them (queue 0: the checkpoint); a reaction, and whether its call line has come; an upgrade; and a node that steps have
@@ -84,10 +86,6 @@ is_checkpoint [] = false
 is_checkpoint (InDrain q ns ∷ h) = (q == 0) || is_checkpoint h
 is_checkpoint (x ∷ h) = is_checkpoint h
 
-abbrev pub has_any : List ℕ → Bool
-has_any [] = false
-has_any (n ∷ ns) = true
-
 abbrev pub told : (ℕ × Reaction) → (ℕ × CallOrUpgrade)
 told w = (w.0, what_of w.1)
 
@@ -151,7 +149,7 @@ nodes_of (v ∷ variables) = v.1 ∷ nodes_of variables
 -- the page is sound, and each variable holds a node
 pub record HoldsRest (f : Trees) (rows : ℕ) (stacks : List (List (Option ℕ))) (variables : List (List ℕ × ℕ)) : Type 0 where
   pub sound : Sound f rows stacks
-  pub named : All (IsRow rows) (nodes_of variables)
+  pub named : Each (IsRow rows) (nodes_of variables)
 
 -- as many rows
 pub rest_rows : (f : Trees) (rows others : ℕ) (stacks : List (List (Option ℕ))) (variables : List (List ℕ × ℕ)) →

@@ -13,9 +13,9 @@ use Rattle.ce_algorithms.specs.Define.{with_defined}
 use Rattle.ce_algorithms.specs.Making.{with_new}
 use Rattle.ce_algorithms.specs.Upgrade.{is_upgradable}
 use Rattle.order_law.specs.Reads.{is_one_of}
-use Rattle.order_law.proofs.Model.Reading.{each_map}
 use Rattle.order_law.proofs.Model.Invariant.{Hold, InSteps, InDrain, InReaction, InUpgrade, InHand, Known, fits, Ongoing, Holds}
 use Rattle.order_law.proofs.Model.Upgrades.{says_row, only_upgrades}
+use Rattle.order_law.proofs.Model.Each.{each_map}
 
 -- a new row reads as one that is not there
 same_row : (rows : List Element) (i : ℕ) → or_uncustomized (slice_get (rows ++ uncustomized ∷ []) i) ≡ or_uncustomized (slice_get rows i)

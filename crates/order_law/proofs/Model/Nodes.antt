@@ -3,6 +3,7 @@ use Rattle.std.proofs.Common.{◌≡◌, ℕ, zero, suc, ◌+◌, ◌-◌, ◌�
 use Rattle.std.proofs.Common.{sym, ap, ◌∙◌, subst, arith, inl}
 use Rattle.std.specs.Prelude.{not, is_some, slice_get}
 use Rattle.std.proofs.lemmas.List.{length-set}
+use Rattle.std.specs.List.{AllByRecursion as Each}
 use Rattle.ce_base.specs.declared.custom_state.CustomState.{CustomState}
 use Rattle.ce_base.specs.declared.custom_state.CustomState.TheVariants.{Custom, Undefined}
 use Rattle.ce_base.specs.declared.fault.Fault.TheVariants.{TypeError, NotSupportedError}
@@ -28,7 +29,7 @@ use Rattle.ce_algorithms.specs.Construction.{base_entry, base_call}
 use Rattle.ce_algorithms.specs.Upgrade.{is_upgradable}
 use Rattle.ce_algorithms.specs.Perform.{attach_shadow, is_shadow_disabled}
 use Rattle.order_law.proofs.Model.Forests.{host_there, more_node, more_shadow}
-use Rattle.order_law.proofs.Model.Sound.{All, IsEntry, Sound, sound_more, sound_rows, stack_entries, set_entries}
+use Rattle.order_law.proofs.Model.Sound.{IsEntry, Sound, sound_more, sound_rows, stack_entries, set_entries}
 use Rattle.order_law.proofs.Model.Invariant.{Hold, InHand, Known}
 use Rattle.order_law.proofs.Model.Rows.{row_same, row_twice}
 use Rattle.order_law.proofs.Model.Making.{new_same, new_holds, fresh_holds}
@@ -152,7 +153,7 @@ custom_then d h l (Spent w) k = k
 -- the base call
 
 entry_after : (d : ℕ) (x : Definition) (entries : List (Option ℕ)) (h : List Hold) (l : List Event) (w : Work) →
-    All (IsEntry (length w.page.elements)) entries → HoldsAt Any h l w → AfterGivesAt one h l (base_entry d x entries w)
+    Each (IsEntry (length w.page.elements)) entries → HoldsAt Any h l w → AfterGivesAt one h l (base_entry d x entries w)
 entry_after d x [] h l w all k = custom_then d h l (make_element x.local (is_value_of x) 1 w) (new_at (λ n. new_element x.local (is_value_of x) 1) h l w k)
 entry_after d x (None ∷ entries) h l w all k = k
 entry_after d x (Some n ∷ entries) h l w all k = (

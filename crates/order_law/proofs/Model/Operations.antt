@@ -3,6 +3,8 @@ use Rattle.std.proofs.Common.{◌≤◌, ℕ, zero, suc, true, List, [], ◌∷�
 use Rattle.std.specs.Prelude.{not, slice_set, bytes_eq, Result, Ok, Err}
 use Rattle.std.specs.Str.{str_to_ascii_lowercase}
 use Rattle.std.specs.List.{position}
+use Rattle.std.specs.List.{AllByRecursion as Each}
+use Rattle.std.specs.Option.{option_to_list}
 use Rattle.ce_base.specs.declared.custom_state.CustomState.TheVariants.{Failed, Undefined}
 use Rattle.ce_base.specs.declared.fault.Fault.{Fault}
 use Rattle.ce_base.specs.declared.fault.Fault.TheVariants.{TypeError, NotSupportedError, InvalidCharacterError}
@@ -36,7 +38,7 @@ use Rattle.ce_algorithms.specs.Deeds.{resolve, resolve_user, variable, is_reacti
 use Rattle.ce_algorithms.specs.Perform.{create_named, define_element, gives_nothing, gives_node, form_steps, page_steps, perform_deed, keep, kept, operate}
 use Rattle.ce_algorithms.specs.Perform.{act_as_user}
 use Rattle.order_law.specs.Law.{Lawful}
-use Rattle.order_law.proofs.Model.Sound.{IsRow, All}
+use Rattle.order_law.proofs.Model.Sound.{IsRow}
 use Rattle.order_law.proofs.Model.Invariant.{Hold, InSteps, InHand, Known, nodes_of, HoldsIn, After}
 use Rattle.order_law.proofs.Model.Hands.{with_hands, IsHeld, held_row, all_under, all_taken, take_in}
 use Rattle.order_law.proofs.Model.Making.{failed_holds}
@@ -44,7 +46,7 @@ use Rattle.order_law.proofs.Model.Upgrades.{rest_row}
 use Rattle.order_law.proofs.Model.Ending.{spent_lawful}
 use Rattle.order_law.proofs.Model.Lines.{plain_holds, reported_plain}
 use Rattle.order_law.proofs.Model.Steps.{came_back, at_work, Keeps}
-use Rattle.order_law.proofs.Model.Giving.{none, one, given_nodes, maybe, AfterGives, Gives, let_go, gives_bind, gives_after, gives_seq, gives_give, gives_if}
+use Rattle.order_law.proofs.Model.Giving.{none, one, given_nodes, AfterGives, Gives, let_go, gives_bind, gives_after, gives_seq, gives_give, gives_if}
 use Rattle.order_law.proofs.Model.Giving.{gives_catch, gives_look, gives_page, gives_keeps, keeps_gives, FoundRows}
 use Rattle.order_law.proofs.Model.Nodes.{AfterMade, made_at, state_gives}
 use Rattle.order_law.proofs.Model.PageDeeds.{page_deed_nodes, control_gives, form_gives, internals_gives, page_gives, define_gives}
@@ -94,19 +96,19 @@ resolved_user rows v c = tt
 
 -- variables
 
-set_nodes : (rows : ℕ) (vs : List (List ℕ × ℕ)) (i : ℕ) (v : List ℕ) (n : ℕ) → IsRow rows n → All (IsRow rows) (nodes_of vs) →
-    All (IsRow rows) (nodes_of (slice_set vs i (v, n)))
+set_nodes : (rows : ℕ) (vs : List (List ℕ × ℕ)) (i : ℕ) (v : List ℕ) (n : ℕ) → IsRow rows n → Each (IsRow rows) (nodes_of vs) →
+    Each (IsRow rows) (nodes_of (slice_set vs i (v, n)))
 set_nodes rows [] i v n row all = tt
 set_nodes rows (b ∷ vs) zero v n row all = (row, all.1)
 set_nodes rows (b ∷ vs) (suc i) v n row all = (all.0, set_nodes rows vs i v n row all.1)
 
-more_nodes : (rows : ℕ) (vs : List (List ℕ × ℕ)) (v : List ℕ) (n : ℕ) → IsRow rows n → All (IsRow rows) (nodes_of vs) →
-    All (IsRow rows) (nodes_of (vs ++ (v, n) ∷ []))
+more_nodes : (rows : ℕ) (vs : List (List ℕ × ℕ)) (v : List ℕ) (n : ℕ) → IsRow rows n → Each (IsRow rows) (nodes_of vs) →
+    Each (IsRow rows) (nodes_of (vs ++ (v, n) ∷ []))
 more_nodes rows [] v n row all = (row, tt)
 more_nodes rows (b ∷ vs) v n row all = (all.0, more_nodes rows vs v n row all.1)
 
-put_nodes : (rows : ℕ) (o : Option ℕ) (v : List ℕ) (n : ℕ) (vs : List (List ℕ × ℕ)) → IsRow rows n → All (IsRow rows) (nodes_of vs) →
-    All (IsRow rows) (nodes_of (put_variable o v n vs))
+put_nodes : (rows : ℕ) (o : Option ℕ) (v : List ℕ) (n : ℕ) (vs : List (List ℕ × ℕ)) → IsRow rows n → Each (IsRow rows) (nodes_of vs) →
+    Each (IsRow rows) (nodes_of (put_variable o v n vs))
 put_nodes rows None v n vs row all = more_nodes rows vs v n row all
 put_nodes rows (Some i) v n vs row all = set_nodes rows vs i v n row all
 
@@ -123,7 +125,7 @@ keeps_variable {h} v n held = record {
   };
 }
 
-keeps_kept : {h : List Hold} (var : Option (List ℕ)) (given : Given) → All (λ n. IsHeld n h) (given_nodes given) → Keeps h (keep var given)
+keeps_kept : {h : List Hold} (var : Option (List ℕ)) (given : Given) → Each (λ n. IsHeld n h) (given_nodes given) → Keeps h (keep var given)
 keeps_kept (Some var) (Node n) held = keeps_variable var n held.0
 keeps_kept (Some var) Nothing held = record { at = λ s o. o }
 keeps_kept (Some var) (Answers a) held = record { at = λ s o. o }
@@ -226,11 +228,11 @@ module _ (again : Again) (keeps : KeepsLaw again) where
       (λ c. gives_seq (gives_keeps (gives_page (λ vs l. define_gives name class c.facts base)))
       (keeps_gives (keeps_class class (λ c. record c { frozen = true })))))
 
-  on_page_gives : (deed : PageDeed) (h : List Hold) → All (λ n. IsHeld n h) (page_deed_nodes deed) → Gives given_nodes h (on_page (page_steps deed))
+  on_page_gives : (deed : PageDeed) (h : List Hold) → Each (λ n. IsHeld n h) (page_deed_nodes deed) → Gives given_nodes h (on_page (page_steps deed))
   on_page_gives deed h held = gives_page (λ vs l. page_gives deed (all_under vs (page_deed_nodes deed) h held))
 
   -- a case for each deed
-  deed_gives : (deed : Deed) (h : List Hold) → All (λ n. IsHeld n h) (deed_nodes deed) → Gives given_nodes h (perform_deed again deed)
+  deed_gives : (deed : Deed) (h : List Hold) → Each (λ n. IsHeld n h) (deed_nodes deed) → Gives given_nodes h (perform_deed again deed)
   deed_gives (deeds.Create local is document) h held =
       queue_gives h (gives_node (create_named again local is document)) (λ m. node_gives (create_gives local is document m h))
   deed_gives (deeds.New class) h held = node_gives (construct_gives again keeps class h)
@@ -247,7 +249,7 @@ module _ (again : Again) (keeps : KeepsLaw again) where
   deed_gives (deeds.Ask word n name) h held = record { at = λ s k. (k, tt) }
   deed_gives (deeds.Let var n) h held = nothing_gives (keeps_variable var n held.0)
 
-  pub operate_gives : (this : Option ℕ) (op : Op) (h : List Hold) → All (λ n. IsHeld n h) (maybe this) → Gives given_nodes h (operate again this op)
+  pub operate_gives : (this : Option ℕ) (op : Op) (h : List Hold) → Each (λ n. IsHeld n h) (option_to_list this) → Gives given_nodes h (operate again this op)
   operate_gives this op h held =
       gives_bind {nodes = deed_nodes}
       (gives_look this (λ v. resolve v op) (λ s k. resolved (length s.page.elements) (view this s) op (λ operand. view_row h this operand s held k)))

@@ -2,6 +2,7 @@
 use Rattle.std.proofs.Common.{◌≡◌, ℕ, zero, suc, Bool, true, false, List, [], ◌∷◌, ◌++◌, length, map, Option, None, refl, sym, ap, ◌∙◌, inl, inr}
 use Rattle.std.specs.Prelude.{◌||◌, not, is_some, filter, if◌then◌else◌}
 use Rattle.std.specs.Str.{str_to_ascii_lowercase}
+use Rattle.std.specs.List.{AllByRecursion as Each}
 use Rattle.ce_base.specs.declared.fault.Fault.{Fault}
 use Rattle.ce_base.specs.declared.fault.Fault.TheVariants.{NotSupportedError, HierarchyRequestError, NotFoundError, InvalidCharacterError}
 use Rattle.element_names.specs.Names.{attr_name}
@@ -42,7 +43,6 @@ use Rattle.ce_algorithms.specs.Clone.{copy_node, copy_below, clone}
 use Rattle.ce_algorithms.specs.Define.{new_definition, with_defined, upgrade_candidates, define_name}
 use Rattle.ce_algorithms.specs.Perform.{upgrade_all, gives_nothing, gives_node, form_steps, internals_steps, page_steps}
 use Rattle.ce_algorithms.specs.Reset.{reset_control, reset_form}
-use Rattle.order_law.proofs.Model.Sound.{All}
 use Rattle.order_law.proofs.Model.Invariant.{Hold}
 use Rattle.order_law.proofs.Model.Hands.{with_hands, IsHeld}
 use Rattle.order_law.proofs.Model.Making.{defined_holds}
@@ -110,25 +110,25 @@ defined_at {q} {h} {l} d = record {
 
 -- nodes that pass a test, which only elements pass
 passing_elements : (test : ℕ → Bool) (f : Trees) (ns : List ℕ) → ((n : ℕ) → test n ≡ true → is_element (kind_at f n) ≡ true) →
-    All (λ n. is_element (kind_at f n) ≡ true) (filter test ns)
+    Each (λ n. is_element (kind_at f n) ≡ true) (filter test ns)
 passing_elements test f [] passes = tt
 passing_elements test f (n ∷ ns) passes = go (test n) refl (passing_elements test f ns passes)
   where
-    go : (t : Bool) → test n ≡ t → All (λ n. is_element (kind_at f n) ≡ true) (filter test ns)
-        → All (λ n. is_element (kind_at f n) ≡ true) (if t then n ∷ filter test ns else filter test ns)
+    go : (t : Bool) → test n ≡ t → Each (λ n. is_element (kind_at f n) ≡ true) (filter test ns)
+        → Each (λ n. is_element (kind_at f n) ≡ true) (if t then n ∷ filter test ns else filter test ns)
     go true is rest = (passes n is, rest)
     go false is rest = rest
 
 -- steps at each of some elements, while the forest stays
 elements_at : {h : List Hold} {l : List Event} (f : Trees) (step : ℕ → Step Work (Unit {0})) (ns : List ℕ)
-    → ((n : ℕ) → ((g : Trees) → f ≡ g → is_element (kind_at g n) ≡ true) → KeepsAt (λ g. f ≡ g) h l (step n)) → All (λ n. is_element (kind_at f n) ≡ true) ns →
+    → ((n : ℕ) → ((g : Trees) → f ≡ g → is_element (kind_at g n) ≡ true) → KeepsAt (λ g. f ≡ g) h l (step n)) → Each (λ n. is_element (kind_at f n) ≡ true) ns →
     KeepsAt (λ g. f ≡ g) h l (for_each ns step)
 elements_at f step [] keeps all = at_done
 elements_at f step (n ∷ ns) keeps all = at_seq (keeps n (λ g same. ap (λ t. is_element (kind_at t n)) (sym same) ∙ all.0)) (elements_at f step ns keeps all.1)
 
 -- so of elements that are found in the forest as it stands
 each_element_at : {h : List Hold} {l : List Event} (find : Trees → List ℕ) (step : ℕ → Step Work (Unit {0}))
-    → ((f : Trees) → All (λ n. is_element (kind_at f n) ≡ true) (find f))
+    → ((f : Trees) → Each (λ n. is_element (kind_at f n) ≡ true) (find f))
     → ((f : Trees) (n : ℕ) → ((g : Trees) → f ≡ g → is_element (kind_at g n) ≡ true) → KeepsAt (λ g. f ≡ g) h l (step n)) →
     KeepsAt Any h l (page.read_page (λ p. find p.forest) >>= (λ ns. for_each ns step))
 each_element_at {h} {l} find step finds keeps = record {
@@ -172,7 +172,7 @@ nothing_gives x = give_seq_at x (give_at Nothing tt)
 pub node_given : {h : List Hold} {l : List Event} {f : Step Work ℕ} → GivesAt one h l f → GivesAt given_nodes h l (gives_node f)
 node_given x = give_bind_at x (λ n. give_at (Node n) (inl refl, tt))
 
-pub page_gives : {h : List Hold} {l : List Event} (deed : PageDeed) → All (λ n. IsHeld n h) (page_deed_nodes deed) → GivesAt given_nodes h l (page_steps deed)
+pub page_gives : {h : List Hold} {l : List Event} (deed : PageDeed) → Each (λ n. IsHeld n h) (page_deed_nodes deed) → GivesAt given_nodes h l (page_steps deed)
 page_gives (page_deeds.MakeText chars document) held = node_given (text_gives chars document)
 page_gives (page_deeds.Shadow host) held = node_given (attach_gives host)
 page_gives (page_deeds.Insert parent n before) held = nothing_gives (insert_gives parent n before held.0 held.1.0)

@@ -17,12 +17,14 @@ use Rattle.std.specs.Prelude.{is_some}
 use Rattle.order_law.specs.Clauses.{leads, is_callback_of, is_in_drain, has_called, begins_drain, ends_reaction, goes_on}
 use Rattle.order_law.specs.After.{started}
 use Rattle.order_law.specs.Reads.{around as outer_of}
-use Rattle.order_law.proofs.Model.Reading.{Reads, tested, reads_append, reads_one, told_at, each_map, each_without, each_found, first_of}
+use Rattle.order_law.proofs.Model.Reading.{Reads, tested, reads_append, reads_one, told_at, each_without, each_found, first_of}
 use Rattle.order_law.proofs.Model.Invariant.{Hold, InSteps, InDrain, InReaction, InUpgrade, InHand, brackets_of, fillings_of, Falling, IsPlaced, is_checkpoint}
-use Rattle.order_law.proofs.Model.Invariant.{has_any, told, Known, fits, Holds}
+use Rattle.order_law.proofs.Model.Invariant.{told, Known, fits, Holds}
 use Rattle.order_law.proofs.Model.Rows.{waits_same, waits_other}
 use Rattle.ce_base.proofs.Places.{each_number}
 use Rattle.order_law.proofs.Entries.{rising_without}
+use Rattle.ce_algorithms.specs.Create.{has_any}
+use Rattle.order_law.proofs.Model.Each.{each_map}
 
 pub falling_le : (l m : ℕ) (h : List Hold) → l ≤ m → Falling l h → Falling m h
 falling_le l m [] le f = tt

@@ -1,5 +1,5 @@
 -- The book, event by event.
-use Rattle.std.proofs.Common.{◌≡◌, ℕ, ◌<◌, Bool, true, false, List, [], ◌∷◌, ◌++◌, Option, Some, None, refl, sym, ap, ◌∙◌, subst, arith}
+use Rattle.std.proofs.Common.{◌≡◌, ℕ, ◌<◌, Bool, true, false, List, [], ◌∷◌, ◌++◌, Option, Some, None, refl, sym, ap, ◌∙◌, subst, arith, inl, inr}
 use Rattle.std.specs.Prelude.{◌==◌, ◌&&◌, not, if◌then◌else◌}
 use Rattle.std.proofs.lemmas.Bool.{and_parts, eqb-true, eq-eqb}
 use Rattle.rule_tokens.specs.declared.callback.CallOrUpgrade.{CallOrUpgrade}
@@ -15,8 +15,9 @@ use Rattle.order_law.specs.Lines.{is_reply}
 use Rattle.std.specs.Prelude.{is_some}
 use Rattle.order_law.specs.Reads.{around as outer_of}
 use Rattle.std.specs.Cmp.Derive.{both_true}
+use Rattle.std.specs.List.{AllByRecursion as Each}
 use Rattle.order_law.proofs.Fronts.{left_true, right_true}
-use Rattle.order_law.proofs.Entries.{Rising, rising_without}
+use Rattle.order_law.proofs.Entries.{IsAmong, Rising, rising_without}
 
 -- a drop goes on
 abbrev pub drops_together : Book → Event → Bool
@@ -108,10 +109,10 @@ abbrev pub told_at : ℕ → List Entry → List (ℕ × CallOrUpgrade)
 told_at n [] = []
 told_at n (w ∷ ws) = add_if (w.element == n) (w.number, w.what) (told_at n ws)
 
--- of all entries
-abbrev pub Each : (Entry → Type 0) → List Entry → Type 0
-Each P [] = Unit {0}
-Each P (w ∷ ws) = P w × Each P ws
+pub each_among : (P : Entry → Type 0) (ws : List Entry) → Each P ws → (w : Entry) → IsAmong w ws → P w
+each_among P (v ∷ ws) h w (inl i) = subst P i h.0
+each_among P (v ∷ ws) h w (inr i) = each_among P ws h.1 w i
+each_among P [] h w i = absurd i
 
 pub each_without : (P : Entry → Type 0) (r : ℕ) (ws : List Entry) → Each P ws → Each P (without r ws)
 each_without P r [] h = tt
@@ -120,14 +121,6 @@ each_without P r (w ∷ ws) h = go (w.number == r) (each_without P r ws h.1)
     go : (t : Bool) → Each P (without r ws) → Each P (if t then ws else w ∷ without r ws)
     go true k = h.1
     go false k = (h.0, k)
-
-pub each_map : (P Q : Entry → Type 0) (ws : List Entry) → ((w : Entry) → P w → Q w) → Each P ws → Each Q ws
-each_map P Q [] f h = tt
-each_map P Q (w ∷ ws) f h = (f w h.0, each_map P Q ws f h.1)
-
-pub each_append : (P : Entry → Type 0) (ws vs : List Entry) → Each P ws → Each P vs → Each P (ws ++ vs)
-each_append P [] vs h k = k
-each_append P (w ∷ ws) vs h k = (h.0, each_append P ws vs h.1 k)
 
 -- the first number that waits at an element
 pub record First (n r : ℕ) (k : CallOrUpgrade) (xs : List (ℕ × CallOrUpgrade)) (low : ℕ) (ws : List Entry) : Type 0 where

@@ -1,9 +1,10 @@
 -- Sound pages: each node of the forest has its row, and each row its node.
 use Rattle.std.proofs.Common.{◌≡◌, ℕ, zero, suc, ◌+◌, ◌<◌, ◌≤◌, true, List, [], ◌∷◌, Option, Some, None, refl, sym, ap, ◌∙◌, subst, arith, inl, inr}
 use Rattle.std.proofs.Common.{if◌then◌else◌, ◌==◌}
-use Rattle.std.specs.Prelude.{slice_get, slice_set}
+use Rattle.std.specs.Prelude.{slice_get}
 use Rattle.std.proofs.lemmas.Bool.Decides.{nat_tests}
 use Rattle.std.proofs.lemmas.Bool.{cases_lt, cases_eq}
+use Rattle.std.specs.List.{AllByRecursion as Each}
 use Rattle.node_trees.specs.declared.kind.NodeKind.{NodeKind}
 use Rattle.node_trees.specs.Facts.{is_element}
 use Rattle.node_trees.specs.Trees.{Trees}
@@ -12,29 +13,12 @@ use Rattle.node_trees.specs.Spots.{kind_at}
 use Rattle.construction.specs.Stacks.{or_no_entries, stack_of, with_stack, grown, pushed, popped, without_last}
 use Rattle.order_law.proofs.Model.Forests.{Alike, HasMore, one_element, element_there, element_counts}
 use Rattle.node_trees.proofs.Weights.{IsApart}
+use Rattle.order_law.proofs.Model.Each.{each_map, each_set, each_get}
 
 -- the number of a node
 pub record IsRow (rows n : ℕ) : Type 0 where
   pub low : 0 < n
   pub high : n ≤ rows
-
-abbrev pub All : {A : Type 0} → (A → Type 0) → List A → Type 0
-All P [] = Unit {0}
-All P (x ∷ xs) = P x × All P xs
-
-pub all_map : {A : Type 0} (P Q : A → Type 0) (xs : List A) → ((x : A) → P x → Q x) → All P xs → All Q xs
-all_map P Q [] f all = tt
-all_map P Q (x ∷ xs) f all = (f x all.0, all_map P Q xs f all.1)
-
-all_set : {A : Type 0} (P : A → Type 0) (xs : List A) (i : ℕ) (y : A) → P y → All P xs → All P (slice_set xs i y)
-all_set P [] i y new all = tt
-all_set P (x ∷ xs) zero y new all = (new, all.1)
-all_set P (x ∷ xs) (suc i) y new all = (all.0, all_set P xs i y new all.1)
-
-pub all_get : {A : Type 0} (P : A → Type 0) (xs : List A) (i : ℕ) (x : A) → All P xs → slice_get xs i ≡ Some x → P x
-all_get P [] i x all is = absurd (let e : None ≡ Some x = is in cc)
-all_get P (y ∷ xs) zero x all is = subst P (let e : Some y ≡ Some x = is in cc) all.0
-all_get P (y ∷ xs) (suc i) x all is = all_get P xs i x all.1 is
 
 -- an entry of a construction stack: a node, or the marker
 abbrev pub IsEntry : ℕ → Option ℕ → Type 0
@@ -51,7 +35,7 @@ pub record Sound (forest : Trees) (rows : ℕ) (stacks : List (List (Option ℕ)
   pub once : (n : ℕ) → IsRow rows n → times n forest ≡ 1
   pub only : (n : ℕ) → 0 < times n forest → IsRow rows n
   pub first : weight (λ m x. one_element 1 m x.kind) forest ≡ 0
-  pub stacked : All (All (IsEntry rows)) stacks
+  pub stacked : Each (Each (IsEntry rows)) stacks
 
 pub sound_apart : (f : Trees) (rows : ℕ) (stacks : List (List (Option ℕ))) → Sound f rows stacks → IsApart f
 sound_apart f rows stacks k n = elim (cases_lt 0 (times n f)) [
@@ -78,7 +62,7 @@ sound_more f g rows stacks kind more k = record {
   only = λ n there. only n there (more (λ m kind. if m == n then 1 else 0));
   first = let e = more (one_element 1) in let s = k.size in let p = k.some in let o = k.first in let z : one_element 1 (size f + 1) kind ≡ 0 =
       grind (arith, nat_tests) in omega (arith, e, o, z);
-  stacked = all_map (All (IsEntry rows)) (All (IsEntry (rows + 1))) stacks (λ es. all_map (IsEntry rows) (IsEntry (rows + 1)) es entry) k.stacked;
+  stacked = each_map (Each (IsEntry rows)) (Each (IsEntry (rows + 1))) stacks (λ es. each_map (IsEntry rows) (IsEntry (rows + 1)) es entry) k.stacked;
 }
   where
     entry : (e : Option ℕ) → IsEntry rows e → IsEntry (rows + 1) e
@@ -108,37 +92,37 @@ pub sound_rows : (f : Trees) (rows others : ℕ) (stacks : List (List (Option �
 sound_rows f rows others stacks e k = subst (λ n. Sound f n stacks) e k
 
 -- with the construction stacks given anew
-pub sound_stacks : (f : Trees) (rows : ℕ) (stacks others : List (List (Option ℕ))) → All (All (IsEntry rows)) others → Sound f rows stacks → Sound f rows others
+pub sound_stacks : (f : Trees) (rows : ℕ) (stacks others : List (List (Option ℕ))) → Each (Each (IsEntry rows)) others → Sound f rows stacks → Sound f rows others
 sound_stacks f rows stacks others all k = record { size = k.size; some = k.some; once = k.once; only = k.only; first = k.first; stacked = all }
 
 -- construction stacks: each entry stays a node or the marker
 
-pub stack_entries : (rows : ℕ) (stacks : List (List (Option ℕ))) (d : ℕ) → All (All (IsEntry rows)) stacks → All (IsEntry rows) (stack_of d stacks)
+pub stack_entries : (rows : ℕ) (stacks : List (List (Option ℕ))) (d : ℕ) → Each (Each (IsEntry rows)) stacks → Each (IsEntry rows) (stack_of d stacks)
 stack_entries rows stacks d all = go (slice_get stacks d) refl
   where
-    go : (o : Option (List (Option ℕ))) → slice_get stacks d ≡ o → All (IsEntry rows) (or_no_entries o)
+    go : (o : Option (List (Option ℕ))) → slice_get stacks d ≡ o → Each (IsEntry rows) (or_no_entries o)
     go None is = tt
-    go (Some es) is = all_get (All (IsEntry rows)) stacks d es all is
+    go (Some es) is = each_get (Each (IsEntry rows)) stacks d es all is
 
-pub set_entries : (rows d : ℕ) (entries : List (Option ℕ)) (stacks : List (List (Option ℕ))) → All (IsEntry rows) entries →
-    All (All (IsEntry rows)) stacks → All (All (IsEntry rows)) (with_stack d entries stacks)
-set_entries rows d entries stacks new all = all_set (All (IsEntry rows)) stacks d entries new all
+pub set_entries : (rows d : ℕ) (entries : List (Option ℕ)) (stacks : List (List (Option ℕ))) → Each (IsEntry rows) entries →
+    Each (Each (IsEntry rows)) stacks → Each (Each (IsEntry rows)) (with_stack d entries stacks)
+set_entries rows d entries stacks new all = each_set (Each (IsEntry rows)) stacks d entries new all
 
-grown_entries : (rows count : ℕ) (stacks : List (List (Option ℕ))) → All (All (IsEntry rows)) stacks → All (All (IsEntry rows)) (grown count stacks)
+grown_entries : (rows count : ℕ) (stacks : List (List (Option ℕ))) → Each (Each (IsEntry rows)) stacks → Each (Each (IsEntry rows)) (grown count stacks)
 grown_entries rows zero stacks all = all
 grown_entries rows (suc count) [] all = (tt, grown_entries rows count [] tt)
 grown_entries rows (suc count) (entries ∷ stacks) all = (all.0, grown_entries rows count stacks all.1)
 
-pub pushed_entries : (rows d n : ℕ) (stacks : List (List (Option ℕ))) → IsRow rows n → All (All (IsEntry rows)) stacks →
-    All (All (IsEntry rows)) (pushed d n stacks)
+pub pushed_entries : (rows d n : ℕ) (stacks : List (List (Option ℕ))) → IsRow rows n → Each (Each (IsEntry rows)) stacks →
+    Each (Each (IsEntry rows)) (pushed d n stacks)
 pushed_entries rows d n stacks row all =
     set_entries rows d (Some n ∷ stack_of d stacks) (grown (d + 1) stacks) (row, stack_entries rows stacks d all) (grown_entries rows (d + 1) stacks all)
 
-pub popped_entries : (rows d : ℕ) (stacks : List (List (Option ℕ))) → All (All (IsEntry rows)) stacks → All (All (IsEntry rows)) (popped d stacks)
+pub popped_entries : (rows d : ℕ) (stacks : List (List (Option ℕ))) → Each (Each (IsEntry rows)) stacks → Each (Each (IsEntry rows)) (popped d stacks)
 popped_entries rows d stacks all =
     set_entries rows d (without_last (stack_of d stacks)) stacks (fewer (stack_of d stacks) (stack_entries rows stacks d all)) all
   where
-    fewer : (entries : List (Option ℕ)) → All (IsEntry rows) entries → All (IsEntry rows) (without_last entries)
+    fewer : (entries : List (Option ℕ)) → Each (IsEntry rows) entries → Each (IsEntry rows) (without_last entries)
     fewer [] entries = tt
     fewer (e ∷ es) entries = entries.1
 

@@ -23,12 +23,13 @@ use Rattle.ce_algorithms.specs.Construction.{with_stacks}
 use Rattle.order_law.specs.Law.{Lawful}
 use Rattle.node_trees.specs.Trees.{Trees}
 use Rattle.order_law.proofs.Model.Forests.{Alike}
-use Rattle.order_law.proofs.Model.Sound.{All, IsEntry, Sound, sound_apart, sound_alike, sound_stacks}
+use Rattle.order_law.proofs.Model.Sound.{IsEntry, Sound, sound_apart, sound_alike, sound_stacks}
 use Rattle.order_law.proofs.Model.Invariant.{Hold, Known, fits, nodes_of, Holds, HoldsIn, After}
 use Rattle.order_law.proofs.Model.Hands.{with_hands, take_hands, drop_hands, hand_rows}
 use Rattle.order_law.proofs.Model.Enqueuing.{enqueued_holds}
 use Rattle.order_law.proofs.Model.Ending.{spent_lawful}
 use Rattle.std.proofs.lemmas.Bool.{and_parts}
+use Rattle.std.specs.List.{AllByRecursion as Each}
 use Rattle.node_trees.proofs.Weights.{IsApart}
 
 -- pages at work, behind a log, with what is known of the forest
@@ -241,7 +242,7 @@ at_where_forest {q} {h} {l} {f} test k = record { at = λ w o. go w o (test w.pa
 
 -- the construction stacks are given anew
 pub stacks_hold : (q : Trees → Type 0) (h : List Hold) (l : List Event) (f : List (List (Option ℕ)) → List (List (Option ℕ))) (w : Work) →
-    All (All (IsEntry (length w.page.elements))) (f w.page.stacks) → HoldsAt q h l w → HoldsAt q h l (record w { page = with_stacks f w.page })
+    Each (Each (IsEntry (length w.page.elements))) (f w.page.stacks) → HoldsAt q h l w → HoldsAt q h l (record w { page = with_stacks f w.page })
 stacks_hold q h l f w rows o = record {
   holds = same_page h (l ++ map event_of w.page.notes) w.page (with_stacks f w.page) refl refl refl o.holds;
   sound = sound_stacks w.page.forest (length w.page.elements) w.page.stacks (f w.page.stacks) rows o.sound;
@@ -249,7 +250,7 @@ stacks_hold q h l f w rows o = record {
 }
 
 pub at_stacks : {q : Trees → Type 0} {h : List Hold} {l : List Event} (f : List (List (Option ℕ)) → List (List (Option ℕ)))
-    → ((w : Work) → HoldsAt q h l w → All (All (IsEntry (length w.page.elements))) (f w.page.stacks)) → KeepsAt q h l (page.change_page (with_stacks f))
+    → ((w : Work) → HoldsAt q h l w → Each (Each (IsEntry (length w.page.elements))) (f w.page.stacks)) → KeepsAt q h l (page.change_page (with_stacks f))
 at_stacks {q} {h} {l} f rows = record { at = λ w o. stacks_hold q h l f w (rows w o) o }
 
 -- a change of the forest that keeps its nodes

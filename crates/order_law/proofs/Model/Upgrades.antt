@@ -18,17 +18,19 @@ use Rattle.ce_algorithms.specs.State.{State, log, logged}
 use Rattle.ce_algorithms.specs.Upgrade.{is_upgradable, upgrade_threw}
 use Rattle.order_law.specs.Book.{Entry, Upgrading, Book, blank}
 use Rattle.std.proofs.lemmas.List.{length-set}
+use Rattle.std.specs.List.{AllByRecursion as Each}
 use Rattle.order_law.proofs.Model.Sound.{IsRow}
 use Rattle.order_law.specs.Reads.{is_one_of, is_callback}
 use Rattle.order_law.specs.Clauses.{may_upgrade, goes_on, ends_upgrade}
 use Rattle.order_law.specs.After.{after}
 use Rattle.order_law.specs.Reads.{around as outer_of}
-use Rattle.order_law.proofs.Model.Reading.{Reads, tested, reads_append, reads_one, told_at, Each, each_map, without_all, rising_without_all, each_without_all}
+use Rattle.order_law.proofs.Model.Reading.{Reads, tested, reads_append, reads_one, told_at, without_all, rising_without_all, each_without_all}
 use Rattle.order_law.proofs.Model.Reading.{throw_lines, reads_throw, add_if}
 use Rattle.order_law.proofs.Model.Invariant.{Hold, InSteps, InDrain, InReaction, InUpgrade, InHand, brackets_of, IsPlaced, told, SaysQueues, Known, fits}
 use Rattle.order_law.proofs.Model.Invariant.{Ongoing, SaysElements, Holds, HoldsRest, rest_rows, HoldsIn, After}
 use Rattle.order_law.proofs.Model.Rows.{waits_same, waits_other, row_same, row_other, row_twice, known_row}
 use Rattle.ce_base.proofs.Places.{each_number}
+use Rattle.order_law.proofs.Model.Each.{each_map}
 
 -- a row of elements given anew
 

@@ -2,6 +2,7 @@
 use Rattle.std.proofs.Common.{◌≡◌, ℕ, Bool, true, false, List, ◌∷◌, ◌++◌, length, map, Option, Some, None, refl, sym, ap, ◌∙◌, subst, append-nil, inl}
 use Rattle.std.specs.Prelude.{◌-◌}
 use Rattle.std.proofs.lemmas.List.{length-set}
+use Rattle.std.specs.List.{AllByRecursion as Each}
 use Rattle.ce_base.specs.declared.custom_state.CustomState.TheVariants.{Failed, Custom}
 use Rattle.reaction_queue.specs.declared.reaction.Reaction.TheVariants.{Attribute, Connected, FormAssociated, FormDisabled}
 use Rattle.ce_events.specs.declared.event.Event.{Event}
@@ -18,7 +19,7 @@ use Rattle.ce_algorithms.specs.State.{State, log, logged, on_page, change_page, 
 use Rattle.ce_algorithms.specs.Calls.{Again}
 use Rattle.ce_algorithms.specs.Upgrade.{is_upgradable, enqueue_attribute, begin_upgrade, construct_for, upgrade_threw, upgrade_now, upgrade}
 use Rattle.node_trees.specs.Spots.{facts_at}
-use Rattle.order_law.proofs.Model.Sound.{All, IsRow, sound_rows, pushed_entries, popped_entries}
+use Rattle.order_law.proofs.Model.Sound.{IsRow, sound_rows, pushed_entries, popped_entries}
 use Rattle.order_law.proofs.Model.Invariant.{Hold, InUpgrade, Known, nodes_of, Holds, HoldsIn, After}
 use Rattle.order_law.proofs.Model.Hands.{IsHeld, held_row, held_under, take_hands}
 use Rattle.order_law.proofs.Model.Upgrades.{MayUpgrade, up_holds, done_holds, rest_row, threw_then}
@@ -70,7 +71,7 @@ upgrade_now_after again n d h s known may upgradable constructs k = go (on_page 
     begun = back g t (begin_upgrade n d (work_of t))
         ((fill_at n d (facts_at s.page.forest n).attributes (held_under (nodes_of s.variables) n g (inl refl))).at w (record {
           holds = take_hands (nodes_of s.variables) g (t.log ++ map event_of s.page.notes) w.page
-              (subst (λ m. All (IsRow m) (nodes_of s.variables)) rows k.rest.named)
+              (subst (λ m. Each (IsRow m) (nodes_of s.variables)) rows k.rest.named)
               (subst (λ m. Holds g m w.page) (sym (ap (λ ns. t.log ++ map event_of ns) k.notes ∙ append-nil t.log))
               (up_holds n d h s.log s.page known may upgradable k.holds));
           sound = sound_rows s.page.forest (length s.page.elements) (length w.page.elements) s.page.stacks rows k.rest.sound;

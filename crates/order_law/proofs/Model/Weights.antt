@@ -1,13 +1,14 @@
 -- A node's tree in a forest: how often numbers stand in it, what a cut leaves outside of it, and the paths into it.
-use Rattle.std.proofs.Common.{◌≡◌, ◌≢◌, ℕ, ◌+◌, ◌<◌, ◌≤◌, Bool, true, false, List, [], ◌∷◌, ◌++◌, refl, arith, inl, inr, if◌then◌else◌, ◌==◌}
+use Rattle.std.proofs.Common.{◌≡◌, ℕ, ◌+◌, ◌<◌, ◌≤◌, true, false, List, [], ◌∷◌, ◌++◌, refl, arith, inl, inr, if◌then◌else◌, ◌==◌}
 use Rattle.std.specs.Prelude.{◌||◌}
 use Rattle.std.proofs.lemmas.Bool.Decides.{nat_tests}
 use Rattle.std.proofs.lemmas.Bool.{cases_eq, cases_lt}
+use Rattle.ce_algorithms.specs.Create.{has_any}
 use Rattle.node_trees.specs.Trees.{Trees, none, tree, join, tree_of, without, place, cut}
 use Rattle.node_trees.specs.Nodes.{times}
 use Rattle.node_trees.specs.Paths.{path, under, is_among}
 use Rattle.node_trees.proofs.Weights.{IsApart, weight-join, weight-without}
-use Rattle.node_trees.proofs.Absent.{without-absent, is_among-append}
+use Rattle.node_trees.proofs.Absent.{without-absent, without-join, is_among-append, is_among-under}
 
 -- a node's tree has no more than there is
 fewer : (i n : ℕ) (f : Trees) → times i (tree_of n f) ≤ times i f
@@ -29,14 +30,6 @@ taken_out : (n : ℕ) (f : Trees) → times n f ≤ 1 → times n (without n f) 
 taken_out n none most = refl
 taken_out n (tree m x s k r) most = grind (arith, nat_tests, taken_out n s (omega arith), taken_out n k (omega arith), taken_out n r (omega arith))
 
-without_joined : (n : ℕ) (t g : Trees) → times n t + times n g ≤ 1 → without n (join t g) ≡ join (without n t) (without n g)
-without_joined n none g most = refl
-without_joined n (tree m x s k r) g most =
-    elim (cases_eq m n) [
-      | inl e ↦ let gone = without-absent n g (grind (arith, nat_tests)) in grind (arith, nat_tests, gone)
-      | inr ne ↦ let rest = without_joined n r g (omega arith) in grind (arith, nat_tests, rest)
-    ]
-
 none_left : (n : ℕ) (f : Trees) → times n f ≤ 1 → without n (tree_of n f) ≡ none
 none_left n none most = refl
 none_left n (tree m x s k r) most =
@@ -50,15 +43,15 @@ none_left n (tree m x s k r) most =
           let in_k = fewer n n k in
           let in_r = fewer n n r in
           let all = weight-join (λ j y. if j == n then 1 else 0) (tree_of n k) (tree_of n r) in
-          let inner = without_joined n (tree_of n k) (tree_of n r) (omega (arith, in_k, in_r, most)) in
-          let outer = without_joined n (tree_of n s) (join (tree_of n k) (tree_of n r)) (omega (arith, in_s, in_k, in_r, all, most)) in
+          let inner = without-join n (tree_of n k) (tree_of n r) (omega (arith, in_k, in_r, most)) in
+          let outer = without-join n (tree_of n s) (join (tree_of n k) (tree_of n r)) (omega (arith, in_s, in_k, in_r, all, most)) in
           grind (arith, nat_tests, a, b, c, inner, outer)
     ]
 
 without_placed : (n : ℕ) (t f : Trees) → times n t ≤ 1 → without n t ≡ none → times n f ≡ 0 → without n (place n t f) ≡ f
 without_placed n t none most empty z = empty
 without_placed n t (tree m x s k r) most empty z =
-    let beside = without_joined n t (tree m x s k r) (omega (arith, most, z)) in
+    let beside = without-join n t (tree m x s k r) (omega (arith, most, z)) in
     let same = without-absent n (tree m x s k r) z in
     let in_s = without-absent n s (omega arith) in
     let in_k = without-absent n k (omega arith) in
@@ -73,35 +66,27 @@ without_cut f n apart =
 
 -- what stands in the tree of a node has the node on its path
 
-abbrev is_path : List ℕ → Bool
-is_path [] = false
-is_path (n ∷ ns) = true
+any_more : (xs ys : List ℕ) → has_any (xs ++ ys) ≡ (has_any xs || has_any ys)
+any_more [] ys = refl
+any_more (x ∷ xs) ys = refl
 
-is_path_more : (xs ys : List ℕ) → is_path (xs ++ ys) ≡ (is_path xs || is_path ys)
-is_path_more [] ys = refl
-is_path_more (x ∷ xs) ys = refl
+any_under : (m : ℕ) (xs : List ℕ) → has_any (under m xs) ≡ has_any xs
+any_under m [] = refl
+any_under m (x ∷ xs) = refl
 
-is_path_under : (m : ℕ) (xs : List ℕ) → is_path (under m xs) ≡ is_path xs
-is_path_under m [] = refl
-is_path_under m (x ∷ xs) = refl
-
-among_under : (n m : ℕ) (xs : List ℕ) → m ≢ n → is_among n (under m xs) ≡ is_among n xs
-among_under n m [] ne = refl
-among_under n m (x ∷ xs) ne = grind (arith, nat_tests)
-
-first_under : (n m : ℕ) (xs : List ℕ) → m ≡ n → is_path xs ≡ true → is_among n (under m xs) ≡ true
+first_under : (n m : ℕ) (xs : List ℕ) → m ≡ n → has_any xs ≡ true → is_among n (under m xs) ≡ true
 first_under n m [] e h = absurd (let x : false ≡ true = h in cc)
 first_under n m (x ∷ xs) e h = grind (arith, nat_tests)
 
-has_path : (i : ℕ) (f : Trees) → 0 < times i f → is_path (path i f) ≡ true
+has_path : (i : ℕ) (f : Trees) → 0 < times i f → has_any (path i f) ≡ true
 has_path i none there = absurd (omega arith)
 has_path i (tree m x s k r) there =
-    let in_s : 0 < times i s → is_path (path i s) ≡ true = λ h. has_path i s h in
-    let in_k : 0 < times i k → is_path (path i k) ≡ true = λ h. has_path i k h in
-    let in_r : 0 < times i r → is_path (path i r) ≡ true = λ h. has_path i r h in
-    let all = is_path_more (under m (path i s ++ path i k)) (path i r) in
-    let inner = is_path_under m (path i s ++ path i k) in
-    let both = is_path_more (path i s) (path i k) in
+    let in_s : 0 < times i s → has_any (path i s) ≡ true = λ h. has_path i s h in
+    let in_k : 0 < times i k → has_any (path i k) ≡ true = λ h. has_path i k h in
+    let in_r : 0 < times i r → has_any (path i r) ≡ true = λ h. has_path i r h in
+    let all = any_more (under m (path i s ++ path i k)) (path i r) in
+    let inner = any_under m (path i s ++ path i k) in
+    let both = any_more (path i s) (path i k) in
     elim (cases_eq m i) [
       | inl e ↦ grind (arith, nat_tests)
       | inr ne ↦ elim (cases_lt 0 (times i s)) [
@@ -129,15 +114,15 @@ on_path n i (tree m x s k r) apart there =
       | inl e ↦ elim (cases_eq m i) [
         | inl same ↦ grind (arith, nat_tests)
         | inr other ↦
-            let below : is_path (path i s ++ path i k) ≡ true = elim (cases_lt 0 (times i s)) [
-              | inl a ↦ let h = has_path i s a in let more = is_path_more (path i s) (path i k) in grind (arith, h, more)
-              | inr b ↦ let h = has_path i k (grind (arith, nat_tests)) in let more = is_path_more (path i s) (path i k) in grind (arith, h, more)
+            let below : has_any (path i s ++ path i k) ≡ true = elim (cases_lt 0 (times i s)) [
+              | inl a ↦ let h = has_path i s a in let more = any_more (path i s) (path i k) in grind (arith, h, more)
+              | inr b ↦ let h = has_path i k (grind (arith, nat_tests)) in let more = any_more (path i s) (path i k) in grind (arith, h, more)
             ] in
             let first = first_under n m (path i s ++ path i k) e below in
             grind (arith, nat_tests, first, all)
       ]
       | inr ne ↦
-          let inner = among_under n m (path i s ++ path i k) ne in
+          let inner = is_among-under n m (path i s ++ path i k) ne in
           let parts = weight-join (λ j y. if j == i then 1 else 0) (tree_of n s) (join (tree_of n k) (tree_of n r)) in
           let others = weight-join (λ j y. if j == i then 1 else 0) (tree_of n k) (tree_of n r) in
           let sum : times i (tree_of n (tree m x s k r)) ≡ times i (tree_of n s) + (times i (tree_of n k) + times i (tree_of n r)) =

@@ -2,7 +2,7 @@ use Rattle.std.proofs.Common.{ap, arith, rules, sym, ◌∙◌}
 use Rattle.std.specs.Prelude.{filter}
 use Rattle.std.proofs.lemmas.List.{take_all}
 use Rattle.std.proofs.lemmas.Option.{slice_get-get_or}
-use Rattle.form_controls.proofs.Listed.{filter-next}
+use Rattle.ce_base.proofs.Filtered.{filter-next}
 use Rattle.form_owner.specs.Reading.{is_owned_in}
 use Rattle.form_owner.proofs.controls.owned_among.Goals as goal
 

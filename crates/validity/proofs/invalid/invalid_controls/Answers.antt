@@ -1,7 +1,7 @@
 use Rattle.std.proofs.Common.{length, refl}
 use Rattle.std.proofs.lemmas.Option.{slice_get_read}
 use Rattle.form_controls.specs.Validity.{is_invalid}
-use Rattle.form_controls.proofs.Listed.{filter-next}
+use Rattle.ce_base.proofs.Filtered.{filter-next}
 use Rattle.validity.proofs.invalid.invalid_controls.Goals as goal
 
 pub loop-n-preserved : goal.loop-n-preserved

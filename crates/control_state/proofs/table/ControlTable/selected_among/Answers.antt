@@ -1,5 +1,5 @@
 use Rattle.form_controls.specs.Options.{is_selected}
-use Rattle.form_controls.proofs.Listed.{filter-next}
+use Rattle.ce_base.proofs.Filtered.{filter-next}
 use Rattle.control_state.proofs.table.ControlTable.selected_among.Goals as goal
 
 pub loop-i-preserved : goal.loop-i-preserved

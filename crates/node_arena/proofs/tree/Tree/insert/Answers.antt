@@ -1,9 +1,10 @@
 use Rattle.std.proofs.Common.{refl, sym, ◌∙◌}
 use Rattle.tree_laws.proofs.Allowed.{is_sibling}
 use Rattle.tree_laws.proofs.Connected.{connected-moved}
+use Rattle.tree_laws.proofs.Sizes.{node-still}
 use Rattle.node_arena.specs.Seen.{seen_fact, seen_is}
 use Rattle.node_arena.proofs.Calls.{written, in_slice, in_slice_or_none, inserted, inserted_covers, inserted_size, inserted_kinds, inserted_spots}
-use Rattle.node_arena.proofs.Calls.{inserted_apart, inserted_moved, inserted_up, still_node}
+use Rattle.node_arena.proofs.Calls.{inserted_apart, inserted_moved, inserted_up}
 use Rattle.node_arena.proofs.MarkLemmas.{hold_none, hold_moved, hold_same}
 use Rattle.node_arena.proofs.tree.Tree.insert.Goals as goal
 
@@ -78,8 +79,8 @@ noted-noted-requires c =
     (seen_fact _ _ _ c.self.view_is) c.requires.parent c.requires.node c.requires.may c.requires.free c.child_before-previous.result _ _ _
     c.deref_mut.ensures.value (written _ _ _ _ c.deref_mut.ensures.value c.self.inside.nodes.ok.0 c.join.auto.nodes) c.join.ensures
     c.child_before-previous.ensures.child) in
-    still_node _ _ _ (inserted_size _ c.args.self.now c.args.parent c.args.node c.args.before
-    (seen_fact _ _ _ c.self.view_is) c.requires.parent c.requires.node c.requires.may c.requires.free _ e) c.requires.node
+    node-still _ _ (sym (inserted_size _ c.args.self.now c.args.parent c.args.node c.args.before
+    (seen_fact _ _ _ c.self.view_is) c.requires.parent c.requires.node c.requires.may c.requires.free _ e)) _ c.requires.node
 
 pub invariant_of-self-2 : goal.invariant_of-self-2
 invariant_of-self-2 c =
@@ -90,8 +91,8 @@ invariant_of-self-2 c =
     let e = seen_is _ _ _ fact in
     let moved = inserted_moved _ c.args.self.now c.args.parent c.args.node c.args.before
     (seen_fact _ _ _ c.self.view_is) c.requires.parent c.requires.node c.requires.may c.requires.free _ e in
-    let node = still_node _ _ _ (inserted_size _ c.args.self.now c.args.parent c.args.node c.args.before
-    (seen_fact _ _ _ c.self.view_is) c.requires.parent c.requires.node c.requires.may c.requires.free _ e) c.requires.node in
+    let node = node-still _ _ (sym (inserted_size _ c.args.self.now c.args.parent c.args.node c.args.before
+    (seen_fact _ _ _ c.self.view_is) c.requires.parent c.requires.node c.requires.may c.requires.free _ e)) _ c.requires.node in
     let up = inserted_up _ c.args.self.now c.args.parent c.args.node c.args.before
     (seen_fact _ _ _ c.self.view_is) c.requires.parent c.requires.node c.requires.may c.requires.free _ e in
     let here = connected-moved _ _ _ moved c.args.parent node up in (

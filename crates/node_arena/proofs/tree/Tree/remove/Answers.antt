@@ -3,9 +3,9 @@ use Rattle.node_trees.specs.Nodes.{size}
 use Rattle.tree_laws.proofs.AllowedCut.{may_insert-cut, may_insert-cut-itself}
 use Rattle.tree_laws.proofs.CutReads.{parent_at-cut-here}
 use Rattle.tree_laws.proofs.NodeKinds.{kinds-cut}
-use Rattle.tree_laws.proofs.Sizes.{size-cut}
+use Rattle.tree_laws.proofs.Sizes.{size-cut, node-still}
 use Rattle.node_arena.specs.Seen.{seen_fact, seen_is}
-use Rattle.node_arena.proofs.Calls.{written, in_slice, in_slice_or_none, its_parent, removed, removed_covers, removed_moved, removed_size, still_node}
+use Rattle.node_arena.proofs.Calls.{written, in_slice, in_slice_or_none, its_parent, removed, removed_covers, removed_moved, removed_size}
 use Rattle.node_arena.proofs.MarkLemmas.{hold_none, hold_moved, hold_same}
 use Rattle.node_arena.proofs.tree.Tree.remove.Goals as goal
 
@@ -46,20 +46,20 @@ invariant_of-self c = (
 )
 
 pub is_connected-is-requires : goal.is_connected-is-requires
-is_connected-is-requires c = still_node _ _ _
-    (removed_size _ _ _ (seen_fact _ _ _ c.self.view_is).tidy c.requires.node
+is_connected-is-requires c = node-still _ _
+    (sym (removed_size _ _ _ (seen_fact _ _ _ c.self.view_is).tidy c.requires.node
     (seen_is _ _ _ (removed _ c.args.self.now c.in-Some.parent c.args.node (seen_fact _ _ _ c.self.view_is) c.requires.node
     (sym c.node-kept.ensures.parent_is ∙ c.in-Some.is) _ _ _ _ _ c.deref_mut.ensures.value
     (written _ _ _ _ c.deref_mut.ensures.value c.self.inside.nodes.ok.0 c.part.auto.nodes) c.part.ensures c.node-kept.ensures.previous_is
-    c.node-kept.ensures.next_is))) c.requires.node
+    c.node-kept.ensures.next_is)))) _ c.requires.node
 
 pub noted-noted-requires : goal.noted-noted-requires
-noted-noted-requires c = still_node _ _ _
-    (removed_size _ _ _ (seen_fact _ _ _ c.self.view_is).tidy c.requires.node
+noted-noted-requires c = node-still _ _
+    (sym (removed_size _ _ _ (seen_fact _ _ _ c.self.view_is).tidy c.requires.node
     (seen_is _ _ _ (removed _ c.args.self.now c.in-Some.parent c.args.node (seen_fact _ _ _ c.self.view_is) c.requires.node
     (sym c.node-kept.ensures.parent_is ∙ c.in-Some.is) _ _ _ _ _ c.deref_mut.ensures.value
     (written _ _ _ _ c.deref_mut.ensures.value c.self.inside.nodes.ok.0 c.part.auto.nodes) c.part.ensures c.node-kept.ensures.previous_is
-    c.node-kept.ensures.next_is))) c.requires.node
+    c.node-kept.ensures.next_is)))) _ c.requires.node
 
 pub invariant_of-self-in-Some : goal.invariant_of-self-in-Some
 invariant_of-self-in-Some c = (
@@ -79,7 +79,7 @@ invariant_of-self-in-Some-2 c =
     let e = seen_is _ _ _ fact in
     let tidy = (seen_fact _ _ _ c.self.view_is).tidy in
     let moved = removed_moved _ _ _ tidy c.requires.node e (seen_fact _ _ _ refl).tidy in
-    let node = still_node _ _ _ (removed_size _ _ _ tidy c.requires.node e) c.requires.node in (
+    let node = node-still _ _ (sym (removed_size _ _ _ tidy c.requires.node e)) _ c.requires.node in (
       removed_covers _ c.args.self.now c.in-Some.parent c.args.node (seen_fact _ _ _ c.self.view_is) c.requires.node
           (sym c.node-kept.ensures.parent_is ∙ c.in-Some.is) _ _ _ _ _ c.deref_mut.ensures.value
           (written _ _ _ _ c.deref_mut.ensures.value c.self.inside.nodes.ok.0 c.part.auto.nodes) c.part.ensures _ c.node-kept.ensures.previous
