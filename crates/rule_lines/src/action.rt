@@ -92,4 +92,9 @@ impl Action {
             } => compared(alloc, *equal, left, right, then.copy(alloc)?),
         }
     }
+
+    /// Lets the action go. Who calls this has no drop of a whole action to prove.
+    pub fn close(self) {
+        drop(self);
+    }
 }

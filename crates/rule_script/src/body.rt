@@ -50,20 +50,10 @@ pub(crate) fn action_of(leaf: Leaf) -> Result<Action, LineRefused>
         Leaf::Throw(value) => Ok(Action::Throw(value)),
         Leaf::Bump => Ok(Action::Bump),
         Leaf::Keep(value) => Ok(Action::Keep(value)),
-        Leaf::Class(_)
-        | Leaf::Has { .. }
-        | Leaf::Observe { .. }
-        | Leaf::Associate(_)
-        | Leaf::DisableShadow(_)
-        | Leaf::DisableInternals(_)
-        | Leaf::Doc { .. }
-        | Leaf::UserEdit { .. }
-        | Leaf::UserCheck { .. }
-        | Leaf::UserChoose { .. }
-        | Leaf::UserReset { .. }
-        | Leaf::UserRestore { .. }
-        | Leaf::UserAutofill { .. }
-        | Leaf::UserPress { .. } => Err(LineRefused::Bad(Bad::Place)),
+        leaf => {
+            drop(leaf);
+            Err(LineRefused::Bad(Bad::Place))
+        }
     }
 }
 

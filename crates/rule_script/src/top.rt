@@ -136,11 +136,9 @@ pub(crate) fn at_top(leaf: Leaf) -> Result<Line, LineRefused>
         Leaf::Associate(class) => Ok(Line::Part(ClassPart::Associate(class))),
         Leaf::DisableShadow(class) => Ok(Line::Part(ClassPart::DisableShadow(class))),
         Leaf::DisableInternals(class) => Ok(Line::Part(ClassPart::DisableInternals(class))),
-        Leaf::Log(_)
-        | Leaf::Super
-        | Leaf::Return(_)
-        | Leaf::Throw(_)
-        | Leaf::Bump
-        | Leaf::Keep(_) => Err(LineRefused::Bad(Bad::Place)),
+        leaf => {
+            drop(leaf);
+            Err(LineRefused::Bad(Bad::Place))
+        }
     }
 }

@@ -109,7 +109,7 @@ impl State {
     {
         match self.open_class(class.as_str()) {
             Err(f) => {
-                drop(action);
+                action.close();
                 Err(Refused::Fault(f))
             }
             Ok(k) => {
