@@ -1,5 +1,5 @@
 #!/bin/sh
-# Holds the bindings to the program: for each script of examples/ with its words, and each worked script of runner_tests, all
+# Holds the bindings to the program: for each script of examples/ with its words, and each worked script of engine_tests, all
 # once more with the trace or without it, the bytes and the status that Python, Node and Rust give by the program and by the
 # library, and C by the library, have to be the program's; and the three readers have to make the same of each line. Each
 # package's own tests are run too. What is not there is left out, and named: a language without its tool, and the library
@@ -86,7 +86,7 @@ for script in examples/*.script examples/*/*.script; do
     esac
     add_both "$name" "$(pwd)/$script"
 done
-worked crates/runner_tests/src/*.rt crates/runner_tests/src/worked/*.rt
+worked crates/engine_tests/src/*.rt crates/engine_tests/src/worked/*.rt
 for script in "$room"/worked/*.script; do
     name=${script##*/}
     add_both "worked-${name%.script}" "$script"

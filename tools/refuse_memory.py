@@ -2,7 +2,7 @@
 """tools/refuse_memory.py PROGRAM [SCRIPT..]: refuses each request for memory in turn, and sees how the program ends.
 
 PROGRAM is the built program, crates/cepage/out/cepage behind `rt run` or the gate. Without scripts it is run over three
-worked scripts of crates/runner_tests (callbacks within each other, a trace, a submission), over `--make 50` and over a
+worked scripts of crates/engine_tests (callbacks within each other, a trace, a submission), over `--make 50` and over a
 word that is refused. A SCRIPT is one as those of examples/, with its words in the file NAME.words, one a line, where that
 is there, its status in NAME.status and its transcript in NAME.transcript.
 
@@ -27,7 +27,7 @@ import tempfile
 import threading
 
 TOP = pathlib.Path(__file__).resolve().parent.parent
-WORKED = TOP / "crates" / "runner_tests" / "src" / "worked"
+WORKED = TOP / "crates" / "engine_tests" / "src" / "worked"
 NO_MEMORY = 6
 SECONDS = 60
 

@@ -8,7 +8,7 @@ use Rattle.node_trees.specs.Nodes.{IsTidy}
 use Rattle.node_trees.specs.Orders.{tree_order_of}
 use Rattle.node_trees.specs.Paths.{is_among, root_at}
 use Rattle.node_trees.specs.Spots.{facts_at, parent_at}
-use Rattle.owner_laws.proofs.Roots.{order-top, root-among}
+use Rattle.above_reading.proofs.Roots.{order-top, root-among}
 use Rattle.node_arena.specs.Holders.{is_holder}
 use Rattle.node_arena.proofs.LookUp.{look-end, look-found, look-other, look-start}
 use Rattle.above_reading.specs.Holders.{IsOnlyHolder}

@@ -17,8 +17,8 @@ use Rattle.owner_reading.proofs.Ancestors.{ancestors-top, ancestors-up}
 use Rattle.owner_reading.proofs.Climbing.{any-up, find-up}
 use Rattle.disabled_reading.proofs.Legends.{inside-first}
 use Rattle.disabled_reading.proofs.Ways.{above-apart, above-node}
-use Rattle.owner_laws.proofs.Roots.{root-top, root-up}
-use Rattle.owner_laws.proofs.Tests.{any-same}
+use Rattle.above_reading.proofs.Roots.{root-top, root-up}
+use Rattle.above_reading.proofs.Tests.{any-same}
 use Rattle.above_reading.specs.declared.above.Above.{Above}
 use Rattle.above_reading.specs.Above.{above_at, disables_below, is_disabled_below, is_on}
 

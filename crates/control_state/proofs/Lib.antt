@@ -3,3 +3,8 @@ pub mod Walks
 pub mod Listing
 pub mod Chosen
 pub mod Texts
+pub mod Words
+pub mod Empty
+pub mod Characters
+pub mod Readings
+pub mod Counted

@@ -1,2 +1,4 @@
 pub mod Choosing
 pub mod Sources
+pub mod Reading
+pub mod Counts

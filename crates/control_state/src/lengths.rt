@@ -6,14 +6,13 @@ ghost use Rattle.form_controls.specs.Texts.{collapsed, is_empty, normalized, uni
 ghost use Rattle.form_controls.specs.Values.{child_text, units, value};
 ghost use Rattle.control_state.specs.Sources.{IsOfNode, value_from};
 
-use crate::ControlTable;
 use crate::source::{Source, option_source};
-use ce_base::NodeNo;
-use control_texts::{
-    CollapsedUnits, NormalizedUnits, is_only_newlines, is_only_whitespace,
+use crate::{
+    CollapsedUnits, ControlTable, NormalizedUnits, is_only_newlines, is_only_whitespace,
     normalized_newlines_leave_something, units, units_without_newlines,
     white_space_is_asked_by_the_piece,
 };
+use ce_base::NodeNo;
 use node_arena::Tree;
 
 /// The length of a text with its newlines normalized.

@@ -6,10 +6,9 @@ ghost use Rattle.form_controls.specs.Options.{option_value, text_below};
 ghost use Rattle.form_controls.specs.Texts.{collapsed, normalized};
 ghost use Rattle.form_controls.specs.Values.{child_text, value};
 
-use crate::ControlTable;
 use crate::source::{Source, option_source};
+use crate::{ControlTable, collapsed, normalized, without_newlines};
 use ce_base::{NoMemory, NodeNo, Text};
-use control_texts::{collapsed, normalized, without_newlines};
 use node_arena::Tree;
 use std::alloc::Global;
 

@@ -16,7 +16,7 @@ use Rattle.form_controls.specs.Changes.{is_change, numbers, where_new}
 use Rattle.form_controls.specs.Owners.{Forms, form_owner}
 use Rattle.form_controls.proofs.Differ.{nodes_back, owners_alike}
 use Rattle.form_controls.proofs.Listed.{contains_range, made_contains, range_increases}
-use Rattle.owner_laws.proofs.OwnerTogether.{owner-in_order}
+use Rattle.above_reading.proofs.OwnerTogether.{owner-in_order}
 use Rattle.owner_reading.specs.Owners.{owner_with}
 use Rattle.owner_rows.specs.OwnerRow.{OwnerRow, row_of}
 use Rattle.form_owner.specs.Moves.{is_moving, stays}

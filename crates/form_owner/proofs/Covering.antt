@@ -16,9 +16,9 @@ use Rattle.form_controls.specs.Kinds.{is_a}
 use Rattle.form_controls.specs.Owners.{Forms, is_associated}
 use Rattle.ordered_tables.specs.Held.{is_held}
 use Rattle.ordered_tables.specs.declared.id_index.IdIndex.{IdIndex}
-use Rattle.owner_laws.specs.Locality.{IsAsideOfMove, IsUnchanged}
-use Rattle.owner_laws.proofs.Moves.{unchanged-graft, unchanged-cut}
-use Rattle.owner_laws.proofs.PutBack.{graft-up}
+use Rattle.above_reading.specs.Locality.{IsAsideOfMove, IsUnchanged}
+use Rattle.above_reading.proofs.Moves.{unchanged-graft, unchanged-cut}
+use Rattle.above_reading.proofs.PutBack.{graft-up}
 use Rattle.tree_laws.proofs.Sizes.{node-still}
 use Rattle.owner_rows.specs.OwnerRow.{OwnerRow, row_of}
 use Rattle.form_owner.specs.Candidates.{Considers, Covers, is_concerned, is_named_among, is_of_legend, is_of_move}

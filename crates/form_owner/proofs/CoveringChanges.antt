@@ -25,9 +25,9 @@ use Rattle.form_controls.specs.Kinds.{is_a, native_at}
 use Rattle.form_controls.specs.Owners.{Forms}
 use Rattle.form_controls.proofs.Differ.{states_alike}
 use Rattle.ordered_tables.specs.Held.{is_held}
-use Rattle.owner_laws.specs.Locality.{IsAsideOfAttribute, IsUnchanged}
-use Rattle.owner_laws.proofs.Attributes.{unchanged-with}
-use Rattle.owner_laws.proofs.SameReads.{unchanged-marked}
+use Rattle.above_reading.specs.Locality.{IsAsideOfAttribute, IsUnchanged}
+use Rattle.above_reading.proofs.Attributes.{unchanged-with}
+use Rattle.above_reading.proofs.SameReads.{unchanged-marked}
 use Rattle.tree_laws.proofs.Sizes.{node-still}
 use Rattle.owner_rows.specs.OwnerRow.{Seen, row_of}
 use Rattle.owner_rows.specs.Attributes.{seen_at}

@@ -15,7 +15,7 @@ use Rattle.tree_laws.specs.Numbers.{insert_number}
 use Rattle.tree_laws.proofs.Counts.{AreApart}
 use Rattle.tree_laws.proofs.Children.{tree_order-apart}
 use Rattle.form_controls.specs.declared.change.Change.{Change}
-use Rattle.owner_laws.proofs.Tests.{find-same}
+use Rattle.above_reading.proofs.Tests.{find-same}
 use Rattle.owner_rows.specs.OwnerRow.{OwnerRow, row_in, row_of}
 use Rattle.form_owner.specs.Groups.{all_after}
 use Rattle.form_owner.specs.Moves.{AreEntered, HasNoneBehind, IsTold, is_listed_in, is_moved_by, is_settled, last_listed, stays}

@@ -33,8 +33,8 @@ use Rattle.form_controls.specs.Owners.{Forms, is_associated, is_listed_native, o
 use Rattle.form_controls.specs.Owners.{ancestors, is_owned_by, controls_of}
 use Rattle.form_controls.specs.Disabled.{has_disabled, first_legend, is_inside, disables, is_in_disabled_fieldset, is_in_disabled_group, is_option_disabled}
 use Rattle.form_controls.specs.Disabled.{is_disabled}
-use Rattle.owner_laws.proofs.Tests.{filter-none}
-use Rattle.owner_laws.proofs.WithFacts.{above-with}
+use Rattle.above_reading.proofs.Tests.{filter-none}
+use Rattle.above_reading.proofs.WithFacts.{above-with}
 use Rattle.owner_rows.specs.OwnerRow.{Seen, row_of}
 use Rattle.form_owner.specs.OwnerRows.{OwnerRows}
 use Rattle.form_owner.specs.Attributes.{is_text}

@@ -24,7 +24,7 @@ use Rattle.form_controls.specs.Kinds.{is_a}
 use Rattle.form_controls.specs.Owners.{Forms, is_listed, is_associated, owner_by, form_owner, where_form, named_form, nearest_form, ancestors, is_owned_by}
 use Rattle.form_controls.specs.Owners.{controls_of}
 use Rattle.form_controls.specs.Disabled.{is_disabled}
-use Rattle.owner_laws.proofs.Tests.{filter-none}
+use Rattle.above_reading.proofs.Tests.{filter-none}
 use Rattle.owner_rows.specs.OwnerRow.{OwnerRow}
 use Rattle.form_owner.specs.Reading.{change_read, changes_read}
 

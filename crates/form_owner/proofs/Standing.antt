@@ -10,10 +10,10 @@ use Rattle.node_trees.specs.Paths.{is_among, root_at}
 use Rattle.tree_laws.proofs.InOrder.{member_is_node}
 use Rattle.form_controls.specs.Owners.{Forms, form_owner, is_associated, is_owned_by, controls_of}
 use Rattle.owner_reading.specs.Owners.{owner_with}
-use Rattle.owner_laws.proofs.OwnerTogether.{owner-together}
+use Rattle.above_reading.proofs.OwnerTogether.{owner-together}
 use Rattle.tree_laws.proofs.Sizes.{node-still}
 use Rattle.tree_laws.proofs.Parents.{number-is}
-use Rattle.owner_laws.proofs.TogetherCut.{AreTogether}
+use Rattle.above_reading.proofs.TogetherCut.{AreTogether}
 use Rattle.owner_rows.specs.OwnerRow.{OwnerRow, row_in, row_of}
 use Rattle.form_owner.specs.Reading.{is_owned_in}
 use Rattle.form_owner.specs.Writing.{IsKept, ListsStood}

@@ -11,11 +11,11 @@ use Rattle.node_trees.specs.Paths.{root_at}
 use Rattle.node_trees.specs.Spots.{facts_at, or_no_spot, parent_at}
 use Rattle.tree_laws.proofs.Above.{parent-above}
 use Rattle.tree_laws.proofs.Changed.{spot-with-other}
-use Rattle.owner_laws.proofs.AttributeOrders.{order-set, order-gone, root-set, root-gone}
-use Rattle.owner_laws.proofs.PutBack.{graft-up}
-use Rattle.owner_laws.proofs.Shift.{IsShift, cut-shift, graft-shift}
-use Rattle.owner_laws.proofs.TogetherCut.{AreTogether, together-cut}
-use Rattle.owner_laws.proofs.TogetherGraft.{together-graft}
+use Rattle.above_reading.proofs.AttributeOrders.{order-set, order-gone, root-set, root-gone}
+use Rattle.above_reading.proofs.PutBack.{graft-up}
+use Rattle.above_reading.proofs.Shift.{IsShift, cut-shift, graft-shift}
+use Rattle.above_reading.proofs.TogetherCut.{AreTogether, together-cut}
+use Rattle.above_reading.proofs.TogetherGraft.{together-graft}
 use Rattle.form_owner.specs.declared.touch.Touch.{Touch}
 use Rattle.form_owner.specs.declared.touch.Touch.TheVariants.{Inserted, Removed, Attr, Associated}
 use Rattle.form_owner.specs.Touches.{IsTouched, IsInserted, IsRemoved, IsChanged}

@@ -12,7 +12,7 @@ use Rattle.form_controls.specs.Disabled.{is_disabled}
 use Rattle.form_controls.specs.Kinds.{is_a}
 use Rattle.form_controls.specs.Owners.{Forms, form_owner, is_associated, is_listed_native}
 use Rattle.form_controls.proofs.Differ.{new-none, owners_tell, states_tell}
-use Rattle.owner_laws.specs.Locality.{IsUnchanged}
+use Rattle.above_reading.specs.Locality.{IsUnchanged}
 use Rattle.owner_reading.specs.Owners.{listed_by}
 
 pub no-change : (before now : Forms) (m : ℕ) → IsUnchanged before now m → differs before now m ≡ false

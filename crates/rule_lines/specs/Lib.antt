@@ -1,3 +1,13 @@
 pub mod Acts
 pub mod AskWords
 pub mod ActCode
+pub mod Canon
+pub mod Clean
+pub mod Grammar
+pub mod Laws
+pub mod Read
+pub mod Rows
+pub mod Spells
+pub mod Whole
+pub mod FixedWords
+pub mod Worked

@@ -11,10 +11,10 @@ use Rattle.rule_tokens.specs.declared.operand.Val.TheVariants.{Count}
 use Rattle.rule_lines.specs.declared.ask_word.AskWord.{AskWord}
 use Rattle.rule_lines.specs.declared.ask_word.AskWord.TheVariants as asks
 use Rattle.rule_lines.specs.declared.op.Op.TheVariants as ops
-use Rattle.rule_grammar.specs.declared.read_as.ReadAs.{ReadAs}
-use Rattle.rule_grammar.specs.declared.read_as.ReadAs.TheVariants as read_as
-use Rattle.rule_grammar.specs.declared.word.Word.{Word}
-use Rattle.rule_grammar.specs.declared.word.Word.TheVariants as words
+use Rattle.rule_lines.specs.declared.read_as.ReadAs.{ReadAs}
+use Rattle.rule_lines.specs.declared.read_as.ReadAs.TheVariants as read_as
+use Rattle.rule_lines.specs.declared.word.Word.{Word}
+use Rattle.rule_lines.specs.declared.word.Word.TheVariants as words
 use Rattle.rule_reader.specs.declared.form.Leaf.{Leaf}
 use Rattle.rule_reader.specs.declared.form.Leaf.TheVariants as leaves
 use Rattle.rule_reader.specs.declared.form.Wrap.{Wrap}

@@ -9,15 +9,15 @@ use Rattle.rule_tokens.specs.declared.token.Token.{Token}
 use Rattle.rule_tokens.specs.Gives.{◌>>=◌, with_front, or_word}
 use Rattle.rule_tokens.specs.OperandForms.{is_word, node}
 use Rattle.rule_tokens.proofs.CutLaws.{with_more}
-use Rattle.rule_grammar.specs.Grammar.{said_as, Key, Wants, End, One, Pick, Maybe, LastRow, Row}
-use Rattle.rule_grammar.specs.Read.{Reads, then_read_as, no_keys, behind_key, read_keys, read}
-use Rattle.rule_grammar.specs.FixedWords.{keyword, spelling}
-use Rattle.rule_grammar.specs.declared.read_as.Kind.{Kind}
-use Rattle.rule_grammar.specs.declared.read_as.Kind.TheVariants as kinds
-use Rattle.rule_grammar.specs.declared.read_as.ReadAs.{ReadAs}
-use Rattle.rule_grammar.specs.declared.read_as.ReadAs.TheVariants as read_as
-use Rattle.rule_grammar.specs.declared.keyword.Keyword.{Keyword}
-use Rattle.rule_grammar.specs.declared.word.Word.TheVariants as words
+use Rattle.rule_lines.specs.Grammar.{said_as, Key, Wants, End, One, Pick, Maybe, LastRow, Row}
+use Rattle.rule_lines.specs.Read.{Reads, then_read_as, no_keys, behind_key, read_keys, read}
+use Rattle.rule_lines.specs.FixedWords.{keyword, spelling}
+use Rattle.rule_lines.specs.declared.read_as.Kind.{Kind}
+use Rattle.rule_lines.specs.declared.read_as.Kind.TheVariants as kinds
+use Rattle.rule_lines.specs.declared.read_as.ReadAs.{ReadAs}
+use Rattle.rule_lines.specs.declared.read_as.ReadAs.TheVariants as read_as
+use Rattle.rule_lines.specs.declared.keyword.Keyword.{Keyword}
+use Rattle.rule_lines.specs.declared.word.Word.TheVariants as words
 use Rattle.rule_reader.specs.AsRead.{part, mark, switch}
 use Rattle.rule_reader.specs.Shapes.{only, only_behind, two}
 use Rattle.rule_reader.specs.Takes.{take_one, optional, marked, maybe, on_off, ended}

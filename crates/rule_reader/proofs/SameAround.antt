@@ -7,14 +7,14 @@ use Rattle.rule_tokens.specs.declared.token.Token.{Token}
 use Rattle.rule_tokens.specs.Gives.{◌>>=◌, with_front}
 use Rattle.rule_tokens.specs.OperandForms.{is_word, node, class_name, text, value}
 use Rattle.rule_lines.specs.declared.op.Op.TheVariants as ops
-use Rattle.rule_grammar.specs.Grammar.{said_as, Wants, End, One, Pick, LastRow, Row}
-use Rattle.rule_grammar.specs.Read.{Reads, then_read_as, read}
-use Rattle.rule_grammar.specs.FixedWords.{spelling}
-use Rattle.rule_grammar.specs.declared.read_as.Kind.{Kind}
-use Rattle.rule_grammar.specs.declared.read_as.Kind.TheVariants as kinds
-use Rattle.rule_grammar.specs.declared.read_as.ReadAs.{ReadAs}
-use Rattle.rule_grammar.specs.declared.read_as.ReadAs.TheVariants as read_as
-use Rattle.rule_grammar.specs.declared.word.Word.TheVariants as words
+use Rattle.rule_lines.specs.Grammar.{said_as, Wants, End, One, Pick, LastRow, Row}
+use Rattle.rule_lines.specs.Read.{Reads, then_read_as, read}
+use Rattle.rule_lines.specs.FixedWords.{spelling}
+use Rattle.rule_lines.specs.declared.read_as.Kind.{Kind}
+use Rattle.rule_lines.specs.declared.read_as.Kind.TheVariants as kinds
+use Rattle.rule_lines.specs.declared.read_as.ReadAs.{ReadAs}
+use Rattle.rule_lines.specs.declared.read_as.ReadAs.TheVariants as read_as
+use Rattle.rule_lines.specs.declared.word.Word.TheVariants as words
 use Rattle.rule_reader.specs.declared.form.Leaf.{Leaf}
 use Rattle.rule_reader.specs.declared.form.Leaf.TheVariants as leaves
 use Rattle.rule_reader.specs.AsRead.{leaf_as_read}
@@ -25,8 +25,8 @@ use Rattle.rule_tokens.specs.OperandForms.{call_name}
 use Rattle.rule_tokens.specs.declared.operand.Val.{Val}
 use Rattle.rule_lines.specs.declared.ask_word.AskWord.{AskWord}
 use Rattle.rule_lines.specs.declared.ask_word.AskWord.TheVariants as asks
-use Rattle.rule_grammar.specs.Grammar.{Inner}
-use Rattle.rule_grammar.specs.Read.{read_row}
+use Rattle.rule_lines.specs.Grammar.{Inner}
+use Rattle.rule_lines.specs.Read.{read_row}
 use Rattle.rule_reader.specs.declared.form.Wrap.{Wrap}
 use Rattle.rule_reader.specs.declared.form.Wrap.TheVariants as wraps
 use Rattle.rule_reader.specs.Around.{on_of, if_of, compared}
@@ -34,7 +34,7 @@ use Rattle.rule_reader.specs.Controls.{name_for, ask_of}
 use Rattle.rule_reader.specs.AsRead.{wrap_as_read, test}
 use Rattle.rule_reader.specs.Takes.{behind}
 use Rattle.rule_reader.proofs.Same.{assoc, after, then_some, some_one}
-use Rattle.rule_grammar.specs.Rows.{ask_rows}
+use Rattle.rule_lines.specs.Rows.{ask_rows}
 
 one_some : {A B : Type 0} (action : List Token → Reads) (kind : Kind) (f : Token → Option A) (g : A → ReadAs) (more : Wants) (k : Option A × List Token
     → Result B Bad) (see : B → List ReadAs) (front : List ReadAs) → ((t : Token) → said_as kind t ≡ option_map g (f t))

@@ -4,12 +4,12 @@ use Rattle.rule_tokens.specs.declared.token.Token.{Token}
 use Rattle.rule_tokens.specs.Gives.{◌>>=◌, with_front}
 use Rattle.rule_tokens.specs.OperandForms.{variable, node, class_name, text, value, call_name}
 use Rattle.rule_lines.specs.declared.op.Op.TheVariants as ops
-use Rattle.rule_grammar.specs.Grammar.{End, One, Keys, Maybe}
-use Rattle.rule_grammar.specs.Read.{Reads, read}
-use Rattle.rule_grammar.specs.declared.read_as.Kind.TheVariants as kinds
-use Rattle.rule_grammar.specs.declared.read_as.ReadAs.TheVariants as read_as
-use Rattle.rule_grammar.specs.declared.keyword.Keyword.TheVariants as keywords
-use Rattle.rule_grammar.specs.declared.word.Word.TheVariants as words
+use Rattle.rule_lines.specs.Grammar.{End, One, Keys, Maybe}
+use Rattle.rule_lines.specs.Read.{Reads, read}
+use Rattle.rule_lines.specs.declared.read_as.Kind.TheVariants as kinds
+use Rattle.rule_lines.specs.declared.read_as.ReadAs.TheVariants as read_as
+use Rattle.rule_lines.specs.declared.keyword.Keyword.TheVariants as keywords
+use Rattle.rule_lines.specs.declared.word.Word.TheVariants as words
 use Rattle.rule_reader.specs.declared.form.Leaf.TheVariants as leaves
 use Rattle.rule_reader.specs.AsRead.{part, mark, leaf_as_read}
 use Rattle.rule_reader.specs.Takes.{ended}

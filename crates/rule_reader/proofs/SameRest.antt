@@ -11,15 +11,15 @@ use Rattle.rule_tokens.specs.declared.token.Token.{Token}
 use Rattle.rule_tokens.specs.Gives.{◌>>=◌, with_front, or_word}
 use Rattle.rule_tokens.specs.OperandForms.{is_word, node, class_name, text, value}
 use Rattle.rule_lines.specs.declared.op.Op.TheVariants as ops
-use Rattle.rule_grammar.specs.Grammar.{said_as, End, One, Pick, Many, Pairs, LastRow, Row}
-use Rattle.rule_grammar.specs.Read.{Reads, then_read_as, read_many, read_pairs, read}
-use Rattle.rule_grammar.specs.Rows.{state_rows, user_rows}
-use Rattle.rule_grammar.specs.FixedWords.{spelling}
-use Rattle.rule_grammar.specs.declared.read_as.Kind.{Kind}
-use Rattle.rule_grammar.specs.declared.read_as.Kind.TheVariants as kinds
-use Rattle.rule_grammar.specs.declared.read_as.ReadAs.{ReadAs}
-use Rattle.rule_grammar.specs.declared.read_as.ReadAs.TheVariants as read_as
-use Rattle.rule_grammar.specs.declared.word.Word.TheVariants as words
+use Rattle.rule_lines.specs.Grammar.{said_as, End, One, Pick, Many, Pairs, LastRow, Row}
+use Rattle.rule_lines.specs.Read.{Reads, then_read_as, read_many, read_pairs, read}
+use Rattle.rule_lines.specs.Rows.{state_rows, user_rows}
+use Rattle.rule_lines.specs.FixedWords.{spelling}
+use Rattle.rule_lines.specs.declared.read_as.Kind.{Kind}
+use Rattle.rule_lines.specs.declared.read_as.Kind.TheVariants as kinds
+use Rattle.rule_lines.specs.declared.read_as.ReadAs.{ReadAs}
+use Rattle.rule_lines.specs.declared.read_as.ReadAs.TheVariants as read_as
+use Rattle.rule_lines.specs.declared.word.Word.TheVariants as words
 use Rattle.rule_reader.specs.declared.form.Leaf.TheVariants as leaves
 use Rattle.rule_reader.specs.Bodies.{log_of}
 use Rattle.rule_reader.specs.Classes.{observe_of, disable_of, disabled_of}

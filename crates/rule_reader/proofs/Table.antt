@@ -5,11 +5,11 @@ use Rattle.std.specs.Str.{bytes_eq}
 use Rattle.rule_tokens.specs.declared.refused.Bad.{Bad}
 use Rattle.rule_tokens.specs.declared.token.Token.{Token}
 use Rattle.rule_tokens.specs.Gives.{◌>>=◌, with_front, or_word}
-use Rattle.rule_grammar.specs.Read.{Reads, read_row, read_within, read_tokens}
-use Rattle.rule_grammar.specs.Rows.{forms}
-use Rattle.rule_grammar.specs.FixedWords.{spelling}
-use Rattle.rule_grammar.specs.declared.word.Word.{Word}
-use Rattle.rule_grammar.specs.declared.word.Word.TheVariants as words
+use Rattle.rule_lines.specs.Read.{Reads, read_row, read_within, read_tokens}
+use Rattle.rule_lines.specs.Rows.{forms}
+use Rattle.rule_lines.specs.FixedWords.{spelling}
+use Rattle.rule_lines.specs.declared.word.Word.{Word}
+use Rattle.rule_lines.specs.declared.word.Word.TheVariants as words
 use Rattle.rule_reader.specs.declared.form.Leaf.{Leaf}
 use Rattle.rule_reader.specs.declared.form.Wrap.{Wrap}
 use Rattle.rule_reader.specs.declared.form.Wrap.TheVariants as wraps

@@ -6,9 +6,9 @@ use Rattle.rule_tokens.specs.declared.operand.Val.{Val}
 use Rattle.rule_tokens.specs.declared.token.Token.{Token}
 use Rattle.rule_tokens.specs.Gives.{◌>>=◌}
 use Rattle.rule_tokens.specs.OperandForms.{is_word, class_name, value, call_name}
-use Rattle.rule_grammar.specs.declared.word.Word.{Word}
-use Rattle.rule_grammar.specs.declared.word.Word.TheVariants as words
-use Rattle.rule_grammar.specs.FixedWords.{spelling}
+use Rattle.rule_lines.specs.declared.word.Word.{Word}
+use Rattle.rule_lines.specs.declared.word.Word.TheVariants as words
+use Rattle.rule_lines.specs.FixedWords.{spelling}
 use Rattle.rule_reader.specs.declared.form.Wrap.{Wrap}
 use Rattle.rule_reader.specs.declared.form.Wrap.TheVariants as wraps
 use Rattle.rule_reader.specs.Takes.{take_one, behind}

@@ -5,8 +5,8 @@ use Rattle.rule_tokens.specs.declared.refused.Bad.TheVariants.{Word}
 use Rattle.rule_tokens.specs.declared.token.Token.{Token}
 use Rattle.rule_tokens.specs.Gives.{◌>>=◌}
 use Rattle.rule_tokens.specs.OperandForms.{is_word, class_name, text, call_name}
-use Rattle.rule_grammar.specs.declared.word.Word.TheVariants as words
-use Rattle.rule_grammar.specs.FixedWords.{spelling}
+use Rattle.rule_lines.specs.declared.word.Word.TheVariants as words
+use Rattle.rule_lines.specs.FixedWords.{spelling}
 use Rattle.rule_reader.specs.declared.form.Leaf.{Leaf}
 use Rattle.rule_reader.specs.declared.form.Leaf.TheVariants as leaves
 use Rattle.rule_reader.specs.Shapes.{only}

@@ -3,9 +3,9 @@ use Rattle.std.specs.Prelude.{ℕ, List, [], ◌∷◌, Option, None, if◌then�
 use Rattle.std.specs.Str.{bytes_eq}
 use Rattle.rule_tokens.specs.declared.token.Token.{Token}
 use Rattle.rule_tokens.specs.Callbacks.{first_with}
-use Rattle.rule_grammar.specs.declared.word.Word.{Word}
-use Rattle.rule_grammar.specs.declared.word.Word.TheVariants as words
-use Rattle.rule_grammar.specs.FixedWords.{spelling}
+use Rattle.rule_lines.specs.declared.word.Word.{Word}
+use Rattle.rule_lines.specs.declared.word.Word.TheVariants as words
+use Rattle.rule_lines.specs.FixedWords.{spelling}
 
 -- the words that forms begin with
 abbrev pub first_words : List Word

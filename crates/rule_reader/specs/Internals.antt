@@ -8,9 +8,9 @@ use Rattle.rule_tokens.specs.Flags.{flags}
 use Rattle.rule_tokens.specs.Gives.{◌>>=◌}
 use Rattle.rule_tokens.specs.OperandForms.{is_word, node, text, value}
 use Rattle.rule_lines.specs.declared.op.Op.TheVariants as ops
-use Rattle.rule_grammar.specs.declared.keyword.Keyword.TheVariants as keywords
-use Rattle.rule_grammar.specs.declared.word.Word.TheVariants as words
-use Rattle.rule_grammar.specs.FixedWords.{spelling}
+use Rattle.rule_lines.specs.declared.keyword.Keyword.TheVariants as keywords
+use Rattle.rule_lines.specs.declared.word.Word.TheVariants as words
+use Rattle.rule_lines.specs.FixedWords.{spelling}
 use Rattle.rule_reader.specs.declared.form.Leaf.{Leaf}
 use Rattle.rule_reader.specs.declared.form.Leaf.TheVariants as leaves
 use Rattle.rule_reader.specs.Shapes.{only, only_behind, two}

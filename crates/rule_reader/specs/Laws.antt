@@ -2,7 +2,7 @@
 use Rattle.std.specs.Prelude.{◌≡◌, List, Ok}
 use Rattle.rule_tokens.specs.declared.token.Token.{Token}
 use Rattle.rule_tokens.specs.Gives.{◌>>=◌}
-use Rattle.rule_grammar.specs.Read.{read_tokens}
+use Rattle.rule_lines.specs.Read.{read_tokens}
 use Rattle.rule_reader.specs.declared.pieces.Form.{Form}
 use Rattle.rule_reader.specs.AsRead.{form_as_read}
 use Rattle.rule_reader.specs.Pieces.{form_of}

@@ -3,8 +3,8 @@ use Rattle.std.specs.Prelude.{List, Result, Err}
 use Rattle.rule_tokens.specs.declared.refused.Bad.{Bad}
 use Rattle.rule_tokens.specs.declared.refused.Bad.TheVariants as bad
 use Rattle.rule_tokens.specs.declared.token.Token.{Token}
-use Rattle.rule_grammar.specs.declared.word.Word.{Word}
-use Rattle.rule_grammar.specs.declared.word.Word.TheVariants as words
+use Rattle.rule_lines.specs.declared.word.Word.{Word}
+use Rattle.rule_lines.specs.declared.word.Word.TheVariants as words
 use Rattle.rule_reader.specs.declared.form.Leaf.{Leaf}
 use Rattle.rule_reader.specs.Attributes.{set_attr_of, del_attr_of}
 use Rattle.rule_reader.specs.Bodies.{log_of, base_call_of, return_form_of, throw_of, bump_of, keep_of}

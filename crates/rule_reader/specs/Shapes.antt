@@ -3,7 +3,7 @@ use Rattle.std.specs.Prelude.{List, Option, Some, None, Result, Ok, if◌then◌
 use Rattle.rule_tokens.specs.declared.refused.Bad.{Bad}
 use Rattle.rule_tokens.specs.declared.token.Token.{Token}
 use Rattle.rule_tokens.specs.Gives.{◌>>=◌}
-use Rattle.rule_grammar.specs.declared.keyword.Keyword.{Keyword}
+use Rattle.rule_lines.specs.declared.keyword.Keyword.{Keyword}
 use Rattle.rule_reader.specs.Takes.{take_one, marked, ended}
 
 -- one operand

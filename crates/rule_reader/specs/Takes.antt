@@ -8,9 +8,9 @@ use Rattle.rule_tokens.specs.declared.refused.Bad.TheVariants.{Word, Arity}
 use Rattle.rule_tokens.specs.declared.token.Token.{Token}
 use Rattle.rule_tokens.specs.Gives.{◌>>=◌, with_front, or_word}
 use Rattle.rule_tokens.specs.OperandForms.{is_word, text}
-use Rattle.rule_grammar.specs.declared.keyword.Keyword.{Keyword}
-use Rattle.rule_grammar.specs.declared.word.Word.TheVariants as words
-use Rattle.rule_grammar.specs.FixedWords.{keyword, spelling}
+use Rattle.rule_lines.specs.declared.keyword.Keyword.{Keyword}
+use Rattle.rule_lines.specs.declared.word.Word.TheVariants as words
+use Rattle.rule_lines.specs.FixedWords.{keyword, spelling}
 
 -- the first token, and those after it
 abbrev pub next : List Token → Result (Token × List Token) Bad

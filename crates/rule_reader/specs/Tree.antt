@@ -5,7 +5,7 @@ use Rattle.rule_tokens.specs.declared.token.Token.{Token}
 use Rattle.rule_tokens.specs.Gives.{◌>>=◌}
 use Rattle.rule_tokens.specs.OperandForms.{variable, node, class_name, text}
 use Rattle.rule_lines.specs.declared.op.Op.TheVariants as ops
-use Rattle.rule_grammar.specs.declared.keyword.Keyword.TheVariants as keywords
+use Rattle.rule_lines.specs.declared.keyword.Keyword.TheVariants as keywords
 use Rattle.rule_reader.specs.declared.form.Leaf.{Leaf}
 use Rattle.rule_reader.specs.declared.form.Leaf.TheVariants as leaves
 use Rattle.rule_reader.specs.Shapes.{only, only_behind, two}

@@ -6,7 +6,7 @@ ghost use Rattle.rule_reader.specs.Takes.{take_one};
 
 use crate::Wrap;
 use crate::takes::{behind, call_at, class_at, next, value_at};
-use rule_grammar::Word;
+use rule_lines::Word;
 use rule_tokens::{Bad, LineRefused, Token, Val, is_word};
 use std::alloc::Global;
 

@@ -6,7 +6,7 @@ use crate::Leaf;
 use crate::shapes::one_class;
 use crate::takes::{call_at, class_at, ended, next, texts};
 use ce_base::Text;
-use rule_grammar::Word;
+use rule_lines::Word;
 use rule_tokens::{Bad, LineRefused, Token, is_word};
 use std::alloc::Global;
 

@@ -5,8 +5,7 @@ ghost use Rattle.rule_reader.specs.CustomElements.{define_of, upgrade_of};
 use crate::Leaf;
 use crate::shapes::{one_node, text_behind};
 use crate::takes::{class_at, text_at};
-use rule_grammar::Keyword;
-use rule_lines::Op;
+use rule_lines::{Keyword, Op};
 use rule_tokens::{LineRefused, Token};
 use std::alloc::Global;
 

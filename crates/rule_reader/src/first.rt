@@ -2,7 +2,7 @@
 ghost use Rattle.std.specs.Prelude.{◌≡◌};
 ghost use Rattle.rule_reader.specs.First.{first_named, word_in};
 
-use rule_grammar::Word;
+use rule_lines::Word;
 
 /// The words that forms begin with.
 const FIRST_WORDS: [Word; 45] = [

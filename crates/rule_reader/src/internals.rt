@@ -5,8 +5,7 @@ ghost use Rattle.rule_reader.specs.Internals.{custom_of, form_list_of, form_null
 use crate::Leaf;
 use crate::shapes::{node_and_value, one_node, one_text, one_value, value_behind};
 use crate::takes::{ended, entries, flags_at, next, node_at, value_at};
-use rule_grammar::{Keyword, Word};
-use rule_lines::Op;
+use rule_lines::{Keyword, Op, Word};
 use rule_tokens::{Bad, LineRefused, Operand, Token, is_word};
 use std::alloc::Global;
 

@@ -3,7 +3,7 @@ ghost use Rattle.rule_tokens.specs.Gives.{Gives};
 ghost use Rattle.rule_reader.specs.Leaves.{leaf_of};
 
 use crate::{Leaf, attributes, bodies, classes, controls, custom_elements, internals, tree, users};
-use rule_grammar::Word;
+use rule_lines::Word;
 use rule_tokens::{Bad, LineRefused, Token};
 use std::alloc::Global;
 

@@ -10,7 +10,7 @@ use crate::leaves::leaf_of;
 use crate::takes::next;
 use crate::{Leaf, Wrap};
 use ce_base::NoMemory;
-use rule_grammar::Word;
+use rule_lines::Word;
 use rule_tokens::{Bad, LineRefused, Token};
 use std::alloc::Global;
 use std::marker::Model;

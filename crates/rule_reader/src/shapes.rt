@@ -8,7 +8,7 @@ use crate::takes::{
     class_at, ended, marked, next, node_at, on_off, text_at, value_at, variable_at,
 };
 use ce_base::Text;
-use rule_grammar::Keyword;
+use rule_lines::Keyword;
 use rule_tokens::{LineRefused, Operand, Token, Val};
 use std::alloc::Global;
 

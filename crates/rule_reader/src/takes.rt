@@ -3,12 +3,11 @@ ghost use Rattle.std.specs.Prelude.{◌≡◌, Result, Ok};
 ghost use Rattle.rule_tokens.specs.Flags.{flags};
 ghost use Rattle.rule_tokens.specs.Gives.{Gives, GivesSeen, or_word};
 ghost use Rattle.rule_tokens.specs.OperandForms.{call_name, class_name, node, text, value, variable};
-ghost use Rattle.rule_grammar.specs.FixedWords.{spelling};
+ghost use Rattle.rule_lines.specs.FixedWords.{spelling};
 ghost use Rattle.rule_reader.specs.Takes.{behind, ended, entries_up_to, entry_at, marked, maybe, next, on_off, optional, take_one, up_to};
 
 use ce_base::{Entries, Entry, Flags, Text, Texts};
-use rule_grammar::{Keyword, Word};
-use rule_lines::Vals;
+use rule_lines::{Keyword, Vals, Word};
 use rule_tokens::{
     Bad, CallName, LineRefused, Operand, Token, Val, call_name, class_name, flags, is_word, node,
     text, value, variable,

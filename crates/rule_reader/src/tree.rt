@@ -6,8 +6,7 @@ ghost use Rattle.rule_reader.specs.Tree.{doc_of, let_variable_of, make_text_of, 
 use crate::Leaf;
 use crate::shapes::{node_behind, one_class, one_node, two_nodes, variable_and_node};
 use crate::takes::{ended, marked, node_at, optional_text, text_at, variable_at};
-use rule_grammar::Keyword;
-use rule_lines::Op;
+use rule_lines::{Keyword, Op};
 use rule_tokens::{LineRefused, Token};
 use std::alloc::Global;
 

@@ -5,7 +5,7 @@ ghost use Rattle.rule_reader.specs.Users.{deed_of, user_of};
 use crate::Leaf;
 use crate::shapes::{node_and_switch, node_and_value, one_node};
 use crate::takes::next;
-use rule_grammar::Word;
+use rule_lines::Word;
 use rule_tokens::{Bad, LineRefused, Token, is_word};
 use std::alloc::Global;
 

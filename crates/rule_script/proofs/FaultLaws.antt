@@ -9,9 +9,9 @@ use Rattle.rule_tokens.specs.Gives.{◌>>=◌}
 use Rattle.rule_tokens.specs.Laws.{IsAnswer as LexicalAnswer}
 use Rattle.rule_tokens.specs.Tokens.{tokens_of}
 use Rattle.rule_lines.specs.Acts.{Said}
-use Rattle.rule_grammar.specs.Laws.{IsAnswer}
-use Rattle.rule_grammar.specs.Read.{Reads, read_tokens}
-use Rattle.rule_grammar.specs.Whole.{IsForm, HasWrongWord, HasWrongNumber}
+use Rattle.rule_lines.specs.Laws.{IsAnswer}
+use Rattle.rule_lines.specs.Read.{Reads, read_tokens}
+use Rattle.rule_lines.specs.Whole.{IsForm, HasWrongWord, HasWrongNumber}
 use Rattle.rule_reader.specs.declared.pieces.Form.{Form}
 use Rattle.rule_reader.specs.AsRead.{form_as_read}
 use Rattle.rule_reader.specs.Pieces.{form_of}

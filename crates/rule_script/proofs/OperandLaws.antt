@@ -2,7 +2,7 @@
 use Rattle.std.proofs.Common.{◌≡◌, ℕ, Bool, true, false, cond, List, [], ◌∷◌, map, Option, Some, None, refl}
 use Rattle.std.specs.List.{list_any}
 use Rattle.ce_base.specs.declared.entries.Entry.{Entry}
-use Rattle.rule_grammar.specs.declared.read_as.ReadAs.TheVariants as read_as
+use Rattle.rule_lines.specs.declared.read_as.ReadAs.TheVariants as read_as
 use Rattle.rule_reader.specs.AsRead.{part, mark, pairs, named}
 use Rattle.rule_script.specs.Place.{names_body}
 use Rattle.std.proofs.Math.Bool.{or-false}

@@ -7,8 +7,8 @@ use Rattle.rule_tokens.specs.Gives.{◌>>=◌}
 use Rattle.rule_tokens.specs.Laws.{IsAnswer}
 use Rattle.rule_tokens.specs.Tokens.{tokens_of}
 use Rattle.rule_lines.specs.Acts.{Said, Blank}
-use Rattle.rule_grammar.specs.Read.{Reads}
-use Rattle.rule_grammar.specs.Spells.{Spelled}
+use Rattle.rule_lines.specs.Read.{Reads}
+use Rattle.rule_lines.specs.Spells.{Spelled}
 use Rattle.rule_reader.specs.declared.pieces.Form.{Form}
 use Rattle.rule_reader.specs.AsRead.{form_as_read}
 use Rattle.rule_reader.specs.Pieces.{form_of}

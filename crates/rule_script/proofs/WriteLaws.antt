@@ -12,8 +12,8 @@ use Rattle.rule_tokens.specs.Tokens.{tokens_of}
 use Rattle.rule_lines.specs.Acts.{Act, Said, Blank, Command, Declares}
 use Rattle.rule_lines.specs.Acts as acts
 use Rattle.rule_lines.specs.declared.line.Cmd.TheVariants as commands
-use Rattle.rule_grammar.specs.Canon.{canon_tokens}
-use Rattle.rule_grammar.specs.Clean.{AreTexts}
+use Rattle.rule_lines.specs.Canon.{canon_tokens}
+use Rattle.rule_lines.specs.Clean.{AreTexts}
 use Rattle.rule_reader.specs.declared.form.Leaf.{Leaf}
 use Rattle.rule_reader.specs.declared.form.Leaf.TheVariants as leaves
 use Rattle.rule_reader.specs.declared.form.Wrap.{Wrap}

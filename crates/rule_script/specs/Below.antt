@@ -1,7 +1,7 @@
 -- The laws of the crates below that the laws of lines stand on.
 use Rattle.rule_tokens.specs.Laws.{LinesAreAnswered, SaidIsRead, SaidOnce}
 use Rattle.rule_tokens.specs.Spaced.{WrittenIsRead}
-use Rattle.rule_grammar.specs.Laws.{CanonicalIsClean, CanonicalIsSpelled, FormsAreRead, SpelledIsRead, FaultsAreApart}
+use Rattle.rule_lines.specs.Laws.{CanonicalIsClean, CanonicalIsSpelled, FormsAreRead, SpelledIsRead, FaultsAreApart}
 use Rattle.rule_reader.specs.Laws.{IsReadByTable, OperandsTellForms}
 use Rattle.rule_writer.specs.Laws.{FormsAreCanonical}
 

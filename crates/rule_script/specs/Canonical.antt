@@ -3,7 +3,7 @@ use Rattle.std.specs.Prelude.{◌≡◌, ℕ, ◌≤◌, List, [], length, Optio
 use Rattle.rule_tokens.specs.declared.token.Token.{Token}
 use Rattle.rule_tokens.specs.Spaced.{as_line}
 use Rattle.rule_lines.specs.Acts.{Said, Blank}
-use Rattle.rule_grammar.specs.Canon.{canon_tokens}
+use Rattle.rule_lines.specs.Canon.{canon_tokens}
 use Rattle.rule_reader.specs.declared.pieces.Form.{Form}
 use Rattle.rule_reader.specs.AsRead.{form_as_read}
 use Rattle.rule_script.specs.Place.{said_of}

@@ -5,8 +5,8 @@ use Rattle.rule_tokens.specs.declared.refused.Bad.{Bad}
 use Rattle.rule_tokens.specs.declared.refused.Bad.TheVariants.{Long, Utf8, Quote, Escape, Word, Arity, Place}
 use Rattle.rule_tokens.specs.declared.token.Token.{Token}
 use Rattle.rule_tokens.specs.Cases.{SaysLine, LexicalCase, FirstOf}
-use Rattle.rule_grammar.specs.Spells.{Spelled}
-use Rattle.rule_grammar.specs.Whole.{IsForm, HasWrongWord, HasWrongNumber}
+use Rattle.rule_lines.specs.Spells.{Spelled}
+use Rattle.rule_lines.specs.Whole.{IsForm, HasWrongWord, HasWrongNumber}
 use Rattle.rule_reader.specs.declared.pieces.Form.{Form}
 use Rattle.rule_reader.specs.AsRead.{form_as_read}
 use Rattle.rule_script.specs.Place.{said_of, is_barred}

@@ -1,7 +1,7 @@
 // Operands that only a body has.
 ghost use Rattle.std.specs.Prelude.{◌≡◌, Option, Some, None, false};
 ghost use Rattle.std.specs.List.{list_any};
-ghost use Rattle.rule_grammar.specs.declared.read_as.ReadAs.TheVariants as read_as;
+ghost use Rattle.rule_lines.specs.declared.read_as.ReadAs.TheVariants as read_as;
 ghost use Rattle.rule_reader.specs.declared.form.Leaf.TheVariants as leaves;
 ghost use Rattle.rule_reader.specs.AsRead.{leaf_as_read, part};
 ghost use Rattle.rule_script.specs.Place.{has_body_operand, is_of_body, is_this, names_body};

@@ -8,8 +8,7 @@ ghost use Rattle.rule_script.specs.Reading.{longest, reading};
 ghost use Rattle.rule_script.specs.Spells.{Spells};
 
 use crate::place::placed;
-use rule_grammar::{faults_are_apart, forms_are_read, what_is_spelled_is_read};
-use rule_lines::Line;
+use rule_lines::{Line, faults_are_apart, forms_are_read, what_is_spelled_is_read};
 use rule_reader::{form_of, lines_are_read_by_the_table, operands_tell_forms};
 use rule_tokens::{LineRefused, a_line_says_one_thing, lines_are_answered, tokens_of};
 use std::alloc::Global;

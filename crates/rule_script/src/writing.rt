@@ -6,8 +6,7 @@ ghost use Rattle.rule_script.specs.Canonical.{CanBeSpelled, IsCanonical, ReadsAg
 
 use crate::reading::below;
 use ce_base::{NoMemory, Text};
-use rule_grammar::{canonical_tokens_are_clean, canonical_tokens_are_spelled};
-use rule_lines::Line;
+use rule_lines::{Line, canonical_tokens_are_clean, canonical_tokens_are_spelled};
 use rule_tokens::what_is_written_is_read;
 use rule_writer::{as_line, forms_are_canonical};
 use std::alloc::Global;

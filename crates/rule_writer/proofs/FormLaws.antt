@@ -3,8 +3,8 @@ use Rattle.std.proofs.Common.{◌≡◌, ◌≤◌, ◌<◌, ℕ, zero, suc, len
 use Rattle.rule_lines.specs.declared.ask_word.AskWord.TheVariants as asks
 use Rattle.rule_lines.specs.declared.op.Op.TheVariants as ops
 use Rattle.rule_tokens.specs.declared.token.Token.{Token}
-use Rattle.rule_grammar.specs.declared.read_as.ReadAs.{ReadAs}
-use Rattle.rule_grammar.specs.Canon.{canon_within}
+use Rattle.rule_lines.specs.declared.read_as.ReadAs.{ReadAs}
+use Rattle.rule_lines.specs.Canon.{canon_within}
 use Rattle.rule_reader.specs.declared.form.Leaf.{Leaf}
 use Rattle.rule_reader.specs.declared.form.Leaf.TheVariants as leaves
 use Rattle.rule_reader.specs.declared.form.Wrap.{Wrap}

@@ -2,7 +2,7 @@
 use Rattle.std.proofs.Common.{◌≡◌, ◌<◌, ◌+◌, ℕ, suc, List, [], ◌∷◌, ◌++◌, length, get_or, drop, refl, sym, ap, subst, ◌∙◌, append_assoc, add-one, drop-cons}
 use Rattle.rule_tokens.specs.declared.token.Token.{Token}
 use Rattle.rule_tokens.specs.Spaced.{spaced, written}
-use Rattle.rule_grammar.specs.Clean.{AreTexts}
+use Rattle.rule_lines.specs.Clean.{AreTexts}
 use Rattle.rule_writer.specs.declared.piece.Piece.{Piece}
 use Rattle.rule_writer.specs.Pieces.{all_pieces, piece_tokens}
 

@@ -1,6 +1,6 @@
 -- What holds of the canonical tokens.
 use Rattle.std.specs.Prelude.{◌≡◌}
-use Rattle.rule_grammar.specs.Canon.{canon_tokens}
+use Rattle.rule_lines.specs.Canon.{canon_tokens}
 use Rattle.rule_reader.specs.declared.pieces.Form.{Form}
 use Rattle.rule_reader.specs.AsRead.{form_as_read}
 use Rattle.rule_writer.specs.Canon.{form_tokens}

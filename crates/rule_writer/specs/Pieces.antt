@@ -1,8 +1,8 @@
 -- The canonical tokens of the pieces of a line.
 use Rattle.std.specs.Prelude.{List, [], ◌∷◌, ◌++◌, map}
 use Rattle.rule_tokens.specs.declared.token.Token.{Token}
-use Rattle.rule_grammar.specs.Canon.{all_tokens, keyed, tokens_of}
-use Rattle.rule_grammar.specs.declared.read_as.ReadAs.TheVariants as read_as
+use Rattle.rule_lines.specs.Canon.{all_tokens, keyed, tokens_of}
+use Rattle.rule_lines.specs.declared.read_as.ReadAs.TheVariants as read_as
 use Rattle.rule_reader.specs.AsRead.{mark, pairs, part}
 use Rattle.rule_writer.specs.declared.piece.Phrase.{Phrase}
 use Rattle.rule_writer.specs.declared.piece.Phrase.TheVariants as phrases

@@ -2,7 +2,7 @@
 ghost use Rattle.std.specs.Prelude.{◌≡◌, ◌++◌, OnOk, string_bytes};
 ghost use Rattle.rule_tokens.specs.Spaced.{spaced};
 ghost use Rattle.rule_lines.specs.Acts.{act_of};
-ghost use Rattle.rule_grammar.specs.Clean.{AreTexts};
+ghost use Rattle.rule_lines.specs.Clean.{AreTexts};
 ghost use Rattle.rule_writer.specs.Canon.{act_tokens};
 ghost use Rattle.rule_writer.specs.Fronts.{act_front};
 ghost use Rattle.rule_writer.specs.Pieces.{phrase_tokens};
@@ -11,8 +11,7 @@ use crate::op::phrase_of;
 use crate::operand_words::test;
 use crate::piece::{Phrase, Piece, put_phrase};
 use ce_base::NoMemory;
-use rule_grammar::Word;
-use rule_lines::Action;
+use rule_lines::{Action, Word};
 use std::alloc::Global;
 
 // The phrase of an action, up to the action within.

@@ -3,7 +3,7 @@ ghost use Rattle.std.specs.Prelude.{◌≡◌, ◌++◌, IfOk, OnOk, string_byte
 ghost use Rattle.std.specs.Str.{IsUtf8};
 ghost use Rattle.rule_tokens.specs.Spaced.{as_line, spaced};
 ghost use Rattle.rule_lines.specs.Acts.{line_of, part_of};
-ghost use Rattle.rule_grammar.specs.Clean.{AreTexts};
+ghost use Rattle.rule_lines.specs.Clean.{AreTexts};
 ghost use Rattle.rule_writer.specs.Canon.{command_tokens, part_tokens, said_tokens};
 ghost use Rattle.rule_writer.specs.Fronts.{part_front};
 ghost use Rattle.rule_writer.specs.Pieces.{phrase_tokens};
@@ -13,8 +13,7 @@ use crate::op::phrase_of;
 use crate::operand_words::switch;
 use crate::piece::{Phrase, Piece, put_phrase};
 use ce_base::{NoMemory, Text};
-use rule_grammar::Word;
-use rule_lines::{ClassPart, Cmd, Line};
+use rule_lines::{ClassPart, Cmd, Line, Word};
 use std::alloc::Global;
 
 // The phrase of a command.

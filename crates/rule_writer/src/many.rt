@@ -1,10 +1,10 @@
 // Writes operands that repeat.
 ghost use Rattle.std.specs.Prelude.{◌≡◌, ◌++◌, OnOk, map, string_bytes};
 ghost use Rattle.rule_tokens.specs.Spaced.{spaced};
-ghost use Rattle.rule_grammar.specs.Canon.{all_tokens};
-ghost use Rattle.rule_grammar.specs.declared.read_as.ReadAs.TheVariants as read_as;
+ghost use Rattle.rule_lines.specs.Canon.{all_tokens};
+ghost use Rattle.rule_lines.specs.declared.read_as.ReadAs.TheVariants as read_as;
 ghost use Rattle.rule_reader.specs.AsRead.{pairs};
-ghost use Rattle.rule_grammar.specs.Clean.{AreTexts};
+ghost use Rattle.rule_lines.specs.Clean.{AreTexts};
 
 use crate::operand_text::{put_text, put_value};
 use ce_base::{Entry, NoMemory, Text};

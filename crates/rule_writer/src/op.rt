@@ -7,8 +7,7 @@ ghost use Rattle.rule_writer.specs.Subjects.{is_for_control, is_for_states, is_o
 
 use crate::operand_words::{ask_as, switch};
 use crate::piece::{Phrase, Piece};
-use rule_grammar::{Keyword, Word};
-use rule_lines::Op;
+use rule_lines::{Keyword, Op, Word};
 
 // Of an operation on controls or forms, or of a question.
 fn control_phrase<'a>(op: &'a Op) -> Phrase<'a>

@@ -4,9 +4,9 @@ ghost use Rattle.std.specs.Str.{IsUtf8};
 ghost use Rattle.rule_tokens.specs.FlagsText.{flags_text};
 ghost use Rattle.rule_tokens.specs.Quoted.{in_quotes};
 ghost use Rattle.rule_tokens.specs.Spaced.{spaced};
-ghost use Rattle.rule_grammar.specs.Canon.{tokens_of};
-ghost use Rattle.rule_grammar.specs.declared.read_as.ReadAs.TheVariants as read_as;
-ghost use Rattle.rule_grammar.specs.Clean.{AreTexts};
+ghost use Rattle.rule_lines.specs.Canon.{tokens_of};
+ghost use Rattle.rule_lines.specs.declared.read_as.ReadAs.TheVariants as read_as;
+ghost use Rattle.rule_lines.specs.Clean.{AreTexts};
 
 use ce_base::{Flags, NoMemory};
 use rule_tokens::{Operand, Val, push_flags, push_quoted};

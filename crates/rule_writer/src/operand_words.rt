@@ -2,8 +2,7 @@
 ghost use Rattle.std.specs.Prelude.{◌≡◌};
 ghost use Rattle.rule_reader.specs.AsRead.{ask_as, switch, test};
 
-use rule_grammar::Word;
-use rule_lines::AskWord;
+use rule_lines::{AskWord, Word};
 
 pub(crate) fn switch(on: bool) -> Word
     ensures { result ≡ switch on }

@@ -1,14 +1,14 @@
 // Writes optional parts.
 ghost use Rattle.std.specs.Prelude.{◌≡◌, ◌++◌, OnOk, string_bytes};
 ghost use Rattle.rule_tokens.specs.Spaced.{spaced};
-ghost use Rattle.rule_grammar.specs.Canon.{keyed, tokens_of};
-ghost use Rattle.rule_grammar.specs.declared.read_as.ReadAs.TheVariants as read_as;
+ghost use Rattle.rule_lines.specs.Canon.{keyed, tokens_of};
+ghost use Rattle.rule_lines.specs.declared.read_as.ReadAs.TheVariants as read_as;
 ghost use Rattle.rule_reader.specs.AsRead.{mark, part};
-ghost use Rattle.rule_grammar.specs.Clean.{AreTexts};
+ghost use Rattle.rule_lines.specs.Clean.{AreTexts};
 
 use crate::operand_text::{put_bare, put_node, put_text, put_value};
 use ce_base::{NoMemory, Text};
-use rule_grammar::Keyword;
+use rule_lines::Keyword;
 use rule_tokens::{Operand, Val};
 use std::alloc::Global;
 

@@ -2,7 +2,7 @@
 ghost use Rattle.std.specs.Prelude.{◌≡◌, ◌++◌, OnOk, string_bytes};
 ghost use Rattle.rule_tokens.specs.Spaced.{spaced};
 ghost use Rattle.rule_writer.specs.Pieces.{all_pieces, phrase_tokens, piece_tokens};
-ghost use Rattle.rule_grammar.specs.Clean.{AreTexts};
+ghost use Rattle.rule_lines.specs.Clean.{AreTexts};
 
 use crate::many::{put_entries, put_texts, put_values};
 use crate::operand_text::{put_bare, put_flags, put_node, put_text, put_value, put_variable};
@@ -10,8 +10,7 @@ use crate::optional::{
     put_keyed_node, put_keyed_text, put_keyed_value, put_mark, put_some_node, put_some_text,
 };
 use ce_base::{Entries, Flags, NoMemory, Text, Texts};
-use rule_grammar::{Keyword, Word};
-use rule_lines::Vals;
+use rule_lines::{Keyword, Vals, Word};
 use rule_tokens::{CallName, Operand, Val};
 use std::alloc::Global;
 

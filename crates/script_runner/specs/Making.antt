@@ -6,7 +6,7 @@ use Rattle.std.specs.declared.option.Option.{Option}
 use Rattle.ce_base.specs.Faults.{Rose}
 use Rattle.ce_base.specs.Outside.{IsPrefix}
 use Rattle.made_scripts.specs.Made.{made_script, line_count}
-use Rattle.run_figures.specs.Summary.{summary}
+use Rattle.made_scripts.specs.Summary.{summary}
 use Rattle.ce_algorithms.specs.Lines.{lines_of}
 use Rattle.ce_algorithms.specs.State.{State}
 use Rattle.ce_algorithms.specs.Steps.{Outcome, Goes, Throws, Spent, is_spent}

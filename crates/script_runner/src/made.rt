@@ -11,8 +11,7 @@ use crate::{Session, Status};
 use ce_base::{NoMemory, Sink, Stop, write_all};
 use ce_machine::End;
 use command_words::Options;
-use made_scripts::{Maker, line_count};
-use run_figures::{Figures, summary};
+use made_scripts::{Figures, Maker, line_count, summary};
 use std::alloc::Global;
 
 /// Makes the script of so many elements, runs it with these options, and writes the summary of the run to the sink.

@@ -1,6 +1,6 @@
 use Rattle.std.proofs.Common.{◌∙◌, ◌++◌, refl, subst, []}
 use Rattle.node_trees.specs.Orders.{tree_order_of}
-use Rattle.control_texts.specs.Counts.{CountsCollapsed}
+use Rattle.control_state.specs.Counts.{CountsCollapsed}
 use Rattle.control_state.proofs.Walks.{order-starts, order-on, order-less, walk-ends}
 use Rattle.control_state.proofs.Texts.{joined, joined-is}
 use Rattle.control_state.proofs.lengths.units_below.Goals as goal

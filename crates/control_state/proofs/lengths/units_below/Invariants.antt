@@ -1,5 +1,5 @@
 use Rattle.std.proofs.Common.{length}
-use Rattle.control_texts.specs.Counts.{CountsCollapsed}
+use Rattle.control_state.specs.Counts.{CountsCollapsed}
 use Rattle.control_state.proofs.Texts.{Taken}
 use Rattle.node_trees.specs.Orders.{tree_order_of}
 use Rattle.control_state.proofs.Left.{left_from}

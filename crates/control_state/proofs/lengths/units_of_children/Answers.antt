@@ -1,6 +1,6 @@
 use Rattle.std.proofs.Common.{◌∙◌, ◌++◌, refl, subst}
 use Rattle.node_trees.specs.Spots.{children_at}
-use Rattle.control_texts.specs.Counts.{CountsNormalized}
+use Rattle.control_state.specs.Counts.{CountsNormalized}
 use Rattle.control_state.proofs.Walks.{walk-on, walk-less, walk-ends}
 use Rattle.control_state.proofs.Texts.{joined, joined-is}
 use Rattle.control_state.proofs.lengths.units_of_children.Goals as goal

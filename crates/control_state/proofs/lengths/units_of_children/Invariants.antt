@@ -1,5 +1,5 @@
 use Rattle.std.proofs.Common.{length}
-use Rattle.control_texts.specs.Counts.{CountsNormalized}
+use Rattle.control_state.specs.Counts.{CountsNormalized}
 use Rattle.control_state.proofs.Texts.{Taken}
 use Rattle.node_trees.specs.Spots.{children_at}
 use Rattle.control_state.proofs.Left.{left_from}

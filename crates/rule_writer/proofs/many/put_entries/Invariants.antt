@@ -1,8 +1,8 @@
 use Rattle.std.proofs.Common.{◌≡◌, ◌++◌, drop, string_bytes}
 use Rattle.rule_tokens.specs.Spaced.{spaced}
-use Rattle.rule_grammar.specs.Canon.{all_tokens}
+use Rattle.rule_lines.specs.Canon.{all_tokens}
 use Rattle.rule_reader.specs.AsRead.{pairs}
-use Rattle.rule_grammar.specs.Clean.{AreTexts}
+use Rattle.rule_lines.specs.Clean.{AreTexts}
 use Rattle.rule_writer.proofs.many.put_entries.Given as goal
 
 abbrev pub invariant-loop-entry : goal.invariant-loop-entry

@@ -1,8 +1,8 @@
 use Rattle.std.proofs.Common.{◌≡◌, ◌++◌, drop, map, string_bytes}
 use Rattle.rule_tokens.specs.Spaced.{spaced}
-use Rattle.rule_grammar.specs.Canon.{all_tokens}
-use Rattle.rule_grammar.specs.declared.read_as.ReadAs.TheVariants as read_as
-use Rattle.rule_grammar.specs.Clean.{AreTexts}
+use Rattle.rule_lines.specs.Canon.{all_tokens}
+use Rattle.rule_lines.specs.declared.read_as.ReadAs.TheVariants as read_as
+use Rattle.rule_lines.specs.Clean.{AreTexts}
 use Rattle.rule_writer.proofs.many.put_texts.Given as goal
 
 abbrev pub invariant-loop-text : goal.invariant-loop-text

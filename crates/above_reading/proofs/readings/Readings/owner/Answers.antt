@@ -2,7 +2,7 @@ use Rattle.std.proofs.Common.{◌≡◌, None, ap, sym, subst}
 use Rattle.node_trees.specs.Nodes.{IsNode}
 use Rattle.node_trees.specs.Spots.{parent_at}
 use Rattle.tree_laws.proofs.Rooted.{root_is_node}
-use Rattle.owner_laws.proofs.Roots.{root-free}
+use Rattle.above_reading.proofs.Roots.{root-free}
 use Rattle.above_reading.specs.declared.above.Above.{Above}
 use Rattle.above_reading.proofs.readings.Readings.owner.Goals as goal
 

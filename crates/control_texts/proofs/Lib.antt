@@ -1,5 +1,0 @@
-pub mod Words
-pub mod Empty
-pub mod Characters
-pub mod Readings
-pub mod Counted

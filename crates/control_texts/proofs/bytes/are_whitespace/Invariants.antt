@@ -1,7 +1,0 @@
-use Rattle.std.proofs.Common.{◌≡◌, drop}
-use Rattle.std.specs.Char.{is_ascii_whitespace}
-use Rattle.std.specs.List.{list_all}
-use Rattle.control_texts.proofs.bytes.are_whitespace.Given as goal
-
-abbrev pub invariant-loop-b : goal.invariant-loop-b
-invariant-loop-b l = list_all is_ascii_whitespace (drop l.b-index l.bytes) ≡ list_all is_ascii_whitespace l.bytes

@@ -1,6 +1,0 @@
-use Rattle.control_texts.proofs.Counted.{CountsNormalized-more}
-use Rattle.control_texts.proofs.counts.NormalizedUnits.take.Goals as goal
-
-pub loop-b-preserved : goal.loop-b-preserved
-loop-b-preserved c =
-    λ before h. CountsNormalized-more _ _ before _ _ (c.loop-b.invariant before h) c.loop-b-test.true c.read.ensures.units c.read.ensures.behind

@@ -1,5 +1,0 @@
-use Rattle.rule_grammar.proofs.CleanLaws.{canonical_clean}
-use Rattle.rule_grammar.proofs.laws.canonical_tokens_are_clean.Goals as goal
-
-pub returns : goal.returns
-returns c = canonical_clean (λ t raised e. c.flags_are_read.ensures.bare raised (c.flags_are_read.ensures.ten t raised e))

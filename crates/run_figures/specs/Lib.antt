@@ -1,4 +1,0 @@
-pub mod Figures
-pub mod Summary
-pub mod Wanted
-pub mod Worked

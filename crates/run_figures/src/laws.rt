@@ -1,8 +1,0 @@
-// What the definitions of figures give, as the contract of a function that does nothing.
-ghost use Rattle.run_figures.specs.Worked.{Counted};
-
-/// Lines that are counted, written out: a call is one at the beginning of a line only, also of the last, which has
-/// no line feed.
-pub fn figures_are_worked()
-    ensures { Counted }
-{}
