@@ -5,17 +5,15 @@ ghost use Rattle.ce_algorithms.specs.Lines.{last_part};
 ghost use Rattle.line_feed.specs.Feed.{GivesLine, given};
 
 use ce_base::{Bytes, NoMemory};
+use rule_script::LONGEST;
 use std::alloc::Global;
 use std::marker::Model;
-
-// How many bytes a line may have. Of a longer one a byte more is given, which shows that it is too long.
-const LONGEST: usize = 4096;
 
 /// The bytes that were fed and whose lines were not given back. A contract sees them as a list.
 ///
 /// The time is linear in what is fed: each byte is searched once, and those left at the end once more; no more
 /// bytes are moved to the front than have left since the last move, but at the end the last line is moved whole;
-/// and of each other line at most 4097 bytes are copied.
+/// and of each other line at most one byte more than `LONGEST` is copied.
 #[derive(Drop)]
 pub struct Feed {
     bytes: Vec<u8>,
@@ -60,8 +58,9 @@ impl Feed {
         Ok(())
     }
 
-    /// The next line that a line feed ends, without it: of one of more than 4096 bytes the first 4097. None
-    /// exactly where no line feed is left. NoMemory: memory was refused, and the feed is only dropped.
+    /// The next line that a line feed ends, without it: of one of more than `LONGEST` bytes so many and one more, which
+    /// shows that it is too long. None exactly where no line feed is left. NoMemory: memory was refused, and the feed
+    /// is only dropped.
     pub fn next_line(&mut self, alloc: Global) -> Result<Option<Bytes>, NoMemory>
         ensures line { IfOk result (λ o. IfSome o (λ line. GivesLine longest self.old self.new line)) }
         ensures none { IfOk result (λ o. IfNone o (self.new ≡ self.old)) }

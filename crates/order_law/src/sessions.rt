@@ -8,10 +8,12 @@ ghost use Rattle.ce_algorithms.specs.Model.{model};
 ghost use Rattle.ce_algorithms.specs.Session.{log_of, run_lines, start};
 ghost use Rattle.order_law.specs.Law.{Lawful};
 
-/// The log of each session is lawful: of all lines, each read or refused, and with any fuel, also where it is spent.
+/// The log of each session is lawful: of all lines, each read within any limit or refused, and with any fuel, also where
+/// it is spent.
 #[tactic(auto, using(crate::proofs::Model::Scripts::session_lawful))]
 pub fn each_script_is_lawful()
-    ensures { (settings : Settings) (lines : List (List ℕ)) → Lawful (log_of (run_lines model 1 (map reading lines) (start settings))) }
+    ensures { (settings : Settings) (limit : ℕ) (lines : List (List ℕ))
+        → Lawful (log_of (run_lines model 1 (map (reading limit) lines) (start settings))) }
 {}
 
 /// The same of all that lines may say, whether some line says it or not.

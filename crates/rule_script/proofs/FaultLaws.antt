@@ -17,7 +17,7 @@ use Rattle.rule_reader.specs.AsRead.{form_as_read}
 use Rattle.rule_reader.specs.Pieces.{form_of}
 use Rattle.rule_script.specs.Cases.{HasTokens, IsMisplaced, WrongWord, Case, RefusedFor}
 use Rattle.rule_script.specs.Place.{said_of, is_barred, or_place, placed}
-use Rattle.rule_script.specs.Reading.{longest, reading, said_by}
+use Rattle.rule_script.specs.Reading.{reading, said_by}
 use Rattle.rule_script.specs.Below.{Below}
 use Rattle.rule_script.proofs.SpellLaws.{form_spelled}
 
@@ -104,12 +104,12 @@ module _ (below : Below) (limit : ℕ) (bytes : List ℕ) (ts : List Token) (to 
 -- ---- a line
 
 -- what is refused is refused for the first case that holds
-pub line_refused : Below → (bytes : List ℕ) (b : Bad) → reading bytes ≡ Err b → RefusedFor longest bytes b
+pub line_refused : Below → (limit : ℕ) (bytes : List ℕ) (b : Bad) → reading limit bytes ≡ Err b → RefusedFor limit bytes b
 unfolding reading
-line_refused below bytes b e = at (tokens_of longest bytes) refl e
+line_refused below limit bytes b e = at (tokens_of limit bytes) refl e
   where
-    at : (r : Result (Option (List Token)) Bad) → tokens_of longest bytes ≡ r → (r >>= said_by) ≡ Err b → RefusedFor longest bytes b
+    at : (r : Result (Option (List Token)) Bad) → tokens_of limit bytes ≡ r → (r >>= said_by) ≡ Err b → RefusedFor limit bytes b
     at (Ok None) is wrong = absurd cc
-    at (Ok (Some ts)) is wrong = tokens_refused below longest bytes ts (subst (LexicalAnswer longest bytes) is (below.answered longest bytes)) b wrong
+    at (Ok (Some ts)) is wrong = tokens_refused below limit bytes ts (subst (LexicalAnswer limit bytes) is (below.answered limit bytes)) b wrong
     at (Err c) is wrong = let same : c ≡ b =
-        cc in subst (RefusedFor longest bytes) same (lexical_first longest bytes c (subst (LexicalAnswer longest bytes) is (below.answered longest bytes)))
+        cc in subst (RefusedFor limit bytes) same (lexical_first limit bytes c (subst (LexicalAnswer limit bytes) is (below.answered limit bytes)))

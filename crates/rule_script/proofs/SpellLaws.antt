@@ -13,7 +13,7 @@ use Rattle.rule_reader.specs.declared.pieces.Form.{Form}
 use Rattle.rule_reader.specs.AsRead.{form_as_read}
 use Rattle.rule_reader.specs.Pieces.{form_of}
 use Rattle.rule_script.specs.Place.{said_of, is_barred, or_place, placed}
-use Rattle.rule_script.specs.Reading.{longest, reading, said_by}
+use Rattle.rule_script.specs.Reading.{reading, said_by}
 use Rattle.rule_script.specs.Spells.{SpellsForm, SpellsBy, Spells}
 use Rattle.rule_script.specs.Below.{Below}
 
@@ -67,12 +67,12 @@ by_found below None x e = let same : Blank ≡ x = cc in sym same
 by_found below (Some ts) x e = tokens_found below ts x e
 
 -- what is read is spelled
-pub found : Below → (bytes : List ℕ) (x : Said) → reading bytes ≡ Ok x → Spells longest bytes x
+pub found : Below → (limit : ℕ) (bytes : List ℕ) (x : Said) → reading limit bytes ≡ Ok x → Spells limit bytes x
 unfolding reading
-found below bytes x e = at (tokens_of longest bytes) refl e
+found below limit bytes x e = at (tokens_of limit bytes) refl e
   where
-    at : (r : Result (Option (List Token)) Bad) → tokens_of longest bytes ≡ r → (r >>= said_by) ≡ Ok x → Spells longest bytes x
-    at (Ok o) is read = record { tokens = o; laid_out = subst (IsAnswer longest bytes) is (below.answered longest bytes); spelled = by_found below o x read }
+    at : (r : Result (Option (List Token)) Bad) → tokens_of limit bytes ≡ r → (r >>= said_by) ≡ Ok x → Spells limit bytes x
+    at (Ok o) is read = record { tokens = o; laid_out = subst (IsAnswer limit bytes) is (below.answered limit bytes); spelled = by_found below o x read }
     at (Err b) is read = absurd cc
 
 by_read : Below → (o : Option (List Token)) (x : Said) → SpellsBy o x → said_by o ≡ Ok x
@@ -80,6 +80,6 @@ by_read below None x same = ap says (sym same)
 by_read below (Some ts) x s = rw (spelled_form below ts s.form s.spelled) (placed_again s.form x s.free s.says)
 
 -- what is spelled is read, so a line spells one thing at most
-pub only : Below → (bytes : List ℕ) (x : Said) → Spells longest bytes x → reading bytes ≡ Ok x
+pub only : Below → (limit : ℕ) (bytes : List ℕ) (x : Said) → Spells limit bytes x → reading limit bytes ≡ Ok x
 unfolding reading
-only below bytes x s = rw (below.said longest bytes s.tokens s.laid_out) (by_read below s.tokens x s.spelled)
+only below limit bytes x s = rw (below.said limit bytes s.tokens s.laid_out) (by_read below s.tokens x s.spelled)

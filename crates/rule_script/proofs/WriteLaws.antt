@@ -23,7 +23,6 @@ use Rattle.rule_reader.specs.AsRead.{form_as_read}
 use Rattle.rule_script.specs.Below.{BelowWriting}
 use Rattle.rule_script.specs.Canonical.{CanBeSpelled, IsCanonical, SpellsWithin, ReadsAgain}
 use Rattle.rule_script.specs.Place.{declared, nested, said_at_top, said_in_body, said_of, said_of_body, said_within}
-use Rattle.rule_script.specs.Reading.{longest}
 use Rattle.rule_script.specs.Spells.{SpellsForm}
 use Rattle.rule_script.proofs.SpellLaws.{only}
 use Rattle.rule_writer.specs.Canon.{act_tokens, form_tokens, leaf_tokens, said_tokens, wrap_tokens, wraps_tokens}
@@ -167,7 +166,7 @@ written_spells below x (Some ts, s) text is utf8 texts = form_spells below ts x 
 
 pub written_reads : BelowWriting → (x : Said) → CanBeSpelled x → (text : List ℕ) → text ≡ as_line (said_tokens x) → IsUtf8 text → AreTexts (said_tokens x)
     → ReadsAgain x text
-written_reads below x spelled text is utf8 texts short = only below.read text x (written_spells below x spelled text is utf8 texts longest short)
+written_reads below x spelled text is utf8 texts limit short = only below.read limit text x (written_spells below x spelled text is utf8 texts limit short)
 
 -- ---- what holds of each text that is written so
 

@@ -7,7 +7,7 @@ use Rattle.rule_lines.specs.Canon.{canon_tokens}
 use Rattle.rule_reader.specs.declared.pieces.Form.{Form}
 use Rattle.rule_reader.specs.AsRead.{form_as_read}
 use Rattle.rule_script.specs.Place.{said_of}
-use Rattle.rule_script.specs.Reading.{longest, reading}
+use Rattle.rule_script.specs.Reading.{reading}
 use Rattle.rule_script.specs.Spells.{Spells, SpellsBy}
 
 -- its operands have their forms and stand where they may: some tokens spell it
@@ -27,6 +27,6 @@ IsCanonical x text = (f : Form) → said_of f ≡ Some x → text ≡ canonical_
 abbrev pub SpellsWithin : Said → List ℕ → Type 0
 SpellsWithin x text = (limit : ℕ) → length text ≤ limit → Spells limit text x
 
--- and it is read as this where it is no longer than a line may be
+-- and it is read as this under such a limit
 abbrev pub ReadsAgain : Said → List ℕ → Type 0
-ReadsAgain x text = length text ≤ longest → reading text ≡ Ok x
+ReadsAgain x text = (limit : ℕ) → length text ≤ limit → reading limit text ≡ Ok x

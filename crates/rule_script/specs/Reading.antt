@@ -8,7 +8,7 @@ use Rattle.rule_lines.specs.Acts.{Said, Blank}
 use Rattle.rule_reader.specs.Pieces.{form_of}
 use Rattle.rule_script.specs.Place.{placed}
 
--- how many bytes a line has at most
+-- how many bytes a line of a script has at most
 abbrev pub longest : ℕ
 longest = 4096
 
@@ -17,6 +17,6 @@ abbrev pub said_by : Option (List Token) → Result Said Bad
 said_by None = Ok Blank
 said_by (Some ts) = form_of ts >>= placed
 
--- what a line says
-unfoldable pub reading : List ℕ → Result Said Bad
-reading bytes = tokens_of longest bytes >>= said_by
+-- what a line of at most so many bytes says
+unfoldable pub reading : ℕ → List ℕ → Result Said Bad
+reading limit bytes = tokens_of limit bytes >>= said_by

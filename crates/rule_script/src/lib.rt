@@ -10,7 +10,7 @@ mod top;
 mod writing;
 
 pub use laws::lines_read_as_they_spell;
-pub use reading::read_line;
+pub use reading::{LONGEST, read_line, read_line_within};
 pub use rule_lines::{Action, AskWord, ClassPart, Cmd, Line, Op, Vals};
 pub use rule_tokens::{Bad, CallName, CallOrUpgrade, LineRefused, Operand, Val};
 pub use writing::write_line;

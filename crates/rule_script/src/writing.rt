@@ -35,7 +35,7 @@ pub fn write_line(alloc: Global, line: &Line) -> Result<Text, NoMemory>
     // It spells the line, under each limit that it does not pass,
     ensures spells { IfOk result (SpellsWithin (line_of line.now)) }
 
-    // and is read as it by `read_line`, where it is no longer than a line may be.
+    // and is read as it under such a limit.
     ensures reads { IfOk result (ReadsAgain (line_of line.now)) }
 {
     below_writing();

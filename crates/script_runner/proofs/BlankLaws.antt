@@ -8,7 +8,7 @@ use Rattle.std.specs.Prelude.{nat_le}
 use Rattle.std.specs.Str.{chars, is_utf8}
 use Rattle.rule_tokens.specs.Tokens.{is_blank}
 use Rattle.rule_lines.specs.Acts.{Blank}
-use Rattle.rule_script.specs.Reading.{longest, reading}
+use Rattle.rule_script.specs.Reading.{reading}
 use Rattle.script_runner.specs.Blank.{says_nothing}
 
 -- ---- by its bytes
@@ -48,14 +48,14 @@ unfolding by_tests
 no_text true b c = refl
 no_text false b c = refl
 
-bytes_tell : (line : List ℕ) → by_tests (nat_le (length line) longest) (is_utf8 line) (is_blank line) ≡ says_nothing line
+bytes_tell : (limit : ℕ) (line : List ℕ) → by_tests (nat_le (length line) limit) (is_utf8 line) (is_blank line) ≡ says_nothing limit line
 unfolding by_tests
-bytes_tell line = go (is_utf8 line) refl
+bytes_tell limit line = go (is_utf8 line) refl
   where
     go : (u : Bool) → is_utf8 line ≡ u
-        → by_tests (nat_le (length line) longest) u (is_blank line) ≡ by_tests (nat_le (length line) longest) u (is_blank (chars line))
-    go true e = ap (by_tests (nat_le (length line) longest) true) (sym (blank_chars line e))
-    go false e = no_text (nat_le (length line) longest) (is_blank line) (is_blank (chars line))
+        → by_tests (nat_le (length line) limit) u (is_blank line) ≡ by_tests (nat_le (length line) limit) u (is_blank (chars line))
+    go true e = ap (by_tests (nat_le (length line) limit) true) (sym (blank_chars line e))
+    go false e = no_text (nat_le (length line) limit) (is_blank line) (is_blank (chars line))
 
 no_blank_either : (within text : Bool) → by_tests within text false ≡ false
 unfolding by_tests
@@ -68,24 +68,24 @@ unfolding by_tests
 blank_either true = refl
 blank_either false = refl
 
-pub too_long : (line : List ℕ) → nat_le (length line) longest ≡ false → false ≡ says_nothing line
+pub too_long : (limit : ℕ) (line : List ℕ) → nat_le (length line) limit ≡ false → false ≡ says_nothing limit line
 unfolding by_tests
-too_long line long = ap (λ w. by_tests w (is_utf8 line) (is_blank line)) (sym long) ∙ bytes_tell line
+too_long limit line long = ap (λ w. by_tests w (is_utf8 line) (is_blank line)) (sym long) ∙ bytes_tell limit line
 
-pub not_blank : (line : List ℕ) → is_blank line ≡ false → false ≡ says_nothing line
-not_blank line said = sym (no_blank_either (nat_le (length line) longest) (is_utf8 line))
-    ∙ ap (by_tests (nat_le (length line) longest) (is_utf8 line)) (sym said) ∙ bytes_tell line
+pub not_blank : (limit : ℕ) (line : List ℕ) → is_blank line ≡ false → false ≡ says_nothing limit line
+not_blank limit line said = sym (no_blank_either (nat_le (length line) limit) (is_utf8 line))
+    ∙ ap (by_tests (nat_le (length line) limit) (is_utf8 line)) (sym said) ∙ bytes_tell limit line
 
-pub blank_text : (line : List ℕ) → nat_le (length line) longest ≡ true → is_blank line ≡ true → is_utf8 line ≡ says_nothing line
-blank_text line short blank = sym (blank_either (is_utf8 line)) ∙ ap (λ w. by_tests w (is_utf8 line) true) (sym short)
-    ∙ ap (by_tests (nat_le (length line) longest) (is_utf8 line)) (sym blank) ∙ bytes_tell line
+pub blank_text : (limit : ℕ) (line : List ℕ) → nat_le (length line) limit ≡ true → is_blank line ≡ true → is_utf8 line ≡ says_nothing limit line
+blank_text limit line short blank = sym (blank_either (is_utf8 line)) ∙ ap (λ w. by_tests w (is_utf8 line) true) (sym short)
+    ∙ ap (by_tests (nat_le (length line) limit) (is_utf8 line)) (sym blank) ∙ bytes_tell limit line
 
 -- ---- by its reading
 
-pub nothing_reads : (line : List ℕ) → says_nothing line ≡ true → reading line ≡ Ok Blank
+pub nothing_reads : (limit : ℕ) (line : List ℕ) → says_nothing limit line ≡ true → reading limit line ≡ Ok Blank
 unfolding reading
-nothing_reads line e =
-    let short : nat_lt longest (length line) ≡ false = grind (arith, nat_tests) in
+nothing_reads limit line e =
+    let short : nat_lt limit (length line) ≡ false = grind (arith, nat_tests) in
     let text : is_utf8 line ≡ true = grind (arith, nat_tests) in
     let blank : is_blank (chars line) ≡ true = grind (arith, nat_tests) in
     rw (short, text, blank) refl

@@ -27,18 +27,18 @@ use Rattle.ce_algorithms.proofs.Writing.{part_then}
 use Rattle.std.proofs.Math.Bool.{or-false}
 
 pub answered_line : (s t : Sitting) (end : End) (line : List ℕ) (held held' : Option (List ℕ))
-    → Did s.trace held held' (run_line model (s.line + 1) (reading line) s.state) (outcome_of end t.state)
-    → t.state.log ≡ [] → t.trace ≡ s.trace → t.line ≡ s.line + 1 → t.bad ≡ (s.bad || is_bad (reading line))
+    → Did s.trace held held' (run_line model (s.line + 1) (reading longest line) s.state) (outcome_of end t.state)
+    → t.state.log ≡ [] → t.trace ≡ s.trace → t.line ≡ s.line + 1 → t.bad ≡ (s.bad || is_bad (reading longest line))
     → Answered s (line ∷ []) end t held held'
 answered_line s t end line held held' did empty trace number bad =
     record { events = did.events; ran = ran_line s line end t did.events did.same empty trace number bad; wrote = did.written }
 
 -- a front of what a line writes is one of what it and others write
 pub part_lines : (s : Sitting) (line : List ℕ) (more : List (List ℕ)) (held held' : Option (List ℕ))
-    → AppendsPart held held' (text s.trace (log_of (run_line model (s.line + 1) (reading line) s.state)))
+    → AppendsPart held held' (text s.trace (log_of (run_line model (s.line + 1) (reading longest line) s.state)))
     → AppendsPart held held' (answers s (line ∷ more))
 part_lines s line more held held' part =
-    part_then s.trace held held' (run_line model (s.line + 1) (reading line) s.state) (λ _. run_from (s.line + 1 + 1) more) part
+    part_then s.trace held held' (run_line model (s.line + 1) (reading longest line) s.state) (λ _. run_from (s.line + 1 + 1) more) part
     (λ _. framed_run_lines (s.line + 1 + 1) (readings more))
 
 -- a session has run some lines of the feed, and the sink has their answers
@@ -65,13 +65,13 @@ first_line feed feed' line gives = ap whole_lines gives.split ∙ whole_lines-li
 -- what was given of the first line says what the line says
 reads_first : (feed feed' line : List ℕ) (gives : GivesLine longest feed feed' line) (more : List (List ℕ))
     → readings (line ∷ more) ≡ readings (gives.whole ∷ more)
-reads_first feed feed' line gives more = ap (λ said. said ∷ readings more) (reading_line feed feed' line gives)
+reads_first feed feed' line gives more = ap (λ said. said ∷ readings more) (reading_line longest longest feed feed' line gives (omega arith))
 
 -- one more line
 pub runs_line : (a s t : Sitting) (fed feed feed' line : List ℕ) (held mid held' : Option (List ℕ))
     → RunsOn a s fed feed held mid → GivesLine longest feed feed' line
-    → Did s.trace mid held' (run_line model (s.line + 1) (reading line) s.state) (outcome_of Replied t.state)
-    → t.state.log ≡ [] → t.trace ≡ s.trace → t.line ≡ s.line + 1 → t.bad ≡ (s.bad || is_bad (reading line))
+    → Did s.trace mid held' (run_line model (s.line + 1) (reading longest line) s.state) (outcome_of Replied t.state)
+    → t.state.log ≡ [] → t.trace ≡ s.trace → t.line ≡ s.line + 1 → t.bad ≡ (s.bad || is_bad (reading longest line))
     → RunsOn a t fed feed' held held'
 runs_line a s t fed feed feed' line held mid held' runs gives did empty trace number bad =
     let front = answered_line s t Replied line mid held' did empty trace number bad in
@@ -87,10 +87,10 @@ runs_line a s t fed feed feed' line held mid held' runs gives did empty trace nu
 
 -- one more line, which says nothing
 pub runs_blank : (a s : Sitting) (fed feed feed' line : List ℕ) (held held' : Option (List ℕ))
-    → RunsOn a s fed feed held held' → GivesLine longest feed feed' line → says_nothing line ≡ true
+    → RunsOn a s fed feed held held' → GivesLine longest feed feed' line → says_nothing longest line ≡ true
     → RunsOn a (record s { line = s.line + 1 }) fed feed' held held'
 runs_blank a s fed feed feed' line held held' runs gives nothing =
-    let reads = nothing_reads line nothing in
+    let reads = nothing_reads longest line nothing in
     runs_line a s (record s { line = s.line + 1 }) fed feed feed' line held held' held' runs gives
     (record { events = []; written = Appends-nil held'; same = ap (λ said. run_line model (s.line + 1) said s.state) reads })
     runs.done.ran.empty refl refl (sym (ap (λ said. s.bad || is_bad said) reads ∙ or-false s.bad))
@@ -98,8 +98,8 @@ runs_blank a s fed feed feed' line held held' runs gives nothing =
 -- the fuel is spent in a line
 pub runs_spent : (a s t : Sitting) (fed feed feed' line : List ℕ) (held mid held' : Option (List ℕ))
     → RunsOn a s fed feed held mid → GivesLine longest feed feed' line
-    → Did s.trace mid held' (run_line model (s.line + 1) (reading line) s.state) (outcome_of FuelSpent t.state)
-    → t.state.log ≡ [] → t.trace ≡ s.trace → t.line ≡ s.line + 1 → t.bad ≡ (s.bad || is_bad (reading line))
+    → Did s.trace mid held' (run_line model (s.line + 1) (reading longest line) s.state) (outcome_of FuelSpent t.state)
+    → t.state.log ≡ [] → t.trace ≡ s.trace → t.line ≡ s.line + 1 → t.bad ≡ (s.bad || is_bad (reading longest line))
     → Answered a (whole_lines fed) FuelSpent t held held'
 runs_spent a s t fed feed feed' line held mid held' runs gives did empty trace number bad =
     let P : List (List ℕ) → Type 0 = λ l. Answered a l FuelSpent t held held' in
@@ -136,7 +136,7 @@ runs_stop a s fed feed held held' runs = runs_front a s fed feed held held' held
 -- in a line
 pub runs_part : (a s : Sitting) (fed feed feed' line : List ℕ) (held mid held' : Option (List ℕ))
     → RunsOn a s fed feed held mid → GivesLine longest feed feed' line
-    → AppendsPart mid held' (text s.trace (log_of (run_line model (s.line + 1) (reading line) s.state)))
+    → AppendsPart mid held' (text s.trace (log_of (run_line model (s.line + 1) (reading longest line) s.state)))
     → AppendsPart held held' (answers a (whole_lines fed))
 runs_part a s fed feed feed' line held mid held' runs gives part =
     let P : List ℕ → Type 0 = λ l. AppendsPart mid held' l in

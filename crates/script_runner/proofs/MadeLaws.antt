@@ -7,7 +7,7 @@ use Rattle.made_scripts.specs.Laws.{IsClean}
 use Rattle.made_scripts.specs.Made.{made_lines, joined, made_script}
 use Rattle.made_scripts.proofs.LineLaws.{no_line_feed}
 use Rattle.made_scripts.proofs.MadeLaws.{length-made_lines}
-use Rattle.rule_script.specs.Reading.{reading}
+use Rattle.rule_script.specs.Reading.{longest, reading}
 use Rattle.ce_events.specs.declared.event.Event.{Event}
 use Rattle.ce_events.specs.Text.{text}
 use Rattle.ce_algorithms.specs.Lines.{whole_lines, last_part, last_line}
@@ -56,8 +56,8 @@ pub record MadeOn (a s : Sitting) (all left : List (List ℕ)) (held held' : Opt
 
 module _ (a s t : Sitting) (all left next : List (List ℕ)) (line : List ℕ) (held mid held' : Option (List ℕ)) (on : MadeOn a s all left held mid)
     (gives : left ≡ line ∷ next) where
-  module _ (end : End) (did : Did s.trace mid held' (run_line model (s.line + 1) (reading line) s.state) (outcome_of end t.state))
-      (empty : t.state.log ≡ []) (trace : t.trace ≡ s.trace) (number : t.line ≡ s.line + 1) (bad : t.bad ≡ (s.bad || is_bad (reading line))) where
+  module _ (end : End) (did : Did s.trace mid held' (run_line model (s.line + 1) (reading longest line) s.state) (outcome_of end t.state))
+      (empty : t.state.log ≡ []) (trace : t.trace ≡ s.trace) (number : t.line ≡ s.line + 1) (bad : t.bad ≡ (s.bad || is_bad (reading longest line))) where
     front : Answered s (line ∷ []) end t mid held'
     front = answered_line s t end line mid held' did empty trace number bad
 

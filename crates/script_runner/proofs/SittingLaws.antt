@@ -9,7 +9,7 @@ use Rattle.std.specs.Io.KnownBytes.{Appends}
 use Rattle.std.specs.List.{list_any}
 use Rattle.std.specs.declared.option.Option.{Option}
 use Rattle.ce_base.specs.Outside.{AppendsPart}
-use Rattle.rule_script.specs.Reading.{reading}
+use Rattle.rule_script.specs.Reading.{longest, reading}
 use Rattle.ce_events.specs.declared.event.Event.{Event}
 use Rattle.ce_algorithms.specs.Model.{model}
 use Rattle.ce_algorithms.specs.Session.{run_line, run_lines, log_of}
@@ -34,7 +34,7 @@ pub run_from-append : (number : ℕ) (xs ys : List (List ℕ)) (s : State)
 run_from-append number [] ys s = ap (λ n. run_from n ys s) (sym (add-zero number))
 run_from-append number (x ∷ xs) ys s =
     let count : number + 1 + length xs ≡ number + length (x ∷ xs) = omega arith in
-    elim (run_line model number (reading x) s) as
+    elim (run_line model number (reading longest x) s) as
     (λ o. then_do o (λ _. run_from (number + 1) (xs ++ ys))
     ≡ then_do (then_do o (λ _. run_from (number + 1) xs)) (λ _. run_from (number + length (x ∷ xs)) ys)) [
       | Goes u t ↦ run_from-append (number + 1) xs ys t ∙ ap (λ n. then_do (run_from (number + 1) xs t) (λ _. run_from n ys)) count
@@ -47,7 +47,7 @@ log_of-end Replied s h = h
 log_of-end FuelSpent s h = h
 
 has_bad-append : (xs ys : List (List ℕ)) → has_bad (xs ++ ys) ≡ (has_bad xs || has_bad ys)
-has_bad-append xs ys = rw (map-append reading xs ys) (list_any-append is_bad (readings xs) (readings ys))
+has_bad-append xs ys = rw (map-append (reading longest) xs ys) (list_any-append is_bad (readings xs) (readings ys))
 
 -- ---- a session over lines
 
@@ -67,15 +67,15 @@ then_nothing number events Replied s = refl
 then_nothing number events FuelSpent s = refl
 
 pub ran_line : (s : Sitting) (line : List ℕ) (end : End) (t : Sitting) (events : List Event)
-    → run_line model (s.line + 1) (reading line) s.state ≡ behind_in events (outcome_of end t.state) → t.state.log ≡ [] → t.trace ≡ s.trace
-    → t.line ≡ s.line + 1 → t.bad ≡ (s.bad || is_bad (reading line))
+    → run_line model (s.line + 1) (reading longest line) s.state ≡ behind_in events (outcome_of end t.state) → t.state.log ≡ [] → t.trace ≡ s.trace
+    → t.line ≡ s.line + 1 → t.bad ≡ (s.bad || is_bad (reading longest line))
     → Ran s (line ∷ []) end t events
 ran_line s line end t events same empty trace number bad = record {
   same = ap (λ o. then_do o (λ _. run_from (s.line + 1 + 1) [])) same ∙ then_nothing (s.line + 1 + 1) events end t.state;
   empty = empty;
   trace = trace;
   line = λ _. number;
-  bad = λ _. bad ∙ ap (λ b. s.bad || b) (sym (or-false (is_bad (reading line))));
+  bad = λ _. bad ∙ ap (λ b. s.bad || b) (sym (or-false (is_bad (reading longest line))));
 }
 
 -- what a session that ran some lines does with more
@@ -133,7 +133,7 @@ answers_same s xs ys same = ap (λ said. text s.trace (log_of (run_lines model (
 pub answered_same : (s t : Sitting) (xs ys : List (List ℕ)) (end : End) (held held' : Option (List ℕ)) → readings xs ≡ readings ys
     → Answered s xs end t held held' → Answered s ys end t held held'
 answered_same s t xs ys end held held' same done =
-    let as_many : length xs ≡ length ys = sym (length-map xs reading) ∙ (ap length same ∙ length-map ys reading) in
+    let as_many : length xs ≡ length ys = sym (length-map xs (reading longest)) ∙ (ap length same ∙ length-map ys (reading longest)) in
     record {
       events = done.events;
       ran = record {

@@ -3,7 +3,7 @@ use Rattle.std.specs.Prelude.{ℕ, Bool, true, false, List, map, Result, Ok, Err
 use Rattle.std.specs.List.{list_any}
 use Rattle.rule_tokens.specs.declared.refused.Bad.{Bad}
 use Rattle.rule_lines.specs.Acts.{Said}
-use Rattle.rule_script.specs.Reading.{reading}
+use Rattle.rule_script.specs.Reading.{longest, reading}
 use Rattle.ce_algorithms.specs.declared.settings.Settings.{Settings}
 use Rattle.command_words.specs.declared.words.Options.{Options}
 use Rattle.ce_algorithms.specs.Model.{model}
@@ -18,7 +18,7 @@ is_bad (Err bad) = true
 
 -- what the lines say, each of them read
 abbrev pub readings : List (List ℕ) → List (Result Said Bad)
-readings lines = map reading lines
+readings lines = map (reading longest) lines
 
 -- some line is refused
 abbrev pub has_bad : List (List ℕ) → Bool

@@ -2,18 +2,14 @@
 ghost use Rattle.std.specs.Prelude.{◌≡◌, nat_le, length};
 ghost use Rattle.std.specs.Str.{is_utf8};
 ghost use Rattle.rule_tokens.specs.Tokens.{is_blank};
-ghost use Rattle.rule_script.specs.Reading.{longest};
 ghost use Rattle.script_runner.specs.Blank.{says_nothing};
-
-// How many bytes a line may have.
-const LONGEST: usize = 4096;
 
 /// Whether the line is read as a blank one: no bytes, spaces alone or a comment, within the limit and UTF-8.
 #[tactic(auto, using(crate::proofs::BlankLaws::too_long, crate::proofs::BlankLaws::not_blank, crate::proofs::BlankLaws::blank_text))]
-pub(crate) fn says_nothing(line: &[u8]) -> bool
-    ensures { result ≡ says_nothing line.now }
+pub(crate) fn says_nothing(limit: usize, line: &[u8]) -> bool
+    ensures { result ≡ says_nothing limit line.now }
 {
-    if !is_within(line) {
+    if !is_within(limit, line) {
         return false;
     }
     if !is_blank(line) {
@@ -22,10 +18,10 @@ pub(crate) fn says_nothing(line: &[u8]) -> bool
     is_text(line)
 }
 
-fn is_within(line: &[u8]) -> bool
-    ensures { result ≡ nat_le (length line.now) longest }
+fn is_within(limit: usize, line: &[u8]) -> bool
+    ensures { result ≡ nat_le (length line.now) limit }
 {
-    line.len() <= LONGEST
+    line.len() <= limit
 }
 
 // Whether the bytes say nothing, where they are UTF-8.

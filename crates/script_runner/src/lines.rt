@@ -10,6 +10,7 @@ use crate::blank::says_nothing;
 use ce_base::{NoMemory, Sink, Stop};
 use ce_machine::End;
 use line_feed::Feed;
+use rule_script::LONGEST;
 use std::alloc::Global;
 
 // Runs the whole lines of the feed, until none is left or the fuel is spent.
@@ -40,7 +41,7 @@ pub(crate) fn run_lines<K: Sink>(
                 return Err(Stop::NoMemory);
             }
         };
-        if says_nothing(line.as_slice()) {
+        if says_nothing(LONGEST, line.as_slice()) {
             session.pass();
             continue 'lines;
         }

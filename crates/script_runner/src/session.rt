@@ -3,7 +3,7 @@ ghost use Rattle.std.specs.Prelude.{◌≡◌, ◌+◌, ◌<◌, ◌≤◌, ◌^
 ghost use Rattle.ce_base.specs.Faults.{Rose};
 ghost use Rattle.ce_base.specs.Outside.{AppendsPart};
 ghost use Rattle.rule_lines.specs.Acts.{line_of};
-ghost use Rattle.rule_script.specs.Reading.{reading};
+ghost use Rattle.rule_script.specs.Reading.{longest, reading};
 ghost use Rattle.ce_algorithms.specs.Model.{model};
 ghost use Rattle.ce_algorithms.specs.Session.{run_line, log_of};
 ghost use Rattle.ce_events.specs.Text.{text};
@@ -103,13 +103,13 @@ impl Session {
     ) -> Result<(Session, End), Stop>
         requires room { self.line + 1 < 2 ^ 64 }
         ensures ran { IfOk result (λ r. Did self.trace (K.held sink.old) (K.held sink.new)
-            (run_line model (self.line + 1) (reading bytes.now) self.state) (outcome_of r.1 r.0.state)) }
+            (run_line model (self.line + 1) (reading longest bytes.now) self.state) (outcome_of r.1 r.0.state)) }
         ensures number { IfOk result (λ r. r.0.line ≡ self.line + 1) }
-        ensures bad { IfOk result (λ r. r.0.bad ≡ (self.bad || is_bad (reading bytes.now))) }
+        ensures bad { IfOk result (λ r. r.0.bad ≡ (self.bad || is_bad (reading longest bytes.now))) }
         ensures trace { IfOk result (λ r. r.0.trace ≡ self.trace) }
         ensures empty { IfOk result (λ r. r.0.state.log ≡ []) }
         ensures part { OnErr result (AppendsPart (K.held sink.old) (K.held sink.new)
-            (text self.trace (log_of (run_line model (self.line + 1) (reading bytes.now) self.state)))) }
+            (text self.trace (log_of (run_line model (self.line + 1) (reading longest bytes.now) self.state)))) }
         ensures later { K.failed sink.old ≤ K.failed sink.new }
         ensures cause { IsErrOf result Stop.WriteFault → Rose (K.failed sink.old) (K.failed sink.new) }
         ensures told { K.failed sink.old < K.failed sink.new → IsErrOf result Stop.WriteFault }
