@@ -7,12 +7,13 @@ use Rattle.rule_lines.specs.Acts.{Act, Both, Log, Super, Return, Throw, Bump, Ke
 use Rattle.rule_lines.specs.declared.line.Cmd.{Cmd}
 use Rattle.rule_lines.specs.declared.op.Op.{Op}
 use Rattle.reaction_queue.specs.declared.reaction.Reaction.{Reaction}
-use Rattle.reaction_queue.specs.declared.reaction.Reaction.TheVariants.{Upgrade as UpgradeReaction, Connected, Disconnected, Adopted, Attribute, FormAssociated}
-use Rattle.reaction_queue.specs.declared.reaction.Reaction.TheVariants.{FormDisabled, FormReset, FormStateRestore}
+use Rattle.reaction_queue.specs.declared.reaction.Reaction.TheVariants.{Upgrade as UpgradeReaction}
 use Rattle.reaction_queue.specs.Queues.{waiting_at, with_waiting}
 use Rattle.ce_registry.specs.ClassFacts.{has_call}
 use Rattle.ce_registry.specs.declared.definition.Definition.{Definition}
 use Rattle.ce_registry.specs.Registry.{is_autonomous}
+use Rattle.ce_events.specs.Calls.{call_event}
+use Rattle.ce_events.specs.declared.event.Event.{Event}
 use Rattle.ce_algorithms.specs.declared.deed.Deed.{Deed}
 use Rattle.ce_algorithms.specs.declared.deed.Deed.TheVariants as deeds
 use Rattle.ce_algorithms.specs.declared.deed.Deed.TheVariants.{OnPage, OnControls, OnInternals, OnForms, Submits}
@@ -21,7 +22,7 @@ use Rattle.ce_algorithms.specs.declared.given.Given.TheVariants.{Nothing, Node, 
 use Rattle.ce_algorithms.specs.Steps.{Step}
 use Rattle.ce_algorithms.specs.Page.{with_queues}
 use Rattle.ce_algorithms.specs.CreateLater.{make_undefined}
-use Rattle.ce_algorithms.specs.State.{State, Class, class_of}
+use Rattle.ce_algorithms.specs.State.{State, Class, log_any, class_of}
 use Rattle.ce_algorithms.specs.Calls.{Call, Operate, DrainRest, DrainBackup, Again}
 use Rattle.ce_algorithms.specs.Values.{Args, no_args, text_of}
 use Rattle.ce_algorithms.specs.Body.{Flow, Next, Ended, on_flow, told, returned, caught, holds, act, body, actions_of}
@@ -64,16 +65,12 @@ framed_drop_reactions n = search (framed_steps) depth 12
 pub framed_upgrade_threw : (n : ℕ) (x : Fault) → Framed (upgrade_threw n x)
 framed_upgrade_threw n x = search (framed_steps, framed_drop_reactions) depth 12
 
+framed_log_any : (line : Option Event) → Framed (log_any line)
+framed_log_any None = framed_done
+framed_log_any (Some e) = framed_log e
+
 pub framed_log_call : (n : ℕ) (r : Reaction) → Framed (log_call n r)
-framed_log_call n (UpgradeReaction d) = framed_done
-framed_log_call n Connected = framed_log _
-framed_log_call n Disconnected = framed_log _
-framed_log_call n (Adopted old new) = framed_log _
-framed_log_call n (Attribute name old new) = framed_log _
-framed_log_call n (FormAssociated form) = framed_log _
-framed_log_call n (FormDisabled disabled) = framed_log _
-framed_log_call n FormReset = framed_log _
-framed_log_call n (FormStateRestore state why) = framed_log _
+framed_log_call n r = framed_log_any (call_event r n)
 
 -- a queue is pushed
 pub framed_open_queue : Framed open_queue

@@ -6,12 +6,13 @@ use Rattle.rule_tokens.specs.declared.operand.Operand.{Operand}
 use Rattle.rule_lines.specs.Acts.{Act, Both, Log, Super, Return, Throw, Bump, Keep, Try, If}
 use Rattle.rule_lines.specs.declared.op.Op.{Op}
 use Rattle.reaction_queue.specs.declared.reaction.Reaction.{Reaction}
-use Rattle.reaction_queue.specs.declared.reaction.Reaction.TheVariants.{Upgrade as UpgradeReaction, Connected, Disconnected, Adopted, Attribute, FormAssociated}
-use Rattle.reaction_queue.specs.declared.reaction.Reaction.TheVariants.{FormDisabled, FormReset, FormStateRestore}
+use Rattle.reaction_queue.specs.declared.reaction.Reaction.TheVariants.{Upgrade as UpgradeReaction}
 use Rattle.reaction_queue.specs.Queues.{waiting_at, with_waiting}
 use Rattle.ce_registry.specs.ClassFacts.{has_call}
 use Rattle.ce_registry.specs.declared.definition.Definition.{Definition}
 use Rattle.ce_registry.specs.Registry.{is_autonomous}
+use Rattle.ce_events.specs.Calls.{call_event}
+use Rattle.ce_events.specs.declared.event.Event.{Event}
 use Rattle.ce_algorithms.specs.declared.deed.Deed.{Deed}
 use Rattle.ce_algorithms.specs.declared.deed.Deed.TheVariants as deeds
 use Rattle.ce_algorithms.specs.declared.deed.Deed.TheVariants.{OnPage, OnControls, OnInternals, OnForms, Submits}
@@ -19,7 +20,7 @@ use Rattle.ce_algorithms.specs.declared.given.Given.{Given}
 use Rattle.ce_algorithms.specs.declared.given.Given.TheVariants.{Nothing, Node, Answers, Ignored}
 use Rattle.ce_algorithms.specs.Steps.{Step, ◌>>◌, done}
 use Rattle.ce_algorithms.specs.Page.{with_queues}
-use Rattle.ce_algorithms.specs.State.{State, Class, change_page, class_of, spend}
+use Rattle.ce_algorithms.specs.State.{State, Class, log_any, change_page, class_of, spend}
 use Rattle.ce_algorithms.specs.Calls.{Call, Operate, DrainRest, DrainBackup, Again}
 use Rattle.ce_algorithms.specs.Values.{Args, no_args, text_of}
 use Rattle.ce_algorithms.specs.Body.{Flow, Next, Ended, on_flow, told, returned, caught, holds, act, body, actions_of}
@@ -68,16 +69,12 @@ tied_open_queue = search (tied_steps, light_begun) depth 12
 tied_pop_queue : {b : ℕ} → Tied b pop_queue pop_queue
 tied_pop_queue = search (tied_steps, light_ended) depth 12
 
+tied_log_any : {b : ℕ} (line : Option Event) → Tied b (log_any line) (log_any line)
+tied_log_any None = tied_done
+tied_log_any (Some e) = tied_log e
+
 tied_log_call : {b : ℕ} (n : ℕ) (r : Reaction) → Tied b (log_call n r) (log_call n r)
-tied_log_call n (UpgradeReaction d) = tied_done
-tied_log_call n Connected = tied_log _
-tied_log_call n Disconnected = tied_log _
-tied_log_call n (Adopted old new) = tied_log _
-tied_log_call n (Attribute name old new) = tied_log _
-tied_log_call n (FormAssociated form) = tied_log _
-tied_log_call n (FormDisabled disabled) = tied_log _
-tied_log_call n FormReset = tied_log _
-tied_log_call n (FormStateRestore state why) = tied_log _
+tied_log_call n r = tied_log_any (call_event r n)
 
 tied_create_failed : {b : ℕ} (local : List ℕ) (d : ℕ) (x : Fault) → Tied b (create_failed local d x) (create_failed local d x)
 tied_create_failed local d x = search (tied_steps, keeps_make_in_state Lower lower) depth 12

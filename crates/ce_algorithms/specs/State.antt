@@ -10,7 +10,7 @@ use Rattle.ce_registry.specs.ClassFacts.{no_facts}
 use Rattle.ce_events.specs.declared.event.Event.{Event}
 use Rattle.ce_events.specs.declared.event.Event.TheVariants.{Enqueued, FuelLine}
 use Rattle.ce_algorithms.specs.declared.note.Note.{Note}
-use Rattle.ce_algorithms.specs.Steps.{Step, Outcome, Goes, Throws, Spent, change, settle}
+use Rattle.ce_algorithms.specs.Steps.{Step, Outcome, Goes, Throws, Spent, change, done, settle}
 use Rattle.ce_algorithms.specs.Page.{Page, Work}
 
 -- what a class remembers; all its instances and callbacks share it
@@ -45,6 +45,11 @@ forgotten s = record s { log = [] }
 
 abbrev pub log : Event → Step State (Unit {0})
 log e = change (logged e)
+
+-- the line, where there is one
+abbrev pub log_any : Option Event → Step State (Unit {0})
+log_any None = done
+log_any (Some e) = log e
 
 -- the session ends, and the line `fuel` is its last
 abbrev pub ended_by_fuel : {A : Type 0} → State → Outcome State A

@@ -1,12 +1,10 @@
 -- What an event is to the law of order: the kind of its step, with what the law reads of it.
-use Rattle.std.specs.Prelude.{ℕ}
+use Rattle.std.specs.Prelude.{ℕ, Option, None, Some}
 use Rattle.rule_tokens.specs.declared.callback.CallName.{CallName}
-use Rattle.rule_tokens.specs.declared.callback.CallName.TheVariants as names
 use Rattle.rule_tokens.specs.declared.callback.CallOrUpgrade.{CallOrUpgrade}
+use Rattle.ce_events.specs.Calls.{call_of}
 use Rattle.ce_events.specs.declared.event.Event.{Event}
-use Rattle.ce_events.specs.declared.event.Event.TheVariants.{Connected, Disconnected, Adopted, Attribute, FormAssociated}
-use Rattle.ce_events.specs.declared.event.Event.TheVariants.{FormDisabled, FormReset, FormStateRestore, Fine}
-use Rattle.ce_events.specs.declared.event.Event.TheVariants.{Gave, Answered, Ignored, Threw, WasBad, FuelLine, QueueOpened, Enqueued, DrainBegun}
+use Rattle.ce_events.specs.declared.event.Event.TheVariants.{Fine, Gave, Answered, Ignored, Threw, WasBad, FuelLine, QueueOpened, Enqueued, DrainBegun}
 use Rattle.ce_events.specs.declared.event.Event.TheVariants.{Started, Finished, Dropped, QueueClosed, UpgradeBegun, UpgradeDone, UpgradeThrew}
 
 pub data Step : Type 0 where
@@ -25,6 +23,11 @@ pub data Step : Type 0 where
   Spends : Step  -- the fuel is spent
   Says : Step  -- anything else: the law has no word on it
 
+-- that of a callback's line; of any other
+abbrev pub called : Option (ℕ × CallName) → Step
+called None = Says
+called (Some c) = Calls c.0 c.1
+
 abbrev pub step_of : Event → Step
 step_of (QueueOpened q) = Opens q
 step_of (Enqueued r n what q) = Enqueues r n what q
@@ -36,14 +39,6 @@ step_of (QueueClosed q) = Closes q
 step_of (UpgradeBegun n) = Begins n
 step_of (UpgradeDone n) = Ends n
 step_of (UpgradeThrew n) = Throws n
-step_of (Connected n) = Calls n names.Connected
-step_of (Disconnected n) = Calls n names.Disconnected
-step_of (Adopted n old new) = Calls n names.Adopted
-step_of (Attribute n name old new) = Calls n names.Attribute
-step_of (FormAssociated n form) = Calls n names.FormAssociated
-step_of (FormDisabled n disabled) = Calls n names.FormDisabled
-step_of (FormReset n) = Calls n names.FormReset
-step_of (FormStateRestore n text why) = Calls n names.FormStateRestore
 step_of (Fine line) = Replies
 step_of (Gave line n) = Replies
 step_of (Answered line a) = Replies
@@ -51,4 +46,4 @@ step_of (Ignored line) = Replies
 step_of (Threw line f) = Replies
 step_of (WasBad line bad) = Replies
 step_of FuelLine = Spends
-step_of e = Says
+step_of e = called (call_of e)

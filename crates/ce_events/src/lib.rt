@@ -3,8 +3,10 @@
 //! The definitions stand in `specs/`. This crate's own types are what the model, the text and the code share.
 #![tactic(auto)]
 
+mod calls;
 mod event;
 mod words;
 
+pub use calls::{a_line_says_its_call, call_event};
 pub use event::{Answer, Cause, Event};
 pub use words::{mode_word, truth_word};

@@ -8,8 +8,8 @@ use Rattle.form_controls.specs.Kinds.{is_kind, kind_of}
 use Rattle.form_submission.specs.Requests.{request_fit}
 use Rattle.rule_tokens.specs.declared.operand.Operand.{Operand}
 use Rattle.reaction_queue.specs.declared.reaction.Reaction.{Reaction}
-use Rattle.reaction_queue.specs.declared.reaction.Reaction.TheVariants.{Upgrade, Connected, Disconnected, Adopted, Attribute, FormAssociated, FormDisabled}
-use Rattle.reaction_queue.specs.declared.reaction.Reaction.TheVariants.{FormReset, FormStateRestore}
+use Rattle.ce_events.specs.Calls.{call_event}
+use Rattle.ce_events.specs.declared.event.Event.{Event}
 use Rattle.ce_algorithms.specs.declared.deed.SubmitDeed.{SubmitDeed}
 use Rattle.ce_algorithms.specs.declared.deed.SubmitDeed.TheVariants as submit_deeds
 use Rattle.ce_algorithms.specs.declared.given.Given.{Given}
@@ -17,7 +17,7 @@ use Rattle.ce_algorithms.specs.declared.given.Given.TheVariants.{Nothing, Node, 
 use Rattle.ce_algorithms.specs.Steps.{Step, throw_any}
 use Rattle.ce_algorithms.specs.Page.{Page}
 use Rattle.ce_algorithms.specs.Forms.{forms_of, form_owner, is_disabled}
-use Rattle.ce_algorithms.specs.State.{State}
+use Rattle.ce_algorithms.specs.State.{State, log_any}
 use Rattle.ce_algorithms.specs.Controls.{ignored_or}
 use Rattle.ce_algorithms.specs.Submission.{plan, submitted, submit, request, act_on, activate_in, submit_steps}
 use Rattle.ce_algorithms.specs.Body.{told, returned}
@@ -42,16 +42,12 @@ pub falls_returned : (this : Option ℕ) (o : Option Operand) → Falls (returne
 falls_returned this None = falls_give _
 falls_returned this (Some o) = search (falls_steps) depth 12
 
+falls_log_any : (line : Option Event) → Falls (log_any line)
+falls_log_any None = falls_done
+falls_log_any (Some e) = falls_log e
+
 pub falls_log_call : (n : ℕ) (r : Reaction) → Falls (log_call n r)
-falls_log_call n (Upgrade d) = falls_done
-falls_log_call n Connected = falls_log _
-falls_log_call n Disconnected = falls_log _
-falls_log_call n (Adopted old new) = falls_log _
-falls_log_call n (Attribute name old new) = falls_log _
-falls_log_call n (FormAssociated form) = falls_log _
-falls_log_call n (FormDisabled disabled) = falls_log _
-falls_log_call n FormReset = falls_log _
-falls_log_call n (FormStateRestore state why) = falls_log _
+falls_log_call n r = falls_log_any (call_event r n)
 
 pub falls_define_element : (name : List ℕ) (k : ℕ) (base : Option (List ℕ)) → Falls (define_element name k base)
 falls_define_element name k base = search (falls_steps, keeps_define_name Sinks sinks) depth 12

@@ -8,8 +8,7 @@ use Rattle.node_trees.specs.Kinds.{IsElement}
 use Rattle.node_trees.specs.Nodes.{IsNode, size}
 use Rattle.node_trees.specs.Trees.{Trees}
 use Rattle.reaction_queue.specs.declared.reaction.Reaction.{Reaction}
-use Rattle.reaction_queue.specs.declared.reaction.Reaction.TheVariants.{Upgrade, Connected, Disconnected, Adopted, Attribute, FormAssociated, FormDisabled}
-use Rattle.reaction_queue.specs.declared.reaction.Reaction.TheVariants.{FormReset, FormStateRestore}
+use Rattle.reaction_queue.specs.declared.reaction.Reaction.TheVariants.{Upgrade}
 use Rattle.reaction_queue.specs.Queues.{current_elements, popped_queue, waiting_at, with_waiting}
 use Rattle.ce_registry.specs.declared.definition.Definition.{Definition}
 use Rattle.ce_events.specs.declared.event.Event.TheVariants.{DrainBegun, QueueClosed, Started}
@@ -101,14 +100,7 @@ call_placed : (G : Trees) (n : ℕ) (r : Reaction) (d : Option Definition) (s : 
     → ArePlaced G (call_turn n r d s).pushed (call_turn n r d s).end
 call_placed G n r None s there = tt
 call_placed G n (Upgrade c) (Some d) s there = (there d refl, tt)
-call_placed G n Connected (Some d) s there = (there d refl, tt)
-call_placed G n Disconnected (Some d) s there = (there d refl, tt)
-call_placed G n (Adopted old new) (Some d) s there = (there d refl, tt)
-call_placed G n (Attribute name old new) (Some d) s there = (there d refl, tt)
-call_placed G n (FormAssociated form) (Some d) s there = (there d refl, tt)
-call_placed G n (FormDisabled disabled) (Some d) s there = (there d refl, tt)
-call_placed G n FormReset (Some d) s there = (there d refl, tt)
-call_placed G n (FormStateRestore state why) (Some d) s there = (there d refl, tt)
+call_placed G n r (Some d) s there = (there d refl, tt)
 
 -- what has a definition is an element
 defined_element : (p : Page) (n : ℕ) (d : Definition) → HasRows p.elements p.forest → definition_of p n ≡ Some d → IsElement p.forest n
@@ -129,14 +121,7 @@ reaction_placed : (G : Trees) (n : ℕ) (r : Reaction) (s : State) → HasRows s
     → ArePlaced G (reaction_turn n r s).pushed (reaction_turn n r s).end
 unfolding reaction_turn
 reaction_placed G n (Upgrade d) s rows le = upgrade_settles n d s G
-reaction_placed G n Connected s rows le = defined_placed G n Connected s rows le
-reaction_placed G n Disconnected s rows le = defined_placed G n Disconnected s rows le
-reaction_placed G n (Adopted old new) s rows le = defined_placed G n (Adopted old new) s rows le
-reaction_placed G n (Attribute name old new) s rows le = defined_placed G n (Attribute name old new) s rows le
-reaction_placed G n (FormAssociated form) s rows le = defined_placed G n (FormAssociated form) s rows le
-reaction_placed G n (FormDisabled disabled) s rows le = defined_placed G n (FormDisabled disabled) s rows le
-reaction_placed G n FormReset s rows le = defined_placed G n FormReset s rows le
-reaction_placed G n (FormStateRestore state why) s rows le = defined_placed G n (FormStateRestore state why) s rows le
+reaction_placed G n r s rows le = defined_placed G n r s rows le
 
 -- the state where a reaction was taken, and has started
 abbrev taken : ℕ → ℕ → List (ℕ × Reaction) → State → State

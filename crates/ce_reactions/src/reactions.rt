@@ -1,8 +1,8 @@
 // Turns of reactions: an upgrade begins, or a callback.
-ghost use Rattle.std.specs.Prelude.{◌≡◌, ◌≤◌, true, IfNone, IfOk, IfSome, OnOk};
+ghost use Rattle.std.specs.Prelude.{◌≡◌, ◌≤◌, None, IfOk, OnOk};
 ghost use Rattle.node_trees.specs.Kinds.{IsElement};
 ghost use Rattle.node_trees.specs.Nodes.{size};
-ghost use Rattle.reaction_queue.specs.declared.reaction.Reaction.TheVariants.{Upgrade};
+ghost use Rattle.reaction_queue.specs.Reactions.{upgrade_of};
 ghost use Rattle.ce_events.specs.declared.event.Event.TheVariants.{Started};
 ghost use Rattle.ce_algorithms.specs.State.{logged};
 ghost use Rattle.ce_frames.specs.Frames as waiting;
@@ -10,14 +10,13 @@ ghost use Rattle.ce_frames.specs.DrainTurns.{reaction_turn};
 ghost use Rattle.ce_frames.specs.Turned.{below};
 ghost use Rattle.frame_stack.specs.Sessions.{ArePaired, session};
 ghost use Rattle.frame_stack.specs.Stacked.{frames_of};
-ghost use Rattle.ce_outcomes.specs.Steps.{is_callback};
 ghost use Rattle.ce_reactions.specs.Callbacks.{callback_turn};
 ghost use Rattle.ce_outcomes.specs.Turns.{Turns};
 
 use crate::upgrades::upgrade_turn;
 use behaviours::Args;
 use ce_algorithms::Given;
-use ce_base::{ClassNo, DefNo, NoMemory, NodeNo, ReactionNo};
+use ce_base::{ClassNo, NoMemory, NodeNo, ReactionNo};
 use ce_events::Event;
 use ce_outcomes::{Came, State};
 use frame_stack::{Stack, Waiting};
@@ -63,7 +62,7 @@ fn react(
     ensures paired { OnOk result (ArePaired stack.new state.new) }
     ensures grows { size state.old.page.forest ≤ size state.new.page.forest }
 {
-    match upgrade_of(r) {
+    match r.upgrade() {
         Some(d) => {
             let now = upgrade_turn(state, alloc, stack, e, d)?;
             Ok(now)
@@ -75,24 +74,6 @@ fn react(
     }
 }
 
-// The definition that an upgrade is by. None exactly where the reaction is a callback.
-fn upgrade_of(r: &Reaction) -> Option<DefNo>
-    ensures upgrade { IfSome result (λ d. r.now ≡ Upgrade d) }
-    ensures callback { IfNone result (is_callback r.now ≡ true) }
-{
-    match r {
-        Reaction::Upgrade(d) => Some(*d),
-        Reaction::Connected => None,
-        Reaction::Disconnected => None,
-        Reaction::Adopted(_, _) => None,
-        Reaction::Attribute(_, _, _) => None,
-        Reaction::FormAssociated(_) => None,
-        Reaction::FormDisabled(_) => None,
-        Reaction::FormReset => None,
-        Reaction::FormStateRestore(_, _) => None,
-    }
-}
-
 // Its callback begins, where its element has a definition.
 fn call(
     state: &mut State,
@@ -101,7 +82,7 @@ fn call(
     e: NodeNo,
     r: &Reaction,
 ) -> Result<Came, NoMemory>
-    requires callback { is_callback r.now ≡ true }
+    requires callback { upgrade_of r.now ≡ None }
     requires paired { ArePaired stack.old state.old }
     ensures turn { IfOk result (λ now. Turns (frames_of stack.old) (frames_of stack.new) now (session stack.new state.new)
         (reaction_turn e r.now (session stack.old state.old))) }
@@ -126,7 +107,7 @@ fn begin(
     class: ClassNo,
     r: &Reaction,
 ) -> Result<Came, NoMemory>
-    requires callback { is_callback r.now ≡ true }
+    requires callback { upgrade_of r.now ≡ None }
     requires paired { ArePaired stack.old state.old }
     ensures turn { IfOk result (λ now. Turns (frames_of stack.old) (frames_of stack.new) now (session stack.new state.new)
         (callback_turn e class r.now (session stack.old state.old))) }

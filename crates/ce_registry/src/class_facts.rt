@@ -6,11 +6,14 @@ use ce_base::{NoMemory, Texts};
 use rule_tokens::CallName;
 use std::alloc::Global;
 
+/// How many callbacks there are, with the constructor.
+pub const CALL_COUNT: usize = 9;
+
 /// The callbacks that a class has, and whether it has a constructor of its own (HTML Standard, section "Core
 /// concepts", a definition's lifecycle callbacks), in this order: constructor, connected, disconnected,
 /// adopted, attribute, formAssociated, formDisabled, formReset, formStateRestore.
 #[derive(Clone, Copy)]
-pub struct Calls(pub [bool; 9]);
+pub struct Calls(pub [bool; CALL_COUNT]);
 
 /// What a definition takes over from its class (HTML Standard, section "Core concepts": a definition's
 /// lifecycle callbacks, observed attributes, form-associated, disable shadow, disable internals).
@@ -47,7 +50,7 @@ impl Calls {
 /// The place of a callback in their order.
 pub fn place_of(call: CallName) -> usize
     ensures place { result ≡ place_of call }
-    ensures within { result < 9 }
+    ensures within { result < CALL_COUNT }
 {
     match call {
         CallName::Constructor => 0,
@@ -68,7 +71,7 @@ impl ClassFacts {
         ensures { result ≡ no_facts }
     {
         ClassFacts {
-            calls: Calls([false; 9]),
+            calls: Calls([false; CALL_COUNT]),
             observed: Texts::make(alloc),
             associated: false,
             no_shadow: false,

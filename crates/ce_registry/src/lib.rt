@@ -6,6 +6,6 @@ mod definition;
 mod entry;
 mod registry;
 
-pub use class_facts::{Calls, ClassFacts, place_of};
+pub use class_facts::{CALL_COUNT, Calls, ClassFacts, place_of};
 pub use definition::Definition;
 pub use registry::Registry;

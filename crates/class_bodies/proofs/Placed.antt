@@ -4,8 +4,7 @@ use Rattle.std.proofs.Common.{◌∙◌, arith}
 use Rattle.std.specs.Prelude.{slice_get, slice_set, if◌then◌else◌}
 use Rattle.rule_tokens.specs.Callbacks.{all_calls}
 use Rattle.rule_tokens.specs.declared.callback.CallName.{CallName}
-use Rattle.rule_tokens.specs.declared.callback.CallName.TheVariants.{Constructor, Connected, Disconnected, Adopted, Attribute, FormAssociated, FormDisabled}
-use Rattle.rule_tokens.specs.declared.callback.CallName.TheVariants.{FormReset, FormStateRestore}
+use Rattle.rule_tokens.specs.declared.callback.CallName.TheVariants.{Constructor}
 use Rattle.rule_lines.specs.Acts.{Act, act_of}
 use Rattle.rule_lines.specs.declared.action.Action.{Action}
 use Rattle.reaction_queue.specs.Queues.{or_empty}
@@ -18,14 +17,7 @@ use Rattle.ce_algorithms.proofs.CallNames.{same_is, same_self}
 
 in_order : (a : CallName) → slice_get all_calls (place_of a) ≡ Some a
 in_order Constructor = refl
-in_order Connected = refl
-in_order Disconnected = refl
-in_order Adopted = refl
-in_order Attribute = refl
-in_order FormAssociated = refl
-in_order FormDisabled = refl
-in_order FormReset = refl
-in_order FormStateRestore = refl
+in_order a = refl
 
 place_tells : (a b : CallName) → place_of a ≡ place_of b → a ≡ b
 place_tells a b e = let h : Some a ≡ Some b = sym (in_order a) ∙ ap (slice_get all_calls) e ∙ in_order b in cc

@@ -47,10 +47,7 @@ impl Args {
             Reaction::FormStateRestore(state, why) => {
                 of_texts(alloc, state.as_str(), mode_word(*why), "")
             }
-            Reaction::Upgrade(_) => Args::none(alloc),
-            Reaction::Connected => Args::none(alloc),
-            Reaction::Disconnected => Args::none(alloc),
-            Reaction::FormReset => Args::none(alloc),
+            _ => Args::none(alloc),
         }
     }
 

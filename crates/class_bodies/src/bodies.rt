@@ -4,7 +4,7 @@ ghost use Rattle.rule_lines.specs.Acts.{act_of};
 ghost use Rattle.ce_algorithms.specs.Body.{actions_of};
 
 use ce_base::NoMemory;
-use ce_registry::place_of;
+use ce_registry::{CALL_COUNT, place_of};
 use rule_lines::Action;
 use rule_tokens::CallName;
 use std::alloc::Global;
@@ -53,7 +53,7 @@ impl Places {
 #[derive(Drop)]
 pub struct Bodies {
     lines: Vec<(CallName, Action)>,
-    places: [Places; 9],
+    places: [Places; CALL_COUNT],
 }
 
 impl Model for Bodies {
@@ -113,7 +113,7 @@ impl Bodies {
     }
 }
 
-fn no_places(alloc: Global) -> [Places; 9]
+fn no_places(alloc: Global) -> [Places; CALL_COUNT]
     ensures { result ≡ [] ∷ [] ∷ [] ∷ [] ∷ [] ∷ [] ∷ [] ∷ [] ∷ [] ∷ [] }
 {
     [

@@ -16,13 +16,15 @@ use Rattle.ce_algorithms.specs.declared.deed.Deed.TheVariants as deeds
 use Rattle.ce_algorithms.specs.declared.deed.Deed.TheVariants.{OnPage, OnControls, OnInternals, OnForms, Submits}
 use Rattle.ce_algorithms.specs.declared.deed.SubmitDeed.{SubmitDeed}
 use Rattle.ce_algorithms.specs.declared.deed.SubmitDeed.TheVariants as submit_deeds
+use Rattle.ce_events.specs.Calls.{call_event}
+use Rattle.ce_events.specs.declared.event.Event.{Event}
 use Rattle.ce_events.specs.declared.event.Event.TheVariants.{UpgradeBegun}
 use Rattle.ce_algorithms.specs.declared.given.Given.{Given}
 use Rattle.ce_algorithms.specs.declared.given.Given.TheVariants.{Node, Answers}
 use Rattle.ce_algorithms.specs.Steps.{Step, Outcome, Goes, Throws, Spent, then_do, ◌>>◌, catch, catch_in, finally, finally_in}
 use Rattle.ce_algorithms.specs.Page.{Work, with_queues}
 use Rattle.ce_algorithms.specs.Construction.{with_stacks, pop_construction}
-use Rattle.ce_algorithms.specs.State.{State, Class, change_page, class_of, logged, on_page, with_outcome, with_work, work_of}
+use Rattle.ce_algorithms.specs.State.{State, Class, change_page, class_of, log_any, logged, on_page, with_outcome, with_work, work_of}
 use Rattle.ce_algorithms.specs.Calls.{Call, Operate, DrainRest, DrainBackup, Again}
 use Rattle.ce_algorithms.specs.Values.{Args, text_of}
 use Rattle.ce_algorithms.specs.Body.{Flow, Next, Ended, on_flow, told, returned, holds, act, body}
@@ -52,9 +54,12 @@ leaves_returned : (this : Option ℕ) (operand : Option Operand) → Leaves of_s
 leaves_returned this None = search leaves_steps depth 6
 leaves_returned this (Some operand) = search leaves_steps depth 8
 
+leaves_log_any : (line : Option Event) → Leaves of_session (log_any line)
+leaves_log_any None = leaves_done
+leaves_log_any (Some e) = search leaves_steps depth 6
+
 leaves_log_call : (n : ℕ) (r : Reaction) → Leaves of_session (log_call n r)
-leaves_log_call n (UpgradeReaction d) = leaves_done
-leaves_log_call n r = search leaves_steps depth 6
+leaves_log_call n r = leaves_log_any (call_event r n)
 
 leaves_upgrade_threw : (n : ℕ) (f : Fault) → Leaves of_session (upgrade_threw n f)
 leaves_upgrade_threw n f = search leaves_steps depth 14

@@ -5,8 +5,7 @@ use Rattle.std.specs.Fmt.{decimal}
 use Rattle.std.proofs.lemmas.List.{append-nil}
 use Rattle.rule_tokens.specs.Callbacks.{call_word}
 use Rattle.rule_tokens.specs.declared.callback.CallName.{CallName}
-use Rattle.rule_tokens.specs.declared.callback.CallName.TheVariants.{Constructor, Connected, Disconnected, Adopted, Attribute, FormAssociated, FormDisabled}
-use Rattle.rule_tokens.specs.declared.callback.CallName.TheVariants.{FormReset, FormStateRestore}
+use Rattle.rule_tokens.specs.declared.callback.CallName.TheVariants.{Constructor}
 use Rattle.rule_tokens.specs.declared.callback.CallOrUpgrade.{CallOrUpgrade}
 use Rattle.rule_tokens.specs.declared.callback.CallOrUpgrade.TheVariants.{Call, Upgrade}
 use Rattle.rule_tokens.specs.declared.token.Token.{Token}
@@ -80,14 +79,7 @@ told_upgrade_threw n fits = told_trace (UpgradeThrew n) (codes "threw") (node n)
 
 call_clean : (name : CallName) → IsClean (bare (call_word name))
 call_clean Constructor = word_clean (codes "constructor") refl
-call_clean Connected = word_clean (codes "connected") refl
-call_clean Disconnected = word_clean (codes "disconnected") refl
-call_clean Adopted = word_clean (codes "adopted") refl
-call_clean Attribute = word_clean (codes "attribute") refl
-call_clean FormAssociated = word_clean (codes "formAssociated") refl
-call_clean FormDisabled = word_clean (codes "formDisabled") refl
-call_clean FormReset = word_clean (codes "formReset") refl
-call_clean FormStateRestore = word_clean (codes "formStateRestore") refl
+call_clean name = word_clean (call_word name) refl
 
 what_clean : (w : CallOrUpgrade) → IsClean (bare (what w))
 what_clean (Call name) = call_clean name
@@ -95,14 +87,7 @@ what_clean Upgrade = word_clean (codes "upgrade") refl
 
 call_back : (name : CallName) → what_named (call_word name) ≡ Some (Call name)
 call_back Constructor = refl
-call_back Connected = refl
-call_back Disconnected = refl
-call_back Adopted = refl
-call_back Attribute = refl
-call_back FormAssociated = refl
-call_back FormDisabled = refl
-call_back FormReset = refl
-call_back FormStateRestore = refl
+call_back name = refl
 
 what_back : (w : CallOrUpgrade) → what_named (what w) ≡ Some w
 what_back (Call name) = call_back name

@@ -9,7 +9,6 @@ use crate::brackets::is_callback;
 use crate::checker::Checker;
 use ce_base::NodeNo;
 use ce_events::Event;
-use rule_tokens::CallName;
 
 impl Checker {
     /// Whether the event keeps each clause.
@@ -60,17 +59,10 @@ impl Checker {
     {
         match e {
             Event::Finished(_) => self.brackets.has_called(),
-            Event::Connected(n) => self.brackets.may_call(*n, CallName::Connected),
-            Event::Disconnected(n) => self.brackets.may_call(*n, CallName::Disconnected),
-            Event::Adopted(n, _, _) => self.brackets.may_call(*n, CallName::Adopted),
-            Event::Attribute(n, _, _, _) => self.brackets.may_call(*n, CallName::Attribute),
-            Event::FormAssociated(n, _) => self.brackets.may_call(*n, CallName::FormAssociated),
-            Event::FormDisabled(n, _) => self.brackets.may_call(*n, CallName::FormDisabled),
-            Event::FormReset(n) => self.brackets.may_call(*n, CallName::FormReset),
-            Event::FormStateRestore(n, _, _) => {
-                self.brackets.may_call(*n, CallName::FormStateRestore)
-            }
-            _ => true,
+            _ => match e.call() {
+                None => true,
+                Some((n, name)) => self.brackets.may_call(n, name),
+            },
         }
     }
 

@@ -32,16 +32,11 @@ impl Checker {
             Event::QueueClosed(q) => Ok(self.close(*q)),
             Event::UpgradeBegun(n) => self.begin(*n),
             Event::UpgradeThrew(n) => self.throw(*n),
-            Event::Connected(_)
-            | Event::Disconnected(_)
-            | Event::Adopted(_, _, _)
-            | Event::Attribute(_, _, _, _)
-            | Event::FormAssociated(_, _)
-            | Event::FormDisabled(_, _)
-            | Event::FormReset(_)
-            | Event::FormStateRestore(_, _, _) => self.call(),
             Event::FuelLine => Ok(self.end()),
-            _ => Ok(self),
+            _ => match e.call() {
+                None => Ok(self),
+                Some(_) => self.call(),
+            },
         }
     }
 

@@ -1,20 +1,17 @@
 -- The open brackets of the book are the open brackets of the log.
 use Rattle.std.proofs.Common.{◌≡◌, ℕ, ◌+◌, ◌<◌, Bool, true, false, List, [], ◌∷◌, ◌++◌, Option, Some, None, refl, sym, ap, ◌∙◌, subst, arith, inl, inr}
-use Rattle.std.specs.Prelude.{◌⊎◌, ◌&&◌, ◌==◌, is_some}
+use Rattle.std.specs.Prelude.{◌⊎◌, ◌&&◌, ◌==◌, is_some, not}
 use Rattle.std.proofs.lemmas.Bool.{eqb-true}
 use Rattle.std.proofs.lemmas.List.{append_assoc}
 use Rattle.rule_tokens.specs.declared.callback.CallName.{CallName}
-use Rattle.rule_tokens.specs.declared.callback.CallName.TheVariants as names
 use Rattle.rule_tokens.specs.declared.callback.CallOrUpgrade.{CallOrUpgrade}
 use Rattle.rule_tokens.specs.declared.callback.CallOrUpgrade.TheVariants.{Call, Upgrade}
+use Rattle.ce_events.specs.Calls.{call_of}
 use Rattle.ce_events.specs.declared.event.Event.{Event}
-use Rattle.ce_events.specs.declared.event.Event.TheVariants.{Connected, Disconnected, Adopted, Attribute, FormAssociated, FormDisabled, FormReset}
-use Rattle.ce_events.specs.declared.event.Event.TheVariants.{FormStateRestore, QueueOpened, DrainBegun, Started, Finished, QueueClosed, UpgradeBegun}
-use Rattle.ce_events.specs.declared.event.Event.TheVariants.{UpgradeDone, UpgradeThrew}
+use Rattle.ce_events.specs.declared.event.Event.TheVariants.{QueueOpened, DrainBegun, Started, Finished, QueueClosed, UpgradeBegun, UpgradeDone, UpgradeThrew}
 use Rattle.order_law.specs.Book.{Book, Entry, Bracket, Filling, Draining, Reacting, Upgrading}
-use Rattle.order_law.specs.Lines.{call_of}
 use Rattle.order_law.specs.Reads.{is_for, entry_of, around}
-use Rattle.order_law.specs.Clauses.{is_in_drain, may_call, begins_drain, ends_drain, ends_reaction, ends_upgrade}
+use Rattle.order_law.specs.Clauses.{calls_once, is_in_drain, may_call, begins_drain, ends_drain, ends_reaction, ends_upgrade, starts_once}
 use Rattle.order_law.specs.After.{after, started, marked}
 use Rattle.order_law.specs.Words.{Says, enqueue_line}
 use Rattle.order_law.specs.Brackets.{is_plain, Whole, Empty, Plain, Line, Operation, Checkpoint, Reaction, Done, Threw}
@@ -149,6 +146,15 @@ line e n name (Filling m ∷ bs) log is some_ h o = false_true h
 line e n name (Draining m ∷ bs) log is some_ h o = false_true h
 line e n name (Upgrading m ∷ bs) log is some_ h o = false_true h
 
+-- what is no bracket's: a callback's line, or a plain one
+spoken : (c : Option (ℕ × CallName)) (e : Event) → call_of e ≡ c → is_plain e ≡ not (is_some (call_of e)) → (bs : List Bracket) (log : List Event)
+    → may_call (call_of e) bs ≡ true → Opens log bs → Opens (log ++ e ∷ []) (marked (call_of e) bs)
+spoken None e is said bs log h o =
+    subst (λ x. Opens (log ++ e ∷ []) (marked x bs)) (sym is) (plain bs log e (said ∙ ap (λ x. not (is_some x)) is) o)
+spoken (Some c) e is said bs log h o =
+    subst (λ x. Opens (log ++ e ∷ []) (marked x bs)) (sym is)
+    (line e c.0 c.1 bs log is (ap is_some is) (subst (λ x. may_call x bs ≡ true) is h) o)
+
 -- a reaction starts
 starts : (r : ℕ) (o : Option Entry) (b : Book) (log : List Event) → ((w : Entry) → o ≡ Some w → (w.number ≡ r) × Says log (enqueue_line w)) →
     is_some o && is_in_drain b.brackets ≡ true → Opens log b.brackets → Opens (log ++ Started r ∷ []) (started o b).brackets
@@ -169,13 +175,4 @@ opens_step log b (Finished r) k o h = finishes r b.brackets log (left_true (ends
 opens_step log b (UpgradeBegun n) k o h = (log, [], refl, Empty, o)
 opens_step log b (UpgradeDone n) k o h = done n b.brackets log (left_true (ends_upgrade n b.brackets) _ h.nested) o
 opens_step log b (UpgradeThrew n) k o h = threw n b.brackets log (left_true (ends_upgrade n b.brackets) _ h.nested) o
-opens_step log b (Connected n) k o h = line (Connected n) n names.Connected b.brackets log refl refl (right_true true _ h.runs) o
-opens_step log b (Disconnected n) k o h = line (Disconnected n) n names.Disconnected b.brackets log refl refl (right_true true _ h.runs) o
-opens_step log b (Adopted n old new) k o h = line (Adopted n old new) n names.Adopted b.brackets log refl refl (right_true true _ h.runs) o
-opens_step log b (Attribute n name old new) k o h = line (Attribute n name old new) n names.Attribute b.brackets log refl refl (right_true true _ h.runs) o
-opens_step log b (FormAssociated n form) k o h = line (FormAssociated n form) n names.FormAssociated b.brackets log refl refl (right_true true _ h.runs) o
-opens_step log b (FormDisabled n disabled) k o h = line (FormDisabled n disabled) n names.FormDisabled b.brackets log refl refl (right_true true _ h.runs) o
-opens_step log b (FormReset n) k o h = line (FormReset n) n names.FormReset b.brackets log refl refl (right_true true _ h.runs) o
-opens_step log b (FormStateRestore n text why) k o h =
-    line (FormStateRestore n text why) n names.FormStateRestore b.brackets log refl refl (right_true true _ h.runs) o
-opens_step log b e k o h = plain b.brackets log e refl o
+opens_step log b e k o h = spoken (call_of e) e refl refl b.brackets log (right_true (starts_once b e) (calls_once b e) h.runs) o

@@ -4,11 +4,11 @@ use Rattle.std.specs.Prelude.{◌⊎◌, ◌==◌}
 use Rattle.std.proofs.lemmas.Bool.{eqb-true}
 use Rattle.rule_tokens.specs.declared.callback.CallName.{CallName}
 use Rattle.rule_tokens.specs.declared.callback.CallOrUpgrade.{CallOrUpgrade}
+use Rattle.ce_events.specs.Calls.{call_of}
 use Rattle.ce_events.specs.declared.event.Event.{Event}
 use Rattle.ce_events.specs.declared.event.Event.TheVariants.{Enqueued, QueueOpened, DrainBegun, Started, Finished, QueueClosed, UpgradeBegun, UpgradeDone}
 use Rattle.ce_events.specs.declared.event.Event.TheVariants.{UpgradeThrew}
 use Rattle.order_law.specs.Book.{Book, Entry, Bracket, Filling, Draining, Reacting, Upgrading, blank}
-use Rattle.order_law.specs.Lines.{call_of}
 use Rattle.order_law.specs.Reads.{entry_of, fillings, current, around}
 use Rattle.order_law.specs.Clauses.{begins_drain, ends_drain, ends_reaction, ends_upgrade}
 use Rattle.order_law.specs.After.{after, started, marked}

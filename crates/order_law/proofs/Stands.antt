@@ -6,12 +6,13 @@ use Rattle.std.proofs.lemmas.List.{append_assoc}
 use Rattle.rule_tokens.specs.declared.callback.CallName.{CallName}
 use Rattle.rule_tokens.specs.declared.callback.CallOrUpgrade.{CallOrUpgrade}
 use Rattle.rule_tokens.specs.declared.callback.CallOrUpgrade.TheVariants.{Call, Upgrade}
+use Rattle.ce_events.specs.Calls.{call_of}
 use Rattle.ce_events.specs.declared.event.Event.{Event}
 use Rattle.ce_events.specs.declared.event.Event.TheVariants.{QueueOpened, DrainBegun, Started, Finished, Dropped, QueueClosed, UpgradeBegun, UpgradeDone}
 use Rattle.ce_events.specs.declared.event.Event.TheVariants.{UpgradeThrew}
 use Rattle.reaction_queue.specs.ElementQueues.{is_empty}
 use Rattle.order_law.specs.Book.{Book, Entry, Bracket, Filling, Draining, Reacting, Upgrading, blank}
-use Rattle.order_law.specs.Lines.{call_of, is_reply}
+use Rattle.order_law.specs.Lines.{is_reply}
 use Rattle.order_law.specs.Reads.{is_callback, is_for, entry_of}
 use Rattle.order_law.specs.Clauses.{is_in_drain, starts_once, may_call, has_called, is_in_upgrade, begins_drain, ends_drain, ends_reaction, ends_upgrade}
 use Rattle.order_law.specs.Clauses.{may_upgrade}

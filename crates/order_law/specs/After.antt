@@ -1,11 +1,11 @@
 -- The book after an event.
 use Rattle.std.specs.Prelude.{ℕ, ◌==◌, true, false, not, ◌&&◌, ◌||◌, List, [], ◌∷◌, ◌++◌, Option, Some, None}
 use Rattle.rule_tokens.specs.declared.callback.CallName.{CallName}
+use Rattle.ce_events.specs.Calls.{call_of}
 use Rattle.ce_events.specs.declared.event.Event.{Event}
 use Rattle.ce_events.specs.declared.event.Event.TheVariants.{FuelLine, QueueOpened, Enqueued, DrainBegun, Started, Finished}
 use Rattle.ce_events.specs.declared.event.Event.TheVariants.{Dropped, QueueClosed, UpgradeBegun, UpgradeDone, UpgradeThrew}
 use Rattle.order_law.specs.Book.{Book, Entry, Bracket, Filling, Draining, Reacting, Upgrading}
-use Rattle.order_law.specs.Lines.{call_of}
 use Rattle.order_law.specs.Reads.{entry_of, without, around}
 use Rattle.order_law.specs.Clauses.{element_of}
 

@@ -2,10 +2,10 @@
 use Rattle.std.specs.Prelude.{◌≡◌, ◌⊎◌, ℕ, Bool, true, false, not, is_some, List, [], ◌∷◌, ◌++◌, Some}
 use Rattle.rule_tokens.specs.declared.callback.CallOrUpgrade.{CallOrUpgrade}
 use Rattle.rule_tokens.specs.declared.callback.CallOrUpgrade.TheVariants.{Call, Upgrade}
+use Rattle.ce_events.specs.Calls.{call_of}
 use Rattle.ce_events.specs.declared.event.Event.{Event}
 use Rattle.ce_events.specs.declared.event.Event.TheVariants.{QueueOpened, DrainBegun, Started, Finished, QueueClosed, UpgradeBegun, UpgradeDone, UpgradeThrew}
 use Rattle.order_law.specs.Book.{Entry}
-use Rattle.order_law.specs.Lines.{call_of}
 use Rattle.order_law.specs.Words.{Says, enqueue_line}
 
 -- no bracket begins or ends with it, and it is no callback's line

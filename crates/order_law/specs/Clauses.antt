@@ -1,12 +1,13 @@
 -- The clauses of the law of order, each a test of one event against the book of the events before it.
 use Rattle.std.specs.Prelude.{ℕ, ◌+◌, ◌==◌, Bool, true, false, not, ◌&&◌, ◌||◌, List, [], ◌∷◌, Option, Some, None, is_some}
 use Rattle.rule_tokens.specs.declared.callback.CallName.{CallName}
+use Rattle.ce_events.specs.Calls.{call_of}
 use Rattle.ce_events.specs.declared.event.Event.{Event}
 use Rattle.ce_events.specs.declared.event.Event.TheVariants.{QueueOpened, Enqueued, DrainBegun, Started, Finished}
 use Rattle.ce_events.specs.declared.event.Event.TheVariants.{Dropped, QueueClosed, UpgradeBegun, UpgradeDone, UpgradeThrew}
 use Rattle.reaction_queue.specs.ElementQueues.{is_empty}
 use Rattle.order_law.specs.Book.{Book, Entry, Bracket, Filling, Draining, Reacting, Upgrading}
-use Rattle.order_law.specs.Lines.{call_of, is_reply}
+use Rattle.order_law.specs.Lines.{is_reply}
 use Rattle.order_law.specs.Reads.{is_one_of, is_callback, is_for, entry_of, none_of_element, none_of_queue, is_first, current}
 
 -- First clause: reactions are numbered 1, 2, 3 and on, and so are the element queues that are pushed. An enqueue tells the

@@ -2,12 +2,13 @@
 ghost use Rattle.std.specs.Prelude.{◌≡◌, ℕ, ◌<◌, List, [], ◌∷◌, ◌++◌, true, Some};
 ghost use Rattle.rule_tokens.specs.declared.callback.CallName.{CallName};
 ghost use Rattle.rule_tokens.specs.declared.callback.CallOrUpgrade.TheVariants.{Call};
+ghost use Rattle.ce_events.specs.Calls.{call_of};
 ghost use Rattle.ce_events.specs.declared.event.Event.{Event};
 ghost use Rattle.ce_events.specs.declared.event.Event.TheVariants.{QueueOpened, DrainBegun, Started, Finished, Dropped};
 ghost use Rattle.ce_events.specs.declared.event.Event.TheVariants.{QueueClosed, UpgradeBegun, UpgradeDone, UpgradeThrew};
 ghost use Rattle.order_law.specs.Book.{Entry};
 ghost use Rattle.order_law.specs.Law.{Lawful};
-ghost use Rattle.order_law.specs.Lines.{call_of, is_reply};
+ghost use Rattle.order_law.specs.Lines.{is_reply};
 ghost use Rattle.order_law.specs.Words.{Waits};
 ghost use Rattle.order_law.specs.Brackets.{Whole, Innermost, Runs, MayUpgrade, HasRun};
 

@@ -171,14 +171,7 @@ keyword_line keywords.Deep = refl
 
 call_line : (call : CallName) → is_line_word (call_word call) ≡ true
 call_line calls.Constructor = refl
-call_line calls.Connected = refl
-call_line calls.Disconnected = refl
-call_line calls.Adopted = refl
-call_line calls.Attribute = refl
-call_line calls.FormAssociated = refl
-call_line calls.FormDisabled = refl
-call_line calls.FormReset = refl
-call_line calls.FormStateRestore = refl
+call_line call = refl
 
 -- ---- operands
 

@@ -8,11 +8,4 @@ use Rattle.rule_tokens.specs.declared.callback.CallName.TheVariants as calls
 pub call_again : (call : CallName) → call_named (call_word call) ≡ Some call
 unfolding chars
 call_again calls.Constructor = refl
-call_again calls.Connected = refl
-call_again calls.Disconnected = refl
-call_again calls.Adopted = refl
-call_again calls.Attribute = refl
-call_again calls.FormAssociated = refl
-call_again calls.FormDisabled = refl
-call_again calls.FormReset = refl
-call_again calls.FormStateRestore = refl
+call_again call = refl

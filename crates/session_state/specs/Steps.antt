@@ -3,8 +3,6 @@ use Rattle.std.specs.Prelude.{◌≡◌, ◌≤◌, ◌<◌, ◌+◌, ◌^◌, �
 use Rattle.rule_tokens.specs.declared.callback.CallName.{CallName}
 use Rattle.node_trees.specs.Nodes.{size}
 use Rattle.reaction_queue.specs.declared.reaction.Reaction.{Reaction}
-use Rattle.reaction_queue.specs.declared.reaction.Reaction.TheVariants.{Upgrade, Connected, Disconnected, Adopted, Attribute}
-use Rattle.reaction_queue.specs.declared.reaction.Reaction.TheVariants.{FormAssociated, FormDisabled, FormReset, FormStateRestore}
 use Rattle.reaction_queue.specs.Queues.{waiting_at, with_waiting}
 use Rattle.ce_registry.specs.declared.definition.Definition.{Definition}
 use Rattle.ce_events.specs.declared.event.Event.TheVariants.{FuelLine}
@@ -41,18 +39,6 @@ with_frozen k s = record s { classes = changed k frozen_class s.classes }
 -- a class has the callback
 abbrev pub with_call_at : ℕ → CallName → State → State
 with_call_at k call s = record s { classes = changed k (change_facts (with_has call)) s.classes }
-
--- a reaction that is a callback
-abbrev pub is_callback : Reaction → Bool
-is_callback (Upgrade d) = false
-is_callback Connected = true
-is_callback Disconnected = true
-is_callback (Adopted old new) = true
-is_callback (Attribute name old new) = true
-is_callback (FormAssociated owner) = true
-is_callback (FormDisabled disabled) = true
-is_callback FormReset = true
-is_callback (FormStateRestore state mode) = true
 
 -- the class whose callback a reaction of an element runs, where the element has a definition
 abbrev pub callee : Option Definition → Option ℕ

@@ -1,19 +1,18 @@
 // Callbacks: whose they are, their lines, their bodies.
-ghost use Rattle.std.specs.Prelude.{◌≡◌, ◌+◌, ◌<◌, ◌^◌, true, IfOk, IfSome, OnOk};
+ghost use Rattle.std.specs.Prelude.{◌≡◌, ◌+◌, ◌<◌, ◌^◌, IfOk, IfSome, OnOk};
 ghost use Rattle.node_trees.specs.Kinds.{IsElement};
 ghost use Rattle.behaviours.specs.Next.{stop_of};
 ghost use Rattle.ce_algorithms.specs.Drain.{log_call};
 ghost use Rattle.ce_algorithms.specs.Page.{definition_of};
-ghost use Rattle.ce_algorithms.specs.State.{log};
 ghost use Rattle.ce_algorithms.specs.Steps.{Goes};
 ghost use Rattle.frame_stack.specs.Resumes.{IsForSession, Proceeds, Resumes};
 ghost use Rattle.frame_stack.specs.Stacked.{HasBody, frames_of};
-ghost use Rattle.session_state.specs.Steps.{callee, is_callback};
+ghost use Rattle.session_state.specs.Steps.{callee};
 
 use crate::State;
 use behaviours::Next;
-use ce_base::{ClassNo, NoMemory, NodeNo, copy_of};
-use ce_events::Event;
+use ce_base::{ClassNo, NoMemory, NodeNo};
+use ce_events::call_event;
 use frame_stack::Stack;
 use reaction_queue::Reaction;
 use std::alloc::Global;
@@ -31,16 +30,19 @@ impl State {
         }
     }
 
-    /// Logs the line of a callback that starts (HTML Standard, section "Custom element reactions"). NoMemory: see
-    /// `State`.
+    /// Logs the line of a callback that starts (HTML Standard, section "Custom element reactions"); of an upgrade none.
+    /// NoMemory: see `State`.
     pub fn log_call(&mut self, alloc: Global, e: NodeNo, r: &Reaction) -> Result<(), NoMemory>
-        requires { is_callback r.now ≡ true }
         ensures logged { OnOk result (Goes tt self.new ≡ log_call e r.now self.old) }
         ensures page { self.new.page ≡ self.old.page }
     {
-        let line = call_event(alloc, e, r)?;
-        self.log(line)?;
-        Ok(())
+        match call_event(alloc, r, e)? {
+            None => Ok(()),
+            Some(line) => {
+                self.log(line)?;
+                Ok(())
+            }
+        }
     }
 
     /// Runs the body on top of a stack up to its next stop, on the fuel of the session. NoMemory: memory was refused,
@@ -54,30 +56,5 @@ impl State {
         ensures room { IfOk result (λ next. Proceeds (stop_of next) → self.new.page.queues.pushed + self.new.fuel + 1 < 2 ^ 64) }
     {
         stack.resume(alloc, &mut self.fuel)
-    }
-}
-
-// The line of a callback that starts.
-fn call_event(alloc: Global, e: NodeNo, r: &Reaction) -> Result<Event, NoMemory>
-    requires { is_callback r.now ≡ true }
-    ensures { IfOk result (λ line. log line ≡ log_call e r.now) }
-{
-    match r {
-        Reaction::Upgrade(_) => unreachable!(),
-        Reaction::Connected => Ok(Event::Connected(e)),
-        Reaction::Disconnected => Ok(Event::Disconnected(e)),
-        Reaction::Adopted(old, new) => Ok(Event::Adopted(e, *old, *new)),
-        Reaction::Attribute(name, old, new) => Ok(Event::Attribute(
-            e,
-            name.copy(alloc)?,
-            copy_of(alloc, old)?,
-            copy_of(alloc, new)?,
-        )),
-        Reaction::FormAssociated(form) => Ok(Event::FormAssociated(e, *form)),
-        Reaction::FormDisabled(disabled) => Ok(Event::FormDisabled(e, *disabled)),
-        Reaction::FormReset => Ok(Event::FormReset(e)),
-        Reaction::FormStateRestore(state, why) => {
-            Ok(Event::FormStateRestore(e, state.copy(alloc)?, *why))
-        }
     }
 }

@@ -1,89 +1,59 @@
 -- The law reads of an event what its step says.
-use Rattle.std.proofs.Common.{◌≡◌, ℕ, [], false, None, refl, sym, ap, ◌∙◌}
+use Rattle.std.proofs.Common.{◌≡◌, ℕ, Bool, [], None, Some, refl, sym, ap, ◌∙◌}
+use Rattle.std.specs.Prelude.{◌&&◌, not}
 use Rattle.rule_tokens.specs.declared.callback.CallName.{CallName}
-use Rattle.rule_tokens.specs.declared.callback.CallName.TheVariants as names
-use Rattle.reaction_queue.specs.declared.reaction.Mode.TheVariants.{Restore}
 use Rattle.ce_events.specs.declared.event.Event.{Event}
-use Rattle.ce_events.specs.declared.event.Event.TheVariants.{Construct, Connected, Disconnected, Adopted, Attribute, FormAssociated, FormDisabled, FormReset}
-use Rattle.ce_events.specs.declared.event.Event.TheVariants.{FormStateRestore, Logged, Caught, Reported, Asked, SubmitGet, SubmitPost, SubmitBlocked, Fine}
-use Rattle.ce_events.specs.declared.event.Event.TheVariants.{Gave, Answered, Ignored, Threw, WasBad, FuelLine, QueueOpened, Enqueued, DrainBegun, Started}
-use Rattle.ce_events.specs.declared.event.Event.TheVariants.{Finished, Dropped, QueueClosed, UpgradeBegun, UpgradeDone, UpgradeThrew}
+use Rattle.ce_events.specs.declared.event.Event.TheVariants.{Construct, Logged, Fine, FuelLine, QueueOpened, Enqueued, DrainBegun, Started, Finished}
+use Rattle.ce_events.specs.declared.event.Event.TheVariants.{Dropped, QueueClosed, UpgradeBegun, UpgradeDone, UpgradeThrew}
 use Rattle.ce_events.specs.Step.{Step, Opens, Enqueues, Drains, Starts, Finishes, Drops, Closes, Begins, Ends, Throws, Calls, Replies, Spends, Says, step_of}
-use Rattle.order_law.specs.After.{after}
+use Rattle.order_law.specs.After.{after, marked}
 use Rattle.order_law.specs.Book.{Book}
+use Rattle.order_law.specs.Clauses.{goes_on, may_call}
 use Rattle.order_law.specs.Law.{may_come}
 
--- an event that starts this callback, and one without a word of the law for what none does
-abbrev caller : ℕ → CallName → Event
-caller n names.Constructor = Logged []
-caller n names.Connected = Connected n
-caller n names.Disconnected = Disconnected n
-caller n names.Adopted = Adopted n 0 0
-caller n names.Attribute = Attribute n [] None None
-caller n names.FormAssociated = FormAssociated n None
-caller n names.FormDisabled = FormDisabled n false
-caller n names.FormReset = FormReset n
-caller n names.FormStateRestore = FormStateRestore n [] Restore
+-- what the law reads: whether an event may come, and the book behind it
+record Reading : Type 0 where
+  may : Bool
+  next : Book
 
--- an event of this step
-abbrev sample : Step → Event
-sample (Opens q) = QueueOpened q
-sample (Enqueues r n what q) = Enqueued r n what q
-sample (Drains q) = DrainBegun q
-sample (Starts r) = Started r
-sample (Finishes r) = Finished r
-sample (Drops r) = Dropped r
-sample (Closes q) = QueueClosed q
-sample (Begins n) = UpgradeBegun n
-sample (Ends n) = UpgradeDone n
-sample (Throws n) = UpgradeThrew n
-sample (Calls n name) = caller n name
-sample Replies = Fine 0
-sample Spends = FuelLine
-sample Says = Logged []
+-- of an event
+abbrev of_event : Book → Event → Reading
+of_event b e = record { may = may_come b e; next = after b e }
 
--- the law says the same of an event and of another
-record AreOne (b : Book) (e f : Event) : Type 0 where
-  may : may_come b e ≡ may_come b f
-  next : after b e ≡ after b f
+-- of a callback's line
+abbrev of_call : Book → (ℕ × CallName) → Reading
+of_call b call = record {
+  may = may_call (Some call) b.brackets && (goes_on b.dropping None && not b.over);
+  next = record b { brackets = marked (Some call) b.brackets; dropping = None };
+}
 
-by_sample : (b : Book) (e : Event) → AreOne b e (sample (step_of e))
-by_sample b (Construct class) = record { may = refl; next = refl }
-by_sample b (Connected n) = record { may = refl; next = refl }
-by_sample b (Disconnected n) = record { may = refl; next = refl }
-by_sample b (Adopted n old new) = record { may = refl; next = refl }
-by_sample b (Attribute n name old new) = record { may = refl; next = refl }
-by_sample b (FormAssociated n form) = record { may = refl; next = refl }
-by_sample b (FormDisabled n disabled) = record { may = refl; next = refl }
-by_sample b (FormReset n) = record { may = refl; next = refl }
-by_sample b (FormStateRestore n text why) = record { may = refl; next = refl }
-by_sample b (Logged texts) = record { may = refl; next = refl }
-by_sample b (Caught f) = record { may = refl; next = refl }
-by_sample b (Reported f) = record { may = refl; next = refl }
-by_sample b (Asked a) = record { may = refl; next = refl }
-by_sample b (SubmitGet n url) = record { may = refl; next = refl }
-by_sample b (SubmitPost n url media body) = record { may = refl; next = refl }
-by_sample b (SubmitBlocked n why) = record { may = refl; next = refl }
-by_sample b (Fine line) = record { may = refl; next = refl }
-by_sample b (Gave line n) = record { may = refl; next = refl }
-by_sample b (Answered line a) = record { may = refl; next = refl }
-by_sample b (Ignored line) = record { may = refl; next = refl }
-by_sample b (Threw line f) = record { may = refl; next = refl }
-by_sample b (WasBad line bad) = record { may = refl; next = refl }
-by_sample b FuelLine = record { may = refl; next = refl }
-by_sample b (QueueOpened q) = record { may = refl; next = refl }
-by_sample b (Enqueued r n what q) = record { may = refl; next = refl }
-by_sample b (DrainBegun q) = record { may = refl; next = refl }
-by_sample b (Started r) = record { may = refl; next = refl }
-by_sample b (Finished r) = record { may = refl; next = refl }
-by_sample b (Dropped r) = record { may = refl; next = refl }
-by_sample b (QueueClosed q) = record { may = refl; next = refl }
-by_sample b (UpgradeBegun n) = record { may = refl; next = refl }
-by_sample b (UpgradeDone n) = record { may = refl; next = refl }
-by_sample b (UpgradeThrew n) = record { may = refl; next = refl }
+-- of a step: of an event that has it
+abbrev of_step : Book → Step → Reading
+of_step b (Opens q) = of_event b (QueueOpened q)
+of_step b (Enqueues r n what q) = of_event b (Enqueued r n what q)
+of_step b (Drains q) = of_event b (DrainBegun q)
+of_step b (Starts r) = of_event b (Started r)
+of_step b (Finishes r) = of_event b (Finished r)
+of_step b (Drops r) = of_event b (Dropped r)
+of_step b (Closes q) = of_event b (QueueClosed q)
+of_step b (Begins n) = of_event b (UpgradeBegun n)
+of_step b (Ends n) = of_event b (UpgradeDone n)
+of_step b (Throws n) = of_event b (UpgradeThrew n)
+of_step b (Calls n name) = of_call b (n, name)
+of_step b Replies = of_event b (Fine 0)
+of_step b Spends = of_event b FuelLine
+of_step b Says = of_event b (Logged [])
+
+-- each event is read as its step
+by_step : (b : Book) (e : Event) → of_event b e ≡ of_step b (step_of e)
+by_step b (Construct class) = refl
+by_step b e = refl
+
+same_reading : (b : Book) (e f : Event) → step_of e ≡ step_of f → of_event b e ≡ of_event b f
+same_reading b e f same = by_step b e ∙ (ap (of_step b) same ∙ sym (by_step b f))
 
 pub may_come_by_step : (b : Book) (e f : Event) → step_of e ≡ step_of f → may_come b e ≡ may_come b f
-may_come_by_step b e f same = (by_sample b e).may ∙ (ap (λ (s : Step). may_come b (sample s)) same ∙ sym (by_sample b f).may)
+may_come_by_step b e f same = ap (λ (r : Reading). r.may) (same_reading b e f same)
 
 pub after_by_step : (b : Book) (e f : Event) → step_of e ≡ step_of f → after b e ≡ after b f
-after_by_step b e f same = (by_sample b e).next ∙ (ap (λ (s : Step). after b (sample s)) same ∙ sym (by_sample b f).next)
+after_by_step b e f same = ap (λ (r : Reading). r.next) (same_reading b e f same)

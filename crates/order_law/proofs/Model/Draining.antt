@@ -4,17 +4,12 @@ use Rattle.std.specs.Prelude.{◌||◌, not}
 use Rattle.std.specs.List.{AllByRecursion as Each}
 use Rattle.std.specs.Option.{option_to_list}
 use Rattle.rule_tokens.specs.declared.callback.CallName.{CallName}
-use Rattle.rule_tokens.specs.declared.callback.CallName.TheVariants.{Connected as ConnectedName, Disconnected as DisconnectedName, Adopted as AdoptedName}
-use Rattle.rule_tokens.specs.declared.callback.CallName.TheVariants.{Attribute as AttributeName, FormAssociated as FormAssociatedName}
-use Rattle.rule_tokens.specs.declared.callback.CallName.TheVariants.{FormDisabled as FormDisabledName, FormReset as FormResetName}
-use Rattle.rule_tokens.specs.declared.callback.CallName.TheVariants.{FormStateRestore as FormStateRestoreName}
 use Rattle.rule_tokens.specs.declared.callback.CallOrUpgrade.{CallOrUpgrade}
 use Rattle.rule_tokens.specs.declared.callback.CallOrUpgrade.TheVariants.{Call, Upgrade as IsUpgrade}
 use Rattle.rule_lines.specs.Acts.{Act}
 use Rattle.rule_lines.specs.declared.op.Op.{Op}
 use Rattle.reaction_queue.specs.declared.reaction.Reaction.{Reaction}
-use Rattle.reaction_queue.specs.declared.reaction.Reaction.TheVariants.{Upgrade, Connected, Disconnected, Adopted, Attribute, FormAssociated, FormDisabled}
-use Rattle.reaction_queue.specs.declared.reaction.Reaction.TheVariants.{FormReset, FormStateRestore}
+use Rattle.reaction_queue.specs.declared.reaction.Reaction.TheVariants.{Upgrade}
 use Rattle.reaction_queue.specs.Queues.{waiting_at, with_waiting, pushed_queue, popped_queue, current_elements}
 use Rattle.reaction_queue.specs.Reactions.{what_of}
 use Rattle.ce_registry.specs.declared.definition.Definition.{Definition}
@@ -97,15 +92,7 @@ module _ (again : Again) (keeps : KeepsLaw again) (constructs : ConstructsKeep a
       After (InReaction w (is_callback (what_of x)) ∷ h) (run_reaction again n x s)
   run_after n (Upgrade d) w h s at what fit known k =
       upgrade_after again n d (InReaction w false ∷ h) s known (at, what) (constructs n d (InReaction w false ∷ h)) k
-  run_after n Connected w h s at what fit known k = callback_after n Connected ConnectedName refl w h s at what fit k
-  run_after n Disconnected w h s at what fit known k = callback_after n Disconnected DisconnectedName refl w h s at what fit k
-  run_after n (Adopted old new) w h s at what fit known k = callback_after n (Adopted old new) AdoptedName refl w h s at what fit k
-  run_after n (Attribute key old new) w h s at what fit known k = callback_after n (Attribute key old new) AttributeName refl w h s at what fit k
-  run_after n (FormAssociated form) w h s at what fit known k = callback_after n (FormAssociated form) FormAssociatedName refl w h s at what fit k
-  run_after n (FormDisabled disabled) w h s at what fit known k = callback_after n (FormDisabled disabled) FormDisabledName refl w h s at what fit k
-  run_after n FormReset w h s at what fit known k = callback_after n FormReset FormResetName refl w h s at what fit k
-  run_after n (FormStateRestore state why) w h s at what fit known k =
-      callback_after n (FormStateRestore state why) FormStateRestoreName refl w h s at what fit k
+  run_after n x w h s at what fit known k = callback_after n x _ refl w h s at what fit k
 
   whole : (what : CallOrUpgrade) → is_callback what || not (is_callback what) ≡ true
   whole (Call name) = refl

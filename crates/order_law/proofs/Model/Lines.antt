@@ -4,20 +4,12 @@ use Rattle.std.specs.Prelude.{◌&&◌}
 use Rattle.std.proofs.lemmas.Bool.{eq-eqb}
 use Rattle.ce_base.specs.declared.fault.Fault.{Fault}
 use Rattle.rule_tokens.specs.declared.callback.CallName.{CallName}
-use Rattle.rule_tokens.specs.declared.callback.CallName.TheVariants.{Connected as ConnectedName, Disconnected as DisconnectedName, Adopted as AdoptedName}
-use Rattle.rule_tokens.specs.declared.callback.CallName.TheVariants.{Attribute as AttributeName, FormAssociated as FormAssociatedName}
-use Rattle.rule_tokens.specs.declared.callback.CallName.TheVariants.{FormDisabled as FormDisabledName, FormReset as FormResetName}
-use Rattle.rule_tokens.specs.declared.callback.CallName.TheVariants.{FormStateRestore as FormStateRestoreName}
 use Rattle.rule_tokens.specs.declared.callback.CallOrUpgrade.TheVariants.{Call, Upgrade as IsUpgrade}
 use Rattle.reaction_queue.specs.declared.reaction.Reaction.{Reaction}
-use Rattle.reaction_queue.specs.declared.reaction.Reaction.TheVariants.{Upgrade, Connected, Disconnected, Adopted, Attribute, FormAssociated, FormDisabled}
-use Rattle.reaction_queue.specs.declared.reaction.Reaction.TheVariants.{FormReset, FormStateRestore}
+use Rattle.reaction_queue.specs.declared.reaction.Reaction.TheVariants.{Upgrade}
 use Rattle.reaction_queue.specs.Reactions.{what_of}
 use Rattle.ce_events.specs.declared.event.Event.{Event}
-use Rattle.ce_events.specs.declared.event.Event.TheVariants.{Construct, Caught, Reported, Asked, Connected as ConnectedLine, Disconnected as DisconnectedLine}
-use Rattle.ce_events.specs.declared.event.Event.TheVariants.{Adopted as AdoptedLine, Attribute as AttributeLine, FormAssociated as FormAssociatedLine}
-use Rattle.ce_events.specs.declared.event.Event.TheVariants.{FormDisabled as FormDisabledLine, FormReset as FormResetLine}
-use Rattle.ce_events.specs.declared.event.Event.TheVariants.{FormStateRestore as FormStateRestoreLine}
+use Rattle.ce_events.specs.declared.event.Event.TheVariants.{Construct, Caught, Reported, Asked}
 use Rattle.ce_events.specs.declared.event.Answer.{Answer}
 use Rattle.ce_algorithms.specs.Page.{Page}
 use Rattle.order_law.specs.Book.{Entry, Reacting, Book, blank}
@@ -114,28 +106,6 @@ call_at e n name h s w x at what k =
 
 pub call_line : (n : ℕ) (x : Reaction) (name : CallName) → what_of x ≡ Call name → (h : List Hold) (s : State) (w : Entry) → w.element ≡ n →
     w.what ≡ what_of x → HoldsIn (InReaction w false ∷ h) s → After {A = Unit {0}} (InReaction w true ∷ h) (log_call n x s)
-call_line n Connected name is h s w at what k =
-    call_at (ConnectedLine n) n ConnectedName h s w (record { at = λ b o d may. line_tests b (ConnectedLine n) refl o d may refl refl; is = λ b. refl }) at
-    what k
-call_line n Disconnected name is h s w at what k =
-    call_at (DisconnectedLine n) n DisconnectedName h s w
-    (record { at = λ b o d may. line_tests b (DisconnectedLine n) refl o d may refl refl; is = λ b. refl }) at what k
-call_line n (Adopted old new) name is h s w at what k =
-    call_at (AdoptedLine n old new) n AdoptedName h s w
-    (record { at = λ b o d may. line_tests b (AdoptedLine n old new) refl o d may refl refl; is = λ b. refl }) at what k
-call_line n (Attribute key old new) name is h s w at what k =
-    call_at (AttributeLine n key old new) n AttributeName h s w
-    (record { at = λ b o d may. line_tests b (AttributeLine n key old new) refl o d may refl refl; is = λ b. refl }) at what k
-call_line n (FormAssociated form) name is h s w at what k =
-    call_at (FormAssociatedLine n form) n FormAssociatedName h s w
-    (record { at = λ b o d may. line_tests b (FormAssociatedLine n form) refl o d may refl refl; is = λ b. refl }) at what k
-call_line n (FormDisabled disabled) name is h s w at what k =
-    call_at (FormDisabledLine n disabled) n FormDisabledName h s w
-    (record { at = λ b o d may. line_tests b (FormDisabledLine n disabled) refl o d may refl refl; is = λ b. refl }) at what k
-call_line n FormReset name is h s w at what k =
-    call_at (FormResetLine n) n FormResetName h s w (record { at = λ b o d may. line_tests b (FormResetLine n) refl o d may refl refl; is = λ b. refl }) at
-    what k
-call_line n (FormStateRestore state why) name is h s w at what k =
-    call_at (FormStateRestoreLine n state why) n FormStateRestoreName h s w
-    (record { at = λ b o d may. line_tests b (FormStateRestoreLine n state why) refl o d may refl refl; is = λ b. refl }) at what k
 call_line n (Upgrade d) name is h s w at what k = absurd (let x : IsUpgrade ≡ Call name = is in cc)
+call_line n x name is h s w at what k =
+    call_at _ n _ h s w (record { at = λ b o d may. line_tests b _ refl o d may refl refl; is = λ b. refl }) at what k
