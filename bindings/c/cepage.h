@@ -1,4 +1,6 @@
-/* cepage in another program: a script is run in memory.
+/* SPDX-License-Identifier: MIT OR Apache-2.0
+ *
+ * cepage in another program: a script is run in memory.
  *
  * bindings/c/build.sh makes libcepage.so, with which a program links alone, from the archive of the crate cepage_c, and
  * libcepage.a, which a program links beside the C library. Linux alone.

@@ -8,6 +8,13 @@ import zipfile
 
 HERE = pathlib.Path(__file__).resolve().parent
 PACKED = ("*.py", "py.typed", "libcepage.so")
+FIELDS = {
+    "Name": "name",
+    "Version": "version",
+    "Summary": "description",
+    "Requires-Python": "requires-python",
+    "License-Expression": "license",
+}
 
 
 def project():
@@ -17,10 +24,15 @@ def project():
     return {name: re.findall(r'"([^"]*)"', value) for name, value in rows}
 
 
+def licences(said):
+    """The licence texts by their names."""
+    return {name: HERE / name for name in said["license-files"]}
+
+
 def metadata(said):
-    lines = ["Metadata-Version: 2.1"]
-    for field, name in (("Name", "name"), ("Version", "version"), ("Summary", "description"), ("Requires-Python", "requires-python")):
-        lines.append(f"{field}: {said[name][0]}")
+    lines = ["Metadata-Version: 2.4"]
+    lines += [f"{field}: {said[name][0]}" for field, name in FIELDS.items()]
+    lines += [f"License-File: {it}" for it in licences(said)]
     lines += [f"Classifier: {it}" for it in said["classifiers"]]
     lines += ["Description-Content-Type: text/markdown", "", (HERE / said["readme"][0]).read_text(encoding="utf-8")]
     return "\n".join(lines)
@@ -42,6 +54,7 @@ def build_wheel(wheel_directory, config_settings=None, metadata_directory=None):
     said, tagged = project(), tag()
     name = f"{said['name'][0]}-{said['version'][0]}"
     files = {f"cepage/{file.name}": file.read_bytes() for it in PACKED for file in sorted((HERE / "cepage").glob(it))}
+    files.update((f"{name}.dist-info/licenses/{text}", file.read_bytes()) for text, file in licences(said).items())
     files[f"{name}.dist-info/METADATA"] = metadata(said).encode()
     pure = str(tagged.endswith("-any")).lower()
     files[f"{name}.dist-info/WHEEL"] = f"Wheel-Version: 1.0\nGenerator: cepage\nRoot-Is-Purelib: {pure}\nTag: {tagged}\n".encode()
