@@ -3,6 +3,7 @@ import base64
 import hashlib
 import pathlib
 import re
+import sys
 import sysconfig
 import zipfile
 
@@ -24,9 +25,20 @@ def project():
     return {name: re.findall(r'"([^"]*)"', value) for name, value in rows}
 
 
+def is_bound():
+    """Whether the shared object is packed with the package."""
+    return (HERE / "cepage" / "libcepage.so").exists()
+
+
 def licences(said):
-    """The licence texts by their names."""
-    return {name: HERE / name for name in said["license-files"]}
+    """The licence texts by their names. The shared object has code of others in it, whose notices go with it."""
+    texts = {name: HERE / name for name in said["license-files"]}
+    if is_bound():
+        notices = [it / "THIRD-PARTY.md" for it in (HERE.parent.parent, HERE) if (it / "THIRD-PARTY.md").exists()]
+        if not notices:
+            sys.exit(f"packing: libcepage.so is packed with THIRD-PARTY.md of the repository: copy that to {HERE}")
+        texts["THIRD-PARTY.md"] = notices[0]
+    return texts
 
 
 def metadata(said):
@@ -40,8 +52,7 @@ def metadata(said):
 
 def tag():
     """Any Python, and any system, unless the shared object of this one is packed with it."""
-    is_bound = (HERE / "cepage" / "libcepage.so").exists()
-    return "py3-none-" + (re.sub(r"[-.]", "_", sysconfig.get_platform()) if is_bound else "any")
+    return "py3-none-" + (re.sub(r"[-.]", "_", sysconfig.get_platform()) if is_bound() else "any")
 
 
 def row(name, data):

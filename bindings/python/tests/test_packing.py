@@ -4,6 +4,7 @@ import subprocess
 import sys
 import tempfile
 import unittest
+import unittest.mock
 import zipfile
 
 import packing
@@ -23,6 +24,11 @@ class Packing(unittest.TestCase):
             for name in ("LICENSE-MIT", "LICENSE-APACHE"):
                 (packed,) = (it for it in wheel.namelist() if it.endswith(f".dist-info/licenses/{name}"))
                 self.assertEqual(wheel.read(packed), (packing.HERE / name).read_bytes())
+
+    def test_the_notices_of_others_go_with_the_shared_object(self) -> None:
+        for bound, names in ((False, ["LICENSE-MIT", "LICENSE-APACHE"]), (True, ["LICENSE-MIT", "LICENSE-APACHE", "THIRD-PARTY.md"])):
+            with unittest.mock.patch.object(packing, "is_bound", return_value=bound):
+                self.assertEqual(list(packing.licences(packing.project())), names)
 
     def test_its_metadata(self) -> None:
         said = packing.metadata(packing.project())
