@@ -29,6 +29,9 @@ enum cepage_status {
     CEPAGE_TOO_LONG = 7   /* the script has more than CEPAGE_MOST_SCRIPT bytes: the whole lines within these were run */
 };
 
+/* The version of cepage that this header is of. */
+#define CEPAGE_VERSION "0.9.0"
+
 #define CEPAGE_PLAIN_FUEL 20000u
 #define CEPAGE_MOST_FUEL 200000u
 #define CEPAGE_MOST_SCRIPT 16777216u
