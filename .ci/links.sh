@@ -1,14 +1,14 @@
 #!/bin/sh
-# Tests that each link of README.md, CHANGELOG.md, docs/ and the packages' README.md leads to a file that is there, and each
-# anchor to a heading of that file (as GitHub names it: lower case, spaces as dashes, punctuation dropped) or to an
-# `<a id="..">` in it. A path in backticks that begins with a folder of the repository has to be there too, unless it has a
-# placeholder (a word of capitals, `*`, `..`) or names what is built (`out/`). Names the file, the line and what leads nowhere.
+# Tests that each link of README.md, CHANGELOG.md, THIRD-PARTY.md, docs/ and the packages' README.md leads to a file that is
+# there, and each anchor to a heading of that file (as GitHub names it: lower case, spaces as dashes, punctuation dropped) or
+# to an `<a id="..">` in it. A path in backticks that begins with a folder of the repository has to be there too, unless it has
+# a placeholder (a word of capitals, `*`, `..`) or names what is built (`out/`). Names the file, the line and what leads nowhere.
 
 LC_ALL=C
 export LC_ALL
 unset CDPATH
 cd "$(dirname "$0")/.." || exit 1
-set -- README.md CHANGELOG.md docs/*.md bindings/*/README.md
+set -- README.md CHANGELOG.md THIRD-PARTY.md docs/*.md bindings/*/README.md
 
 # Gives a row for each link and each path: where it stands, what is written, the file, the anchor or `-`, and whether
 # the anchor is in that file.

@@ -5,6 +5,8 @@
 #   libcepage.a    one object with the one call and the heap that it wants, for C and for Rust
 #   cepage.node    the addon, where Node's headers are there
 #
+# and beside them the licence texts and THIRD-PARTY.md, which go with them wherever they go.
+#
 # The archive is crates/cepage_c/out/libcepage_c.a, as `rt lib` in crates/cepage_c makes it, or what CEPAGE_C_ARCHIVE names. The
 # heap is that of the Rattle kit, beside `rt`, or what CEPAGE_C_HEAP names.
 set -e
@@ -26,6 +28,7 @@ if [ -z "$heap" ]; then
     heap=$(dirname "$(dirname "$(readlink -f "$rt")")")/c/liblibc_c.a
 fi
 mkdir -p "$folder"
+cp "$top/LICENSE-MIT" "$top/LICENSE-APACHE" "$top/THIRD-PARTY.md" "$folder/"
 
 $CC -shared -o "$folder/libcepage.so" -Wl,--version-script="$here/cepage.map" \
     -Wl,--whole-archive "$archive" -Wl,--no-whole-archive "$heap" -Wl,--no-undefined -Wl,-z,relro,-z,now

@@ -1,4 +1,6 @@
-/* cepage in another program: a script is run in memory.
+/* SPDX-License-Identifier: MIT OR Apache-2.0
+ *
+ * cepage in another program: a script is run in memory.
  *
  * bindings/c/build.sh makes libcepage.so, with which a program links alone, from the archive of the crate cepage_c, and
  * libcepage.a, which a program links beside the C library. Linux alone.
@@ -26,6 +28,9 @@ enum cepage_status {
     CEPAGE_NO_MEMORY = 6, /* memory was refused: out has a front of the transcript, which may be empty */
     CEPAGE_TOO_LONG = 7   /* the script has more than CEPAGE_MOST_SCRIPT bytes: the whole lines within these were run */
 };
+
+/* The version of cepage that this header is of. */
+#define CEPAGE_VERSION "0.9.0"
 
 #define CEPAGE_PLAIN_FUEL 20000u
 #define CEPAGE_MOST_FUEL 200000u

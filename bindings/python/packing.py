@@ -3,11 +3,19 @@ import base64
 import hashlib
 import pathlib
 import re
+import sys
 import sysconfig
 import zipfile
 
 HERE = pathlib.Path(__file__).resolve().parent
 PACKED = ("*.py", "py.typed", "libcepage.so")
+FIELDS = {
+    "Name": "name",
+    "Version": "version",
+    "Summary": "description",
+    "Requires-Python": "requires-python",
+    "License-Expression": "license",
+}
 
 
 def project():
@@ -17,10 +25,26 @@ def project():
     return {name: re.findall(r'"([^"]*)"', value) for name, value in rows}
 
 
+def is_bound():
+    """Whether the shared object is packed with the package."""
+    return (HERE / "cepage" / "libcepage.so").exists()
+
+
+def licences(said):
+    """The licence texts by their names. The shared object has code of others in it, whose notices go with it."""
+    texts = {name: HERE / name for name in said["license-files"]}
+    if is_bound():
+        notices = [it / "THIRD-PARTY.md" for it in (HERE.parent.parent, HERE) if (it / "THIRD-PARTY.md").exists()]
+        if not notices:
+            sys.exit(f"packing: libcepage.so is packed with THIRD-PARTY.md of the repository: copy that to {HERE}")
+        texts["THIRD-PARTY.md"] = notices[0]
+    return texts
+
+
 def metadata(said):
-    lines = ["Metadata-Version: 2.1"]
-    for field, name in (("Name", "name"), ("Version", "version"), ("Summary", "description"), ("Requires-Python", "requires-python")):
-        lines.append(f"{field}: {said[name][0]}")
+    lines = ["Metadata-Version: 2.4"]
+    lines += [f"{field}: {said[name][0]}" for field, name in FIELDS.items()]
+    lines += [f"License-File: {it}" for it in licences(said)]
     lines += [f"Classifier: {it}" for it in said["classifiers"]]
     lines += ["Description-Content-Type: text/markdown", "", (HERE / said["readme"][0]).read_text(encoding="utf-8")]
     return "\n".join(lines)
@@ -28,8 +52,7 @@ def metadata(said):
 
 def tag():
     """Any Python, and any system, unless the shared object of this one is packed with it."""
-    is_bound = (HERE / "cepage" / "libcepage.so").exists()
-    return "py3-none-" + (re.sub(r"[-.]", "_", sysconfig.get_platform()) if is_bound else "any")
+    return "py3-none-" + (re.sub(r"[-.]", "_", sysconfig.get_platform()) if is_bound() else "any")
 
 
 def row(name, data):
@@ -42,6 +65,7 @@ def build_wheel(wheel_directory, config_settings=None, metadata_directory=None):
     said, tagged = project(), tag()
     name = f"{said['name'][0]}-{said['version'][0]}"
     files = {f"cepage/{file.name}": file.read_bytes() for it in PACKED for file in sorted((HERE / "cepage").glob(it))}
+    files.update((f"{name}.dist-info/licenses/{text}", file.read_bytes()) for text, file in licences(said).items())
     files[f"{name}.dist-info/METADATA"] = metadata(said).encode()
     pure = str(tagged.endswith("-any")).lower()
     files[f"{name}.dist-info/WHEEL"] = f"Wheel-Version: 1.0\nGenerator: cepage\nRoot-Is-Purelib: {pure}\nTag: {tagged}\n".encode()
